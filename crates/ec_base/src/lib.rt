@@ -1,0 +1,19 @@
+//! What every crate of ecpgc stands on: lists that contracts see as lists, lines, the named refusals, and the sources
+//! and sinks of bytes with their counts of faults.
+#![tactic(auto)]
+
+mod boxed;
+mod fault;
+mod line;
+mod list;
+mod sink;
+mod source;
+mod stop;
+
+pub use boxed::Boxed;
+pub use fault::{FaultKind, LimitKind};
+pub use line::Line;
+pub use list::{Bytes, List, Name};
+pub use sink::Sink;
+pub use source::Source;
+pub use stop::{Failed, OutOfMemory, Stop, Trap};

@@ -1,0 +1,17 @@
+//! Requests to a server and its replies, the links that carry them, and the rack that keeps the links and logs what was
+//! said over them.
+#![tactic(auto)]
+
+mod link;
+mod logged;
+mod reply;
+mod request;
+mod slot;
+mod table;
+
+pub use link::Link;
+pub use logged::Logged;
+pub use reply::{Reply, SqlState, Tx};
+pub use request::Request;
+pub use slot::Slot;
+pub use table::{Col, Row, Table};
