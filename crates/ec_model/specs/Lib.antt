@@ -1,0 +1,9 @@
+pub mod Lines
+pub mod Source
+pub mod Faults
+pub mod Numbers
+pub mod Observed
+pub mod Direct
+pub mod Written
+pub mod WrittenText
+pub mod WrittenMeaning
