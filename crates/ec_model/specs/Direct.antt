@@ -78,10 +78,15 @@ step ready (Print x) r = on (record r { output = r.output ++ signed_decimal (val
 step None (Select words x) r = on r
 step (Some slot) (Select words x) r = selected slot words x r.answers r
 
+-- what follows, where the program goes on
+abbrev pub followed : (Running → Outcome) → Outcome → Outcome
+followed next (on r) = next r
+followed next (waiting slot request r) = waiting slot request r
+
 -- statements one after the other, until one waits
 abbrev pub steps : Option ℕ → List Statement → Running → Outcome
 steps ready [] r = on r
-steps ready (s ∷ ss) r = elim (step ready s r) [ on q ↦ steps ready ss q | waiting slot request q ↦ waiting slot request q ]
+steps ready (s ∷ ss) r = followed (steps ready ss) (step ready s r)
 
 -- what is seen of a run that went through all statements, or that waits. The status is the low 8 bits of the number
 abbrev pub seen : ℕ → Outcome → Observed

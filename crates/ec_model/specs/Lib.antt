@@ -7,3 +7,4 @@ pub mod Direct
 pub mod Written
 pub mod WrittenText
 pub mod WrittenMeaning
+pub mod Simulation

@@ -105,9 +105,15 @@ act globals ready (Print x) m = on (record m { output = m.output ++ signed_decim
 act globals None (action.Call c) m = on m
 act globals (Some slot) (action.Call c) m = called slot c (address c.pointer globals) m.answers m
 
+-- what follows, where the machine goes on
+abbrev pub followed : (Machine → Outcome) → Outcome → Outcome
+followed next (on m) = next m
+followed next (waiting slot request m) = waiting slot request m
+
+-- actions one after the other, until one waits
 abbrev pub acts : List Global → Option ℕ → List WrittenStatement → Machine → Outcome
 acts globals ready [] m = on m
-acts globals ready (s ∷ ss) m = elim (act globals ready s.action m) [ on n ↦ acts globals ready ss n | waiting slot request n ↦ waiting slot request n ]
+acts globals ready (s ∷ ss) m = followed (acts globals ready ss) (act globals ready s.action m)
 
 abbrev pub seen : ℕ → Outcome → Observed
 seen status (on m) = record { conversation = m.conversation; output = m.output; errors = []; memory = m.memory; ending = exits (status % 256) }

@@ -2,8 +2,10 @@
 //! source, and the meaning of the C that is written for it.
 #![tactic(auto)]
 
+mod laws;
 mod source;
 mod written;
 
+pub use laws::written_program_means_the_same;
 pub use source::{Letter, Source, Statement};
 pub use written::{Action, Call, Global, Symbol, Written, WrittenStatement};
