@@ -1,2 +1,4 @@
 pub mod Causes
+pub mod Putting
+pub mod Reading
 pub mod formers
