@@ -80,3 +80,5 @@ module _ {S : Type 0} {held : S → Option (List ℕ)} {faults : S → ℕ} wher
     puts = p.puts;
     failed = p.failed;
   }
+
+pub ruleset putting = (Puts-none, Puts-then, PutsPart-then, PutsPart-before)

@@ -3,9 +3,11 @@
 #![tactic(auto)]
 
 mod boxed;
+mod calls;
 mod fault;
 mod line;
 mod list;
+mod mem_source;
 mod putting;
 mod reading;
 mod sink;
@@ -16,6 +18,7 @@ pub use boxed::Boxed;
 pub use fault::{FaultKind, LimitKind};
 pub use line::Line;
 pub use list::{Bytes, List, Name};
+pub use mem_source::MemSource;
 pub use putting::put_all;
 pub use reading::read_all;
 pub use sink::Sink;
