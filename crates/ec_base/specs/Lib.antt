@@ -3,4 +3,5 @@ pub mod MemSink
 pub mod MemSource
 pub mod Putting
 pub mod Reading
+pub mod Texts
 pub mod formers

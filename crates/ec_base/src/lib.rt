@@ -16,6 +16,7 @@ mod source;
 mod std_sink;
 mod std_source;
 mod stop;
+mod texts;
 
 pub use boxed::Boxed;
 pub use fault::{FaultKind, LimitKind};
