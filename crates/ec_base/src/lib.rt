@@ -31,3 +31,6 @@ pub use source::Source;
 pub use std_sink::StdSink;
 pub use std_source::StdSource;
 pub use stop::{Failed, OutOfMemory, ReadStop, Stop, Trap};
+
+#[cfg(test)]
+mod tests;

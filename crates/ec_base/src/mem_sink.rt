@@ -32,7 +32,12 @@ impl Model for MemSink {
 impl MemSink {
     /// An empty sink of `room` bytes, of which a put takes at most `chunk`. The puts that `failing` names, by their
     /// numbers from 0, fail. The number of a put stays at the last value of `u64`.
-    pub fn new(alloc: Global, room: usize, chunk: usize, failing: &[u64]) -> Result<MemSink, OutOfMemory>
+    pub fn new(
+        alloc: Global,
+        room: usize,
+        chunk: usize,
+        failing: &[u64],
+    ) -> Result<MemSink, OutOfMemory>
         requires { 1 ≤ chunk }
         ensures { IfOk result (λ sink. sink ≡ new_store room chunk failing.now) }
     {

@@ -34,7 +34,12 @@ impl Model for MemSource {
 impl MemSource {
     /// A source of `bytes`, of which a read gives at most `chunk`. The reads that `failing` names, by their numbers from
     /// 0, fail. The number of a read stays at the last value of `u64`.
-    pub fn new(alloc: Global, bytes: &[u8], chunk: usize, failing: &[u64]) -> Result<MemSource, OutOfMemory>
+    pub fn new(
+        alloc: Global,
+        bytes: &[u8],
+        chunk: usize,
+        failing: &[u64],
+    ) -> Result<MemSource, OutOfMemory>
         requires { 1 ≤ chunk }
         ensures { IfOk result (λ source. source ≡ new_supply bytes.now chunk failing.now) }
     {

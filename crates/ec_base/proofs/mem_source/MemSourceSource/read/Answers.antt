@@ -18,12 +18,11 @@ returns-clause-bytes c =
     let count = c.min-count.result in
     let buf = c.args.buf.now in
     let whole : take (length c.as_slice.result.now - given) (drop given c.as_slice.result.now) ≡ drop given bytes =
-        take_rest c.as_slice.result.now given ∙ ap (drop given) c.as_slice.ensures in
+    take_rest c.as_slice.result.now given ∙ ap (drop given) c.as_slice.ensures in
     let front : c.copy_from_slice.new.self ≡ take count (drop given bytes) = c.copy_from_slice.ensures.after ∙ ap (take count) whole in
     let amount : count ≡ min c.self.inside.chunk (min (length buf) (length bytes - given)) =
-        c.min-count.ensures ∙ ap (min c.self.inside.chunk) (c.min.ensures ∙ ap (λ l. min (length buf) (length l)) whole ∙ ap (min (length buf)) (length-drop given bytes)) in
-    (
+    c.min-count.ensures ∙ ap (min c.self.inside.chunk) (c.min.ensures ∙ ap (λ l. min (length buf) (length l)) whole ∙ ap (min (length buf)) (length-drop given bytes)) in (
       sym (ap (λ s. s.left) c.self.view_is) ∙ moves_front bytes (drop count buf) given count (omega arith)
-      ∙ ap (λ l. take count (l ++ drop count buf) ++ drop (given + count) bytes) (sym front),
+          ∙ ap (λ l. take count (l ++ drop count buf) ++ drop (given + count) bytes) (sym front),
       λ none room. drop_of_length-le bytes (omega arith),
     )
