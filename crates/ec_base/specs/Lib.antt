@@ -1,2 +1,7 @@
 pub mod Causes
+pub mod MemSink
+pub mod MemSource
+pub mod Putting
+pub mod Reading
+pub mod Texts
 pub mod formers

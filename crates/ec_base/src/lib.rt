@@ -3,17 +3,34 @@
 #![tactic(auto)]
 
 mod boxed;
+mod calls;
 mod fault;
 mod line;
 mod list;
+mod mem_sink;
+mod mem_source;
+mod putting;
+mod reading;
 mod sink;
 mod source;
+mod std_sink;
+mod std_source;
 mod stop;
+mod texts;
 
 pub use boxed::Boxed;
 pub use fault::{FaultKind, LimitKind};
 pub use line::Line;
 pub use list::{Bytes, List, Name};
+pub use mem_sink::MemSink;
+pub use mem_source::MemSource;
+pub use putting::put_all;
+pub use reading::read_all;
 pub use sink::Sink;
 pub use source::Source;
-pub use stop::{Failed, OutOfMemory, Stop, Trap};
+pub use std_sink::StdSink;
+pub use std_source::StdSource;
+pub use stop::{Failed, OutOfMemory, ReadStop, Stop, Trap};
+
+#[cfg(test)]
+mod tests;

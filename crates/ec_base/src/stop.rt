@@ -24,6 +24,37 @@ impl<T: Drop> From<AllocFailed<T>> for OutOfMemory {
 #[derive(Clone, Copy, Debug, PartialEq, Eq)]
 pub struct Failed;
 
+/// Why a source was not read to its end.
+#[derive(Clone, Copy, Debug, PartialEq, Eq)]
+pub enum ReadStop {
+    /// The source failed.
+    Fault,
+    /// The source gave more bytes than are allowed.
+    TooLong,
+    /// There was no memory left.
+    OutOfMemory,
+}
+
+impl From<Failed> for ReadStop {
+    ghost use Rattle.ec_base.specs.declared.stop.ReadStop.TheVariants as reads;
+
+    ghost from_gives = { λ _ stop. stop ≡ reads.Fault };
+
+    fn from(_refused: Failed) -> ReadStop {
+        ReadStop::Fault
+    }
+}
+
+impl From<OutOfMemory> for ReadStop {
+    ghost use Rattle.ec_base.specs.declared.stop.ReadStop.TheVariants as reads;
+
+    ghost from_gives = { λ _ stop. stop ≡ reads.OutOfMemory };
+
+    fn from(_refused: OutOfMemory) -> ReadStop {
+        ReadStop::OutOfMemory
+    }
+}
+
 /// Why a program stopped at an access or at an operation: the undefined behaviours of ISO/IEC 9899:1999 that are found
 /// while it runs, each by its name.
 #[derive(Clone, Copy, Debug, PartialEq, Eq)]
@@ -63,6 +94,7 @@ pub enum Stop {
 
 impl From<OutOfMemory> for Stop {
     ghost use Rattle.ec_base.specs.declared.stop.Stop.TheVariants as stops;
+
     ghost from_gives = { λ _ stop. stop ≡ stops.OutOfMemory };
 
     fn from(_refused: OutOfMemory) -> Stop {

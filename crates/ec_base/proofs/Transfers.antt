@@ -1,0 +1,84 @@
+-- Reads of a source and puts into a sink, one after another.
+use Rattle.std.proofs.Common.{◌≡◌, ℕ, ◌-◌, ◌^◌, ◌<◌, ◌≤◌, List, [], ◌++◌, length, Option, None, Some, sym, ap, ◌∙◌, subst, append_assoc, append-nil, arith, length-append}
+use Rattle.std.specs.Io.KnownBytes.{Consumes, IsAtEnd}
+use Rattle.std.proofs.KnownBytes.{Appends-nil, Appends-trans, Consumes-nil, Consumes-trans}
+use Rattle.ec_base.specs.declared.stop.ReadStop.TheVariants.{TooLong}
+use Rattle.ec_base.specs.Causes.{Rose}
+use Rattle.ec_base.specs.Reading.{Reads, ReadsAll, ReadsPart}
+use Rattle.ec_base.specs.Putting.{Puts, PutsPart}
+
+-- ---- counts of faults
+
+-- a count that rose has risen from before that, too
+pub Rose-before : (a b c : ℕ) → a ≤ b → Rose b c → Rose a c
+Rose-before a b c p q = omega arith
+
+-- a count that rose has still risen later
+pub Rose-later : (a b c : ℕ) → Rose a b → b ≤ c → Rose a c
+Rose-later a b c p q = omega arith
+
+-- below its last value, a count that rose is greater than before
+pub Rose-greater : (a b : ℕ) → a < 2 ^ 64 - 1 → Rose a b → a < b
+Rose-greater a b p q = omega arith
+
+-- ---- a source
+
+-- what is read of known bytes is their front
+pub Consumes-front : (xs : List ℕ) (rest : Option (List ℕ)) (bs : List ℕ) → Consumes (Some xs) rest bs → (ys : List ℕ) × (xs ≡ bs ++ ys)
+Consumes-front xs None bs p = absurd p
+Consumes-front xs (Some ys) bs p = (ys, p)
+
+-- known bytes that are read to their end are read whole
+pub Consumes-whole : (xs : List ℕ) (rest : Option (List ℕ)) (bs : List ℕ) → Consumes (Some xs) rest bs → IsAtEnd rest → bs ≡ xs
+Consumes-whole xs None bs p q = absurd p
+Consumes-whole xs (Some ys) bs p q = sym (p ∙ ap (λ l. bs ++ l) q ∙ append-nil bs)
+
+module _ {S : Type 0} {left : S → Option (List ℕ)} {faults : S → ℕ} where
+  pub Reads-none : (a : S) → Reads left faults a a []
+  Reads-none a = record { taken = Consumes-nil (left a); later = omega arith }
+
+  pub Reads-then : {a b c : S} {xs ys : List ℕ} → Reads left faults a b xs → Reads left faults b c ys → Reads left faults a c (xs ++ ys)
+  Reads-then p q = record { taken = Consumes-trans _ _ _ _ _ p.taken q.taken; later = omega (arith, p.later, q.later) }
+
+  -- a source that tells its bytes gives them
+  pub ReadsAll-text : {a b : S} {limit : ℕ} {bytes text : List ℕ} → left a ≡ Some text → ReadsAll left faults a b limit bytes → bytes ≡ text
+  ReadsAll-text {b} {bytes} {text} e p =
+      Consumes-whole text (left b) bytes (subst (λ o. Consumes o (left b) bytes) e p.reads.taken) p.ended
+
+  -- and only a text beyond the limit is too long
+  pub ReadsPart-long : {a b : S} {limit : ℕ} {text : List ℕ} → left a ≡ Some text → ReadsPart left faults a b limit TooLong → limit < length text
+  ReadsPart-long {b} {text} e p =
+      let front = Consumes-front text (left b) p.bytes (subst (λ o. Consumes o (left b) p.bytes) e p.reads.taken) in
+      rw front.1 omega (arith, p.reason, length-append p.bytes front.0)
+
+-- ---- a sink
+
+module _ {S : Type 0} {held : S → Option (List ℕ)} {faults : S → ℕ} where
+  pub Puts-none : (a : S) → Puts held faults a a []
+  Puts-none a = record { taken = Appends-nil (held a); later = omega arith }
+
+  -- two pieces, one after the other
+  pub Puts-then : {a b c : S} {xs ys : List ℕ} → Puts held faults a b xs → Puts held faults b c ys → Puts held faults a c (xs ++ ys)
+  Puts-then p q = record { taken = Appends-trans _ _ _ _ _ p.taken q.taken; later = omega (arith, p.later, q.later) }
+
+  -- the sink failed at the second of two pieces
+  pub PutsPart-then : {a b c : S} {xs ys : List ℕ} → Puts held faults a b xs → PutsPart held faults b c ys → PutsPart held faults a c (xs ++ ys)
+  PutsPart-then {xs} p q = record {
+    front = xs ++ q.front;
+    rest = q.rest;
+    split = ap (λ l. xs ++ l) q.split ∙ sym (append_assoc xs q.front q.rest);
+    puts = Puts-then p q.puts;
+    failed = Rose-before _ _ _ p.later q.failed;
+  }
+
+  -- the sink failed at the first of two pieces
+  pub PutsPart-before : {a b : S} {xs : List ℕ} → PutsPart held faults a b xs → (ys : List ℕ) → PutsPart held faults a b (xs ++ ys)
+  PutsPart-before p ys = record {
+    front = p.front;
+    rest = p.rest ++ ys;
+    split = ap (λ l. l ++ ys) p.split ∙ append_assoc p.front p.rest ys;
+    puts = p.puts;
+    failed = p.failed;
+  }
+
+pub ruleset putting = (Puts-none, Puts-then, PutsPart-then, PutsPart-before)
