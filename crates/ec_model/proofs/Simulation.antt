@@ -12,6 +12,7 @@ use Rattle.ec_model.specs.declared.source.Letter.{Letter}
 use Rattle.ec_model.specs.declared.source.Statement.{Statement}
 use Rattle.ec_model.specs.declared.source.Statement.TheVariants.{Assign, Select, Print}
 use Rattle.ec_model.specs.declared.written.Call.{Call}
+use Rattle.ec_model.specs.declared.written.Pointer.{Pointer}
 use Rattle.ec_model.specs.declared.written.Symbol.TheVariants.{Int}
 use Rattle.ec_model.specs.Numbers.{int_value}
 use Rattle.ec_model.specs.Observed.{Answer}
@@ -19,7 +20,7 @@ use Rattle.ec_model.specs.Direct as direct
 use Rattle.ec_model.specs.Direct.{Running, value_of, with_value, stored, number_in, only_field}
 use Rattle.ec_model.specs.Written.{written_globals, written_body, written_action}
 use Rattle.ec_model.specs.WrittenMeaning as machine
-use Rattle.ec_model.specs.WrittenMeaning.{Machine, Pointer, address_from, load, store}
+use Rattle.ec_model.specs.WrittenMeaning.{Machine, address_from, load, store}
 use Rattle.ec_model.specs.Simulation.{WrittenMeansTheSame}
 
 -- the names and the values of globals

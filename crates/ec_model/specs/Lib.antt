@@ -8,3 +8,4 @@ pub mod Written
 pub mod WrittenText
 pub mod WrittenMeaning
 pub mod Simulation
+pub mod Run

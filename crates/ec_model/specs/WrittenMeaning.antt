@@ -9,6 +9,7 @@ use Rattle.ec_link.specs.declared.table.Col.{Col}
 use Rattle.ec_link.specs.declared.logged.Logged.{Logged}
 use Rattle.ec_model.specs.declared.source.Letter.{Letter}
 use Rattle.ec_model.specs.declared.written.Global.{Global}
+use Rattle.ec_model.specs.declared.written.Pointer.{Pointer}
 use Rattle.ec_model.specs.declared.written.Symbol.{Symbol}
 use Rattle.ec_model.specs.declared.written.Symbol.TheVariants.{Int}
 use Rattle.ec_model.specs.declared.written.Call.{Call}
@@ -19,11 +20,6 @@ use Rattle.ec_model.specs.declared.written.WrittenStatement.{WrittenStatement}
 use Rattle.ec_model.specs.declared.written.Written.{Written}
 use Rattle.ec_model.specs.Numbers.{int_value}
 use Rattle.ec_model.specs.Observed.{Answer, exits, waits, Observed}
-
--- an address: the number of an object, and an offset in it in bytes
-pub record Pointer : Type 0 where
-  pub object : ℕ
-  pub offset : ℕ
 
 -- the address of a global, where the first of these is object n
 abbrev pub address_from : ℕ → Letter → List Global → Option Pointer

@@ -8,4 +8,4 @@ mod written;
 
 pub use laws::written_program_means_the_same;
 pub use source::{Letter, Source, Statement};
-pub use written::{Action, Call, Global, Symbol, Written, WrittenStatement};
+pub use written::{Action, Call, Global, Pointer, Symbol, Written, WrittenStatement};

@@ -15,6 +15,13 @@ pub enum Symbol {
     Int,
 }
 
+/// An address: the number of an object, and an offset in it in bytes.
+#[derive(Clone, Copy, Debug)]
+pub struct Pointer {
+    pub object: u32,
+    pub offset: u64,
+}
+
 /// A call of the library's function `ECPGdo` for a statement without inputs and with one output.
 #[derive(Debug, Drop)]
 pub struct Call {
