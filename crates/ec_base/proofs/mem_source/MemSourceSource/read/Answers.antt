@@ -1,4 +1,4 @@
-use Rattle.std.proofs.Common.{◌≡◌, ◌≤◌, ◌<◌, ℕ, ◌+◌, ◌-◌, List, [], ◌++◌, length, take, drop, min, sym, ap, ◌∙◌, arith, length-drop, drop_of_length-le, take-append-drop}
+use Rattle.std.proofs.Common.{◌≡◌, ◌≤◌, ℕ, ◌+◌, ◌-◌, List, ◌++◌, length, take, drop, min, sym, ap, ◌∙◌, arith, length-drop, drop_of_length-le, take-append-drop}
 use Rattle.std.proofs.lemmas.List.{take_at, take_rest, drop-drop, length-take-le}
 use Rattle.ec_base.proofs.mem_source.MemSourceSource.read.Goals as goal
 
