@@ -34,7 +34,7 @@ fits_to (pos n) h = grind (arith, nat_tests, ints)
 fits_to (negsuc n) h = grind (arith, nat_tests, ints)
 
 ascii_cases : (c : ℕ) (cs : List ℕ) (minus plus : Bool) → eqb c 45 ≡ minus → eqb c 43 ≡ plus
-  → are_digits (cond minus cs (drop (cond plus 1 0) (c ∷ cs))) ≡ true → IsAscii (c ∷ cs)
+    → are_digits (cond minus cs (drop (cond plus 1 0) (c ∷ cs))) ≡ true → IsAscii (c ∷ cs)
 ascii_cases c cs true plus e f h = IsAscii-cons c cs (grind (arith, nat_tests)) (IsAscii-from_digits cs (digits_from cs h).1)
 ascii_cases c cs false true e f h = IsAscii-cons c cs (grind (arith, nat_tests)) (IsAscii-from_digits cs (digits_from cs h).1)
 ascii_cases c cs false false e f h = IsAscii-from_digits (c ∷ cs) (digits_from (c ∷ cs) h).1

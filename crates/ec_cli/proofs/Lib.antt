@@ -1,1 +1,3 @@
+pub mod Actions
 pub mod Fields
+pub mod Statements

@@ -1,4 +1,8 @@
 //! The tool as one call over a source, two sinks and a rack of links.
 #![tactic(auto)]
 
+mod ending;
 pub mod machine;
+pub mod message;
+
+pub use ending::{Ending, status};
