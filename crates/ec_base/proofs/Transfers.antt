@@ -1,5 +1,8 @@
 -- Reads of a source and puts into a sink, one after another.
-use Rattle.std.proofs.Common.{◌≡◌, ℕ, ◌-◌, ◌^◌, ◌<◌, ◌≤◌, List, [], ◌++◌, length, Option, None, Some, sym, ap, ◌∙◌, subst, append_assoc, append-nil, arith, length-append}
+use Rattle.std.proofs.Common.{◌≡◌, ℕ, suc, ◌∷◌, get_or, take, drop, take-append-drop, ◌-◌, ◌^◌, ◌<◌, ◌≤◌, List, [], ◌++◌, length, Option, None, Some, sym, ap, ◌∙◌, subst, append_assoc, append-nil, arith, length-append}
+use Rattle.std.proofs.Math.Seq.{drop-cons}
+use Rattle.std.proofs.lemmas.Grind.{flat_map-append}
+use Rattle.std.specs.List.{flat_map}
 use Rattle.std.specs.Io.KnownBytes.{Consumes, IsAtEnd}
 use Rattle.std.proofs.KnownBytes.{Appends-nil, Appends-trans, Consumes-nil, Consumes-trans}
 use Rattle.ec_base.specs.declared.stop.ReadStop.TheVariants.{TooLong}
@@ -53,6 +56,13 @@ module _ {S : Type 0} {left : S → Option (List ℕ)} {faults : S → ℕ} wher
 
 -- ---- a sink
 
+-- the pieces of the items before the i-th, of the i-th, and of those after it
+flat_map_at : {X : Type 0} (piece : X → List ℕ) (items : List X) (i : ℕ) (x : X) → i < length items → x ≡ get_or items i x
+    → flat_map piece items ≡ flat_map piece (take i items) ++ (piece x ++ flat_map piece (drop (suc i) items))
+flat_map_at piece items i x h e =
+    ap (flat_map piece) (sym (take-append-drop i items)) ∙ flat_map-append piece (take i items) (drop i items)
+    ∙ ap (λ l. flat_map piece (take i items) ++ flat_map piece l) (drop-cons items i x h ∙ ap (λ y. y ∷ drop (suc i) items) (sym e))
+
 module _ {S : Type 0} {held : S → Option (List ℕ)} {faults : S → ℕ} where
   pub Puts-none : (a : S) → Puts held faults a a []
   Puts-none a = record { taken = Appends-nil (held a); later = omega arith }
@@ -81,4 +91,14 @@ module _ {S : Type 0} {held : S → Option (List ℕ)} {faults : S → ℕ} wher
     failed = p.failed;
   }
 
-pub ruleset putting = (Puts-none, Puts-then, PutsPart-then, PutsPart-before)
+  -- the sink took the pieces of the items before the i-th, and failed at the piece of the i-th
+  pub PutsPart-each : {X : Type 0} {a b c : S} (piece : X → List ℕ) (items : List X) (i : ℕ) (x : X) → i < length items → x ≡ get_or items i x
+      → Puts held faults a b (flat_map piece (take i items)) → PutsPart held faults b c (piece x) → PutsPart held faults a c (flat_map piece items)
+  PutsPart-each {a} {c} piece items i x h e p q =
+      subst (λ l. PutsPart held faults a c l) (sym (flat_map_at piece items i x h e)) (PutsPart-then p (PutsPart-before q (flat_map piece (drop (suc i) items))))
+
+-- ---- what a caller names once, by `#[tactic(auto, using(..))]`
+
+pub ruleset reading = (Reads-none, Reads-then, ReadsAll-text, ReadsPart-long)
+
+pub ruleset putting = (Puts-none, Puts-then, PutsPart-then, PutsPart-before, PutsPart-each)

@@ -1,4 +1,4 @@
-ghost use Rattle.std.specs.Prelude.{◌≡◌, ◌≤◌, ◌<◌, None, length, IfOk, MatchResult};
+ghost use Rattle.std.specs.Prelude.{◌≡◌, ◌≤◌, ◌<◌, length, IfOk, MatchResult};
 ghost use Rattle.std.specs.Io.KnownBytes.{WriteAppends};
 ghost use Rattle.ec_base.specs.Causes.{HasCause, one_more};
 
@@ -7,10 +7,11 @@ use crate::stop::Failed;
 use std::io::Write;
 use std::marker::Model;
 
-/// A writer of std as a sink, which contracts see as its count of faults. A write that takes no byte counts as a fault.
+/// A writer of std as a sink, which contracts see as the writer and its count of faults. A write that takes no byte
+/// counts as a fault.
 ///
-/// What becomes of the bytes is outside what is proved: no clause ties them to a file or a pipe. The writer is never
-/// flushed, so it is to be one that keeps nothing back.
+/// It tells what the writer tells. Of a file or a pipe that is nothing: what becomes of the bytes there is outside what is
+/// proved. The writer is never flushed, so it is to be one that keeps nothing back.
 #[derive(Drop)]
 pub struct StdSink<W: Write + Drop> {
     writer: W,
@@ -19,33 +20,36 @@ pub struct StdSink<W: Write + Drop> {
 
 impl<W: Write + Drop> Model for StdSink<W> {
     ghost use Rattle.std.specs.Prelude.{ℕ};
+    ghost use Rattle.std.specs.Coded.{coded×, coded_ℕ};
 
-    ghost Value = { ℕ };
+    ghost Value = { W × ℕ };
 
-    ghost view = { λ s. s.faults };
+    ghost coded = { coded× W.code coded_ℕ };
+
+    ghost view = { λ s. (s.writer, s.faults) };
 }
 
 impl<W: Write + Drop> StdSink<W> {
     /// A sink that has not failed.
     pub fn new(writer: W) -> StdSink<W>
-        ensures { result ≡ 0 }
+        ensures { result ≡ (writer, 0) }
     {
         StdSink { writer, faults: 0 }
     }
 }
 
 impl<W: Write + Drop> Sink for StdSink<W> {
-    ghost held = { λ _. None };
+    ghost held = { λ s. W.contents s.0 };
 
-    ghost faults = { λ faults. faults };
+    ghost faults = { λ s. s.1 };
 
     fn put(&mut self, piece: &[u8]) -> Result<usize, Failed>
         requires { 0 < length piece.now }
         ensures some { IfOk result (λ count. 0 < count) }
         ensures bound { IfOk result (λ count. count ≤ length piece.now) }
-        ensures bytes { WriteAppends None None result piece.now }
-        ensures cause { HasCause self.old self.new result }
-        ensures exact { MatchResult result (λ _. self.new ≡ self.old) (λ _. self.new ≡ one_more self.old) }
+        ensures bytes { WriteAppends (W.contents self.old.0) (W.contents self.new.0) result piece.now }
+        ensures cause { HasCause self.old.1 self.new.1 result }
+        ensures exact { MatchResult result (λ _. self.new.1 ≡ self.old.1) (λ _. self.new.1 ≡ one_more self.old.1) }
     {
         match self.writer.write(piece) {
             Ok(0) | Err(_) => {

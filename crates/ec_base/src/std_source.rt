@@ -1,4 +1,4 @@
-ghost use Rattle.std.specs.Prelude.{◌≡◌, ◌<◌, None, length, MatchResult};
+ghost use Rattle.std.specs.Prelude.{◌≡◌, ◌<◌, length, MatchResult};
 ghost use Rattle.std.specs.Io.{ReadsAtMost};
 ghost use Rattle.std.specs.Io.KnownBytes.{ReadConsumes};
 ghost use Rattle.ec_base.specs.Causes.{HasCause, one_more};
@@ -8,9 +8,9 @@ use crate::stop::Failed;
 use std::io::Read;
 use std::marker::Model;
 
-/// A reader of std as a source, which contracts see as its count of faults.
+/// A reader of std as a source, which contracts see as the reader and its count of faults.
 ///
-/// What the reader gives is outside what is proved: no clause ties the bytes to a file or a pipe.
+/// It tells what the reader tells. Of a file or a pipe that is nothing: what they give is outside what is proved.
 #[derive(Drop)]
 pub struct StdSource<R: Read + Drop> {
     reader: R,
@@ -19,32 +19,35 @@ pub struct StdSource<R: Read + Drop> {
 
 impl<R: Read + Drop> Model for StdSource<R> {
     ghost use Rattle.std.specs.Prelude.{ℕ};
+    ghost use Rattle.std.specs.Coded.{coded×, coded_ℕ};
 
-    ghost Value = { ℕ };
+    ghost Value = { R × ℕ };
 
-    ghost view = { λ s. s.faults };
+    ghost coded = { coded× R.code coded_ℕ };
+
+    ghost view = { λ s. (s.reader, s.faults) };
 }
 
 impl<R: Read + Drop> StdSource<R> {
     /// A source that has not failed.
     pub fn new(reader: R) -> StdSource<R>
-        ensures { result ≡ 0 }
+        ensures { result ≡ (reader, 0) }
     {
         StdSource { reader, faults: 0 }
     }
 }
 
 impl<R: Read + Drop> Source for StdSource<R> {
-    ghost left = { λ _. None };
+    ghost left = { λ s. R.remaining s.0 };
 
-    ghost faults = { λ faults. faults };
+    ghost faults = { λ s. s.1 };
 
     fn read(&mut self, buf: &mut [u8]) -> Result<usize, Failed>
         requires { 0 < length buf.old }
         ensures bound { ReadsAtMost result buf.new }
-        ensures bytes { ReadConsumes None None result buf.new }
-        ensures cause { HasCause self.old self.new result }
-        ensures exact { MatchResult result (λ _. self.new ≡ self.old) (λ _. self.new ≡ one_more self.old) }
+        ensures bytes { ReadConsumes (R.remaining self.old.0) (R.remaining self.new.0) result buf.new }
+        ensures cause { HasCause self.old.1 self.new.1 result }
+        ensures exact { MatchResult result (λ _. self.new.1 ≡ self.old.1) (λ _. self.new.1 ≡ one_more self.old.1) }
     {
         match self.reader.read(buf) {
             Ok(count) => Ok(count),
