@@ -1,5 +1,9 @@
+ghost use Rattle.std.specs.Prelude.{◌≡◌};
+
+use crate::copies::list_copy;
 use crate::table::Table;
 use ec_base::Bytes;
+use std::alloc::AllocError;
 
 /// Whether a server is in a transaction.
 #[derive(Clone, Copy, Debug, PartialEq, Eq)]
@@ -24,9 +28,15 @@ pub enum Reply {
     /// There is no such server.
     NoTarget,
     /// The rows of a query.
-    Rows { table: Table, tx: Tx },
+    Rows {
+        table: Table,
+        tx: Tx,
+    },
     /// A statement without rows is done. The count is there for INSERT, UPDATE and DELETE.
-    Done { count: Option<u64>, tx: Tx },
+    Done {
+        count: Option<u64>,
+        tx: Tx,
+    },
     /// The server refused the statement.
     Refused {
         state: SqlState,
@@ -35,4 +45,40 @@ pub enum Reply {
     },
     /// The connection broke.
     Broken,
+}
+
+impl Reply {
+    ghost use Rattle.ec_link.specs.Reply.{is_broken};
+
+    /// Whether the connection broke.
+    pub fn is_broken(&self) -> bool
+        ensures { result ≡ is_broken self.now }
+    {
+        matches!(self, Reply::Broken)
+    }
+}
+
+impl Clone for Reply {
+    ghost is_clone = { λ it copy. copy ≡ it };
+
+    fn clone(&self) -> Result<Reply, AllocError> {
+        match self {
+            Reply::Connected => Ok(Reply::Connected),
+            Reply::NoTarget => Ok(Reply::NoTarget),
+            Reply::Rows { table, tx } => Ok(Reply::Rows {
+                table: table.clone()?,
+                tx: *tx,
+            }),
+            Reply::Done { count, tx } => Ok(Reply::Done {
+                count: *count,
+                tx: *tx,
+            }),
+            Reply::Refused { state, message, tx } => Ok(Reply::Refused {
+                state: *state,
+                message: list_copy(message)?,
+                tx: *tx,
+            }),
+            Reply::Broken => Ok(Reply::Broken),
+        }
+    }
 }

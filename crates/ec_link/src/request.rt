@@ -1,4 +1,8 @@
+ghost use Rattle.std.specs.Prelude.{◌≡◌};
+
+use crate::copies::{field_copy, fields_copy, list_copy};
 use ec_base::{Bytes, List, Name};
+use std::alloc::AllocError;
 
 /// What a program asks of a server. A parameter is a text, or None for NULL.
 #[derive(Debug, Drop)]
@@ -15,14 +19,53 @@ pub enum Request {
         params: List<Option<Bytes>>,
     },
     /// Prepare a statement under a name.
-    Prepare { name: Name, text: Bytes },
+    Prepare {
+        name: Name,
+        text: Bytes,
+    },
     /// Run a prepared statement.
     Exec {
         name: Name,
         params: List<Option<Bytes>>,
     },
     /// Forget a prepared statement.
-    Deallocate { name: Name },
+    Deallocate {
+        name: Name,
+    },
     /// Close the connection.
     Close,
+}
+
+impl Clone for Request {
+    ghost is_clone = { λ it copy. copy ≡ it };
+
+    fn clone(&self) -> Result<Request, AllocError> {
+        match self {
+            Request::Connect {
+                target,
+                user,
+                password,
+            } => Ok(Request::Connect {
+                target: list_copy(target)?,
+                user: field_copy(user)?,
+                password: field_copy(password)?,
+            }),
+            Request::Text { text, params } => Ok(Request::Text {
+                text: list_copy(text)?,
+                params: fields_copy(params)?,
+            }),
+            Request::Prepare { name, text } => Ok(Request::Prepare {
+                name: list_copy(name)?,
+                text: list_copy(text)?,
+            }),
+            Request::Exec { name, params } => Ok(Request::Exec {
+                name: list_copy(name)?,
+                params: fields_copy(params)?,
+            }),
+            Request::Deallocate { name } => Ok(Request::Deallocate {
+                name: list_copy(name)?,
+            }),
+            Request::Close => Ok(Request::Close),
+        }
+    }
 }

@@ -1,3 +1,6 @@
+ghost use Rattle.std.specs.Prelude.{◌≡◌};
+ghost use Rattle.ec_link.specs.SlotState.{is_ready};
+
 use crate::link::Link;
 use ec_base::Name;
 
@@ -12,4 +15,15 @@ pub enum Slot {
     Taken(Name),
     /// The link was closed.
     Dropped(Name),
+}
+
+impl Slot {
+    ghost use Rattle.ec_link.specs.Slot.{state_of};
+
+    /// Whether the link is a program's first connection, and was not taken.
+    pub fn is_ready(&self) -> bool
+        ensures { result ≡ is_ready (state_of self.now) }
+    {
+        matches!(self, Slot::Ready(..))
+    }
 }

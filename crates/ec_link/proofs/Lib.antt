@@ -1,0 +1,6 @@
+pub mod Places
+pub mod Ready
+pub mod Replies
+pub mod Runs
+pub mod Steps
+pub mod Talks

@@ -1,0 +1,39 @@
+-- What a link in memory shows, and what an ask makes of it.
+use Rattle.std.specs.Prelude.{◌==◌, ◌+◌, ◌-◌, ◌^◌, min, ℕ, Bool, if◌then◌else◌, List, [], ◌∷◌, ◌++◌, drop, slice_get, unwrap_or}
+use Rattle.std.specs.List.{list_any}
+use Rattle.ec_link.specs.declared.request.Request.{Request}
+use Rattle.ec_link.specs.declared.reply.Reply.{Reply}
+use Rattle.ec_link.specs.declared.reply.Reply.TheVariants.{Broken}
+use Rattle.ec_link.specs.Logged.{Talk}
+use Rattle.ec_link.specs.Reply.{is_broken}
+
+-- the replies that are left, the numbers of the asks that break, how many asks there were, what was said, and how
+-- often the link broke
+pub record Script : Type 0 where
+  pub replies : List Reply
+  pub breaks : List ℕ
+  pub asks : ℕ
+  pub said : Talk
+  pub broke : ℕ
+
+-- one more, up to the last value of `u64`
+abbrev pub counted : ℕ → ℕ
+counted n = min (n + 1) (2 ^ 64 - 1)
+
+-- whether the next ask is one of those that break
+abbrev pub breaks_next : Script → Bool
+breaks_next link = list_any (λ n. n == link.asks) link.breaks
+
+-- the reply to the next ask: Broken where that ask breaks, and else the next reply, or Broken where none is left
+abbrev pub next_reply : Script → Reply
+next_reply link = if breaks_next link then Broken else unwrap_or (slice_get link.replies 0) Broken
+
+-- The link after an ask. An ask that breaks takes no reply, and each answer of Broken is counted.
+abbrev pub after_ask : Script → Request → Script
+after_ask link request = record {
+  replies = if breaks_next link then link.replies else drop 1 link.replies;
+  breaks = link.breaks;
+  asks = counted link.asks;
+  said = link.said ++ (request, next_reply link) ∷ [];
+  broke = if is_broken (next_reply link) then counted link.broke else link.broke;
+}

@@ -1,0 +1,305 @@
+ghost use Rattle.std.specs.Prelude.{◌≡◌, ℕ, List, None, Some, ◌-◌, ◌^◌, ◌<◌, ◌≤◌, [], ◌∷◌, ◌++◌, length, option_copied, IfErr, OnErr, OnOk, IfOk, MatchOption, IfSome, option_map, slice_set, take};
+ghost use Rattle.ec_link.specs.Conn.{slot_of, link_of};
+ghost use Rattle.ec_link.specs.Logged.{IsAsk, growth_of, last_reply_of};
+ghost use Rattle.ec_link.specs.Slot.{states};
+ghost use Rattle.ec_link.specs.SlotState.{Slots, TakenAt, ready_slot};
+ghost use Rattle.ec_link.specs.Told.{told_at, KeepsTalks, SparesDropped};
+
+use crate::connection::Conn;
+use crate::link::Link;
+use crate::logged::Logged;
+use crate::reply::Reply;
+use crate::request::Request;
+use crate::slot::Slot;
+use ec_base::{List, Name, OutOfMemory};
+use std::alloc::Global;
+
+/// The links of a program, and the log of what was said over them.
+#[derive(Drop)]
+pub struct Rack {
+    slots: List<Slot>,
+    log: List<Logged>,
+    ghost numbered: { length slots < 2 ^ 32 },
+}
+
+impl Rack {
+    ghost use Rattle.ec_link.specs.Rack.{slots_of, log_of};
+    ghost use Rattle.ec_link.specs.Calls.{TakesReady, GivesBack, AsksOnce, Asks};
+
+    /// A rack without slots. It takes no memory.
+    pub fn new(alloc: Global) -> Rack
+        ensures slots { slots_of result ≡ [] }
+        ensures log { log_of result ≡ [] }
+    {
+        Rack {
+            slots: List::new(alloc),
+            log: List::new(alloc),
+        }
+    }
+
+    /// The slots.
+    pub fn slots(&self) -> &List<Slot>
+        ensures { result.now ≡ slots_of self.now }
+    {
+        &self.slots
+    }
+
+    /// What was said, in order.
+    pub fn log(&self) -> &List<Logged>
+        ensures { result.now ≡ log_of self.now }
+    {
+        &self.log
+    }
+
+    /// The reply of the last exchange, or `None` where nothing was said.
+    pub fn last_reply(&self) -> Option<&Reply>
+        ensures { option_copied result ≡ last_reply_of (log_of self.now) }
+    {
+        match self.log.last() {
+            Some(logged) => Some(&logged.reply),
+            None => None,
+        }
+    }
+
+    /// Adds the link of a program's first connection. For want of memory it is handed back.
+    #[tactic(auto, using(std::proofs::lemmas::List::set_at))]
+    pub fn add_ready(
+        &mut self,
+        target: Name,
+        link: Box<dyn Link>,
+    ) -> Result<(), (Name, Box<dyn Link>)>
+        requires first { ready_slot (states (slots_of self.old)) ≡ None }
+        requires room { length (slots_of self.old) < 2 ^ 32 - 1 }
+        ensures ok { OnOk result (slots_of self.new ≡ slots_of self.old ++ Slot.Ready target link ∷ []) }
+        ensures err { OnErr result (slots_of self.new ≡ slots_of self.old) }
+        ensures handed_back { IfErr result (λ back. back ≡ (target, link)) }
+        ensures log { log_of self.new ≡ log_of self.old }
+    {
+        let Some(at) = self.add_empty() else {
+            return Err((target, link));
+        };
+        self.slots.set(at, Slot::Ready(target, link));
+        Ok(())
+    }
+
+    /// Adds a link that can be connected. For want of memory it is handed back.
+    #[tactic(auto, using(std::proofs::lemmas::List::set_at))]
+    pub fn add(&mut self, target: Name, link: Box<dyn Link>) -> Result<(), (Name, Box<dyn Link>)>
+        requires { length (slots_of self.old) < 2 ^ 32 - 1 }
+        ensures ok { OnOk result (slots_of self.new ≡ slots_of self.old ++ Slot.Free target link ∷ []) }
+        ensures err { OnErr result (slots_of self.new ≡ slots_of self.old) }
+        ensures handed_back { IfErr result (λ back. back ≡ (target, link)) }
+        ensures log { log_of self.new ≡ log_of self.old }
+    {
+        let Some(at) = self.add_empty() else {
+            return Err((target, link));
+        };
+        self.slots.set(at, Slot::Free(target, link));
+        Ok(())
+    }
+
+    // Adds a slot to be overwritten, and gives its number, or `None` for want of memory.
+    fn add_empty(&mut self) -> Option<usize>
+        requires { length (slots_of self.old) < 2 ^ 32 - 1 }
+        ensures added { MatchOption result (slots_of self.new ≡ slots_of self.old) (λ at. (at ≡ length (slots_of self.old)) × (slots_of self.new ≡ slots_of self.old ++ Slot.Taken [] ∷ [])) }
+        ensures log { log_of self.new ≡ log_of self.old }
+    {
+        let at = self.slots.len();
+        let empty = Slot::Taken(List::new(self.slots.allocator()));
+        match self.slots.push(empty) {
+            Ok(()) => Some(at),
+            Err(_) => None,
+        }
+    }
+
+    /// Takes the link out of the first ready slot, or gives `None` where there is none. It takes no memory.
+    pub fn take_ready(&mut self) -> Option<Conn>
+        ensures taken { MatchOption result
+            ((ready_slot (states (slots_of self.old)) ≡ None) × (slots_of self.new ≡ slots_of self.old))
+            (TakesReady (slots_of self.old) (slots_of self.new)) }
+        ensures now_taken { IfSome result (λ conn. TakenAt (states (slots_of self.new)) (slot_of conn)) }
+        ensures log { log_of self.new ≡ log_of self.old }
+        ensures talks { IfSome result (λ conn.
+            KeepsTalks (told_at talk (slots_of self.old) []) (told_at talk (slots_of self.new) (conn ∷ [])) []) }
+        ensures dropped { SparesDropped (states (slots_of self.old)) (states (slots_of self.new)) [] }
+    {
+        let at = first_ready(self.slots.as_slice())?;
+        let empty = Slot::Taken(List::new(self.slots.allocator()));
+        match self.slots.replace(at, empty) {
+            Slot::Ready(name, link) => {
+                self.slots.set(at, Slot::Taken(name));
+                Some(Conn {
+                    slot: at as u32,
+                    link,
+                })
+            }
+            _ => unreachable!(),
+        }
+    }
+
+    /// Asks the server of a connection, and logs the request with its reply.
+    ///
+    /// There is room for both before the link is asked. After want of memory the link was not asked, or had none
+    /// itself.
+    pub fn ask(&mut self, conn: &mut Conn, request: Request) -> Result<(), OutOfMemory>
+        requires taken { TakenAt (states (slots_of self.old)) (slot_of conn.old) }
+        requires asks { IsAsk request }
+        ensures slots { slots_of self.new ≡ slots_of self.old }
+        ensures slot { slot_of conn.new ≡ slot_of conn.old }
+        ensures still_taken { TakenAt (states (slots_of self.new)) (slot_of conn.new) }
+        ensures ok { OnOk result (AsksOnce talk faults request (log_of self.old) conn.old (log_of self.new) conn.new) }
+        ensures err { OnErr result (log_of self.new ≡ log_of self.old) }
+        ensures unasked { OnErr result (talk (link_of conn.new) ≡ talk (link_of conn.old)) }
+        ensures later { faults (link_of conn.old) ≤ faults (link_of conn.new) }
+
+        // The same as one of many asks, and what follows of the talks and of the slots.
+        ensures as_asks { Asks talk faults self.old conn.old self.new conn.new (growth_of (log_of self.old) (log_of self.new)) }
+        ensures talks { KeepsTalks
+            (told_at talk (slots_of self.old) (conn.old ∷ [])) (told_at talk (slots_of self.new) (conn.new ∷ []))
+            (growth_of (log_of self.old) (log_of self.new)) }
+        ensures dropped { SparesDropped (states (slots_of self.old)) (states (slots_of self.new)) (growth_of (log_of self.old) (log_of self.new)) }
+        ensures exchanged { Slots (states (slots_of self.old)) (growth_of (log_of self.old) (log_of self.new)) (states (slots_of self.new)) }
+    {
+        push_blank(&mut self.log)?;
+        match conn.exchange(request) {
+            Ok(logged) => {
+                set_last(&mut self.log, logged);
+                Ok(())
+            }
+            Err(refused) => {
+                drop_last(&mut self.log);
+                Err(refused)
+            }
+        }
+    }
+
+    /// Puts the link of a connection back into its slot, which is free again. Nothing is asked. It takes no memory.
+    pub fn give_back(&mut self, conn: Conn)
+        requires { TakenAt (states (slots_of self.old)) (slot_of conn) }
+        ensures given { GivesBack (slots_of self.old) (slots_of self.new) conn }
+        ensures log { log_of self.new ≡ log_of self.old }
+        ensures talks { KeepsTalks (told_at talk (slots_of self.old) (conn ∷ [])) (told_at talk (slots_of self.new) []) [] }
+        ensures dropped { SparesDropped (states (slots_of self.old)) (states (slots_of self.new)) [] }
+    {
+        let Conn { slot, link } = conn;
+        let at = slot as usize;
+        let empty = Slot::Taken(List::new(self.slots.allocator()));
+        match self.slots.replace(at, empty) {
+            Slot::Taken(name) => self.slots.set(at, Slot::Free(name, link)),
+            _ => unreachable!(),
+        }
+    }
+}
+
+// The number of the first slot that is ready.
+fn first_ready(slots: &[Slot]) -> Option<usize>
+    ensures first { result ≡ option_map (λ found. found.0) (ready_slot (states slots.now)) }
+    ensures within { IfSome result (λ at. at < length slots.now) }
+{
+    for (at, slot) in slots.iter().enumerate() {
+        if slot.is_ready() {
+            return Some(at);
+        }
+    }
+    None
+}
+
+// Makes room for an exchange, by one that is to be overwritten.
+fn push_blank(log: &mut List<Logged>) -> Result<(), OutOfMemory>
+    ensures ok { OnOk result ((blank : _) × (log.new ≡ log.old ++ blank ∷ [])) }
+    ensures err { OnErr result (log.new ≡ log.old) }
+{
+    log.push(Logged {
+        slot: None,
+        request: Request::Close,
+        reply: Reply::Broken,
+    })
+}
+
+// Puts an exchange in the place of the last one.
+fn set_last(log: &mut List<Logged>, logged: Logged)
+    requires { 0 < length log.old }
+    ensures { log.new ≡ slice_set log.old (length log.old - 1) logged }
+{
+    let last = log.len() - 1;
+    log.set(last, logged);
+}
+
+// Takes the last exchange away.
+fn drop_last(log: &mut List<Logged>)
+    ensures { log.new ≡ take (length log.old - 1) log.old }
+{
+    let _ = log.pop();
+}
+
+#[cfg(test)]
+mod tests {
+    use super::*;
+    use crate::mem_link::MemLink;
+    use crate::reply::Tx;
+    use ec_base::Bytes;
+    use std::test::Fail;
+
+    fn text(alloc: Global, bytes: &[u8]) -> Result<Bytes, Fail> {
+        Ok(List::from_slice(alloc, bytes)?)
+    }
+
+    fn statement(alloc: Global, bytes: &[u8]) -> Result<Request, Fail>
+        ensures { IfOk result IsAsk }
+    {
+        Ok(Request::Text {
+            text: text(alloc, bytes)?,
+            params: List::new(alloc),
+        })
+    }
+
+    #[test]
+    fn logs_what_a_connection_asks(rt: HostRuntime) -> Result<(), Fail> {
+        let alloc = rt.alloc();
+        let mut replies = List::new(alloc);
+        replies.push(Reply::Done {
+            count: Some(7),
+            tx: Tx::Active,
+        })?;
+        let link: Box<dyn Link> = Box::new(alloc, MemLink::new(alloc, replies, &[])?)?;
+        let mut rack = Rack::new(alloc);
+        assert!(rt; rack.last_reply().is_none());
+        assert!(rt; rack.add_ready(text(alloc, b"db")?, link).is_ok());
+        let first = statement(alloc, b"a")?;
+        let second = statement(alloc, b"b")?;
+        let Some(mut conn) = rack.take_ready() else {
+            return Err(Fail::new("no slot is ready"));
+        };
+        let answers = (rack.ask(&mut conn, first), rack.ask(&mut conn, second));
+        rack.give_back(conn);
+        answers.0?;
+        answers.1?;
+
+        assert_eq!(rt; rack.log().len(), 2);
+        for (at, want) in [b"a", b"b"].iter().enumerate() {
+            let Some(logged) = rack.log().get(at) else {
+                return Err(Fail::new("a short log"));
+            };
+            assert_eq!(rt; logged.slot, Some(0));
+            let Request::Text { text, .. } = &logged.request else {
+                return Err(Fail::new("another request"));
+            };
+            assert_eq!(rt; text.as_slice(), want.as_slice());
+        }
+        assert!(rt;
+            matches!(
+                rack.log().get(0),
+                Some(Logged {
+                    reply: Reply::Done { count: Some(7), .. },
+                    ..
+                })
+            )
+        );
+        assert!(rt; matches!(rack.last_reply(), Some(Reply::Broken)));
+        assert!(rt;
+            matches!(rack.slots().get(0), Some(Slot::Free(name, _)) if name.as_slice() == b"db".as_slice())
+        );
+        assert!(rt; first_ready(rack.slots().as_slice()).is_none());
+        Ok(())
+    }
+}
