@@ -1,2 +1,3 @@
 pub mod Ending
+pub mod Machine
 pub mod Statements

@@ -1,4 +1,11 @@
 //! The machine that runs a written program over a rack of links.
 
-pub mod memory;
-pub mod number;
+mod actions;
+mod library;
+mod memory;
+mod number;
+mod program;
+mod stop;
+
+pub use program::run;
+pub use stop::RunEnd;

@@ -1,0 +1,13 @@
+-- The memory at the start, and the items of a list.
+use Rattle.std.proofs.Common.{◌≡◌, ℕ, zero, suc, ◌+◌, ◌<◌, List, [], ◌∷◌, map, drop, length, get_or, drop-cons, add-one, refl, sym, ap, ◌∙◌, arith}
+use Rattle.std.specs.Prelude.{ℤ, pos}
+
+-- one more zero
+pub zeros_next : {A : Type 0} (xs : List A) (i : ℕ) → i < length xs → map (λ g. pos 0) (drop i xs) ≡ pos 0 ∷ map (λ g. pos 0) (drop (i + 1) xs)
+zeros_next [] i h = absurd (omega arith)
+zeros_next (x ∷ xs) zero h = refl
+zeros_next (x ∷ xs) (suc i) h = let e : suc i + 1 ≡ suc (i + 1) = omega arith in rw e (zeros_next xs i (omega arith))
+
+-- an item, and what is left behind it
+pub drop_item : {A : Type 0} (xs : List A) (i : ℕ) (x : A) → i < length xs → x ≡ get_or xs i x → drop i xs ≡ x ∷ drop (i + 1) xs
+drop_item xs i x h e = drop-cons xs i x h ∙ ap (λ y. y ∷ drop (suc i) xs) (sym e) ∙ ap (λ n. x ∷ drop n xs) (sym (add-one i))
