@@ -1,7 +1,15 @@
 pub mod Actions
+pub mod BuilderLemmas
+pub mod Effects
 pub mod Fields
 pub mod Library
+pub mod LineLemmas
 pub mod Memory
+pub mod NumberLemmas
+pub mod OneLineLemmas
+pub mod ReadsLemmas
+pub mod RefusalLemmas
 pub mod Sessions
-pub mod Effects
+pub mod SourceLemmas
 pub mod Statements
+pub mod TextLemmas

@@ -4,5 +4,7 @@
 mod ending;
 pub mod machine;
 pub mod message;
+mod pieces;
+pub mod source;
 
 pub use ending::{Ending, status};
