@@ -1,5 +1,9 @@
+pub mod Answers
 pub mod Ending
+pub mod Fronts
 pub mod Machine
+pub mod PartTexts
+pub mod Readable
 pub mod Reads
 pub mod Refusals
 pub mod SourceBuilder

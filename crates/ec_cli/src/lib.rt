@@ -1,10 +1,14 @@
 //! The tool as one call over a source, two sinks and a rack of links.
 #![tactic(auto)]
 
+mod command;
 mod ending;
-pub mod machine;
-pub mod message;
+mod machine;
+mod message;
 mod pieces;
-pub mod source;
+mod source;
+mod tool;
+mod written;
 
 pub use ending::{Ending, status};
+pub use tool::ec_main;

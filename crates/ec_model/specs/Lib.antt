@@ -9,3 +9,4 @@ pub mod WrittenText
 pub mod WrittenMeaning
 pub mod Simulation
 pub mod Run
+pub mod Headline

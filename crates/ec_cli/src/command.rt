@@ -1,0 +1,127 @@
+//! The command `run`: a source is read, written as C, read back and run.
+ghost use Rattle.std.specs.Prelude.{◌≡◌, ◌+◌, ◌≤◌, ◌<◌, ◌^◌, ◌↔◌, IsTrue, codes, length, IfOk, IfErr};
+ghost use Rattle.std.specs.String.{string_bytes};
+ghost use Rattle.ec_model.specs.Source.{IsValid, IsSource};
+ghost use Rattle.ec_model.specs.Written.{written};
+ghost use Rattle.ec_cli.specs.Refusals as text_refusal;
+ghost use Rattle.ec_cli.specs.Answers.{IsRun, IsOfRun, Answers, Ran, Led, refusal_of, ending_of};
+
+use crate::ending::Ending;
+use crate::machine::{RunEnd, run};
+use crate::source::read_source;
+use crate::written::read::read_written;
+use crate::written::write::write;
+use ec_base::{Bytes, LimitKind, OutOfMemory, ReadStop, Sink, Source as Input, Stop, read_all};
+use ec_link::{Link, Rack};
+use ec_model::{Source, Written};
+use std::alloc::Global;
+
+/// The most bytes that an input has.
+pub const INPUT_LIMIT: usize = 1 << 24;
+
+// Whether the words are those of the command.
+fn names_run(words: &[String]) -> bool
+    ensures { IsTrue result ↔ IsRun words.now }
+{
+    words.len() == 1 && is_run(&words[0])
+}
+
+// Whether the word is that of the command.
+fn is_run(word: &String) -> bool
+    ensures { IsTrue result ↔ (string_bytes word.now ≡ codes "run") }
+{
+    word.as_str() == "run"
+}
+
+// The source in a text, which is let go.
+fn parse(alloc: Global, text: Bytes) -> Result<Source, Stop>
+    requires { length text ≤ 2 ^ 24 }
+    ensures source { IfOk result (λ p. IsSource text p) }
+    ensures bounded { IfOk result (λ p. length p.letters + length p.body + 3 < 2 ^ 31) }
+    ensures refused { IfErr result (text_refusal.IsRefusal text) }
+{
+    read_source(alloc, text.as_slice())
+}
+
+// The C program for a source, which is let go: it is written as a text, and read back from it.
+fn translate(alloc: Global, source: Source) -> Result<Written, OutOfMemory>
+    requires valid { IsValid source }
+    requires bounded { length source.letters + length source.body + 3 < 2 ^ 31 }
+    ensures { IfOk result (λ program. program ≡ written source) }
+{
+    let text = {
+        let source = source;
+        write(alloc, &source)?
+    };
+    match read_written(alloc, text.as_slice())? {
+        Some(program) => Ok(program),
+        None => unreachable!(),
+    }
+}
+
+// The ending of a text that is refused.
+fn refusal(stop: Stop) -> Ending
+    ensures { result ≡ refusal_of stop }
+{
+    match stop {
+        Stop::Refused(kind, line) => Ending::Refused(kind, line),
+        Stop::Limit(kind) => Ending::Limit(kind),
+        Stop::OutOfMemory => Ending::OutOfMemory,
+    }
+}
+
+// The ending of a run.
+fn ended(end: RunEnd) -> Ending
+    ensures { result ≡ ending_of end }
+{
+    match end {
+        RunEnd::Exited(status) => Ending::Exited(status),
+        RunEnd::WriteFault => Ending::WriteFault,
+        RunEnd::OutOfMemory => Ending::OutOfMemory,
+    }
+}
+
+// Runs a source, through the C that is written for it.
+fn run_source<O: Sink>(alloc: Global, source: Source, out: &mut O, rack: &mut Rack) -> Ending
+    requires valid { IsValid source }
+    requires bounded { length source.letters + length source.body + 3 < 2 ^ 31 }
+    ensures ran { Ran O.held O.faults (λ b. (⟦<dyn Link as Link>⟧ b.vtable).talk b.value) (λ p. p ≡ source) out.old out.new rack.old rack.new result }
+    ensures ends { IsOfRun result }
+{
+    match translate(alloc, source) {
+        Ok(program) => ended(run(alloc, &program, rack, out)),
+        Err(OutOfMemory) => Ending::OutOfMemory,
+    }
+}
+
+// Runs the source in a text.
+fn run_text<O: Sink>(alloc: Global, text: Bytes, out: &mut O, rack: &mut Rack) -> Ending
+    requires { length text ≤ 2 ^ 24 }
+    ensures { Led O.held O.faults (λ b. (⟦<dyn Link as Link>⟧ b.vtable).talk b.value) text out.old out.new rack.old rack.new result }
+{
+    match parse(alloc, text) {
+        Ok(source) => run_source(alloc, source, out, rack),
+        Err(stop) => refusal(stop),
+    }
+}
+
+/// Does what the words name, but for the last line on standard error.
+pub fn command<I: Input, O: Sink>(
+    alloc: Global,
+    words: &[String],
+    input: &mut I,
+    out: &mut O,
+    rack: &mut Rack,
+) -> Ending
+    ensures { Answers I.left I.faults O.held O.faults (λ b. (⟦<dyn Link as Link>⟧ b.vtable).talk b.value) words.now input.old input.new out.old out.new rack.old rack.new result }
+{
+    if !names_run(words) {
+        return Ending::Usage;
+    }
+    match read_all(alloc, input, INPUT_LIMIT) {
+        Ok(text) => run_text(alloc, text, out, rack),
+        Err(ReadStop::Fault) => Ending::ReadFault,
+        Err(ReadStop::TooLong) => Ending::Limit(LimitKind::L6),
+        Err(ReadStop::OutOfMemory) => Ending::OutOfMemory,
+    }
+}

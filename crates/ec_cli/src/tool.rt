@@ -1,0 +1,74 @@
+//! The top call.
+ghost use Rattle.std.specs.Prelude.{◌≡◌, ◌⊎◌, ◌↔◌, ◌++◌, ℕ, List, Some};
+ghost use Rattle.ec_base.specs.declared.fault.FaultKind.{FaultKind};
+ghost use Rattle.ec_base.specs.declared.fault.LimitKind.{LimitKind};
+ghost use Rattle.ec_base.specs.declared.fault.LimitKind.TheVariants.{L6};
+ghost use Rattle.ec_base.specs.declared.line.Line.{Line};
+ghost use Rattle.ec_base.specs.Causes.{Rose};
+ghost use Rattle.ec_link.specs.Rack.{slots_of, log_of};
+ghost use Rattle.ec_link.specs.Slot.{states, talk_at};
+ghost use Rattle.ec_link.specs.Told.{KeepsTalks, SparesDropped};
+ghost use Rattle.ec_model.specs.Headline.{RunsWhole, RunsPart, RefusesAt, IsTooLong};
+ghost use Rattle.ec_cli.specs.Answers.{IsRun, IsRefusal, IsOwn, Decides, Announces, RanPart, grown};
+ghost use Rattle.ec_cli.specs.Ending.{last_line};
+ghost use Rattle.ec_cli.specs.Machine.{RunsOver};
+
+use crate::command::command;
+use crate::ending::Ending;
+use crate::message::put_last_line;
+use ec_base::{Sink, Source};
+use ec_link::{Link, Rack};
+use std::alloc::Global;
+
+/// Does what the words name, and puts a last line on `err` where the ending has one.
+///
+/// The one command is `run`, without further words: the source that `input` gives is written as C, read back, and run
+/// over the first ready slot of the rack, if it has one. The program prints on `out`.
+///
+/// A fault while the last line is put changes no ending.
+pub fn ec_main<I: Source, O: Sink, E: Sink>(
+    alloc: Global,
+    words: &[String],
+    input: &mut I,
+    out: &mut O,
+    err: &mut E,
+    rack: &mut Rack,
+) -> Ending
+    // A run to its end is the whole of what the source means, over the answers that the log got in this call.
+    ensures whole { (status : ℕ) → result ≡ Ending.Exited status →
+        RunsWhole (I.left input.old) (I.left input.new) (O.held out.old) (O.held out.new) (states (slots_of rack.old)) (grown rack.old rack.new) status }
+
+    // A run that stopped is a part of it, and want of memory may also come before anything was done.
+    ensures part { result ≡ Ending.WriteFault → RanPart I.left I.faults O.held O.faults (λ b. (⟦<dyn Link as Link>⟧ b.vtable).talk b.value) input.old input.new out.old out.new rack.old rack.new }
+    ensures want { result ≡ Ending.OutOfMemory →
+        ((rack.new ≡ rack.old) × (out.new ≡ out.old))
+        ⊎ RanPart I.left I.faults O.held O.faults (λ b. (⟦<dyn Link as Link>⟧ b.vtable).talk b.value) input.old input.new out.old out.new rack.old rack.new }
+
+    // The slots go through the log: the ready one is taken, and free again at the end.
+    ensures slots { (status : ℕ) → result ≡ Ending.Exited status → RunsOver (states (slots_of rack.old)) (grown rack.old rack.new) (states (slots_of rack.new)) }
+
+    // A link that tells its talk says what the log says of its slot.
+    ensures talks { KeepsTalks (talk_at (λ b. (⟦<dyn Link as Link>⟧ b.vtable).talk b.value) (slots_of rack.old)) (talk_at (λ b. (⟦<dyn Link as Link>⟧ b.vtable).talk b.value) (slots_of rack.new)) (grown rack.old rack.new) }
+    ensures dropped { SparesDropped (states (slots_of rack.old)) (states (slots_of rack.new)) (grown rack.old rack.new) }
+    ensures logged { log_of rack.new ≡ log_of rack.old ++ grown rack.old rack.new }
+
+    // A refusal touches nothing.
+    ensures untouched { IsRefusal result → (rack.new ≡ rack.old) × (out.new ≡ out.old) }
+
+    // When each answer comes.
+    ensures own { IsOwn result }
+    ensures usage { (result ≡ Ending.Usage) ↔ (IsRun words.now → ⊥) }
+    ensures refused { (kind : FaultKind) (line : Line) → result ≡ Ending.Refused kind line → RefusesAt (I.left input.old) (I.left input.new) kind line.0 }
+    ensures limit { result ≡ Ending.Limit L6 → IsTooLong (I.left input.old) (I.left input.new) }
+    ensures read_fault { result ≡ Ending.ReadFault → Rose (I.faults input.old) (I.faults input.new) }
+    ensures write_fault { result ≡ Ending.WriteFault → Rose (O.faults out.old) (O.faults out.new) }
+    ensures decides { (text : List ℕ) → IsRun words.now → I.left input.old ≡ Some text
+        → (Rose (I.faults input.old) (I.faults input.new) → ⊥) → (Rose (O.faults out.old) (O.faults out.new) → ⊥) → Decides text result }
+
+    // The last line, whole, or in part where the count of `err` rose.
+    ensures last_line { Announces E.held E.faults err.old err.new (last_line result) }
+{
+    let ending = command(alloc, words, input, out, rack);
+    let _ = put_last_line(err, &ending);
+    ending
+}
