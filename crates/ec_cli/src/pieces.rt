@@ -9,7 +9,7 @@ ghost use Rattle.ec_cli.specs.Reads.{ReadsAs, IsAny, IsLower, letter_text, text_
 
 use ec_model::Letter;
 
-/// What stands in `line` between `prefix` and `suffix`, where it begins with the one and ends with the other behind it.
+/// What stands in `line` between `prefix` and `suffix`, if it begins with the one and ends with the other behind it.
 pub fn between<'a>(line: &'a [u8], prefix: &[u8], suffix: &[u8]) -> Option<&'a [u8]>
     ensures { ReadsAs (option_copied result) IsAny (text_between prefix.now (λ m. m) suffix.now) line.now }
 {

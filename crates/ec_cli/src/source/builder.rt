@@ -63,6 +63,8 @@ impl SourceBuilder {
     }
 
     /// Takes the next line, if some source goes on with it, and answers whether one does.
+    ///
+    /// What the builder holds behind a `false` or an error is left open.
     pub fn take(&mut self, line: SourceLine) -> Result<bool, OutOfMemory>
         requires sound { IsSound self.old }
         requires possible { IsLine (line_of line) }
@@ -89,7 +91,9 @@ impl SourceBuilder {
         }
     }
 
-    /// Reads the next line of a text, and takes it if some source goes on with it. Answers whether one does.
+    /// Reads the next line of a text and takes it, if some source goes on with it, and answers whether one does.
+    ///
+    /// What the builder holds behind a `false` or an error is left open.
     pub fn take_text(&mut self, alloc: Global, text: &[u8]) -> Result<bool, OutOfMemory>
         requires { IsSound self.old }
         ensures { IfOk result (λ taken. MatchBool taken
@@ -102,6 +106,7 @@ impl SourceBuilder {
         }
     }
 
+    /// `take` of a declaration, where one can stand.
     fn declare(&mut self, letter: Letter) -> Result<bool, OutOfMemory>
         requires sound { IsSound self.old }
         requires stage { self.old.stage ≡ Stage.Declarations }
@@ -117,6 +122,7 @@ impl SourceBuilder {
         Ok(true)
     }
 
+    /// `take` of a statement, where one can stand.
     fn add(&mut self, added: Statement) -> Result<bool, OutOfMemory>
         requires sound { IsSound self.old }
         requires stage { self.old.stage ≡ Stage.Body }

@@ -20,8 +20,8 @@ fn refused_behind(lines: u32) -> Stop
 
 /// The source that has this text.
 ///
-/// A text that is no source is refused with `F9`, at the first line up to which some source has the same lines and with
-/// which none goes on. The end of a text counts as a line.
+/// A text that is no source is refused with `F9`, at its first line with which no source goes on. Its end counts as a
+/// line too, and so do bytes behind its last newline. The other error is want of memory.
 pub fn read_source(alloc: Global, text: &[u8]) -> Result<Source, Stop>
     requires { length text.now ≤ 2 ^ 24 }
     ensures source { IfOk result (λ p. IsSource text.now p) }
