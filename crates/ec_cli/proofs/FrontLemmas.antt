@@ -1,6 +1,6 @@
 -- Readers of fronts, one after the other.
-use Rattle.std.proofs.Common.{◌≡◌, ℕ, suc, get_or, ◌+◌, ◌<◌, ◌≤◌, Bool, true, false, cond, List, [], ◌∷◌, ◌++◌, length, take, drop, eqb, ltb, not, Option, None, Some, MatchOption, unwrap_or, IsTrue, refl, sym, ◌∙◌, ap, subst, eqb-true, arith, append_assoc, codes}
-use Rattle.std.specs.List.{AllByRecursion, position_or_len, prefix_len, slice_split, onto_first}
+use Rattle.std.proofs.Common.{◌≡◌, ℕ, suc, get_or, ◌+◌, ◌<◌, ◌≤◌, Bool, true, false, cond, List, [], ◌∷◌, ◌++◌, length, take, drop, eqb, ltb, not, Option, None, Some, MatchOption, unwrap_or, refl, sym, ◌∙◌, ap, subst, eqb-true, arith, append_assoc}
+use Rattle.std.specs.List.{AllByRecursion, position_or_len, slice_split, onto_first}
 use Rattle.std.specs.Fmt.{decimal}
 use Rattle.std.specs.Char.{is_ascii_alphanumeric}
 use Rattle.std.specs.Option.{option_copied, option_map}

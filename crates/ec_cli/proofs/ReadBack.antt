@@ -1,5 +1,5 @@
 -- A written program, put together from all that was read.
-use Rattle.std.proofs.Common.{◌≡◌, ℕ, List, [], ◌∷◌, ◌++◌, Option, None, Some, IfSome, length, take, drop, get_or, eqb, eq-eqb, codes, refl, sym, ◌∙◌, ap, append_assoc, eqb-true, false, true}
+use Rattle.std.proofs.Common.{◌≡◌, ℕ, List, [], ◌∷◌, ◌++◌, None, Some, length, take, drop, get_or, eqb, eq-eqb, codes, refl, sym, ◌∙◌, ap, append_assoc, eqb-true, false, true}
 use Rattle.std.specs.Fmt.{decimal}
 use Rattle.std.specs.List.{flat_map, position_or_len}
 use Rattle.std.proofs.lemmas.List.{append-nil, append_cancel_left, nil_from_length}
@@ -15,7 +15,7 @@ use Rattle.ec_model.specs.Lines.{unlines}
 use Rattle.ec_model.specs.Source.{IsNumber}
 use Rattle.ec_model.specs.WrittenText.{line_mark, global_lines, statement_lines, written_text}
 use Rattle.ec_cli.specs.Fronts.{ReadsFront, ReadsFixed, ReadsAll, is_no_digit}
-use Rattle.ec_cli.specs.PartTexts.{header_text, mark_text, global_text, opening_text, action_text, statement_text, ending_text, call_lines_text}
+use Rattle.ec_cli.specs.PartTexts.{header_text, global_text, opening_text, action_text, statement_text, ending_text}
 use Rattle.ec_cli.specs.Readable.{IsReadableLine, IsReadableGlobal, IsReadableStatement, IsReadable}
 use Rattle.ec_cli.proofs.FrontLemmas.{cut_parts, number_is_digits}
 use Rattle.ec_cli.proofs.Walk.{unlines-append, written_text-parts}
@@ -62,9 +62,9 @@ behind_marks l m xs ys fits-l fits-m same =
 pub opening_no_global : (l : Line) (rest : List ℕ) → IsReadableLine l → ReadsFront None IsReadableGlobal global_text (opening_text l ++ rest)
 opening_no_global l rest fits = record {
   exact = λ f ok same.
-    let behind = behind_marks l f.0.line (codes "int main(void)\n{\n" ++ rest) (codes "int " ++ (f.0.letter.0 ∷ codes ";\n" ++ f.1)) fits ok.line
-        (sym (append_assoc (line_mark l) (10 ∷ codes "int main(void)\n{\n") rest) ∙ same ∙ append_assoc (line_mark f.0.line) (10 ∷ codes "int " ++ (f.0.letter.0 ∷ codes ";\n")) f.1) in
-    differ 97 59 refl (ap (λ (z : List ℕ). get_or z 5 0) behind);
+      let behind = behind_marks l f.0.line (codes "int main(void)\n{\n" ++ rest) (codes "int " ++ (f.0.letter.0 ∷ codes ";\n" ++ f.1)) fits ok.line
+      (sym (append_assoc (line_mark l) (10 ∷ codes "int main(void)\n{\n") rest) ∙ same ∙ append_assoc (line_mark f.0.line) (10 ∷ codes "int " ++ (f.0.letter.0 ∷ codes ";\n")) f.1) in
+      differ 97 59 refl (ap (λ (z : List ℕ). get_or z 5 0) behind);
 }
 
 action_no_return : (l : Line) (a : Action) (xs ys : List ℕ) → codes "re" ++ xs ≡ action_text l a ++ ys → ⊥
@@ -75,9 +75,9 @@ action_no_return l (action.Call c) xs ys same = differ 101 10 refl (ap (λ (z : 
 pub ending_no_statement : (l : Line) (n : ℕ) → IsReadableLine l → ReadsFront None IsReadableStatement statement_text (ending_text (l, n))
 ending_no_statement l n fits = record {
   exact = λ f ok same.
-    let behind = behind_marks l f.0.line ((codes "return " ++ decimal n ++ codes ";") ++ codes "\n}\n") (action_text f.0.line f.0.action ++ f.1) fits ok.line
-        (same ∙ append_assoc (line_mark f.0.line) (10 ∷ action_text f.0.line f.0.action) f.1) in
-    action_no_return f.0.line f.0.action (codes "turn " ++ decimal n ++ codes ";" ++ codes "\n}\n") f.1 behind;
+      let behind = behind_marks l f.0.line ((codes "return " ++ decimal n ++ codes ";") ++ codes "\n}\n") (action_text f.0.line f.0.action ++ f.1) fits ok.line
+      (same ∙ append_assoc (line_mark f.0.line) (10 ∷ action_text f.0.line f.0.action) f.1) in
+      action_no_return f.0.line f.0.action (codes "turn " ++ decimal n ++ codes ";" ++ codes "\n}\n") f.1 behind;
 }
 
 -- ---- what a program that the text is the text of has to do with what was read
@@ -140,8 +140,9 @@ same_program q globals main_line body status_line status a b c d e = sym (
 pub whole_program : {text a b c d z : List ℕ} {globals : List Global} {l m : Line} {body : List WrittenStatement} {n : ℕ} → ReadsFixed (Some a) header_text text → ReadsAll IsReadableGlobal global_text a globals b
     → ReadsFront (Some (l, c)) IsReadableLine opening_text b → ReadsAll IsReadableStatement statement_text c body d → ReadsFront {A = Line × ℕ} (Some ((m, n), z)) (λ e. IsReadableLine e.0 × IsNumber e.1) ending_text d
     → z ≡ [] → IsReadable (record { globals = globals; main_line = l; body = body; status_line = m; status = n }) × (text ≡ written_text (record { globals = globals; main_line = l; body = body; status_line = m; status = n }))
-whole_program {globals = gs} {l = l} {m = m} {body = ss} {n = n} header globals opening body ending end =
-    (record { globals = globals.exact.0.0; main_line = opening.exact.0; body = body.exact.0.0; status_line = ending.exact.0.0; status = ending.exact.0.1 },
-        header.exact.1 ∙ ap (λ r. header_text ++ r) (globals.exact.1 ∙ ap (λ r. flat_map global_text gs ++ r) (opening.exact.1 ∙ ap (λ r. opening_text l ++ r) (body.exact.1 ∙ ap (λ r. flat_map statement_text ss ++ r)
-            (ending.exact.1 ∙ ap (λ r. ending_text (m, n) ++ r) end ∙ append-nil (ending_text (m, n))))))
-        ∙ sym (written_text-run (record { globals = gs; main_line = l; body = ss; status_line = m; status = n })))
+whole_program {globals = gs} {l = l} {m = m} {body = ss} {n = n} header globals opening body ending end = (
+  record { globals = globals.exact.0.0; main_line = opening.exact.0; body = body.exact.0.0; status_line = ending.exact.0.0; status = ending.exact.0.1 },
+  header.exact.1 ∙ ap (λ r. header_text ++ r) (globals.exact.1 ∙ ap (λ r. flat_map global_text gs ++ r) (opening.exact.1 ∙ ap (λ r. opening_text l ++ r) (body.exact.1 ∙ ap (λ r. flat_map statement_text ss ++ r)
+      (ending.exact.1 ∙ ap (λ r. ending_text (m, n) ++ r) end ∙ append-nil (ending_text (m, n))))))
+      ∙ sym (written_text-run (record { globals = gs; main_line = l; body = ss; status_line = m; status = n })),
+)

@@ -8,7 +8,7 @@ use Rattle.ec_model.specs.Lines.{unlines}
 use Rattle.ec_model.specs.Written.{at_line, written_globals, written_action, written_body}
 use Rattle.std.specs.Fmt.{decimal}
 use Rattle.ec_model.specs.declared.written.Written.{Written}
-use Rattle.ec_cli.specs.PartTexts.{header_text, global_text, opening_text, statement_text, ending_text}
+use Rattle.ec_cli.specs.PartTexts.{header_text, opening_text, ending_text}
 use Rattle.ec_model.specs.WrittenText.{line_mark, global_lines, statement_lines, written_text}
 
 -- the text of these lines and of those behind them

@@ -1,10 +1,9 @@
 -- The parts of a written program, put together from what was read one after the other.
-use Rattle.std.proofs.Common.{◌≡◌, ℕ, List, [], ◌∷◌, ◌++◌, Option, codes, None, Some, Bool, true, false, get_or, eqb, eqb-true, eq-eqb, refl, sym, ◌∙◌, ap, subst, append_assoc}
+use Rattle.std.proofs.Common.{◌≡◌, ℕ, List, [], ◌∷◌, ◌++◌, Option, codes, None, Some, true, false, get_or, eqb, eqb-true, eq-eqb, refl, sym, ◌∙◌, ap, subst, append_assoc}
 use Rattle.std.specs.Fmt.{decimal}
 use Rattle.std.specs.Option.{option_map}
 use Rattle.ec_base.specs.declared.line.Line.{Line}
 use Rattle.ec_model.specs.declared.source.Letter.{Letter}
-use Rattle.ec_model.specs.declared.written.Global.{Global}
 use Rattle.ec_model.specs.Source.{IsNumber}
 use Rattle.ec_model.specs.Written.{at_line}
 use Rattle.ec_model.specs.WrittenText.{line_mark}

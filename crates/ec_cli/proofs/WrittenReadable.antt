@@ -1,13 +1,13 @@
 -- What is written for a valid source can be read back.
-use Rattle.std.proofs.Common.{◌≡◌, ℕ, suc, ◌+◌, ◌^◌, ◌<◌, Bool, true, false, List, [], ◌∷◌, ◌||◌, length, eqb, eqb-true, refl, sym, subst, arith}
-use Rattle.std.specs.List.{AllByRecursion, list_any}
+use Rattle.std.proofs.Common.{◌≡◌, ℕ, ◌+◌, ◌^◌, ◌<◌, Bool, true, false, List, [], ◌∷◌, ◌||◌, length, eqb, eqb-true, refl, subst, arith}
+use Rattle.std.specs.List.{AllByRecursion}
 use Rattle.std.specs.Char.{is_ascii_lowercase}
 use Rattle.std.proofs.lemmas.Bool.{false≢true}
 use Rattle.ec_model.specs.declared.source.Letter.{Letter}
 use Rattle.ec_model.specs.declared.source.Statement.{Statement}
 use Rattle.ec_model.specs.declared.source.Statement.TheVariants.{Assign, Select, Print}
 use Rattle.ec_model.specs.declared.source.Source.{Source}
-use Rattle.ec_model.specs.Source.{is_among, IsNumber, IsValid, IsValidStatement}
+use Rattle.ec_model.specs.Source.{is_among, IsValid, IsValidStatement}
 use Rattle.ec_model.specs.Written.{written, written_globals, written_action, written_body}
 use Rattle.ec_cli.specs.Reads.{IsLower}
 use Rattle.ec_cli.specs.Readable.{IsReadable, IsReadableAction, IsReadableGlobal, IsReadableStatement}
@@ -19,6 +19,7 @@ lower_among x (y ∷ letters) lower among = at (eqb y.0 x.0) refl among (lower_a
   where
     IsLowerByte : ℕ → Type 0
     IsLowerByte b = is_ascii_lowercase b ≡ true
+
     at : (b : Bool) → eqb y.0 x.0 ≡ b → (b || is_among x letters) ≡ true → (is_among x letters ≡ true → IsLower x) → IsLower x
     at true same among rest = subst IsLowerByte (eqb-true y.0 x.0 same) lower.0
     at false other among rest = rest among

@@ -1,9 +1,6 @@
 -- Which written programs can be read back from their text.
-use Rattle.std.specs.Prelude.{◌≡◌, ℕ, List, [], ◌∷◌, ◌++◌, codes, true}
-use Rattle.std.specs.Fmt.{decimal}
 use Rattle.std.specs.List.{AllByRecursion}
 use Rattle.ec_base.specs.declared.line.Line.{Line}
-use Rattle.ec_model.specs.declared.source.Letter.{Letter}
 use Rattle.ec_model.specs.declared.written.Global.{Global}
 use Rattle.ec_model.specs.declared.written.Symbol.TheVariants.{Int}
 use Rattle.ec_model.specs.declared.written.Call.{Call}
@@ -12,11 +9,9 @@ use Rattle.ec_model.specs.declared.written.Action.TheVariants.{Store, Print}
 use Rattle.ec_model.specs.declared.written.Action.TheVariants as action
 use Rattle.ec_model.specs.declared.written.WrittenStatement.{WrittenStatement}
 use Rattle.ec_model.specs.declared.written.Written.{Written}
-use Rattle.ec_model.specs.Lines.{unlines}
 use Rattle.ec_model.specs.Source.{IsNumber}
 use Rattle.ec_model.specs.Written.{at_line}
-use Rattle.ec_model.specs.WrittenText.{line_mark, call_text, action_lines, global_lines, statement_lines}
-use Rattle.ec_cli.specs.Reads.{IsLower, letter_text}
+use Rattle.ec_cli.specs.Reads.{IsLower}
 use Rattle.ec_cli.specs.Fronts.{IsQuery}
 use Rattle.ec_cli.specs.declared.written.read.Host.{Host}
 use Rattle.ec_cli.specs.declared.written.read.Site.{Site}

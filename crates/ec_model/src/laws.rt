@@ -1,9 +1,18 @@
 //! What holds of every program, each as the contract of a function that does nothing.
 
 ghost use Rattle.ec_model.specs.Simulation.{WrittenMeansTheSame};
+ghost use Rattle.std.specs.Prelude.{◌≡◌};
+ghost use Rattle.ec_model.specs.Written.{written};
+ghost use Rattle.ec_model.specs.WrittenText.{written_text};
+ghost use Rattle.ec_model.specs.WrittenExample.{example_source, example_text};
 
 /// The written program means what the source means, for every source, every connection or none, and every list of
 /// answers: the same is said to the server and printed, the globals are the same at the end, and it ends the same.
 pub fn written_program_means_the_same()
     ensures { WrittenMeansTheSame }
+{}
+
+/// A worked example, byte for byte: what is written for one SELECT into a global and a `printf` of it.
+pub fn written_example()
+    ensures { written_text (written example_source) ≡ example_text }
 {}

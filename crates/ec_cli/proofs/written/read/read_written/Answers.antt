@@ -1,4 +1,4 @@
-use Rattle.std.proofs.Common.{◌≡◌, Some, ap, sym, ◌∙◌}
+use Rattle.std.proofs.Common.{Some, ap, sym, ◌∙◌}
 use Rattle.ec_cli.proofs.ReadBack.{no_header, no_opening, no_ending, left_globals, left_opening, left_body, left_ending, something_left, nothing_left, same_program, whole_program}
 use Rattle.ec_cli.proofs.written.read.read_written.Goals as goal
 
@@ -24,7 +24,7 @@ returns-clause-read c = λ q ok same.
     let body = left_body q ok same c.in-Some.ensures c.in_ok-globals.ensures c.in-Some-opening_at.ensures c.in_ok-body.ensures in
     let end = left_ending q ok same c.in-Some.ensures c.in_ok-globals.ensures c.in-Some-opening_at.ensures c.in_ok-body.ensures c.in-Some-ending_at.ensures in
     ap (λ p. Some p) (same_program q c.in_ok-globals.globals c.in-Some-opening_at.main_line c.in_ok-body.body c.in-Some-ending_at.status_line c.in-Some-ending_at.status
-        (ap (λ p. p.0) globals) (ap (λ p. p.0) opening) (ap (λ p. p.0) body) (ap (λ p. p.0.0) end) (ap (λ p. p.0.1) end))
+    (ap (λ p. p.0) globals) (ap (λ p. p.0) opening) (ap (λ p. p.0) body) (ap (λ p. p.0.0) end) (ap (λ p. p.0.1) end))
 
 pub returns-clause-found : goal.returns-clause-found
 returns-clause-found c =
