@@ -2,7 +2,7 @@
 use Rattle.std.specs.Prelude.{◌≡◌, ℕ, List, ◌++◌, Option}
 use Rattle.std.specs.Io.KnownBytes.{Appends}
 use Rattle.ec_link.specs.declared.logged.Logged.{Logged}
-use Rattle.ec_model.specs.Observed.{Observed, Ending, exits}
+use Rattle.ec_model.specs.Observed.{Observed, exits}
 
 -- some bytes or exchanges are the front of others
 pub record IsFront {A : Type 0} (front whole : List A) : Type 0 where
