@@ -2,6 +2,7 @@
 ghost use Rattle.std.specs.Prelude.{◌≡◌, ◌+◌, ◌^◌, ◌<◌, [], ◌∷◌, ◌++◌, length, codes, IfOk, OnOk};
 ghost use Rattle.std.specs.List.{flat_map};
 ghost use Rattle.std.specs.Fmt.{decimal};
+ghost use Rattle.ec_base.specs.declared.line.Line.{Line};
 ghost use Rattle.ec_model.specs.Lines.{unlines};
 ghost use Rattle.ec_model.specs.Written.{at_line, written_globals, written_action, written_body, written};
 ghost use Rattle.ec_model.specs.WrittenText.{call_text, global_lines, statement_lines, written_text};
@@ -43,8 +44,8 @@ fn push_global(out: &mut Bytes, line: Line, letter: Letter) -> Result<(), OutOfM
 }
 
 /// Puts `x = N;` at the end.
-fn push_store(out: &mut Bytes, line: Line, letter: Letter, n: u32) -> Result<(), OutOfMemory>
-    ensures { OnOk result (out.new ≡ out.old ++ action_text line (action.Store letter n)) }
+fn push_store(out: &mut Bytes, letter: Letter, n: u32) -> Result<(), OutOfMemory>
+    ensures { (line : Line) → OnOk result (out.new ≡ out.old ++ action_text line (action.Store letter n)) }
 {
     out.push(letter.0)?;
     out.extend_from_slice(b" = ")?;
@@ -53,8 +54,8 @@ fn push_store(out: &mut Bytes, line: Line, letter: Letter, n: u32) -> Result<(),
 }
 
 /// Puts a call of `printf` at the end.
-fn push_print(out: &mut Bytes, line: Line, letter: Letter) -> Result<(), OutOfMemory>
-    ensures { OnOk result (out.new ≡ out.old ++ action_text line (action.Print letter)) }
+fn push_print(out: &mut Bytes, letter: Letter) -> Result<(), OutOfMemory>
+    ensures { (line : Line) → OnOk result (out.new ≡ out.old ++ action_text line (action.Print letter)) }
 {
     out.extend_from_slice(b"printf(\"%d\\012\", ")?;
     out.push(letter.0)?;
@@ -93,9 +94,9 @@ fn push_statement(out: &mut Bytes, line: Line, statement: &Statement) -> Result<
 {
     push_mark(out, line)?;
     match statement {
-        Statement::Assign(letter, n) => push_store(out, line, *letter, *n),
+        Statement::Assign(letter, n) => push_store(out, *letter, *n),
         Statement::Select(words, letter) => push_select(out, line, words.as_slice(), *letter),
-        Statement::Print(letter) => push_print(out, line, *letter),
+        Statement::Print(letter) => push_print(out, *letter),
     }
 }
 
