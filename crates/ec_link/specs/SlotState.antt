@@ -39,10 +39,6 @@ ready_slot (_ ∷ slots) = option_map (λ found. (found.0 + 1, found.1)) (ready_
 abbrev pub TakenAt : List SlotState → ℕ → Type 0
 TakenAt slots i = (name : List ℕ) × (slice_get slots i ≡ Some (taken name))
 
--- slot i is dropped
-abbrev pub DroppedAt : List SlotState → ℕ → Type 0
-DroppedAt slots i = (name : List ℕ) × (slice_get slots i ≡ Some (dropped name))
-
 -- What one exchange needs of the slots, and what it makes of them. A Connect stands at the first slot that is free for
 -- its target, and takes it exactly where it is answered by Connected. It stands at no slot, and is answered by NoTarget,
 -- exactly where no slot is free for its target. A Close stands at a taken slot and drops it. Every other exchange

@@ -70,14 +70,16 @@ impl Table {
 
     /// The columns.
     pub fn cols(&self) -> &List<Col>
-        ensures { result.now ≡ self.now.cols }
+        ensures value { result.now ≡ self.now.cols }
+        ensures rectangular { IsRectangular self.now.cols self.now.rows }
     {
         &self.cols
     }
 
     /// The rows.
     pub fn rows(&self) -> &List<Row>
-        ensures { result.now ≡ self.now.rows }
+        ensures value { result.now ≡ self.now.rows }
+        ensures rectangular { IsRectangular self.now.cols self.now.rows }
     {
         &self.rows
     }
