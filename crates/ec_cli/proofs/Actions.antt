@@ -11,11 +11,10 @@ use Rattle.ec_model.specs.declared.written.Call.{Call}
 use Rattle.ec_model.specs.declared.written.Pointer.{Pointer}
 use Rattle.ec_model.specs.declared.written.Action.{Action}
 use Rattle.ec_model.specs.declared.written.Action.TheVariants as action
-use Rattle.ec_model.specs.Observed.{Answer, Ending, exits, Observed}
-use Rattle.ec_model.specs.Run.{IsFront}
-use Rattle.ec_model.specs.WrittenMeaning.{Machine, Outcome, on, waiting, act, address, load, store, called, assigned, call_request, store_reply, seen}
-use Rattle.ec_cli.specs.Statements.{output_of, said_of, Does, Begins}
-use Rattle.ec_cli.proofs.Statements.{Grows, act_grows, IsFront-trans, IsFront-inside, IsFront-refl}
+use Rattle.ec_model.specs.Observed.{Answer}
+use Rattle.ec_model.specs.WrittenMeaning.{Machine, on, address, load, store, assigned, call_request, store_reply}
+use Rattle.ec_cli.specs.Statements.{Does, Begins}
+use Rattle.ec_cli.proofs.Statements.{act_grows, IsFront-inside, IsFront-refl}
 
 -- the machine with other memory, output and conversation, and these answers
 abbrev machine : List ℤ → List ℕ → List Logged → List Answer → Machine

@@ -1,20 +1,13 @@
 -- From a run of a written program to what is promised of a call of the tool.
-use Rattle.std.proofs.Common.{◌≡◌, ℕ, ◌+◌, ◌<◌, ◌≤◌, ◌^◌, List, [], ◌∷◌, ◌++◌, length, map, refl, sym, ap, ◌∙◌, subst, arith, Option, None, Some, inl, inr, length-append}
+use Rattle.std.proofs.Common.{◌≡◌, ℕ, ◌+◌, ◌≤◌, ◌^◌, List, [], ◌∷◌, ◌++◌, length, refl, ap, ◌∙◌, subst, arith, Option, inl, inr}
 use Rattle.std.specs.Prelude.{String, option_map, ◌⊎◌, ◌%◌, All}
 use Rattle.std.specs.List.{AllByRecursion}
-use Rattle.std.specs.String.{string_bytes}
 use Rattle.std.proofs.lemmas.List.Elements.{All-from_recursion}
 use Rattle.std.specs.declared.alloc.Global.{Global as Allocator}
 use Rattle.std.specs.declared.dyn_box.DynBox.{DynBox}
-use Rattle.ec_base.specs.declared.fault.FaultKind.{FaultKind}
-use Rattle.ec_base.specs.declared.fault.FaultKind.TheVariants.{F9}
-use Rattle.ec_base.specs.declared.fault.LimitKind.{LimitKind}
-use Rattle.ec_base.specs.declared.fault.LimitKind.TheVariants.{L6}
-use Rattle.ec_base.specs.declared.line.Line.{Line}
-use Rattle.ec_base.specs.declared.stop.ReadStop.TheVariants.{TooLong}
 use Rattle.ec_base.specs.Causes.{Rose}
-use Rattle.ec_base.specs.Reading.{ReadsAll, ReadsPart}
-use Rattle.ec_base.proofs.Transfers.{ReadsAll-text, ReadsPart-long}
+use Rattle.ec_base.specs.Reading.{ReadsAll}
+use Rattle.ec_base.proofs.Transfers.{ReadsAll-text}
 use Rattle.ec_link.specs.declared.rack.Rack.{Rack}
 use Rattle.ec_link.specs.Logged.{Talk, growth_of}
 use Rattle.ec_link.specs.Rack.{slots_of, log_of}
@@ -29,8 +22,7 @@ use Rattle.ec_model.specs.declared.written.WrittenStatement.{WrittenStatement}
 use Rattle.ec_model.specs.declared.written.Written.{Written}
 use Rattle.ec_model.specs.Direct as direct
 use Rattle.ec_model.specs.Direct.{direct_meaning}
-use Rattle.ec_model.specs.Headline.{connection_slot}
-use Rattle.ec_model.specs.Observed.{Answer, Observed, answers_in, exits, waits}
+use Rattle.ec_model.specs.Observed.{Answer, answers_in, exits}
 use Rattle.ec_model.specs.Run.{IsWhole, IsPart}
 use Rattle.ec_model.specs.Source.{IsSource, IsValidStatement}
 use Rattle.ec_model.specs.Written.{written, written_globals, written_body}
@@ -111,31 +103,43 @@ module _ {O X : Type 0} {F : X → Type 0} (held : O → Option (List ℕ)) (put
 
   -- a run of what is written for a source is a run of the source
   pub Ran-run : (p : Source) (q : Written) (out out' : O) (rack rack' : Rack X F) (end : RunEnd) → q ≡ written p
-    → ((status : ℕ) → end ≡ ends.Exited status → IsWhole (written_meaning q (over rack) (answers_in (growth_of (log_of rack) (log_of rack')))) (growth_of (log_of rack) (log_of rack')) (held out) (held out') status)
-    → (end ≡ ends.WriteFault ⊎ (end ≡ ends.OutOfMemory) → IsPart (written_meaning q (over rack) (answers_in (growth_of (log_of rack) (log_of rack')))) (growth_of (log_of rack) (log_of rack')) (held out) (held out'))
-    → (end ≡ ends.WriteFault → Rose (puts out) (puts out')) → puts out ≤ puts out'
-    → log_of rack' ≡ log_of rack ++ growth_of (log_of rack) (log_of rack')
-    → RunsOver (states (slots_of rack)) (growth_of (log_of rack) (log_of rack')) (states (slots_of rack'))
-    → KeepsTalks (talk_at talk (slots_of rack)) (talk_at talk (slots_of rack')) (growth_of (log_of rack) (log_of rack'))
-    → SparesDropped (states (slots_of rack)) (states (slots_of rack')) (growth_of (log_of rack) (log_of rack'))
-    → Ran held puts talk (λ w. w ≡ p) out out' rack rack' (ending_of end)
+      → ((status : ℕ) → end ≡ ends.Exited status → IsWhole (written_meaning q (over rack) (answers_in (growth_of (log_of rack) (log_of rack')))) (growth_of (log_of rack) (log_of rack')) (held out) (held out') status)
+      → (end ≡ ends.WriteFault ⊎ (end ≡ ends.OutOfMemory) → IsPart (written_meaning q (over rack) (answers_in (growth_of (log_of rack) (log_of rack')))) (growth_of (log_of rack) (log_of rack')) (held out) (held out'))
+      → (end ≡ ends.WriteFault → Rose (puts out) (puts out')) → puts out ≤ puts out'
+      → log_of rack' ≡ log_of rack ++ growth_of (log_of rack) (log_of rack')
+      → RunsOver (states (slots_of rack)) (growth_of (log_of rack) (log_of rack')) (states (slots_of rack'))
+      → KeepsTalks (talk_at talk (slots_of rack)) (talk_at talk (slots_of rack')) (growth_of (log_of rack) (log_of rack'))
+      → SparesDropped (states (slots_of rack)) (states (slots_of rack')) (growth_of (log_of rack) (log_of rack'))
+      → Ran held puts talk (λ w. w ≡ p) out out' rack rack' (ending_of end)
   Ran-run p q out out' rack rack' (ends.Exited s) e exited stopped fault later logged slots talks dropped = record {
     whole = λ status h. let same : s ≡ status = cc in record { program = p; is = refl; whole = rw (← same_meaning q p e (over rack) (answers_in (growth_of (log_of rack) (log_of rack')))) (exited status (ap ends.Exited same)); slots = slots };
     part = λ h. cc;
     want = λ h. cc;
-    talks = talks; dropped = dropped; logged = logged; fault = λ h. cc; later = later;
+    talks = talks;
+    dropped = dropped;
+    logged = logged;
+    fault = λ h. cc;
+    later = later;
   }
   Ran-run p q out out' rack rack' ends.WriteFault e exited stopped fault later logged slots talks dropped = record {
     whole = λ status h. cc;
     part = λ h. record { program = p; is = refl; part = rw (← same_meaning q p e (over rack) (answers_in (growth_of (log_of rack) (log_of rack')))) (stopped (inl refl)); slots = slots };
     want = λ h. cc;
-    talks = talks; dropped = dropped; logged = logged; fault = λ h. fault refl; later = later;
+    talks = talks;
+    dropped = dropped;
+    logged = logged;
+    fault = λ h. fault refl;
+    later = later;
   }
   Ran-run p q out out' rack rack' ends.OutOfMemory e exited stopped fault later logged slots talks dropped = record {
     whole = λ status h. cc;
     part = λ h. cc;
     want = λ h. inr (record { program = p; is = refl; part = rw (← same_meaning q p e (over rack) (answers_in (growth_of (log_of rack) (log_of rack')))) (stopped (inr refl)); slots = slots });
-    talks = talks; dropped = dropped; logged = logged; fault = λ h. cc; later = later;
+    talks = talks;
+    dropped = dropped;
+    logged = logged;
+    fault = λ h. cc;
+    later = later;
   }
 
   Whole-weaker : (Is Is' : Source → Type 0) → ((p : Source) → Is p → Is' p) → (out out' : O) (rack rack' : Rack X F) (status : ℕ) → Whole held puts talk Is out out' rack rack' status → Whole held puts talk Is' out out' rack rack' status
@@ -149,12 +153,16 @@ module _ {O X : Type 0} {F : X → Type 0} (held : O → Option (List ℕ)) (put
     whole = λ status h. Whole-weaker Is Is' f out out' rack rack' status (r.whole status h);
     part = λ h. Part-weaker Is Is' f out out' rack rack' (r.part h);
     want = λ h. elim (r.want h) [ inl u ↦ inl u | inr w ↦ inr (Part-weaker Is Is' f out out' rack rack' w) ];
-    talks = r.talks; dropped = r.dropped; logged = r.logged; fault = r.fault; later = r.later;
+    talks = r.talks;
+    dropped = r.dropped;
+    logged = r.logged;
+    fault = r.fault;
+    later = r.later;
   }
 
   -- a text that is a source leads to its run
   pub Led-source : (text : List ℕ) (p : Source) (out out' : O) (rack rack' : Rack X F) (ending : Ending) → IsSource text p
-    → Ran held puts talk (λ w. w ≡ p) out out' rack rack' ending → IsOfRun ending → Led held puts talk text out out' rack rack' ending
+      → Ran held puts talk (λ w. w ≡ p) out out' rack rack' ending → IsOfRun ending → Led held puts talk text out out' rack rack' ending
   Led-source text p out out' rack rack' ending source ran of_run = record {
     ran = Ran-weaker (λ w. w ≡ p) (IsSource text) (λ w e. rw e source) out out' rack rack' ending ran;
     refused = λ kind line h. absurd (subst (λ e. IsOfRun e) h of_run);
@@ -164,7 +172,7 @@ module _ {O X : Type 0} {F : X → Type 0} (held : O → Option (List ℕ)) (put
 
 module _ {I O X : Type 0} {F : X → Type 0} (left : I → Option (List ℕ)) (reads : I → ℕ) (held : O → Option (List ℕ)) (puts : O → ℕ) (talk : DynBox X Allocator F → Option Talk) where
   part_of : (input input' : I) (out out' : O) (rack rack' : Rack X F) (text : List ℕ) → ReadsAll left reads input input' (2 ^ 24) text → Part held puts talk (IsSource text) out out' rack rack'
-    → RanPart left reads held puts talk input input' out out' rack rack'
+      → RanPart left reads held puts talk input input' out out' rack rack'
   part_of input input' out out' rack rack' text r w = record {
     run = record { text = text; read = record { taken = r.reads.taken; ended = r.ended; within = r.within }; program = w.program; source = w.is; part = w.part };
     slots = w.slots;
@@ -189,8 +197,8 @@ module _ {I O X : Type 0} {F : X → Type 0} (left : I → Option (List ℕ)) (r
 
   -- the input was read to its end, and its text led on
   pub Answers-led : (words : List (String Allocator)) (input input' : I) (out out' : O) (rack rack' : Rack X F) (ending : Ending) (text : List ℕ) → IsRun words
-    → ReadsAll left reads input input' (2 ^ 24) text → Led held puts talk text out out' rack rack' ending
-    → Answers left reads held puts talk words input input' out out' rack rack' ending
+      → ReadsAll left reads input input' (2 ^ 24) text → Led held puts talk text out out' rack rack' ending
+      → Answers left reads held puts talk words input input' out out' rack rack' ending
   Answers-led words input input' out out' rack rack' ending text named r led = record {
     whole = λ status h. (let w = led.ran.whole status h in record { text = text; read = record { taken = r.reads.taken; ended = r.ended; within = r.within }; program = w.program; source = w.is; whole = w.whole });
     part = λ h. part_of input input' out out' rack rack' text r (led.ran.part h);

@@ -1,5 +1,5 @@
 -- A call of the library, from one ask of its connection.
-use Rattle.std.proofs.Common.{◌≡◌, ℕ, ◌+◌, ◌-◌, ◌≤◌, List, [], ◌∷◌, ◌++◌, length, refl, sym, ap, ◌∙◌, subst, arith, Option, None, Some, length-append, slice_get}
+use Rattle.std.proofs.Common.{◌≡◌, ℕ, ◌-◌, ◌≤◌, List, [], ◌∷◌, ◌++◌, length, refl, ap, ◌∙◌, subst, arith, Option, None, Some, length-append, slice_get}
 use Rattle.std.specs.Prelude.{ℤ, option_map}
 use Rattle.std.specs.declared.alloc.Global.{Global}
 use Rattle.std.specs.declared.dyn_box.DynBox.{DynBox}
@@ -15,7 +15,7 @@ use Rattle.ec_link.specs.Rack.{slots_of, log_of}
 use Rattle.ec_link.proofs.Runs.{Asks-AsksOnce}
 use Rattle.ec_model.specs.declared.written.Call.{Call}
 use Rattle.ec_model.specs.declared.written.Pointer.{Pointer}
-use Rattle.ec_model.specs.WrittenMeaning.{call_request, store_reply}
+use Rattle.ec_model.specs.WrittenMeaning.{store_reply}
 use Rattle.ec_cli.specs.Machine.{Called}
 
 get_last : {A : Type 0} (xs : List A) (x : A) → slice_get (xs ++ x ∷ []) (length xs) ≡ Some x
@@ -31,10 +31,10 @@ last_reply_of-push log x = ap (λ n. option_map (λ (e : Logged). e.reply) (slic
 
 module _ {X : Type 0} {F : X → Type 0} (talk : DynBox X Global F → Option Talk) (faults : DynBox X Global F → ℕ) where
   pub Called-from : (call : Call) (pointer : Option Pointer) (memory memory' : List ℤ) (old : Rack X F) (was : Conn X F) (new : Rack X F) (now : Conn X F) (text : List ℕ) (params : List (Option (List ℕ))) (r : Reply)
-    → text ≡ call.text → params ≡ [] → slots_of new ≡ slots_of old → slot_of now ≡ slot_of was → faults (link_of was) ≤ faults (link_of now)
-    → AsksOnce talk faults (Text text params) (log_of old) was (log_of new) now
-    → Some r ≡ last_reply_of (log_of new) → memory' ≡ store_reply call pointer r memory
-    → Called talk faults call pointer memory memory' old was new now
+      → text ≡ call.text → params ≡ [] → slots_of new ≡ slots_of old → slot_of now ≡ slot_of was → faults (link_of was) ≤ faults (link_of now)
+      → AsksOnce talk faults (Text text params) (log_of old) was (log_of new) now
+      → Some r ≡ last_reply_of (log_of new) → memory' ≡ store_reply call pointer r memory
+      → Called talk faults call pointer memory memory' old was new now
   Called-from call pointer memory memory' old was new now text params r text_is none slots slot later once last stored =
       let last_is : last_reply_of (log_of new) ≡ Some once.reply = ap last_reply_of once.logged ∙ last_reply_of-push (log_of old) (record { slot = Some (slot_of was); request = Text text params; reply = once.reply }) in
       let same : Some r ≡ Some once.reply = last ∙ last_is in
@@ -42,7 +42,7 @@ module _ {X : Type 0} {F : X → Type 0} (talk : DynBox X Global F → Option Ta
       record {
         reply = once.reply;
         asked = subst (λ (w : List ℕ). Asks talk faults old was new now (record { slot = Some (slot_of was); request = Text w []; reply = once.reply } ∷ [])) text_is
-          (subst (λ (w : List (Option (List ℕ))). Asks talk faults old was new now (record { slot = Some (slot_of was); request = Text text w; reply = once.reply } ∷ [])) none
+            (subst (λ (w : List (Option (List ℕ))). Asks talk faults old was new now (record { slot = Some (slot_of was); request = Text text w; reply = once.reply } ∷ [])) none
             (Asks-AsksOnce talk faults (Text text params) old new was now slots slot tt later once));
         stored = stored ∙ ap (λ q. store_reply call pointer q memory) reply_is;
       }

@@ -1,6 +1,6 @@
 -- The memory at the start, and the items of a list.
 use Rattle.std.proofs.Common.{◌≡◌, ℕ, zero, suc, ◌+◌, ◌<◌, List, [], ◌∷◌, map, drop, length, get_or, drop-cons, add-one, refl, sym, ap, ◌∙◌, arith}
-use Rattle.std.specs.Prelude.{ℤ, pos}
+use Rattle.std.specs.Prelude.{pos}
 
 -- one more zero
 pub zeros_next : {A : Type 0} (xs : List A) (i : ℕ) → i < length xs → map (λ g. pos 0) (drop i xs) ≡ pos 0 ∷ map (λ g. pos 0) (drop (i + 1) xs)

@@ -1,37 +1,35 @@
 -- A whole run: the first ready slot is taken, statements are done, and the slot is free again.
-use Rattle.std.proofs.Common.{◌≡◌, ℕ, ◌≤◌, ◌^◌, List, [], ◌∷◌, ◌++◌, map, refl, sym, ap, ◌∙◌, subst, arith, Option, None, Some, Result, Ok, Err, inl, inr}
+use Rattle.std.proofs.Common.{◌≡◌, ℕ, ◌≤◌, List, [], ◌++◌, map, refl, sym, ap, ◌∙◌, arith, Option, None, Some, Result, Ok, Err, inl, inr}
 use Rattle.std.specs.Prelude.{ℤ, pos, option_map, MatchOption, IfOk, OnErr, ◌%◌, ◌⊎◌}
 use Rattle.std.proofs.lemmas.List.{append-nil}
-use Rattle.std.proofs.lemmas.Option.{slice_get_past}
 use Rattle.std.specs.declared.alloc.Global.{Global as Allocator}
 use Rattle.std.specs.declared.dyn_box.DynBox.{DynBox}
-use Rattle.ec_base.specs.Putting.{Puts}
 use Rattle.ec_base.proofs.Transfers.{Puts-none}
 use Rattle.ec_link.specs.declared.connection.Conn.{Conn}
 use Rattle.ec_link.specs.declared.logged.Logged.{Logged}
 use Rattle.ec_link.specs.declared.rack.Rack.{Rack}
 use Rattle.ec_link.specs.declared.slot.Slot.{Slot}
-use Rattle.ec_link.specs.Calls.{Asks, TakesReady, GivesBack, Ran}
+use Rattle.ec_link.specs.Calls.{TakesReady, GivesBack}
 use Rattle.ec_link.specs.Conn.{slot_of}
 use Rattle.ec_link.specs.Logged.{Talk, growth_of}
 use Rattle.ec_link.specs.Rack.{slots_of, log_of}
 use Rattle.ec_link.specs.Slot.{states, talk_at}
-use Rattle.ec_link.specs.SlotState.{SlotState, TakenAt, ready_slot}
+use Rattle.ec_link.specs.SlotState.{ready_slot}
 use Rattle.ec_link.specs.Told.{KeepsTalks, SparesDropped}
 use Rattle.ec_link.proofs.Runs.{growth_of-grown, KeepsTalks-run, Ran-run, SparesDropped-run}
 use Rattle.ec_link.proofs.Talks.{KeepsTalks-same}
 use Rattle.ec_model.specs.declared.written.Written.{Written}
-use Rattle.ec_model.specs.Observed.{Observed, answers_in, exits}
+use Rattle.ec_model.specs.Observed.{Observed, answers_in}
 use Rattle.ec_model.specs.Run.{IsFront, IsWhole, IsPart}
-use Rattle.ec_model.specs.WrittenMeaning.{Machine, Outcome, on, waiting, acts, seen, written_meaning}
+use Rattle.ec_model.specs.WrittenMeaning.{Outcome, on, waiting, acts, seen, written_meaning}
 use Rattle.ec_cli.specs.declared.machine.stop.RunStop.{RunStop}
 use Rattle.ec_cli.specs.declared.machine.stop.RunStop.TheVariants as stops
 use Rattle.ec_cli.specs.declared.machine.stop.RunEnd.{RunEnd}
 use Rattle.ec_cli.specs.declared.machine.stop.RunEnd.TheVariants as ends
-use Rattle.ec_cli.specs.Machine.{IsOpen, MayAsk, Reached, Broke, Finished, Cut, RunsOver, end_of}
+use Rattle.ec_cli.specs.Machine.{MayAsk, Reached, Broke, Finished, Cut, RunsOver, end_of}
 use Rattle.ec_cli.specs.Statements.{output_of, said_of}
 use Rattle.ec_cli.proofs.Effects.{MayAsk-nil}
-use Rattle.ec_cli.proofs.Statements.{Reaches-end, IsFront-append}
+use Rattle.ec_cli.proofs.Statements.{Reaches-end}
 
 -- what is seen of an outcome is what was printed and said up to it
 seen_output : (status : ℕ) (o : Outcome) → (seen status o).output ≡ output_of o
@@ -52,11 +50,11 @@ module _ {X : Type 0} {F : X → Type 0} (talk : DynBox X Allocator F → Option
   module _ {S : Type 0} (held : S → Option (List ℕ)) (fails : S → ℕ) where
     -- all statements were done
     pub Finished-reached : (q : Written) (memory memory' : List ℤ) (old : Rack X F) (was : Option (Conn X F)) (out : S) (new : Rack X F) (now : Option (Conn X F)) (out' : S)
-      → memory ≡ map (λ g. pos 0) q.globals → Reached talk faults held fails q.globals q.body memory [] memory' old was out new now out'
-      → Finished talk faults held fails q old was out new now out' (q.status % 256)
+        → memory ≡ map (λ g. pos 0) q.globals → Reached talk faults held fails q.globals q.body memory [] memory' old was out new now out'
+        → Finished talk faults held fails q old was out new now out' (q.status % 256)
     Finished-reached q memory memory' old was out new now out' e r =
         let start = ap (λ m. acts q.globals (option_map slot_of was) q.body (record { memory = m; output = []; conversation = []; answers = answers_in r.growth })) (sym e)
-          ∙ Reaches-end q.globals (option_map slot_of was) q.body memory memory' r.growth r.printed r.reaches in
+        ∙ Reaches-end q.globals (option_map slot_of was) q.body memory memory' r.growth r.printed r.reaches in
         let whole : written_meaning q (option_map slot_of was) (answers_in r.growth) ≡ seen q.status (on (record { memory = memory'; output = r.printed; conversation = r.growth; answers = [] })) = ap (seen q.status) start in
         record {
           growth = r.growth;
@@ -71,8 +69,8 @@ module _ {X : Type 0} {F : X → Type 0} (talk : DynBox X Allocator F → Option
 
     -- the statements stopped in the middle
     pub Cut-broke : (q : Written) (memory : List ℤ) (old : Rack X F) (was : Option (Conn X F)) (out : S) (new : Rack X F) (now : Option (Conn X F)) (out' : S)
-      → memory ≡ map (λ g. pos 0) q.globals → Broke talk faults held fails q.globals q.body memory old was out new now out'
-      → Cut talk faults held fails q old was out new now out'
+        → memory ≡ map (λ g. pos 0) q.globals → Broke talk faults held fails q.globals q.body memory old was out new now out'
+        → Cut talk faults held fails q old was out new now out'
     Cut-broke q memory old was out new now out' e b =
         let start = ap (λ m. acts q.globals (option_map slot_of was) q.body (record { memory = m; output = []; conversation = []; answers = answers_in b.growth })) (sym e) in
         record {
@@ -110,7 +108,7 @@ module _ {X : Type 0} {F : X → Type 0} (talk : DynBox X Allocator F → Option
 
   -- what the log grew by
   pub run_logged : (first second third last : Rack X F) (was now : Option (Conn X F)) (growth : List Logged)
-    → log_of second ≡ log_of first → MayAsk talk faults second was third now growth → log_of last ≡ log_of third → log_of last ≡ log_of first ++ growth
+      → log_of second ≡ log_of first → MayAsk talk faults second was third now growth → log_of last ≡ log_of third → log_of last ≡ log_of first ++ growth
   run_logged first second third last None None growth e a f = f ∙ a.2 ∙ e ∙ sym (append-nil (log_of first)) ∙ ap (λ w. log_of first ++ w) (sym a.0)
   run_logged first second third last None (Some now) growth e a f = absurd a
   run_logged first second third last (Some was) None growth e a f = absurd a
@@ -118,8 +116,8 @@ module _ {X : Type 0} {F : X → Type 0} (talk : DynBox X Allocator F → Option
 
   -- what becomes of the slots
   pub RunsOver-run : (first second third last : Rack X F) (was now : Option (Conn X F)) (growth : List Logged)
-    → Takes (slots_of first) (slots_of second) was → MayAsk talk faults second was third now growth → Gives (slots_of third) (slots_of last) now
-    → RunsOver (states (slots_of first)) growth (states (slots_of last))
+      → Takes (slots_of first) (slots_of second) was → MayAsk talk faults second was third now growth → Gives (slots_of third) (slots_of last) now
+      → RunsOver (states (slots_of first)) growth (states (slots_of last))
   RunsOver-run first second third last None None growth t a g = rw t.0 (a.0, ap states (g ∙ a.1 ∙ t.1))
   RunsOver-run first second third last None (Some now) growth t a g = absurd a
   RunsOver-run first second third last (Some was) None growth t a g = absurd a
@@ -127,8 +125,8 @@ module _ {X : Type 0} {F : X → Type 0} (talk : DynBox X Allocator F → Option
 
   -- what becomes of the talks
   pub KeepsTalks-session : (first second third last : Rack X F) (was now : Option (Conn X F)) (growth : List Logged)
-    → Takes (slots_of first) (slots_of second) was → MayAsk talk faults second was third now growth → Gives (slots_of third) (slots_of last) now
-    → KeepsTalks (talk_at talk (slots_of first)) (talk_at talk (slots_of last)) growth
+      → Takes (slots_of first) (slots_of second) was → MayAsk talk faults second was third now growth → Gives (slots_of third) (slots_of last) now
+      → KeepsTalks (talk_at talk (slots_of first)) (talk_at talk (slots_of last)) growth
   KeepsTalks-session first second third last None None growth t a g =
       rw a.0 (KeepsTalks-same (talk_at talk (slots_of first)) (talk_at talk (slots_of last)) (λ i. ap (λ slots. talk_at talk slots i) (g ∙ a.1 ∙ t.1)))
   KeepsTalks-session first second third last None (Some now) growth t a g = absurd a
@@ -137,8 +135,8 @@ module _ {X : Type 0} {F : X → Type 0} (talk : DynBox X Allocator F → Option
 
   -- no dropped slot gets an exchange
   pub SparesDropped-session : (first second third last : Rack X F) (was now : Option (Conn X F)) (growth : List Logged)
-    → Takes (slots_of first) (slots_of second) was → MayAsk talk faults second was third now growth → Gives (slots_of third) (slots_of last) now
-    → SparesDropped (states (slots_of first)) (states (slots_of last)) growth
+      → Takes (slots_of first) (slots_of second) was → MayAsk talk faults second was third now growth → Gives (slots_of third) (slots_of last) now
+      → SparesDropped (states (slots_of first)) (states (slots_of last)) growth
   SparesDropped-session first second third last None None growth t a g = rw (a.0, g ∙ a.1 ∙ t.1) (λ i name e. (e, refl))
   SparesDropped-session first second third last None (Some now) growth t a g = absurd a
   SparesDropped-session first second third last (Some was) None growth t a g = absurd a
@@ -152,8 +150,8 @@ module _ {X : Type 0} {F : X → Type 0} (talk : DynBox X Allocator F → Option
       pub later : fails out ≤ fails out'
 
     pub session : (q : Written) (old : Rack X F) (was : Option (Conn X F)) (out : S) (new : Rack X F) (now : Option (Conn X F)) (out' : S) (end : Result ℕ RunStop)
-      → IfOk end (Finished talk faults held fails q old was out new now out') → OnErr end (Cut talk faults held fails q old was out new now out')
-      → Session old was out new now out'
+        → IfOk end (Finished talk faults held fails q old was out new now out') → OnErr end (Cut talk faults held fails q old was out new now out')
+        → Session old was out new now out'
     session q old was out new now out' (Ok status) f b = record { growth = f.growth; asked = f.asked; later = f.later }
     session q old was out new now out' (Err stop) f b = record { growth = b.growth; asked = b.asked; later = b.later }
 
@@ -162,16 +160,16 @@ module _ {X : Type 0} {F : X → Type 0} (talk : DynBox X Allocator F → Option
     rack_meaning q first last = written_meaning q (option_map (λ r. r.0) (ready_slot (states (slots_of first)))) (answers_in (growth_of (log_of first) (log_of last)))
 
     same_meaning : (q : Written) (first second last : Rack X F) (was : Option (Conn X F)) (growth : List Logged)
-      → Takes (slots_of first) (slots_of second) was → growth_of (log_of first) (log_of last) ≡ growth → rack_meaning q first last ≡ written_meaning q (option_map slot_of was) (answers_in growth)
+        → Takes (slots_of first) (slots_of second) was → growth_of (log_of first) (log_of last) ≡ growth → rack_meaning q first last ≡ written_meaning q (option_map slot_of was) (answers_in growth)
     same_meaning q first second last was growth t e =
         ap (λ o. written_meaning q o (answers_in (growth_of (log_of first) (log_of last)))) (ready_is (slots_of first) (slots_of second) was t)
         ∙ ap (λ w. written_meaning q (option_map slot_of was) (answers_in w)) e
 
     pub Exited-run : (q : Written) (first second third last : Rack X F) (was now : Option (Conn X F)) (out out' : S) (end : Result ℕ RunStop) (answer : RunEnd)
-      → IfOk end (Finished talk faults held fails q second was out third now out')
-      → Takes (slots_of first) (slots_of second) was → log_of second ≡ log_of first → log_of last ≡ log_of third
-      → answer ≡ end_of end → (status : ℕ) → answer ≡ ends.Exited status
-      → IsWhole (rack_meaning q first last) (growth_of (log_of first) (log_of last)) (held out) (held out') status
+        → IfOk end (Finished talk faults held fails q second was out third now out')
+        → Takes (slots_of first) (slots_of second) was → log_of second ≡ log_of first → log_of last ≡ log_of third
+        → answer ≡ end_of end → (status : ℕ) → answer ≡ ends.Exited status
+        → IsWhole (rack_meaning q first last) (growth_of (log_of first) (log_of last)) (held out) (held out') status
     Exited-run q first second third last was now out out' (Ok s) answer f t e g a status h =
         let grown = growth_of-grown (log_of first) (log_of last) f.growth (run_logged first second third last was now f.growth e f.asked g) in
         let same_status : s ≡ status = cc in
@@ -180,10 +178,10 @@ module _ {X : Type 0} {F : X → Type 0} (talk : DynBox X Allocator F → Option
     Exited-run q first second third last was now out out' (Err stops.OutOfMemory) answer f t e g a status h = cc
 
     pub Stopped-run : (q : Written) (first second third last : Rack X F) (was now : Option (Conn X F)) (out out' : S) (end : Result ℕ RunStop) (answer : RunEnd)
-      → OnErr end (Cut talk faults held fails q second was out third now out')
-      → Takes (slots_of first) (slots_of second) was → log_of second ≡ log_of first → log_of last ≡ log_of third
-      → answer ≡ end_of end → answer ≡ ends.WriteFault ⊎ (answer ≡ ends.OutOfMemory)
-      → IsPart (rack_meaning q first last) (growth_of (log_of first) (log_of last)) (held out) (held out')
+        → OnErr end (Cut talk faults held fails q second was out third now out')
+        → Takes (slots_of first) (slots_of second) was → log_of second ≡ log_of first → log_of last ≡ log_of third
+        → answer ≡ end_of end → answer ≡ ends.WriteFault ⊎ (answer ≡ ends.OutOfMemory)
+        → IsPart (rack_meaning q first last) (growth_of (log_of first) (log_of last)) (held out) (held out')
     Stopped-run q first second third last was now out out' (Ok s) answer b t e g a (inl h) = cc
     Stopped-run q first second third last was now out out' (Ok s) answer b t e g a (inr h) = cc
     Stopped-run q first second third last was now out out' (Err stop) answer b t e g a h =

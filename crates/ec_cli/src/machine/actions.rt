@@ -63,7 +63,14 @@ pub fn act<O: Sink>(
         }
         Action::Call(call) => {
             if let Some(conn) = conn {
-                call_library(alloc, call, address(globals, call.pointer), memory, rack, conn)?;
+                call_library(
+                    alloc,
+                    call,
+                    address(globals, call.pointer),
+                    memory,
+                    rack,
+                    conn,
+                )?;
             }
         }
     }

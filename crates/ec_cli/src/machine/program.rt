@@ -11,7 +11,6 @@ ghost use Rattle.ec_model.specs.Run.{IsWhole, IsPart};
 ghost use Rattle.ec_model.specs.WrittenMeaning.{written_meaning};
 ghost use Rattle.ec_cli.specs.Statements.{StoresInt};
 ghost use Rattle.ec_cli.specs.Machine.{IsOpen, Reached, Broke, Finished, Cut, RunsOver, end_of};
-
 ghost use Rattle.ec_model.specs.declared.written.WrittenStatement.{WrittenStatement};
 
 use crate::machine::actions::act;
@@ -72,7 +71,15 @@ fn execute<O: Sink>(
 {
     let globals = program.globals.as_slice();
     let mut memory = new_memory(alloc, globals)?;
-    act_all(alloc, globals, program.body.as_slice(), &mut memory, rack, conn, out)?;
+    act_all(
+        alloc,
+        globals,
+        program.body.as_slice(),
+        &mut memory,
+        rack,
+        conn,
+        out,
+    )?;
     Ok((program.status % 256) as u8)
 }
 
@@ -99,12 +106,7 @@ fn ended(end: Result<u8, RunStop>) -> RunEnd
 }
 
 /// Runs a program over the first ready slot of a rack, if it has one. The slot is free at the end.
-pub fn run<O: Sink>(
-    alloc: alloc::Global,
-    program: &Written,
-    rack: &mut Rack,
-    out: &mut O,
-) -> RunEnd
+pub fn run<O: Sink>(alloc: alloc::Global, program: &Written, rack: &mut Rack, out: &mut O) -> RunEnd
     requires few { length program.now.globals < 2 ^ 31 }
     requires ints { All (λ (s : WrittenStatement). StoresInt s.action) program.now.body }
     ensures exited { (status : ℕ) → result ≡ RunEnd.Exited status → IsWhole

@@ -24,6 +24,7 @@ pub enum RunStop {
 
 impl From<OutOfMemory> for RunStop {
     ghost use Rattle.ec_cli.specs.declared.machine.stop.RunStop.TheVariants as stops;
+
     ghost from_gives = { λ _ stop. stop ≡ stops.OutOfMemory };
 
     fn from(_refused: OutOfMemory) -> RunStop {
@@ -33,6 +34,7 @@ impl From<OutOfMemory> for RunStop {
 
 impl From<Failed> for RunStop {
     ghost use Rattle.ec_cli.specs.declared.machine.stop.RunStop.TheVariants as stops;
+
     ghost from_gives = { λ _ stop. stop ≡ stops.WriteFault };
 
     fn from(_failed: Failed) -> RunStop {

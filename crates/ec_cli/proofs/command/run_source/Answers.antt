@@ -1,4 +1,4 @@
-use Rattle.std.proofs.Common.{◌≡◌, ◌∙◌, ap, arith, length}
+use Rattle.std.proofs.Common.{arith}
 use Rattle.ec_cli.proofs.Commands.{length-written_globals, all_ints, Ran-run}
 use Rattle.ec_cli.proofs.command.run_source.Goals as goal
 
@@ -12,4 +12,4 @@ pub returns-in-Ok-clause-ran : goal.returns-in-Ok-clause-ran
 returns-in-Ok-clause-ran g c =
     let r = c.run.ensures in
     rw c.ended.ensures
-      (Ran-run _ _ _ c.args.source c.in-Ok.program _ _ c.args.rack.now c.run.new.rack c.run.result c.in-Ok.ensures r.exited r.stopped r.fault r.later r.logged r.slots r.talks r.dropped)
+    (Ran-run _ _ _ c.args.source c.in-Ok.program _ _ c.args.rack.now c.run.new.rack c.run.result c.in-Ok.ensures r.exited r.stopped r.fault r.later r.logged r.slots r.talks r.dropped)

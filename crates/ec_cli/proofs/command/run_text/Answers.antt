@@ -1,4 +1,3 @@
-use Rattle.std.proofs.Common.{◌≡◌}
 use Rattle.ec_cli.proofs.Commands.{Led-source}
 use Rattle.ec_cli.proofs.command.run_text.Goals as goal
 

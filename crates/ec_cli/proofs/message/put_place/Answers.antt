@@ -1,7 +1,6 @@
-use Rattle.std.proofs.Common.{◌∷◌, []}
 use Rattle.std.specs.Prelude.{decimal}
 use Rattle.std.proofs.lemmas.Result.{err_from_is_err_and}
-use Rattle.ec_base.proofs.Transfers.{Puts-then, PutsPart-then, PutsPart-before}
+use Rattle.ec_base.proofs.Transfers.{PutsPart-then, PutsPart-before}
 use Rattle.ec_cli.proofs.message.put_place.Goals as goal
 
 pub returns-in_err-put_all-clause-part : goal.returns-in_err-put_all-clause-part

@@ -1,4 +1,4 @@
-use Rattle.std.proofs.Common.{◌≡◌, ◌∙◌, ◌++◌, sym, ap, [], ◌∷◌, Some, None, refl}
+use Rattle.std.proofs.Common.{◌∙◌, ◌++◌, sym, ap, [], ◌∷◌}
 use Rattle.std.specs.Prelude.{option_map}
 use Rattle.ec_link.specs.Conn.{slot_of}
 use Rattle.std.specs.Fmt.{signed_decimal}
@@ -18,8 +18,8 @@ returns-in_err-put_all-in-Print-clause-stopped g c =
     let p = err_from_is_err_and c.from_residual-in_err-put_all-in-Print.result c.from_residual-in_err-put_all-in-Print.ensures.1 in
     let part = rw c.as_slice.ensures at c.in_err-put_all-in-Print.ensures.err in
     rw (p.1, c.in-Print.is)
-      (Stopped-print _ _ _ _ _ _ _ _ _ _ _ _
-        (c.in_ok-text-in-Print.ensures ∙ ap (λ q. signed_decimal (load q c.args.memory.now) ++ 10 ∷ []) c.address-in-Print.ensures.value) part)
+    (Stopped-print _ _ _ _ _ _ _ _ _ _ _ _
+    (c.in_ok-text-in-Print.ensures ∙ ap (λ q. signed_decimal (load q c.args.memory.now) ++ 10 ∷ []) c.address-in-Print.ensures.value) part)
 
 pub returns-in_err-call_library-in-Call-clause-stopped : goal.returns-in_err-call_library-in-Call-clause-stopped
 returns-in_err-call_library-in-Call-clause-stopped g c =
@@ -38,8 +38,8 @@ pub returns-in_ok-put_all-in-Print-clause-done : goal.returns-in_ok-put_all-in-P
 returns-in_ok-put_all-in-Print-clause-done g c =
     let put = rw c.as_slice.ensures at c.in_ok-put_all-in-Print.ensures.ok in
     rw c.in-Print.is
-      (Done-print _ _ _ _ _ _ _ _ _ _ _ _
-        (c.in_ok-text-in-Print.ensures ∙ ap (λ q. signed_decimal (load q c.args.memory.now) ++ 10 ∷ []) c.address-in-Print.ensures.value) put)
+    (Done-print _ _ _ _ _ _ _ _ _ _ _ _
+    (c.in_ok-text-in-Print.ensures ∙ ap (λ q. signed_decimal (load q c.args.memory.now) ++ 10 ∷ []) c.address-in-Print.ensures.value) put)
 
 pub returns-in_ok-call_library-in-Call-clause-done : goal.returns-in_ok-call_library-in-Call-clause-done
 returns-in_ok-call_library-in-Call-clause-done g c =

@@ -1,4 +1,4 @@
-use Rattle.std.proofs.Common.{◌≡◌, ◌<◌, ◌+◌, ◌∷◌, drop, length, arith}
+use Rattle.std.proofs.Common.{◌<◌, length, arith}
 use Rattle.std.proofs.lemmas.Result.{err_from_is_err_and}
 use Rattle.ec_cli.proofs.Effects.{Reached-start, Reached-more, Reached-stopped, still_open}
 use Rattle.ec_cli.proofs.Memory.{drop_item}

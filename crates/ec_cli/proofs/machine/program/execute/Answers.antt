@@ -1,7 +1,7 @@
-use Rattle.std.proofs.Common.{◌≡◌, ◌∙◌, ap, map}
+use Rattle.std.proofs.Common.{◌∙◌, ap, map}
 use Rattle.std.specs.Prelude.{pos}
 use Rattle.std.proofs.lemmas.Result.{err_from_is_err_and}
-use Rattle.ec_cli.proofs.Sessions.{Finished-reached, Cut-broke, Cut-nothing}
+use Rattle.ec_cli.proofs.Sessions.{Finished-reached, Cut-nothing}
 use Rattle.ec_cli.proofs.machine.program.execute.Goals as goal
 
 pub returns-in_err-memory-clause-part : goal.returns-in_err-memory-clause-part

@@ -1,4 +1,4 @@
-use Rattle.std.proofs.Common.{◌≡◌, ◌∙◌, ◌++◌, ◌∷◌, [], ap, sym, append_assoc, arith, map, drop, ◌+◌, ◌<◌, length}
+use Rattle.std.proofs.Common.{◌∙◌, ◌++◌, ◌∷◌, [], ap, sym, append_assoc, arith, map, drop, ◌+◌, ◌<◌, length}
 use Rattle.std.specs.Prelude.{pos}
 use Rattle.ec_cli.proofs.Memory.{zeros_next}
 use Rattle.ec_cli.proofs.machine.program.new_memory.Goals as goal
