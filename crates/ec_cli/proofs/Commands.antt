@@ -210,6 +210,7 @@ module _ {I O X : Type 0} {F : X → Type 0} (left : I → Option (List ℕ)) (r
     untouched = led.untouched;
     own = text_is_own ending led.ends;
     usage = λ h. absurd (subst (λ e. IsOfText e) h led.ends);
+    unread = λ h. absurd (subst (λ e. IsOfText e) h led.ends);
     run = λ no'. absurd (no' named);
     refused = λ kind line h. (let x = led.refused kind line h in record { text = text; read = record { taken = r.reads.taken; ended = r.ended; within = r.within }; left_out = x.0; fault = x.1 });
     limit = λ kind h. absurd (subst (λ e. IsOfText e) h led.ends);

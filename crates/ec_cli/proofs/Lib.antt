@@ -3,6 +3,7 @@ pub mod BuilderLemmas
 pub mod CallText
 pub mod Commands
 pub mod Effects
+pub mod FaultLemmas
 pub mod Fields
 pub mod FrontLemmas
 pub mod Library

@@ -139,6 +139,7 @@ module _ {I O X : Type 0} {F : X → Type 0} (left : I → Option (List ℕ)) (r
     pub untouched : IsRefusal ending → IsUntouched out out' rack rack'
     pub own : IsOwn ending
     pub usage : ending ≡ Usage → IsRun words → ⊥
+    pub unread : ending ≡ Usage → input' ≡ input
     pub run : (IsRun words → ⊥) → ending ≡ Usage
     pub refused : (kind : FaultKind) (line : Line) → ending ≡ Refused kind line → RefusesAt (left input) (left input') kind line.0
     pub limit : (kind : LimitKind) → ending ≡ Limit kind → IsTooLong (left input) (left input')

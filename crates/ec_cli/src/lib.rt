@@ -3,6 +3,7 @@
 
 mod command;
 mod ending;
+mod laws;
 mod machine;
 mod message;
 mod pieces;
@@ -11,4 +12,5 @@ mod tool;
 mod written;
 
 pub use ending::{Ending, status};
+pub use laws::one_reading;
 pub use tool::ec_main;

@@ -52,7 +52,8 @@ pub fn ec_main<I: Source, O: Sink, E: Sink>(
     ensures dropped { SparesDropped (states (slots_of rack.old)) (states (slots_of rack.new)) (grown rack.old rack.new) }
     ensures logged { log_of rack.new ≡ log_of rack.old ++ grown rack.old rack.new }
 
-    // A refusal touches nothing.
+    // A refusal touches nothing, and wrong words read nothing.
+    ensures unread { result ≡ Ending.Usage → input.new ≡ input.old }
     ensures untouched { IsRefusal result → (rack.new ≡ rack.old) × (out.new ≡ out.old) }
 
     // When each answer comes.

@@ -1,4 +1,5 @@
 pub mod Direct
+pub mod DirectExample
 pub mod Faults
 pub mod Headline
 pub mod Lines

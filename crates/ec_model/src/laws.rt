@@ -1,7 +1,9 @@
 //! What holds of every program, each as the contract of a function that does nothing.
 
 ghost use Rattle.ec_model.specs.Simulation.{WrittenMeansTheSame};
-ghost use Rattle.std.specs.Prelude.{◌≡◌};
+ghost use Rattle.std.specs.Prelude.{◌≡◌, None, Some, [], ◌∷◌};
+ghost use Rattle.ec_model.specs.Direct.{direct_meaning};
+ghost use Rattle.ec_model.specs.DirectExample.{seven, seen_with_seven, seen_alone};
 ghost use Rattle.ec_model.specs.Written.{written};
 ghost use Rattle.ec_model.specs.WrittenText.{written_text};
 ghost use Rattle.ec_model.specs.WrittenExample.{example_source, example_text};
@@ -15,4 +17,11 @@ pub fn written_program_means_the_same()
 /// A worked example, byte for byte: what is written for one SELECT into a global and a `printf` of it.
 pub fn written_example()
     ensures { written_text (written example_source) ≡ example_text }
+{}
+
+/// A worked example: what one SELECT into a global and a `printf` of it mean, with a reply of one row with the number 7,
+/// and without a connection.
+pub fn direct_example()
+    ensures connected { direct_meaning example_source (Some 0) ((Some 0, seven) ∷ []) ≡ seen_with_seven }
+    ensures alone { direct_meaning example_source None [] ≡ seen_alone }
 {}

@@ -6,6 +6,6 @@ mod laws;
 mod source;
 mod written;
 
-pub use laws::{written_example, written_program_means_the_same};
+pub use laws::{direct_example, written_example, written_program_means_the_same};
 pub use source::{Letter, Source, Statement};
 pub use written::{Action, Call, Global, Pointer, Symbol, Written, WrittenStatement};
