@@ -1,6 +1,6 @@
 -- A call of the library, from one ask of its connection.
-use Rattle.std.proofs.Common.{◌≡◌, ℕ, ◌-◌, ◌≤◌, List, [], ◌∷◌, ◌++◌, length, refl, ap, ◌∙◌, subst, arith, Option, None, Some, length-append, slice_get}
-use Rattle.std.specs.Prelude.{ℤ, option_map}
+use Rattle.std.proofs.Common.{◌≡◌, ℕ, ◌≤◌, List, [], ◌∷◌, ap, ◌∙◌, subst, Option, None, Some}
+use Rattle.std.specs.Prelude.{ℤ}
 use Rattle.std.specs.declared.alloc.Global.{Global}
 use Rattle.std.specs.declared.dyn_box.DynBox.{DynBox}
 use Rattle.ec_link.specs.declared.connection.Conn.{Conn}
@@ -12,22 +12,11 @@ use Rattle.ec_link.specs.Calls.{AsksOnce, Asks}
 use Rattle.ec_link.specs.Conn.{slot_of, link_of}
 use Rattle.ec_link.specs.Logged.{Talk, last_reply_of}
 use Rattle.ec_link.specs.Rack.{slots_of, log_of}
-use Rattle.ec_link.proofs.Runs.{Asks-AsksOnce}
+use Rattle.ec_link.proofs.Runs.{Asks-AsksOnce, last_reply_of-append}
 use Rattle.ec_model.specs.declared.written.Call.{Call}
 use Rattle.ec_model.specs.declared.written.Pointer.{Pointer}
 use Rattle.ec_model.specs.WrittenMeaning.{store_reply}
 use Rattle.ec_cli.specs.Machine.{Called}
-
-get_last : {A : Type 0} (xs : List A) (x : A) → slice_get (xs ++ x ∷ []) (length xs) ≡ Some x
-get_last [] x = refl
-get_last (y ∷ xs) x = get_last xs x
-
-last_place : {A : Type 0} (xs : List A) (x : A) → length (xs ++ x ∷ []) - 1 ≡ length xs
-last_place xs x = rw (length-append xs (x ∷ [])) omega arith
-
--- the last reply is that of the last exchange
-pub last_reply_of-push : (log : List Logged) (x : Logged) → last_reply_of (log ++ x ∷ []) ≡ Some x.reply
-last_reply_of-push log x = ap (λ n. option_map (λ (e : Logged). e.reply) (slice_get (log ++ x ∷ []) n)) (last_place log x) ∙ ap (λ o. option_map (λ (e : Logged). e.reply) o) (get_last log x)
 
 module _ {X : Type 0} {F : X → Type 0} (talk : DynBox X Global F → Option Talk) (faults : DynBox X Global F → ℕ) where
   pub Called-from : (call : Call) (pointer : Option Pointer) (memory memory' : List ℤ) (old : Rack X F) (was : Conn X F) (new : Rack X F) (now : Conn X F) (text : List ℕ) (params : List (Option (List ℕ))) (r : Reply)
@@ -36,7 +25,7 @@ module _ {X : Type 0} {F : X → Type 0} (talk : DynBox X Global F → Option Ta
       → Some r ≡ last_reply_of (log_of new) → memory' ≡ store_reply call pointer r memory
       → Called talk faults call pointer memory memory' old was new now
   Called-from call pointer memory memory' old was new now text params r text_is none slots slot later once last stored =
-      let last_is : last_reply_of (log_of new) ≡ Some once.reply = ap last_reply_of once.logged ∙ last_reply_of-push (log_of old) (record { slot = Some (slot_of was); request = Text text params; reply = once.reply }) in
+      let last_is : last_reply_of (log_of new) ≡ Some once.reply = ap last_reply_of once.logged ∙ last_reply_of-append (log_of old) (record { slot = Some (slot_of was); request = Text text params; reply = once.reply }) in
       let same : Some r ≡ Some once.reply = last ∙ last_is in
       let reply_is : r ≡ once.reply = cc in
       record {
@@ -50,5 +39,5 @@ module _ {X : Type 0} {F : X → Type 0} (talk : DynBox X Global F → Option Ta
   -- after an ask there is a last reply
   pub some_reply : (old new : List Logged) (was now : Conn X F) (text : List ℕ) (params : List (Option (List ℕ))) → AsksOnce talk faults (Text text params) old was new now → None ≡ last_reply_of new → ⊥
   some_reply old new was now text params once none =
-      let last_is : last_reply_of new ≡ Some once.reply = ap last_reply_of once.logged ∙ last_reply_of-push old (record { slot = Some (slot_of was); request = Text text params; reply = once.reply }) in
+      let last_is : last_reply_of new ≡ Some once.reply = ap last_reply_of once.logged ∙ last_reply_of-append old (record { slot = Some (slot_of was); request = Text text params; reply = once.reply }) in
       cc

@@ -18,7 +18,8 @@ use Rattle.ec_cli.specs.Fronts.{ReadsFront, ReadsFixed, ReadsAll, is_no_digit}
 use Rattle.ec_cli.specs.PartTexts.{header_text, global_text, opening_text, action_text, statement_text, ending_text}
 use Rattle.ec_cli.specs.Readable.{IsReadableLine, IsReadableGlobal, IsReadableStatement, IsReadable}
 use Rattle.ec_cli.proofs.FrontLemmas.{cut_parts, number_is_digits}
-use Rattle.ec_cli.proofs.Walk.{unlines-append, written_text-parts}
+use Rattle.ec_cli.proofs.TextLemmas.{unlines-append}
+use Rattle.ec_cli.proofs.Walk.{written_text-parts}
 
 -- the text of lines that are made of parts is the texts of the parts
 unlines-flat_map : {A : Type 0} (f : A → List (List ℕ)) (xs : List A) → unlines (flat_map f xs) ≡ flat_map (λ x. unlines (f x)) xs

@@ -16,7 +16,7 @@ use Rattle.ec_cli.proofs.BuilderLemmas.{same_source}
 use Rattle.ec_cli.proofs.LineLemmas.{same_line}
 use Rattle.ec_cli.proofs.OneLineLemmas.{one_line}
 use Rattle.ec_cli.proofs.SourceLemmas.{all_append, all_map, lines_of_valid}
-use Rattle.ec_cli.proofs.TextLemmas.{item_of, items_of_texts, same_front, same_lines, lines_fit, unlines_push, lines_so_far, begins_so_far, lines_of_text}
+use Rattle.ec_cli.proofs.TextLemmas.{item_of, items_of_texts, same_front, same_lines, lines_fit, unlines_push, lines_so_far, begins_so_far, lines_of_text, unlines-append}
 
 -- the texts of a source's lines
 texts_of_valid : (p : Source) → IsValid p → AllByRecursion IsOneLine (map line_text (source_lines p))
@@ -60,10 +60,6 @@ begins_items b sound =
     let begins = begins_so_far b sound in
     let more = begins.2.0 in
     (begins.0, begins.1, (map item_of more ++ end ∷ [], ap (λ (t : List SourceLine). map item_of t ++ end ∷ []) begins.2.1 ∙ ap (λ (t : List Item). t ++ end ∷ []) (map-append item_of (lines_of b) more) ∙ append_assoc (map item_of (lines_of b)) (map item_of more) (end ∷ []) ∙ ap (λ (t : List Item). t ++ (map item_of more ++ end ∷ [])) (items_of_texts (lines_of b))))
-
-unlines-append : (ls ms : List (List ℕ)) → unlines (ls ++ ms) ≡ unlines ls ++ unlines ms
-unlines-append [] ms = refl
-unlines-append (l ∷ ls) ms = ap (λ (t : List ℕ). l ++ 10 ∷ t) (unlines-append ls ms) ∙ sym (append_assoc l (10 ∷ unlines ls) (unlines ms))
 
 -- the fault at a line with which no source goes on
 pub fault_at_line : (text : List ℕ) (b : SourceBuilder) (l more : List ℕ) (n : ℕ) → IsSound b → AllByRecursion IsOneLine (texts_of b) → text ≡ unlines (texts_of b) ++ (l ++ 10 ∷ more) → IsOneLine l → IsDead (texts_of b) l → n ≡ length (texts_of b) → FaultAt text (n + 1)

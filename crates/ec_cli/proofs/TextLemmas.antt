@@ -104,6 +104,11 @@ same_lines (l ∷ ls) (m ∷ ms) r s ok-l ok-m ok-r ok-s e =
     let others = same_lines ls ms r s ok-l.1 ok-m.1 ok-r ok-s parts.1 in
     ((λ i. parts.0 i ∷ others.0 i), others.1)
 
+-- the text of these lines and of those behind them
+pub unlines-append : (ls ms : List (List ℕ)) → unlines (ls ++ ms) ≡ unlines ls ++ unlines ms
+unlines-append [] ms = refl
+unlines-append (l ∷ ls) ms = ap (λ (t : List ℕ). l ++ 10 ∷ t) (unlines-append ls ms) ∙ sym (append_assoc l (10 ∷ unlines ls) (unlines ms))
+
 -- a line more
 pub unlines_push : (ls : List (List ℕ)) (l rest : List ℕ) → unlines (ls ++ l ∷ []) ++ rest ≡ unlines ls ++ (l ++ 10 ∷ rest)
 unlines_push [] l rest = append_assoc l (10 ∷ []) rest

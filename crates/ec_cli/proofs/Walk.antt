@@ -1,5 +1,5 @@
 -- The texts of the globals and of the statements that are left, one step on.
-use Rattle.std.proofs.Common.{◌≡◌, ℕ, ◌+◌, ◌<◌, List, [], ◌∷◌, ◌++◌, length, get_or, drop, refl, sym, ap, ◌∙◌, append_assoc, arith, codes}
+use Rattle.std.proofs.Common.{◌≡◌, ℕ, ◌+◌, ◌<◌, List, [], ◌∷◌, ◌++◌, length, get_or, drop, sym, ap, ◌∙◌, append_assoc, arith, codes}
 use Rattle.std.specs.List.{flat_map}
 use Rattle.std.proofs.lemmas.List.{at_drop_more}
 use Rattle.ec_model.specs.declared.source.Letter.{Letter}
@@ -8,13 +8,9 @@ use Rattle.ec_model.specs.Lines.{unlines}
 use Rattle.ec_model.specs.Written.{at_line, written_globals, written_action, written_body}
 use Rattle.std.specs.Fmt.{decimal}
 use Rattle.ec_model.specs.declared.written.Written.{Written}
+use Rattle.ec_cli.proofs.TextLemmas.{unlines-append}
 use Rattle.ec_cli.specs.PartTexts.{header_text, opening_text, ending_text}
 use Rattle.ec_model.specs.WrittenText.{line_mark, global_lines, statement_lines, written_text}
-
--- the text of these lines and of those behind them
-pub unlines-append : (xs ys : List (List ℕ)) → unlines (xs ++ ys) ≡ unlines xs ++ unlines ys
-unlines-append [] ys = refl
-unlines-append (x ∷ xs) ys = ap (λ t. x ++ 10 ∷ t) (unlines-append xs ys) ∙ sym (append_assoc x (10 ∷ unlines xs) (unlines ys))
 
 -- the text of the declarations from line n on
 abbrev pub globals_text : ℕ → List Letter → List ℕ

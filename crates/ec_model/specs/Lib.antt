@@ -12,3 +12,7 @@ pub mod Written
 pub mod WrittenExample
 pub mod WrittenMeaning
 pub mod WrittenText
+pub use Rattle.ec_base.specs.Causes
+pub use Rattle.ec_link.specs.Logged
+pub use Rattle.ec_link.specs.SlotState
+pub use Rattle.ec_link.specs.Told
