@@ -4,7 +4,7 @@ ghost use Rattle.ec_model.specs.declared.source.Source.{Source};
 ghost use Rattle.ec_model.specs.Faults.{FaultAt};
 ghost use Rattle.ec_model.specs.Source.{IsSource};
 
-/// A text is one source, or has one fault, and not both: so what it leads to is one answer.
+/// A text is that of at most one source, has at most one fault, and never both: so what it leads to is one answer.
 pub fn one_reading()
     ensures source { (text : List ℕ) (p : Source) (q : Source) → IsSource text p → IsSource text q → p ≡ q }
     ensures fault { (text : List ℕ) (m : ℕ) (n : ℕ) → FaultAt text m → FaultAt text n → m ≡ n }
