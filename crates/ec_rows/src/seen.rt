@@ -153,9 +153,12 @@ fn log(alloc: Global, rack: &Rack) -> Result<Bytes, Fail> {
     Ok(text)
 }
 
-// What a source still gives.
+// What a source still gives, behind a read that may fail.
 fn left(alloc: Global, input: &mut MemSource) -> Result<Bytes, ReadStop> {
-    read_all(alloc, input, 1 << 25)
+    match read_all(alloc, input, 1 << 25) {
+        Err(ReadStop::Fault) => read_all(alloc, input, 1 << 25),
+        read => read,
+    }
 }
 
 // Makes a call over the objects, and gives its ending.

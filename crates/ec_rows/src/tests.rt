@@ -257,6 +257,7 @@ fn prints_all_where_no_put_fails(rt: HostRuntime) -> Result<(), Fail> {
 #[test]
 fn stops_where_a_read_fails(rt: HostRuntime) -> Result<(), Fail> {
     let alloc = rt.alloc();
+    let said = "0: SELECT a FROM t -> Rows|7;";
     // The query has 98 bytes, so that by 3 bytes 33 reads give some of them, and read 33 gives none.
     for read in 0..37u64 {
         let call = Call {
@@ -264,13 +265,21 @@ fn stops_where_a_read_fails(rt: HostRuntime) -> Result<(), Fail> {
             reads: &[read],
             ..running(QUERY.as_bytes())
         };
-        let seen = see(alloc, call, &mut Rack::new(alloc))?;
-        let (ending, out, err) = if read < 34 {
-            (Ending::ReadFault, "", "ecpgc: read fault\n")
+        let link: Box<dyn Link> = Box::new(alloc, link(alloc, &[Answer::Field(b"7")], &[])?)?;
+        let seen = see(alloc, call, &mut rack_over(alloc, link)?)?;
+        let (ending, out, err, log, slots) = if read < 34 {
+            (
+                Ending::ReadFault,
+                "",
+                "ecpgc: read fault\n",
+                "",
+                "db ready;",
+            )
         } else {
-            (Ending::Exited(0), "0\n", "")
+            (Ending::Exited(0), "7\n", "", said, "db free;")
         };
         assert!(rt; seen.shows(ending, out, err), "read {read}: {seen:?}");
+        assert!(rt; seen.leaves(log, slots), "read {read}: {seen:?}");
     }
     Ok(())
 }
