@@ -1,6 +1,7 @@
 -- What a link in memory shows, and what an ask makes of it.
-use Rattle.std.specs.Prelude.{◌==◌, ◌+◌, ◌-◌, ◌^◌, min, ℕ, Bool, if◌then◌else◌, List, [], ◌∷◌, ◌++◌, drop, slice_get, unwrap_or}
+use Rattle.std.specs.Prelude.{◌==◌, ℕ, Bool, if◌then◌else◌, List, [], ◌∷◌, ◌++◌, drop, slice_get, unwrap_or}
 use Rattle.std.specs.List.{list_any}
+use Rattle.ec_base.specs.Causes.{one_more}
 use Rattle.ec_link.specs.declared.request.Request.{Request}
 use Rattle.ec_link.specs.declared.reply.Reply.{Reply}
 use Rattle.ec_link.specs.declared.reply.Reply.TheVariants.{Broken}
@@ -16,10 +17,6 @@ pub record Script : Type 0 where
   pub said : Talk
   pub broke : ℕ
 
--- one more, up to the last value of `u64`
-abbrev pub counted : ℕ → ℕ
-counted n = min (n + 1) (2 ^ 64 - 1)
-
 -- whether the next ask is one of those that break
 abbrev pub breaks_next : Script → Bool
 breaks_next link = list_any (λ n. n == link.asks) link.breaks
@@ -33,7 +30,7 @@ abbrev pub after_ask : Script → Request → Script
 after_ask link request = record {
   replies = if breaks_next link then link.replies else drop 1 link.replies;
   breaks = link.breaks;
-  asks = counted link.asks;
+  asks = one_more link.asks;
   said = link.said ++ (request, next_reply link) ∷ [];
-  broke = if is_broken (next_reply link) then counted link.broke else link.broke;
+  broke = if is_broken (next_reply link) then one_more link.broke else link.broke;
 }

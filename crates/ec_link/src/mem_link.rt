@@ -1,7 +1,7 @@
 ghost use Rattle.std.specs.Prelude.{◌≡◌, ◌≤◌, [], IfOk, OnOk, OnErr, drop, if◌then◌else◌};
-ghost use Rattle.ec_base.specs.Causes.{Rose};
+ghost use Rattle.ec_base.specs.Causes.{Rose, one_more};
 ghost use Rattle.ec_link.specs.Link.{talk_after};
-ghost use Rattle.ec_link.specs.MemLink.{breaks_next, next_reply, after_ask, counted};
+ghost use Rattle.ec_link.specs.MemLink.{breaks_next, next_reply, after_ask};
 
 use crate::link::Link;
 use crate::reply::Reply;
@@ -95,8 +95,8 @@ impl MemLink {
     // Counts an ask that broke or not.
     fn count(&mut self, broke: bool)
         ensures counts { self.new ≡ record self.old {
-          asks = counted self.old.asks;
-          broke = if broke then counted self.old.broke else self.old.broke;
+          asks = one_more self.old.asks;
+          broke = if broke then one_more self.old.broke else self.old.broke;
         } }
         ensures later { self.old.broke ≤ self.new.broke }
     {
