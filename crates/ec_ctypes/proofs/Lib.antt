@@ -1,0 +1,10 @@
+pub mod CheckedBack
+pub mod Conversions
+pub mod EmbeddedBack
+pub mod ExprsBack
+pub mod Shapes
+pub mod StmtsBack
+pub mod TokensBack
+pub mod TypesBack
+pub mod Undone
+pub mod UnitsBack

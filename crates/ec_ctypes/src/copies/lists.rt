@@ -1,0 +1,32 @@
+ghost use Rattle.std.specs.Prelude.{◌≡◌, IfOk};
+
+use ec_base::{Bytes, List, Name, OutOfMemory};
+use std::alloc::Global;
+
+// A copy of a text.
+pub(crate) fn copy_bytes(alloc: Global, bytes: &Bytes) -> Result<Bytes, OutOfMemory>
+    ensures { IfOk result (λ copy. copy ≡ bytes.now) }
+{
+    List::from_slice(alloc, bytes.as_slice())
+}
+
+// A copy of a name that may be left out.
+pub(crate) fn copy_tag(alloc: Global, tag: &Option<Name>) -> Result<Option<Name>, OutOfMemory>
+    ensures { IfOk result (λ copy. copy ≡ tag.now) }
+{
+    match tag {
+        Some(name) => Ok(Some(copy_bytes(alloc, name)?)),
+        None => Ok(None),
+    }
+}
+
+// A copy of words.
+pub(crate) fn copy_words(alloc: Global, words: &List<Name>) -> Result<List<Name>, OutOfMemory>
+    ensures { IfOk result (λ copy. copy ≡ words.now) }
+{
+    let mut copy = List::new(alloc);
+    for word in words.as_slice() {
+        copy.push(copy_bytes(alloc, word)?)?;
+    }
+    Ok(copy)
+}

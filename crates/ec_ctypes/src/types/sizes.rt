@@ -1,0 +1,179 @@
+ghost use Rattle.std.specs.Prelude.{◌≡◌, ◌+◌, ◌<◌, ◌≤◌, ◌^◌, Some, map, option_map, IsSome, IfSome, MatchOption, IfOk, IfErr};
+ghost use Rattle.std.specs.Int.{next_multiple_of};
+ghost use Rattle.ec_base.specs.declared.fault.LimitKind.TheVariants.{L1};
+ghost use Rattle.ec_ctypes.specs.Layout.{with_member, no_members, with_members, shapes_of, shape_of, member_behind, member_of, limited, IsSmall, IsElement, HasElements, IsTooMany};
+ghost use Rattle.ec_ctypes.specs.trees.Types.{structure};
+ghost use Rattle.ec_ctypes.specs.views.Types.{ty_view, member_view, structs_view};
+
+use crate::types::{StructDef, Ty};
+use ec_base::{LimitKind, List, Name};
+
+/// How many bytes a type takes, and to what it is aligned (ISO/IEC 9899:1999, 6.5.3.4).
+#[derive(Clone, Copy, Debug, PartialEq, Eq)]
+pub struct Shape {
+    pub size: u64,
+    pub align: u64,
+}
+
+/// The greatest size of a type, in bytes.
+const LIMIT: u64 = 16_777_216;
+
+/// The size and the alignment of a complete type, in bytes (ISO/IEC 9899:1999, 6.5.3.4 and 6.7.2.1).
+///
+/// # Errors
+///
+/// `LimitKind::L1` where the type has more than 2^24 bytes.
+pub fn layout(structs: &List<StructDef>, ty: &Ty) -> Result<Shape, LimitKind>
+    requires complete { IsSome (shape_of (structs_view structs.now) (ty_view ty.now)) }
+    ensures shape { IfOk result (λ shape. (shape_of (structs_view structs.now) (ty_view ty.now) ≡ Some shape) × (shape.size ≤ 2 ^ 24)) }
+    ensures limit { IfErr result (λ limit. (limit ≡ L1) × IfSome (shape_of (structs_view structs.now) (ty_view ty.now)) (λ shape. 2 ^ 24 < shape.size)) }
+{
+    type_shape(structs.as_slice(), ty).ok_or(LimitKind::L1)
+}
+
+/// The offset in bytes and the type of a struct's member of this name, or `None` where the struct has no such member
+/// (ISO/IEC 9899:1999, 6.5.2.3 and 6.7.2.1). The struct is complete and has at most 2^24 bytes.
+pub fn member<'a>(structs: &'a List<StructDef>, id: u32, name: &Name) -> Option<(u64, &'a Ty)>
+    requires complete { IsSome (shape_of (structs_view structs.now) (structure id)) }
+    requires small { IfSome (shape_of (structs_view structs.now) (structure id)) (λ shape. shape.size ≤ 2 ^ 24) }
+    ensures { option_map (λ m. (m.0, ty_view m.1.now)) result ≡ member_of (structs_view structs.now) id name.now }
+{
+    let structs = structs.as_slice();
+    let at = id as usize;
+    let members = structs.get(at)?.members.as_slice();
+    find_member(&structs[..at], members, name)
+}
+
+// The offset and the type of the member of this name, of members that end within the limit.
+fn find_member<'a>(
+    structs: &[StructDef],
+    members: &'a [(Name, Ty)],
+    name: &Name,
+) -> Option<(u64, &'a Ty)>
+    requires { IsSome (limited (with_members (shapes_of (structs_view structs.now)) no_members (map member_view members.now))) }
+    ensures { option_map (λ m. (m.0, ty_view m.1.now)) result ≡ member_behind (shapes_of (structs_view structs.now)) no_members name.now (map member_view members.now) }
+{
+    let mut before = Shape { size: 0, align: 1 };
+    for (title, ty) in members {
+        let shape = type_shape(structs, ty)?;
+        if *title == *name {
+            return Some((start(before.size, shape.align), ty));
+        }
+        before = joined(before, shape)?;
+    }
+    None
+}
+
+// The shape of a type, or `None` where it has none or more bytes than the limit.
+#[cycle(shapes)]
+pub(crate) fn type_shape(structs: &[StructDef], ty: &Ty) -> Option<Shape>
+    ensures shape { result ≡ limited (shape_of (structs_view structs.now) (ty_view ty.now)) }
+    ensures small { IfSome result IsSmall }
+{
+    let (count, element) = elements(ty)?;
+    let shape = element_shape(structs, element)?;
+    within(count * shape.size, shape.align)
+}
+
+// How many elements an array of arrays has in all, and their type. A type that is no array is one element.
+fn elements<'a>(ty: &'a Ty) -> Option<(u64, &'a Ty)>
+    ensures { MatchOption result (IsTooMany (ty_view ty.now)) (λ all. HasElements (ty_view ty.now) all.0 (ty_view all.1.now)) }
+{
+    let mut count: u64 = 1;
+    let mut element = ty;
+    while let Ty::Array(inner, more) = element {
+        if *more == 0 || *more > LIMIT {
+            return None;
+        }
+        count *= *more;
+        if count > LIMIT {
+            return None;
+        }
+        element = inner.get();
+    }
+    Some((count, element))
+}
+
+// The shape of a type that is no array.
+#[cycle(shapes)]
+fn element_shape(structs: &[StructDef], ty: &Ty) -> Option<Shape>
+    requires { IsElement (ty_view ty.now) }
+    ensures shape { result ≡ limited (shape_of (structs_view structs.now) (ty_view ty.now)) }
+    ensures small { IfSome result IsSmall }
+{
+    match ty {
+        Ty::Void | Ty::Array(_, _) => None,
+        Ty::Bool | Ty::Char | Ty::UChar => within(1, 1),
+        Ty::Short | Ty::UShort => within(2, 2),
+        Ty::Int | Ty::UInt => within(4, 4),
+        Ty::Long | Ty::ULong | Ty::LLong | Ty::ULLong | Ty::Ptr(_) => within(8, 8),
+        Ty::Struct(id) => struct_shape(structs, *id),
+    }
+}
+
+// The shape of the struct of this number.
+#[cycle(shapes)]
+fn struct_shape(structs: &[StructDef], id: u32) -> Option<Shape>
+    ensures shape { result ≡ limited (shape_of (structs_view structs.now) (structure id)) }
+    ensures small { IfSome result IsSmall }
+{
+    let at = id as usize;
+    let members = structs.get(at)?.members.as_slice();
+    if members.is_empty() {
+        return None;
+    }
+    let all = members_shape(&structs[..at], members)?;
+    within(start(all.size, all.align), all.align)
+}
+
+// The bytes up to the end of the last member, and the widest alignment of a member.
+#[cycle(shapes)]
+fn members_shape(structs: &[StructDef], members: &[(Name, Ty)]) -> Option<Shape>
+    ensures shape { result ≡ limited (with_members (shapes_of (structs_view structs.now)) no_members (map member_view members.now)) }
+    ensures small { IfSome result IsSmall }
+{
+    let mut all = Shape { size: 0, align: 1 };
+    for (_, ty) in members {
+        let member = type_shape(structs, ty)?;
+        all = joined(all, member)?;
+    }
+    Some(all)
+}
+
+// The members so far, and one more behind them.
+fn joined(before: Shape, member: Shape) -> Option<Shape>
+    requires before { IsSmall before }
+    requires member { IsSmall member }
+    ensures shape { result ≡ limited (Some (with_member before member)) }
+    ensures small { IfSome result IsSmall }
+{
+    within(
+        start(before.size, member.align) + member.size,
+        before.align.max(member.align),
+    )
+}
+
+// Where something of this alignment starts behind `used` bytes.
+fn start(used: u64, align: u64) -> u64
+    requires used { used ≤ 2 ^ 24 }
+    requires positive { 0 < align }
+    requires align { align ≤ 8 }
+    ensures start { result ≡ next_multiple_of used align }
+    ensures small { result ≤ 2 ^ 24 + 8 }
+{
+    used.next_multiple_of(align)
+}
+
+// A shape of this size, or `None` where the size is above the limit.
+fn within(size: u64, align: u64) -> Option<Shape>
+    requires positive { 0 < align }
+    requires align { align ≤ 8 }
+    ensures shape { result ≡ limited (Some (record { size = size; align = align })) }
+    ensures small { IfSome result IsSmall }
+{
+    if size > LIMIT {
+        None
+    } else {
+        Some(Shape { size, align })
+    }
+}
