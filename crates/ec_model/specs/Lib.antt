@@ -2,7 +2,9 @@ pub mod Direct
 pub mod DirectExample
 pub mod Faults
 pub mod Headline
+pub mod Labels
 pub mod Lines
+pub mod Mentions
 pub mod Numbers
 pub mod Observed
 pub mod Run
@@ -13,6 +15,10 @@ pub mod WrittenExample
 pub mod WrittenMeaning
 pub mod WrittenText
 pub use Rattle.ec_base.specs.Causes
+pub use Rattle.ec_ctypes.specs.Arithmetic
+pub use Rattle.ec_ctypes.specs.Layout
+pub use Rattle.ec_ctypes.specs.trees
+pub use Rattle.ec_ctypes.specs.views
 pub use Rattle.ec_link.specs.Logged
 pub use Rattle.ec_link.specs.SlotState
 pub use Rattle.ec_link.specs.Told
