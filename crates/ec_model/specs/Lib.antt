@@ -4,6 +4,8 @@ pub mod Faults
 pub mod Headline
 pub mod Labels
 pub mod Lines
+pub mod Memory
+pub mod MemoryExamples
 pub mod Mentions
 pub mod Numbers
 pub mod Observed
