@@ -1,0 +1,4 @@
+pub mod Region
+pub mod ScalarLaws
+pub mod Scalars
+pub mod Views

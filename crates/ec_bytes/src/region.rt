@@ -1,0 +1,161 @@
+#![tactic(auto, using(crate::proofs::Cells::cells))]
+
+ghost use Rattle.std.specs.Prelude.{◌≡◌, ◌+◌, ◌*◌, ◌≤◌, [], ◌++◌, length, take, OnOk, OnErr, IfOk, IfSome};
+ghost use Rattle.std.specs.Option.{option_map};
+ghost use Rattle.ec_bytes.specs.Region.{bytes_of, cells_at, filled_cells, set_cells, unset_cells, value_of, written};
+
+use crate::parts::{all_set, encode, mark, part, put, shift, spread};
+use crate::scalar::Scalar;
+use ec_base::OutOfMemory;
+use std::alloc::Global;
+use std::marker::Model;
+
+/// The bytes of one object: a list of cells, each of which holds a byte, or nothing until one is written. A cell that
+/// holds nothing is what ISO/IEC 9899:1999 calls indeterminate (6.2.4, 6.7.8).
+#[derive(Debug, Drop)]
+pub struct Region {
+    bytes: Vec<u8>,
+    set: Vec<bool>,
+}
+
+impl Model for Region {
+    ghost use Rattle.std.specs.Prelude.{◌≡◌, List, length};
+    ghost use Rattle.ec_bytes.specs.Region.{Cell, cells_of};
+
+    ghost Value = { List Cell };
+
+    ghost view = { λ r. cells_of r.bytes.items r.set.items };
+
+    ghost invariant = { λ r. length r.set.items ≡ length r.bytes.items };
+}
+
+impl Region {
+    /// A region of no cells. It takes no memory.
+    pub fn new(alloc: Global) -> Region
+        ensures { result ≡ [] }
+    {
+        Region {
+            bytes: Vec::new(alloc),
+            set: Vec::new(alloc),
+        }
+    }
+
+    /// How many cells there are.
+    pub fn len(&self) -> usize
+        ensures { result ≡ length self.now }
+    {
+        self.bytes.len()
+    }
+
+    /// Puts `n` unset cells at the end, and says at which place they begin. Where there is no memory for them, or the
+    /// new length fits no `usize`, the region stays as it was.
+    pub fn extend(&mut self, n: usize) -> Result<usize, OutOfMemory>
+        ensures start { IfOk result (λ start. start ≡ length self.old) }
+        ensures ok { OnOk result (self.new ≡ self.old ++ unset_cells n) }
+        ensures err { OnErr result (self.new ≡ self.old) }
+    {
+        let start = self.bytes.len();
+        let Some(len) = start.checked_add(n) else {
+            return Err(OutOfMemory);
+        };
+        self.set.resize(len, false)?;
+        if self.bytes.resize(len, 0).is_err() {
+            self.set.truncate(start);
+            return Err(OutOfMemory);
+        }
+        Ok(start)
+    }
+
+    /// Drops all cells but the first `len`, of which there are as many or more.
+    pub fn cut(&mut self, len: usize)
+        requires { len ≤ length self.old }
+        ensures { self.new ≡ take len self.old }
+    {
+        self.bytes.truncate(len);
+        self.set.truncate(len);
+    }
+
+    /// The `n` bytes from `at` on, or `None` where one of their cells is unset. They lie in the region.
+    pub fn bytes(&self, at: usize, n: usize) -> Option<&[u8]>
+        requires { at + n ≤ length self.now }
+        ensures cells { option_map (λ piece. piece.now) result ≡ bytes_of (cells_at self.now at n) }
+        ensures length { IfSome result (λ piece. length piece.now ≡ n) }
+    {
+        if all_set(&self.set, at, n) {
+            Some(part(&self.bytes, at, n))
+        } else {
+            None
+        }
+    }
+
+    /// Writes the bytes of `piece` from `at` on. They fit the region.
+    pub fn write(&mut self, at: usize, piece: &[u8])
+        requires { at + length piece.now ≤ length self.old }
+        ensures cells { self.new ≡ written self.old at (set_cells piece.now) }
+        ensures length { length self.new ≡ length self.old }
+    {
+        put(&mut self.bytes, at, piece);
+        mark(&mut self.set, at, piece.len(), true);
+    }
+
+    /// Writes `byte` into each of the `n` cells from `at` on, which lie in the region.
+    pub fn fill(&mut self, at: usize, n: usize, byte: u8)
+        requires { at + n ≤ length self.old }
+        ensures cells { self.new ≡ written self.old at (filled_cells n byte) }
+        ensures length { length self.new ≡ length self.old }
+    {
+        spread(&mut self.bytes, at, n, byte);
+        mark(&mut self.set, at, n, true);
+    }
+
+    /// Copies the `n` cells from `from` on, the unset ones too, to those from `to` on. Both lie in the region, and may
+    /// overlap: the copy is of what the cells held before.
+    pub fn copy(&mut self, from: usize, to: usize, n: usize)
+        requires source { from + n ≤ length self.old }
+        requires target { to + n ≤ length self.old }
+        ensures cells { self.new ≡ written self.old to (cells_at self.old from n) }
+        ensures length { length self.new ≡ length self.old }
+    {
+        shift(&mut self.bytes, from, to, n);
+        shift(&mut self.set, from, to, n);
+    }
+
+    /// Takes the bytes out of the `n` cells from `at` on, which lie in the region, so that they are unset.
+    pub fn unset(&mut self, at: usize, n: usize)
+        requires { at + n ≤ length self.old }
+        ensures cells { self.new ≡ written self.old at (unset_cells n) }
+        ensures length { length self.new ≡ length self.old }
+    {
+        mark(&mut self.set, at, n, false);
+    }
+
+    /// The place of item `i` of those from `at` on that begin at each `step` cells. It lies in the region.
+    pub(crate) fn place(&self, at: usize, step: usize, i: usize) -> usize
+        requires { at + i * step ≤ length self.now }
+        ensures { result ≡ at + i * step }
+    {
+        // The length of a region fits `usize`, and so does a place in it.
+        let _ = &self.bytes;
+        let offset = i * step;
+        at + offset
+    }
+
+    /// The value in the cells from `at` on, or `None` where one of them is unset.
+    pub(crate) fn load<T: Scalar>(&self, at: usize) -> Option<T>
+        requires { at + T.SIZE ≤ length self.now }
+        ensures { result ≡ value_of T.decode (cells_at self.now at T.SIZE) }
+    {
+        let piece = self.bytes(at, T::SIZE)?;
+        Some(T::get_le(piece))
+    }
+
+    /// Writes the bytes of `value` from `at` on.
+    pub(crate) fn store<T: Scalar>(&mut self, at: usize, value: T)
+        requires { at + T.SIZE ≤ length self.old }
+        ensures cells { self.new ≡ written self.old at (set_cells (T.encode value)) }
+        ensures length { length self.new ≡ length self.old }
+    {
+        encode(&mut self.bytes, at, value);
+        mark(&mut self.set, at, T::SIZE, true);
+    }
+}
