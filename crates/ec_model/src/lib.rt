@@ -15,6 +15,3 @@ pub use memory_laws::{
 pub use source::{Letter, Source, Statement};
 pub use walks::{any_has_label, has_label, is_mentioned, is_mentioned_in};
 pub use written::{Action, Call, Global, Pointer, Symbol, Written, WrittenStatement};
-
-#[cfg(test)]
-mod tests;

@@ -1,0 +1,4 @@
+pub mod Objects
+pub mod Store
+pub mod Values
+pub mod Elements

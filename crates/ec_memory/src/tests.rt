@@ -1,0 +1,188 @@
+ghost use Rattle.std.specs.Prelude.{◌≡◌, ◌+◌, ◌^◌, ◌≤◌, [], ◌∷◌, Ok, MatchResult};
+ghost use Rattle.ec_model.specs.Memory.{and_then, put};
+
+use crate::*;
+use ec_base::Trap;
+use ec_bytes::{I16, Ptr};
+use ec_ctypes::{Arith, Ty};
+use std::process::Abort;
+
+/// The pointers to the first bytes of the first objects.
+const FIRST: u64 = 1 << 32;
+
+const SECOND: u64 = 2 << 32;
+
+const THIRD: u64 = 3 << 32;
+
+/// The memory is known again once the elements have ended.
+fn write_two_of_three(store: &mut Store, ptr: Ptr) -> Result<(), Trap>
+    ensures { MatchResult result (λ _. and_then (put store.old ptr.0 (255 ∷ 255 ∷ [])) (λ m. put m (ptr.0 + 8) (2 ∷ 0 ∷ [])) ≡ Ok store.new) (λ _. store.new ≡ store.old) }
+{
+    let mut elements = store.elements::<I16>(ptr, 3, 4)?;
+    elements.set(0, I16(-1));
+    elements.set(2, I16(2));
+    Ok(())
+}
+
+/// Makes an object at this pointer.
+fn make(rt: &impl Abort, store: &mut Store, size: u64, at: u64)
+    requires some { 1 ≤ size }
+    requires small { size ≤ 2 ^ 24 }
+{
+    assert_eq!(rt; store.make(size), Ok(Ptr(at)));
+}
+
+/// Puts bytes at a pointer.
+fn put(rt: &impl Abort, store: &mut Store, at: u64, bytes: &[u8]) {
+    assert_eq!(rt; store.put(Ptr(at), bytes), Ok(()));
+}
+
+/// Reads bytes at a pointer.
+fn reads(rt: &impl Abort, store: &Store, at: u64, n: u64, outcome: Result<&[u8], Trap>) {
+    assert_eq!(rt; store.span(Ptr(at), n), outcome);
+}
+
+/// Reads a text at a pointer.
+fn text(rt: &impl Abort, store: &Store, at: u64, outcome: Result<&[u8], Trap>) {
+    assert_eq!(rt; store.text(Ptr(at)), outcome);
+}
+
+/// Loads an integer at a pointer.
+fn loads(rt: &impl Abort, store: &Store, at: u64, ty: Arith, outcome: Result<Value, Trap>) {
+    assert_eq!(rt; store.load(Ptr(at), &Ty::from(ty)), outcome);
+}
+
+/// Moves a pointer.
+fn moves(rt: &impl Abort, store: &Store, at: u64, by: i64, size: u64, outcome: Result<Ptr, Trap>) {
+    assert_eq!(rt; store.move_ptr(Ptr(at), by, size), outcome);
+}
+
+/// Copies bytes from one pointer to another.
+fn copies(
+    rt: &impl Abort,
+    store: &mut Store,
+    to: u64,
+    from: u64,
+    n: u64,
+    outcome: Result<(), Trap>,
+) {
+    assert_eq!(rt; store.copy(Ptr(to), Ptr(from), n), outcome);
+}
+
+/// Writes two of three elements at a pointer.
+fn writes(rt: &impl Abort, store: &mut Store, at: u64, outcome: Result<(), Trap>) {
+    assert_eq!(rt; write_two_of_three(store, Ptr(at)), outcome);
+}
+
+/// Ends every object behind a mark.
+fn end(store: &mut Store, mark: u32) {
+    store.end_to(mark);
+}
+
+#[test]
+fn traps_come_in_order(rt: HostRuntime) {
+    let mut store = Store::new(rt.alloc());
+    make(&rt, &mut store, 4, FIRST);
+    make(&rt, &mut store, 1, SECOND);
+    end(&mut store, 1);
+    put(&rt, &mut store, FIRST, &[1, 2]);
+    put(&rt, &mut store, FIRST + 3, &[4]);
+    for (at, trap) in [
+        (0, Trap::Null),
+        (100, Trap::Null),
+        (SECOND, Trap::Dead),
+        (SECOND + 100, Trap::Dead),
+        (THIRD, Trap::Dead),
+        (FIRST + 1, Trap::Outside),
+        (FIRST + 2, Trap::Outside),
+        (FIRST, Trap::Unset),
+    ] {
+        loads(&rt, &store, at, Arith::Int, Err(trap));
+    }
+    reads(&rt, &store, FIRST + 4, 0, Ok(&[]));
+    reads(&rt, &store, FIRST + 5, 0, Err(Trap::Outside));
+    reads(&rt, &store, 0, 0, Err(Trap::Null));
+    reads(&rt, &store, SECOND, 0, Err(Trap::Dead));
+}
+
+#[test]
+fn texts_end(rt: HostRuntime) {
+    let mut store = Store::new(rt.alloc());
+    make(&rt, &mut store, 4, FIRST);
+    put(&rt, &mut store, FIRST, b"hi");
+    put(&rt, &mut store, FIRST + 3, b"!");
+    text(&rt, &store, FIRST, Err(Trap::Unset));
+    text(&rt, &store, FIRST + 3, Err(Trap::Outside));
+    text(&rt, &store, FIRST + 4, Err(Trap::Outside));
+    put(&rt, &mut store, FIRST + 2, &[0]);
+    text(&rt, &store, FIRST, Ok(b"hi"));
+    text(&rt, &store, FIRST + 2, Ok(&[]));
+}
+
+#[test]
+fn pointers_outlive_objects(rt: HostRuntime) {
+    let mut store = Store::new(rt.alloc());
+    make(&rt, &mut store, 8, FIRST);
+    for (by, size, outcome) in [
+        (2, 4, Ok(Ptr(FIRST + 8))),
+        (3, 4, Err(Trap::Outside)),
+        (-1, 1, Err(Trap::Outside)),
+        (i64::MIN, u64::MAX, Err(Trap::Outside)),
+        (i64::MAX, u64::MAX, Err(Trap::Outside)),
+        (0, u64::MAX, Ok(Ptr(FIRST))),
+    ] {
+        moves(&rt, &store, FIRST, by, size, outcome);
+    }
+    moves(&rt, &store, FIRST + 8, -2, 4, Ok(Ptr(FIRST)));
+    end(&mut store, 0);
+    loads(&rt, &store, FIRST, Arith::Char, Err(Trap::Dead));
+    make(&rt, &mut store, 1, SECOND);
+    loads(&rt, &store, FIRST, Arith::Char, Err(Trap::Dead));
+    moves(&rt, &store, FIRST, 0, 1, Err(Trap::Dead));
+}
+
+#[test]
+fn values_and_copies(rt: HostRuntime) {
+    let mut store = Store::new(rt.alloc());
+    make(&rt, &mut store, 12, FIRST);
+    put(
+        &rt,
+        &mut store,
+        FIRST,
+        &[2, 0xfe, 0xff, 0xff, 0xff, 0xff, 0xff, 0xff, 0xff],
+    );
+    loads(&rt, &store, FIRST, Arith::Bool, Ok(Value::Int(1)));
+    loads(&rt, &store, FIRST + 1, Arith::Char, Ok(Value::Int(-2)));
+    loads(&rt, &store, FIRST + 1, Arith::UChar, Ok(Value::Int(254)));
+    loads(&rt, &store, FIRST + 1, Arith::LLong, Ok(Value::Int(-2)));
+    loads(
+        &rt,
+        &store,
+        FIRST + 1,
+        Arith::ULong,
+        Ok(Value::Int(0xffff_ffff_ffff_fffe)),
+    );
+    writes(&rt, &mut store, FIRST + 3, Err(Trap::Outside));
+    writes(&rt, &mut store, FIRST + 2, Ok(()));
+    reads(&rt, &store, FIRST + 1, 4, Ok(&[0xfe, 0xff, 0xff, 0xff]));
+    make(&rt, &mut store, 4, SECOND);
+    put(&rt, &mut store, SECOND, &[1, 2]);
+    copies(&rt, &mut store, SECOND + 1, SECOND, 3, Ok(()));
+    reads(&rt, &store, SECOND, 3, Ok(&[1, 1, 2]));
+    reads(&rt, &store, SECOND, 4, Err(Trap::Unset));
+    copies(&rt, &mut store, FIRST, SECOND, 4, Ok(()));
+    reads(&rt, &store, FIRST + 3, 1, Err(Trap::Unset));
+    copies(&rt, &mut store, 0, THIRD, 1, Err(Trap::Dead));
+}
+
+#[test]
+fn bytes_are_spent(rt: HostRuntime) {
+    let mut store = Store::new(rt.alloc());
+    for number in 1..17 {
+        make(&rt, &mut store, 1 << 24, number << 32);
+    }
+    assert_eq!(rt; store.make(1), Err(MakeStop::Spent));
+    end(&mut store, 15);
+    make(&rt, &mut store, 1 << 24, 17 << 32);
+    assert_eq!(rt; store.make(1), Err(MakeStop::Spent));
+}
