@@ -1,0 +1,36 @@
+pub mod Among
+pub mod Classes
+pub mod CParts
+pub mod CUnits
+pub mod Cuts
+pub mod CutUnits
+pub mod CWalks
+pub mod Decided
+pub mod Declarations
+pub mod Embedded
+pub mod Ends
+mod FirstLemmas
+pub mod FirstPieces
+pub mod Found
+pub mod FoundPieces
+pub mod Fronts
+pub mod Heights
+pub mod Includes
+pub mod Items
+pub mod LastToken
+pub mod Limits
+pub mod LongestMatch
+pub mod Marks
+pub mod PieceParts
+pub mod Prefixes
+pub mod Readings
+pub mod ReadLaws
+pub mod ReadSteps
+pub mod SqlUnits
+pub mod SqlWalks
+pub mod Starts
+pub mod SyntaxAnswers
+pub mod TableTests
+mod TextReads
+pub mod TokenEnds
+pub mod Walks

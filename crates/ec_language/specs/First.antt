@@ -1,0 +1,128 @@
+-- Of all faults and limits of a text, the first one decides: that at the least place; at one place a fault before a limit, and of two faults the one of the lower number. An input that is too long is refused before all.
+use Rattle.std.specs.Prelude.{◌≡◌, ◌⊎◌, ◌≤◌, ◌<◌, ℕ, suc, ◌+◌, ◌^◌, Bool, false, ◌&&◌, ◌||◌, ◌==◌, nat_lt, List, [], ◌∷◌, ◌++◌, length, Option, Some, None, Result, Ok, Err, if◌then◌else◌}
+use Rattle.ec_base.specs.declared.fault.FaultKind.{FaultKind}
+use Rattle.ec_base.specs.declared.fault.FaultKind.TheVariants.{F1, F2, F3, F4, F5, F6, F7, F8, F9, F10, F11, F12, F13, F14, F15, F16, F17, F18, F19, F20, F21, F22, F23, F24, F25, F26, F27, F28, F29, F30}
+use Rattle.ec_base.specs.declared.fault.LimitKind.{LimitKind}
+use Rattle.ec_base.specs.declared.fault.LimitKind.TheVariants.{L1, L2, L3, L4, L5, L6, L7, L8}
+use Rattle.ec_base.specs.declared.stop.Stop.{Stop}
+use Rattle.ec_base.specs.declared.stop.Stop.TheVariants.{Refused, Limit, OutOfMemory}
+use Rattle.ec_ctypes.specs.declared.text.piece.Piece.{Piece}
+use Rattle.ec_ctypes.specs.trees.Tokens.{TokData, TokenData}
+use Rattle.ec_ctypes.specs.trees.Units.{UnitData}
+use Rattle.ec_language.specs.Letters.{Text}
+use Rattle.ec_language.specs.Pieces.{Pieces}
+use Rattle.ec_language.specs.PieceFaults.{PieceFault}
+use Rattle.ec_language.specs.Tokens.{Part, max_tokens, Tokens, TokensOrStop}
+use Rattle.ec_language.specs.Syntax.{TreeOrStop}
+
+-- ---- the order
+
+-- a fault or a limit, with the number of the byte or token where it comes
+pub record Violation : Type 0 where
+  pub place : ℕ
+  pub stop : Stop
+
+abbrev pub fault_number : FaultKind → ℕ
+fault_number F1 = 1
+fault_number F2 = 2
+fault_number F3 = 3
+fault_number F4 = 4
+fault_number F5 = 5
+fault_number F6 = 6
+fault_number F7 = 7
+fault_number F8 = 8
+fault_number F9 = 9
+fault_number F10 = 10
+fault_number F11 = 11
+fault_number F12 = 12
+fault_number F13 = 13
+fault_number F14 = 14
+fault_number F15 = 15
+fault_number F16 = 16
+fault_number F17 = 17
+fault_number F18 = 18
+fault_number F19 = 19
+fault_number F20 = 20
+fault_number F21 = 21
+fault_number F22 = 22
+fault_number F23 = 23
+fault_number F24 = 24
+fault_number F25 = 25
+fault_number F26 = 26
+fault_number F27 = 27
+fault_number F28 = 28
+fault_number F29 = 29
+fault_number F30 = 30
+
+abbrev pub limit_number : LimitKind → ℕ
+limit_number L1 = 1
+limit_number L2 = 2
+limit_number L3 = 3
+limit_number L4 = 4
+limit_number L5 = 5
+limit_number L6 = 6
+limit_number L7 = 7
+limit_number L8 = 8
+
+-- at one place: faults by their numbers, and then limits. Want of memory is no violation
+abbrev pub rank : Stop → ℕ
+rank (Refused kind line) = fault_number kind
+rank (Limit kind) = 30 + limit_number kind
+rank OutOfMemory = 39
+
+abbrev pub comes_before : Violation → Violation → Bool
+comes_before a b = nat_lt a.place b.place || (a.place == b.place && nat_lt (rank a.stop) (rank b.stop))
+
+-- It is one of the violations, and none comes before it.
+abbrev pub IsFirst : (Violation → Type 0) → Violation → Type 0
+IsFirst V v = V v × ((other : Violation) → V other → comes_before other v ≡ false)
+
+-- it is one of the list
+abbrev pub IsAmong : List Violation → Violation → Type 0
+IsAmong [] x = ⊥
+IsAmong (v ∷ vs) x = (x ≡ v) ⊎ IsAmong vs x
+
+abbrev pub earlier : Violation → Option Violation → Option Violation
+earlier v None = Some v
+earlier v (Some w) = if comes_before w v then Some w else Some v
+
+-- the first of a list
+abbrev pub first_of : List Violation → Option Violation
+first_of [] = None
+first_of (v ∷ vs) = earlier v (first_of vs)
+
+-- ---- tokens
+
+abbrev pub fault_in : ℕ → ℕ → Result TokData FaultKind → List Violation
+fault_in place line (Ok tok) = []
+fault_in place line (Err kind) = record { place = place; stop = Refused kind (record { 0 = line }) } ∷ []
+
+-- the limit comes at the token with which there are too many
+abbrev pub limit_at : ℕ → List Violation
+limit_at place = if place == max_tokens then record { place = place; stop = Limit L2 } ∷ [] else []
+
+-- the faults and the limit of parts, the first of which has this place
+abbrev pub violations_of : ℕ → List Part → List Violation
+violations_of place [] = []
+violations_of place (p ∷ parts) = fault_in place p.line p.tok ++ (limit_at place ++ violations_of (suc place) parts)
+
+abbrev pub stop_of : {A : Type 0} → Result A Stop → Option Stop
+stop_of (Ok a) = None
+stop_of (Err stop) = Some stop
+
+abbrev pub stop_at : Option Violation → Option Stop
+stop_at None = None
+stop_at (Some v) = Some v.stop
+
+-- ---- the text
+
+abbrev pub max_text : ℕ
+max_text = 2 ^ 24
+
+-- How a text is read, as a source or as written C: what its tree is, or what the first phase that finds something refuses. The phases are pieces, tokens and syntax.
+pub data Reads (written : Bool) (text : Text) : Result UnitData Stop → Type 0 where
+  too_long : max_text < length text → Reads written text (Err (Limit L6))
+  unclosed : (kind : FaultKind) (line : ℕ) → length text ≤ max_text → PieceFault text kind line → Reads written text (Err (Refused kind (record { 0 = line })))
+  no_tokens : (pieces : List Piece) (stop : Stop) → length text ≤ max_text → Pieces text pieces → TokensOrStop written pieces (Err stop) → Reads written text (Err stop)
+  tokens : (pieces : List Piece) (ts : List TokenData) (answer : Result UnitData Stop) → length text ≤ max_text → Pieces text pieces → Tokens written pieces ts
+      → TreeOrStop ts answer → Reads written text answer
