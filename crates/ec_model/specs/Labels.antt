@@ -1,7 +1,7 @@
 -- The labels that stand in a statement (ISO/IEC 9899:1999, 6.8.1).
 use Rattle.std.specs.Prelude.{ℕ, List, Bool, false, ◌||◌}
 use Rattle.ec_ctypes.specs.trees.Stmts.{StmtData, stmt, StmtKindData, empty_stmt, expr_stmt, block_stmt, if_stmt, while_stmt, do_stmt, for_stmt, break_stmt, continue_stmt, return_stmt, goto_stmt, label_stmt, decl_stmt, emb_stmt, mark_stmt, StmtList, no_stmts, stmts, StmtOption, no_stmt, some_stmt}
-use Rattle.ec_model.specs.Mentions.{same_text}
+use Rattle.ec_language.specs.Letters.{same_text}
 
 -- whether the label stands in the statement, however deep
 abbrev mutual

@@ -1,11 +1,7 @@
 -- The names that stand in an expression.
-use Rattle.std.specs.Prelude.{ℕ, List, Bool, false, ◌||◌, nat_eq}
-use Rattle.std.specs.Cmp.Lexicographic.{pointwise}
+use Rattle.std.specs.Prelude.{ℕ, List, Bool, false, ◌||◌}
+use Rattle.ec_language.specs.Letters.{same_text}
 use Rattle.ec_ctypes.specs.trees.Exprs.{ExprData, integer, character, string, identifier, unary, binary, assign, bump, call, call_other, index, member, arrow, cast, size_type, size_expr, ExprList, no_exprs, exprs}
-
--- whether two texts are one
-abbrev pub same_text : List ℕ → List ℕ → Bool
-same_text a b = pointwise nat_eq a b
 
 -- whether the name stands in the expression as a variable or as the function of a call. Names of members and names in types do not count
 abbrev mutual
