@@ -1,0 +1,231 @@
+-- One step of each walk from unit to unit, in a text at an index.
+use Rattle.std.proofs.Common.{◌≡◌, ℕ, ◌+◌, ◌-◌, ◌<◌, ◌≤◌, Bool, true, false, not, ◌&&◌, ◌||◌, List, [], ◌∷◌, ◌++◌, length, take, drop, get_or, refl, sym, ap, ◌∙◌, arith, length-drop, Option, None, Some}
+use Rattle.std.specs.Prelude.{codes, if◌then◌else◌}
+use Rattle.ec_ctypes.specs.declared.text.piece.PieceKind.TheVariants.{InPlace}
+use Rattle.ec_language.specs.Letters.{Text, is_blank, is_word_byte, is_digit, is_word_start, is_quote, is_sql_word_start, is_not_newline, begins, begins_with, same_text, same_word, is_among, skip_blanks}
+use Rattle.ec_language.specs.SqlText.{begins_number}
+use Rattle.ec_language.specs.Pieces.{behind_start, starts_piece, is_type_word}
+use Rattle.ec_language.specs.ReadPieces.{Behind, passed, cut, endless, behind_all, comment_end, escaped_end, nested_end, c_end, sql_end, begins_escaped, begins_gap, gap_stop, begins_semicolon, statement_end, c_stop, begins_type, begins_words, braces_behind, begins_end, has_end, found, front}
+use Rattle.ec_language.proofs.CWalks.{c_stop_on}
+use Rattle.ec_language.proofs.SqlWalks.{gap_stop_on, statement_end_on, statement_stop}
+use Rattle.ec_language.proofs.Declarations.{run, has_end_next, has_end_skip, run_next, run_stop}
+use Rattle.ec_split.proofs.Steps.{at_place, later}
+
+-- ---- units
+
+behind_two : (t : Text) (i : ℕ) → drop 1 (drop (i + 1) t) ≡ drop (i + 2) t
+behind_two t i = let n : i + 1 + 1 ≡ i + 2 = omega arith in later 1 (i + 1) t ∙ ap (λ k. drop k t) n
+
+c_comment_is : (b : ℕ) (s : Text) → is_word_start b ≡ false → is_digit b ≡ false → is_quote b ≡ false → begins_with (codes "/*") (b ∷ s) ≡ true → comment_end (drop 1 s) ≡ c_end (b ∷ s)
+c_comment_is b s w d q e = rw (w, d, q, e, c_end) refl
+
+pub c_comment : (t : Text) (i : ℕ) → i < length t → is_word_start (get_or t i 0) ≡ false → is_digit (get_or t i 0) ≡ false → is_quote (get_or t i 0) ≡ false
+    → begins_with (codes "/*") (drop i t) ≡ true → comment_end (drop (i + 2) t) ≡ c_end (drop i t)
+c_comment t i h w d q e =
+    let k = at_place t i h in ap comment_end (sym (behind_two t i)) ∙ c_comment_is (get_or t i 0) (drop (i + 1) t) w d q (ap (begins_with (codes "/*")) (sym k) ∙ e) ∙ ap c_end (sym k)
+
+c_line_is : (b : ℕ) (s : Text) → is_word_start b ≡ false → is_digit b ≡ false → is_quote b ≡ false → begins_with (codes "/*") (b ∷ s) ≡ false → begins_with (codes "//") (b ∷ s) ≡ true
+    → passed (behind_all is_not_newline (drop 1 s)) ≡ c_end (b ∷ s)
+c_line_is b s w d q x e = rw (w, d, q, x, e, c_end) refl
+
+pub c_line : (t : Text) (i : ℕ) → i < length t → is_word_start (get_or t i 0) ≡ false → is_digit (get_or t i 0) ≡ false → is_quote (get_or t i 0) ≡ false
+    → begins_with (codes "/*") (drop i t) ≡ false → begins_with (codes "//") (drop i t) ≡ true → passed (behind_all is_not_newline (drop (i + 2) t)) ≡ c_end (drop i t)
+c_line t i h w d q x e =
+    let k = at_place t i h in
+    ap (λ z. passed (behind_all is_not_newline z)) (sym (behind_two t i))
+    ∙ c_line_is (get_or t i 0) (drop (i + 1) t) w d q (ap (begins_with (codes "/*")) (sym k) ∙ x) (ap (begins_with (codes "//")) (sym k) ∙ e) ∙ ap c_end (sym k)
+
+sql_escaped_is : (b : ℕ) (s : Text) → begins_escaped (b ∷ s) ≡ true → escaped_end (drop 1 s) ≡ sql_end (b ∷ s)
+sql_escaped_is b s e = rw (e, sql_end) refl
+
+pub sql_escaped : (t : Text) (i : ℕ) → i < length t → begins_escaped (drop i t) ≡ true → escaped_end (drop (i + 2) t) ≡ sql_end (drop i t)
+sql_escaped t i h e =
+    let k = at_place t i h in ap escaped_end (sym (behind_two t i)) ∙ sql_escaped_is (get_or t i 0) (drop (i + 1) t) (ap begins_escaped (sym k) ∙ e) ∙ ap sql_end (sym k)
+
+sql_comment_is : (b : ℕ) (s : Text) → begins_escaped (b ∷ s) ≡ false → is_sql_word_start b ≡ false → begins_number (b ∷ s) ≡ false → is_quote b ≡ false → begins_with (codes "/*") (b ∷ s) ≡ true
+    → nested_end 0 (drop 1 s) ≡ sql_end (b ∷ s)
+sql_comment_is b s a w d q e = rw (a, w, d, q, e, sql_end) refl
+
+pub sql_comment : (t : Text) (i : ℕ) → i < length t → begins_escaped (drop i t) ≡ false → is_sql_word_start (get_or t i 0) ≡ false → begins_number (drop i t) ≡ false → is_quote (get_or t i 0) ≡ false
+    → begins_with (codes "/*") (drop i t) ≡ true → nested_end 0 (drop (i + 2) t) ≡ sql_end (drop i t)
+sql_comment t i h a w d q e =
+    let k = at_place t i h in
+    ap (nested_end 0) (sym (behind_two t i))
+    ∙ sql_comment_is (get_or t i 0) (drop (i + 1) t) (ap begins_escaped (sym k) ∙ a) w (ap begins_number (sym k) ∙ d) q (ap (begins_with (codes "/*")) (sym k) ∙ e) ∙ ap sql_end (sym k)
+
+sql_dash_is : (b : ℕ) (s : Text) → begins_escaped (b ∷ s) ≡ false → is_sql_word_start b ≡ false → begins_number (b ∷ s) ≡ false → is_quote b ≡ false → begins_with (codes "/*") (b ∷ s) ≡ false
+    → begins_with (codes "--") (b ∷ s) ≡ true → passed (behind_all is_not_newline (drop 1 s)) ≡ sql_end (b ∷ s)
+sql_dash_is b s a w d q x e = rw (a, w, d, q, x, e, sql_end) refl
+
+pub sql_dash : (t : Text) (i : ℕ) → i < length t → begins_escaped (drop i t) ≡ false → is_sql_word_start (get_or t i 0) ≡ false → begins_number (drop i t) ≡ false → is_quote (get_or t i 0) ≡ false
+    → begins_with (codes "/*") (drop i t) ≡ false → begins_with (codes "--") (drop i t) ≡ true → passed (behind_all is_not_newline (drop (i + 2) t)) ≡ sql_end (drop i t)
+sql_dash t i h a w d q x e =
+    let k = at_place t i h in
+    ap (λ z. passed (behind_all is_not_newline z)) (sym (behind_two t i))
+    ∙ sql_dash_is (get_or t i 0) (drop (i + 1) t) (ap begins_escaped (sym k) ∙ a) w (ap begins_number (sym k) ∙ d) q (ap (begins_with (codes "/*")) (sym k) ∙ x) (ap (begins_with (codes "--")) (sym k) ∙ e)
+    ∙ ap sql_end (sym k)
+
+-- ---- the start of an embedded piece
+
+blanks_choice : (x : Bool) (b : ℕ) (s : Text) → skip_blanks s ≡ behind_all is_blank s
+    → ◌≡◌ {A = Text} (elim x [ true ↦ skip_blanks s | false ↦ b ∷ s ]) (elim x [ true ↦ behind_all is_blank s | false ↦ b ∷ s ])
+blanks_choice true b s e = e
+blanks_choice false b s e = refl
+
+blanks : (s : Text) → skip_blanks s ≡ behind_all is_blank s
+blanks [] = refl
+blanks (b ∷ s) = blanks_choice (is_blank b) b s (blanks s)
+
+abbrev start_choice : Bool → Text → Option Text
+start_choice x s = if x then Some s else None
+
+start_is : (t : Text) (i j : ℕ) → drop j t ≡ behind_all is_blank (drop (i + 4) t)
+    → behind_start (drop i t)
+    ≡ start_choice (same_word (take 4 (drop i t)) (codes "EXEC") && begins is_blank (drop (i + 4) t) && same_word (take 3 (drop j t)) (codes "SQL") && not (begins is_word_byte (drop (j + 3) t))) (drop (j + 3) t)
+start_is t i j e =
+    let s = drop i t in
+    let four : drop 4 s ≡ drop (i + 4) t = later 4 i t in
+    let second : skip_blanks (drop 4 s) ≡ drop j t = ap skip_blanks four ∙ blanks (drop (i + 4) t) ∙ sym e in
+    let last : drop 3 (skip_blanks (drop 4 s)) ≡ drop (j + 3) t = ap (λ z. drop 3 z) second ∙ later 3 j t in
+    ap (λ (z : Text). start_choice (same_word (take 4 s) (codes "EXEC") && begins is_blank z && same_word (take 3 (skip_blanks (drop 4 s))) (codes "SQL") && not (begins is_word_byte (drop 3 (skip_blanks (drop 4 s))))) (drop 3 (skip_blanks (drop 4 s)))) four
+    ∙ ap (λ (z : Text). start_choice (same_word (take 4 s) (codes "EXEC") && begins is_blank (drop (i + 4) t) && same_word (take 3 z) (codes "SQL") && not (begins is_word_byte (drop 3 (skip_blanks (drop 4 s))))) (drop 3 (skip_blanks (drop 4 s)))) second
+    ∙ ap (λ (z : Text). start_choice (same_word (take 4 s) (codes "EXEC") && begins is_blank (drop (i + 4) t) && same_word (take 3 (drop j t)) (codes "SQL") && not (begins is_word_byte z)) z) last
+
+tests_fail : (x : Bool) (s : Text) → x ≡ false → None ≡ start_choice x s
+tests_fail x s e = rw e refl
+
+no_first : (a b c d : Bool) → a ≡ false → (a && b && c && not d) ≡ false
+no_first true b c d e = absurd (cc)
+no_first false b c d e = refl
+
+no_second : (a b c d : Bool) → b ≡ false → (a && b && c && not d) ≡ false
+no_second true b c d e = rw e refl
+no_second false b c d e = refl
+
+no_third : (a b c d : Bool) → c ≡ false → (a && b && c && not d) ≡ false
+no_third true true c d e = rw e refl
+no_third true false c d e = refl
+no_third false b c d e = refl
+
+no_fourth : (a b c d : Bool) → d ≡ true → (a && b && c && not d) ≡ false
+no_fourth true true true d e = rw e refl
+no_fourth true true false d e = refl
+no_fourth true false c d e = refl
+no_fourth false b c d e = refl
+
+pub start_no_word : (t : Text) (i : ℕ) → same_word (take 4 (drop i t)) (codes "EXEC") ≡ false → None ≡ behind_start (drop i t)
+start_no_word t i a =
+    tests_fail _ (drop 3 (skip_blanks (drop 4 (drop i t)))) (no_first (same_word (take 4 (drop i t)) (codes "EXEC")) (begins is_blank (drop 4 (drop i t)))
+    (same_word (take 3 (skip_blanks (drop 4 (drop i t)))) (codes "SQL")) (begins is_word_byte (drop 3 (skip_blanks (drop 4 (drop i t))))) a)
+
+pub start_no_blank : (t : Text) (i : ℕ) → begins is_blank (drop (i + 4) t) ≡ false → None ≡ behind_start (drop i t)
+start_no_blank t i b =
+    tests_fail _ (drop 3 (skip_blanks (drop 4 (drop i t)))) (no_second (same_word (take 4 (drop i t)) (codes "EXEC")) (begins is_blank (drop 4 (drop i t)))
+    (same_word (take 3 (skip_blanks (drop 4 (drop i t)))) (codes "SQL")) (begins is_word_byte (drop 3 (skip_blanks (drop 4 (drop i t))))) (ap (begins is_blank) (later 4 i t) ∙ b))
+
+pub start_no_second : (t : Text) (i j : ℕ) → drop j t ≡ behind_all is_blank (drop (i + 4) t) → same_word (take 3 (drop j t)) (codes "SQL") ≡ false → None ≡ behind_start (drop i t)
+start_no_second t i j e c =
+    tests_fail _ (drop (j + 3) t) (no_third (same_word (take 4 (drop i t)) (codes "EXEC")) (begins is_blank (drop (i + 4) t)) (same_word (take 3 (drop j t)) (codes "SQL")) (begins is_word_byte (drop (j + 3) t)) c)
+    ∙ sym (start_is t i j e)
+
+pub start_longer : (t : Text) (i j : ℕ) → drop j t ≡ behind_all is_blank (drop (i + 4) t) → begins is_word_byte (drop (j + 3) t) ≡ true → None ≡ behind_start (drop i t)
+start_longer t i j e d =
+    tests_fail _ (drop (j + 3) t) (no_fourth (same_word (take 4 (drop i t)) (codes "EXEC")) (begins is_blank (drop (i + 4) t)) (same_word (take 3 (drop j t)) (codes "SQL")) (begins is_word_byte (drop (j + 3) t)) d)
+    ∙ sym (start_is t i j e)
+
+tests_pass : (a b c d : Bool) (s : Text) → a ≡ true → b ≡ true → c ≡ true → d ≡ false → Some s ≡ start_choice (a && b && c && not d) s
+tests_pass a b c d s w x y z = rw (w, x, y, z) refl
+
+pub start_found : (t : Text) (i j : ℕ) → drop j t ≡ behind_all is_blank (drop (i + 4) t) → same_word (take 4 (drop i t)) (codes "EXEC") ≡ true → begins is_blank (drop (i + 4) t) ≡ true
+    → same_word (take 3 (drop j t)) (codes "SQL") ≡ true → begins is_word_byte (drop (j + 3) t) ≡ false → Some (drop (j + 3) t) ≡ behind_start (drop i t)
+start_found t i j e a b c d = tests_pass (same_word (take 4 (drop i t)) (codes "EXEC")) (begins is_blank (drop (i + 4) t)) (same_word (take 3 (drop j t)) (codes "SQL")) (begins is_word_byte (drop (j + 3) t)) (drop (j + 3) t) a b c d ∙ sym (start_is t i j e)
+
+-- ---- walks
+
+pub gap_next : (s r : Text) → begins_gap s ≡ true → passed r ≡ sql_end s → gap_stop r ≡ gap_stop s
+gap_next s r g e = sym (gap_stop_on s r g (sym e))
+
+pub statement_next : (s r : Text) → begins_semicolon s ≡ false → passed r ≡ sql_end s → statement_end r ≡ statement_end s
+statement_next s r g e = sym (statement_end_on s r g (sym e))
+
+pub c_next : (s r : Text) → starts_piece s ≡ false → passed r ≡ c_end s → c_stop r ≡ c_stop s
+c_next s r g e = sym (c_stop_on s r g (sym e))
+
+pub loose_next : (k n : ℕ) (s r : Text) → begins_end (k, s) ≡ false → n ≡ braces_behind k s → passed r ≡ c_end s → has_end (n, r) ≡ has_end (k, s)
+loose_next k n s r x m e = ap (λ z. has_end (z, r)) m ∙ sym (has_end_next k s r x (sym e))
+
+pub loose_skip : (k : ℕ) (s r : Text) → begins_end (k, s) ≡ false → cut r ≡ c_end s → has_end (k, r) ≡ has_end (k, s)
+loose_skip k s r x e = sym (has_end_skip k s r x (sym e))
+
+pub tight_next : (k n : ℕ) (s r : Text) → begins_end (k, s) ≡ false → n ≡ braces_behind k s → passed r ≡ c_end s → run (n, r) ≡ run (k, s)
+tight_next k n s r x m e = ap (λ z. run (z, r)) m ∙ sym (run_next k s r x (sym e))
+
+pub statement_here : (t : Text) (i : ℕ) → begins_semicolon (drop i t) ≡ true → Some (drop (i + 1) t) ≡ statement_end (drop i t)
+statement_here t i e = ap (λ (z : Text). Some z) (sym (later 1 i t)) ∙ sym (statement_stop (drop i t) e)
+
+pub tight_here : (t : Text) (k i : ℕ) → begins_end (k, drop i t) ≡ true → found InPlace (drop (i + 1) t) ≡ run (k, drop i t)
+tight_here t k i e = ap (found InPlace) (sym (later 1 i t)) ∙ sym (run_stop k (drop i t) e)
+
+-- ---- words
+
+pub front_slice : (t : Text) (a e : ℕ) → a ≤ e → e ≤ length t → front (drop a t) (drop e t) ≡ take (e - a) (drop a t)
+front_slice t a e h k =
+    let n : length (drop a t) - length (drop e t) ≡ e - a = omega (arith, length-drop a t, length-drop e t) in ap (λ m. take m (drop a t)) n
+
+abbrev type_choice : Text → Behind → Bool
+type_choice s x = elim x [ passed r ↦ is_type_word (front s r) | cut r ↦ false | endless ↦ false ]
+
+pub type_at : (t : Text) (a e : ℕ) → a ≤ e → e ≤ length t → passed (drop e t) ≡ sql_end (drop a t) → is_type_word (take (e - a) (drop a t)) ≡ begins_type (drop a t)
+type_at t a e h k p = ap is_type_word (sym (front_slice t a e h k)) ∙ ap (type_choice (drop a t)) p
+
+abbrev words_choice : Text → Text → List Text → Behind → Bool
+words_choice s w ws x = elim x [ passed r ↦ elim (same_word (front s r) w) [ true ↦ begins_words ws r | false ↦ false ] | cut r ↦ false | endless ↦ false ]
+
+abbrev word_choice : Bool → List Text → Text → Bool
+word_choice x ws r = elim x [ true ↦ begins_words ws r | false ↦ false ]
+
+words_at : (t : Text) (f a e : ℕ) (w : Text) (x : Bool) → drop a t ≡ gap_stop (drop f t) → a ≤ e → e ≤ length t → passed (drop e t) ≡ sql_end (drop a t)
+    → same_word (take (e - a) (drop a t)) w ≡ x → (ws : List Text) → word_choice x ws (drop e t) ≡ begins_words (w ∷ ws) (drop f t)
+words_at t f a e w x g h k p s ws =
+    ap (λ y. word_choice y ws (drop e t)) (sym s ∙ ap (λ z. same_word z w) (sym (front_slice t a e h k))) ∙ ap (words_choice (drop a t) w ws) p ∙ ap (λ z. words_choice z w ws (sql_end z)) g
+
+pub word_found : (t : Text) (f a e : ℕ) (w : Text) → drop a t ≡ gap_stop (drop f t) → a ≤ e → e ≤ length t → passed (drop e t) ≡ sql_end (drop a t)
+    → same_word (take (e - a) (drop a t)) w ≡ true → (ws : List Text) → begins_words ws (drop e t) ≡ begins_words (w ∷ ws) (drop f t)
+word_found t f a e w g h k p s = words_at t f a e w true g h k p s
+
+pub word_other : (t : Text) (f a e : ℕ) (w : Text) → drop a t ≡ gap_stop (drop f t) → a ≤ e → e ≤ length t → passed (drop e t) ≡ sql_end (drop a t)
+    → same_word (take (e - a) (drop a t)) w ≡ false → (ws : List Text) → false ≡ begins_words (w ∷ ws) (drop f t)
+word_other t f a e w g h k p s = words_at t f a e w false g h k p s
+
+-- ---- type words
+
+abbrev integer_words : List Text
+integer_words = codes "char" ∷ codes "short" ∷ codes "int" ∷ codes "long" ∷ []
+
+abbrev simple_words : List Text
+simple_words = codes "signed" ∷ codes "unsigned" ∷ codes "bool" ∷ codes "struct" ∷ []
+
+abbrev last_words : List Text
+last_words = codes "const" ∷ codes "VARCHAR" ∷ codes "varchar" ∷ []
+
+or_then : (x y z : Bool) → (x || (y || z)) ≡ ((x || y) || z)
+or_then true y z = refl
+or_then false y z = refl
+
+among_both : (xs ys : List Text) (u : Text) → is_among (xs ++ ys) u ≡ (is_among xs u || is_among ys u)
+among_both [] ys u = refl
+among_both (x ∷ xs) ys u = ap (λ z. same_text x u || z) (among_both xs ys u) ∙ or_then (same_text x u) (is_among xs u) (is_among ys u)
+
+type_word_is : (u : Text) → is_type_word u ≡ (is_among integer_words u || (is_among simple_words u || is_among last_words u))
+type_word_is u = among_both integer_words (simple_words ++ last_words) u ∙ ap (λ z. is_among integer_words u || z) (among_both simple_words last_words u)
+
+pub type_word_first : (u : Text) → is_among (codes "char" ∷ codes "short" ∷ codes "int" ∷ codes "long" ∷ []) u ≡ true → is_type_word u ≡ true
+type_word_first u e = type_word_is u ∙ ap (λ z. z || (is_among simple_words u || is_among last_words u)) e
+
+pub type_word_second : (u : Text) → is_among (codes "char" ∷ codes "short" ∷ codes "int" ∷ codes "long" ∷ []) u ≡ false
+    → is_among (codes "signed" ∷ codes "unsigned" ∷ codes "bool" ∷ codes "struct" ∷ []) u ≡ true → is_type_word u ≡ true
+type_word_second u n e = type_word_is u ∙ ap (λ z. z || (is_among simple_words u || is_among last_words u)) n ∙ ap (λ z. z || is_among last_words u) e
+
+pub type_word_last : (u : Text) → is_among (codes "char" ∷ codes "short" ∷ codes "int" ∷ codes "long" ∷ []) u ≡ false
+    → is_among (codes "signed" ∷ codes "unsigned" ∷ codes "bool" ∷ codes "struct" ∷ []) u ≡ false → is_type_word u ≡ is_among (codes "const" ∷ codes "VARCHAR" ∷ codes "varchar" ∷ []) u
+type_word_last u n m = type_word_is u ∙ ap (λ z. z || (is_among simple_words u || is_among last_words u)) n ∙ ap (λ z. z || is_among last_words u) m

@@ -1,0 +1,10 @@
+use Rattle.std.proofs.Common.{◌≡◌, ◌-◌, ◌≤◌, length, drop}
+use Rattle.ec_language.specs.ReadPieces as read
+use Rattle.ec_language.proofs.Declarations.{run}
+use Rattle.ec_split.proofs.embedded.declaration.Given as goal
+
+abbrev pub invariant-loop-at : goal.invariant-loop-at
+invariant-loop-at l = record { same : run (l.braces, drop l.at l.text) ≡ read.declaration (drop l.from l.text); order : l.from ≤ l.at; inside : l.at ≤ length l.text; few : l.braces ≤ l.at }
+
+abbrev pub decreases-loop-at : goal.decreases-loop-at
+decreases-loop-at l = length l.text - l.at
