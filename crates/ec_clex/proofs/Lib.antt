@@ -1,0 +1,11 @@
+pub mod Digits
+pub mod HashLines
+pub mod ItemSteps
+pub mod MarkEnds
+pub mod PieceTokens
+pub mod Rests
+pub mod SqlSteps
+pub mod TakenTokens
+pub mod Unescaped
+pub mod Units
+pub mod WholeTokens

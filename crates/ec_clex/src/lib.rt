@@ -1,0 +1,17 @@
+//! Reads the tokens of C text and of what is embedded in it.
+#![tactic(auto)]
+
+mod escapes;
+mod items;
+mod lexer;
+mod lines;
+mod marks;
+mod numbers;
+mod sql;
+mod statements;
+#[cfg(test)]
+mod tests;
+mod words;
+
+pub use lexer::tokens;
+pub use sql::{SqlClass, SqlToken, sql_tokens};

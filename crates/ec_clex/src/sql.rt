@@ -1,0 +1,206 @@
+//! The tokens of an embedded statement.
+ghost use Rattle.std.specs.Prelude.{◌≡◌, ◌+◌, ◌-◌, ◌≤◌, ◌<◌, ◌^◌, ◌∷◌, ◌++◌, [], ℕ, List as Sequence, true, false, length, take, drop, IfOk};
+ghost use Rattle.std.specs.List.{concat};
+ghost use Rattle.ec_language.specs.Line as lines;
+ghost use Rattle.ec_language.specs.SqlTokens as sql;
+ghost use Rattle.ec_language.specs.Tokens.{lines_before};
+ghost use Rattle.ec_language.specs.ReadPieces as read;
+ghost use Rattle.ec_language.specs.ReadTokens.{sql_units, text_behind_start};
+ghost use Rattle.ec_clex.specs.Sql as view;
+
+use crate::lexer::behind;
+use ec_base::{Bytes, Line, List, OutOfMemory};
+use ec_ctypes::Piece;
+use ec_split::bytes::{begins_two, is_quote, is_sql_word_start, newlines};
+use ec_split::ends::End;
+use ec_split::units::{begins_escaped, begins_gap, begins_number, sql_end};
+use std::alloc::Global;
+
+/// What a token of an embedded statement is.
+#[derive(Clone, Copy, Debug, PartialEq, Eq)]
+pub enum SqlClass {
+    Word,
+    Number,
+    /// In `'` or `"`, with the quotes.
+    Quoted,
+    /// `::`, `->` or one byte.
+    Mark,
+}
+
+/// A token of an embedded statement.
+#[derive(Debug, Drop)]
+pub struct SqlToken {
+    pub class: SqlClass,
+    pub bytes: Bytes,
+    /// Whether blanks or comments stand between it and what stands before it.
+    pub gap: bool,
+    pub line: Line,
+}
+
+/// The tokens that are read, and what is known of the next one.
+#[derive(Drop)]
+struct SqlLexer {
+    tokens: List<SqlToken>,
+    gap: bool,
+    line: u32,
+}
+
+/// What the unit is that stands at the index, if it is no gap and no escaped quote.
+fn class_at(text: &[u8], at: usize) -> SqlClass
+    requires { at < length text.now }
+    ensures { view.class_view result ≡ view.first_class (drop at text.now) }
+{
+    if is_sql_word_start(text[at]) {
+        return SqlClass::Word;
+    }
+    if begins_number(text, at) {
+        return SqlClass::Number;
+    }
+    if is_quote(text[at]) {
+        return SqlClass::Quoted;
+    }
+    SqlClass::Mark
+}
+
+/// Whether a mark of two bytes stands at the index.
+fn begins_pair(text: &[u8], at: usize) -> bool
+    requires { at ≤ length text.now }
+    ensures is { result ≡ view.begins_pair (drop at text.now) }
+    ensures fits { result ≡ true → at + 2 ≤ length text.now }
+{
+    if begins_two(text, at, b':', b':') {
+        return true;
+    }
+    begins_two(text, at, b'-', b'>')
+}
+
+impl SqlLexer {
+    /// Puts a token of these bytes behind the others.
+    fn push(&mut self, alloc: Global, class: SqlClass, bytes: &[u8]) -> Result<(), OutOfMemory>
+        requires { self.old.line + length bytes.now < 2 ^ 32 }
+        ensures tokens { IfOk result (λ _. view.sql_views self.new.tokens ≡ view.sql_views self.old.tokens ++ record { class = view.class_view class; bytes = bytes.now; gap = self.old.gap; line = self.old.line } ∷ []) }
+        ensures gap { IfOk result (λ _. self.new.gap ≡ false) }
+        ensures line { IfOk result (λ _. self.new.line ≡ self.old.line + lines.newlines bytes.now) }
+        ensures most { IfOk result (λ _. self.new.line ≤ self.old.line + length bytes.now) }
+    {
+        self.tokens.push(SqlToken {
+            class,
+            bytes: List::from_slice(alloc, bytes)?,
+            gap: self.gap,
+            line: Line(self.line),
+        })?;
+        self.gap = false;
+        self.line += newlines(bytes) as u32;
+        Ok(())
+    }
+
+    /// Passes over a gap.
+    fn pass(&mut self, bytes: &[u8])
+        requires { self.old.line + length bytes.now < 2 ^ 32 }
+        ensures tokens { self.new.tokens ≡ self.old.tokens }
+        ensures gap { self.new.gap ≡ true }
+        ensures line { self.new.line ≡ self.old.line + lines.newlines bytes.now }
+        ensures most { self.new.line ≤ self.old.line + length bytes.now }
+    {
+        self.gap = true;
+        self.line += newlines(bytes) as u32;
+    }
+
+    /// Takes the word `E` and the quote behind it.
+    fn escaped(
+        &mut self,
+        alloc: Global,
+        text: &[u8],
+        at: usize,
+        end: usize,
+    ) -> Result<(), OutOfMemory>
+        requires order { at + 1 ≤ end }
+        requires inside { end ≤ length text.now }
+        requires fits { self.old.line + (end - at) < 2 ^ 32 }
+        requires more { read.begins_semicolon (drop at text.now) ≡ false }
+        requires behind { read.passed (drop end text.now) ≡ read.sql_end (drop at text.now) }
+        requires solid { read.begins_gap (drop at text.now) ≡ false }
+        requires escaped { read.begins_escaped (drop at text.now) ≡ true }
+        ensures all { IfOk result (λ _. view.all_tokens self.new (drop end text.now) ≡ view.all_tokens self.old (drop at text.now)) }
+        ensures most { IfOk result (λ _. self.new.line ≤ self.old.line + (end - at)) }
+    {
+        self.push(alloc, SqlClass::Word, &text[at..at + 1])?;
+        self.push(alloc, SqlClass::Quoted, &text[at + 1..end])?;
+        Ok(())
+    }
+
+    /// Takes the unit that stands there, and answers where the next one stands.
+    fn unit(
+        &mut self,
+        alloc: Global,
+        text: &[u8],
+        at: usize,
+        end: usize,
+    ) -> Result<usize, OutOfMemory>
+        requires order { at + 1 ≤ end }
+        requires inside { end ≤ length text.now }
+        requires fits { self.old.line + (length text.now - at) < 2 ^ 32 }
+        requires more { read.begins_semicolon (drop at text.now) ≡ false }
+        requires behind { read.passed (drop end text.now) ≡ read.sql_end (drop at text.now) }
+        ensures all { IfOk result (λ next. view.all_tokens self.new (drop next text.now) ≡ view.all_tokens self.old (drop at text.now)) }
+        ensures within { IfOk result (λ next. (at + 1 ≤ next) × (next ≤ length text.now)) }
+        ensures most { IfOk result (λ next. self.new.line ≤ self.old.line + (next - at)) }
+    {
+        if begins_gap(text, at) {
+            self.pass(&text[at..end]);
+            return Ok(end);
+        }
+        if begins_escaped(text, at) {
+            self.escaped(alloc, text, at, end)?;
+            return Ok(end);
+        }
+        if begins_pair(text, at) {
+            self.push(alloc, SqlClass::Mark, &text[at..at + 2])?;
+            return Ok(at + 2);
+        }
+        self.push(alloc, class_at(text, at), &text[at..end])?;
+        Ok(end)
+    }
+}
+
+/// The tokens of the units that stand from the index on, the first of which stands on this line.
+fn tokens_from(
+    alloc: Global,
+    text: &[u8],
+    from: usize,
+    line: u32,
+) -> Result<List<SqlToken>, OutOfMemory>
+    requires inside { from ≤ length text.now }
+    requires fits { line + (length text.now - from) < 2 ^ 32 }
+    ensures { IfOk result (λ tokens. view.sql_views tokens ≡ sql.sql_tokens_from false line (sql_units (drop from text.now))) }
+{
+    let mut lexer = SqlLexer {
+        tokens: List::new(alloc),
+        gap: false,
+        line,
+    };
+    let mut at = from;
+    while at < text.len() {
+        if text[at] == b';' {
+            return Ok(lexer.tokens);
+        }
+        match sql_end(text, at) {
+            End::Passed(end) => at = lexer.unit(alloc, text, at, end)?,
+            End::Cut(_) => return Ok(lexer.tokens),
+            End::Endless => return Ok(lexer.tokens),
+        }
+    }
+    Ok(lexer.tokens)
+}
+
+/// The tokens of an embedded statement, in order.
+pub fn sql_tokens(alloc: Global, piece: &Piece) -> Result<List<SqlToken>, OutOfMemory>
+    requires { piece.now.line.0 + length piece.now.bytes < 2 ^ 32 }
+    ensures { (units : Sequence (Sequence ℕ)) → sql.StatementUnits piece.now.bytes units
+        → IfOk result (λ tokens. view.sql_views tokens ≡ sql.sql_tokens_from false (piece.now.line.0 + lines_before piece.now.bytes (concat units)) units) }
+{
+    let text = piece.bytes.as_slice();
+    let from = behind(text);
+    let line = piece.line.0 + newlines(&text[..from]) as u32;
+    tokens_from(alloc, text, from, line)
+}
