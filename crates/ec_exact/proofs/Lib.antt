@@ -1,0 +1,23 @@
+pub mod Answered
+mod Assignments
+mod Begins
+mod Choose
+mod Declarations
+mod Elses
+mod Exact
+mod Expressions
+mod Fits
+mod Follow
+mod Fronts
+mod Inner
+mod Joins
+mod Levels
+mod Lists
+mod Nests
+mod Operators
+mod Postfixes
+mod Prefixes
+mod Sound
+mod Statements
+mod Types
+mod Units

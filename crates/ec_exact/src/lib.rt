@@ -1,0 +1,6 @@
+//! The plain reading of the grammar answers as the grammar has it.
+#![tactic(auto)]
+
+mod laws;
+
+pub use laws::readings_are_exact;
