@@ -1,0 +1,9 @@
+pub mod Counting
+pub mod Keywords
+pub mod Levels
+pub mod NoVoid
+pub mod RankOperators
+pub mod RankSteps
+pub mod SeenTokens
+pub mod StarCounts
+pub mod Turns

@@ -1,0 +1,34 @@
+use Rattle.std.proofs.Common.{rules, arith}
+use Rattle.std.proofs.lemmas.Grind.{common_steps}
+use Rattle.ec_grammar.specs.ReadDeclarations.{constants, constants_from}
+use Rattle.ec_declarations.specs.States.{seen}
+use Rattle.ec_declarations.proofs.Turns.{one_more, no_more}
+use Rattle.ec_declarations.proofs.types.constants.Goals as goal
+
+pub loop-turn-init : goal.loop-turn-init
+unfolding constants
+loop-turn-init c = first_of (search rules, grind (arith, common_steps))
+
+pub returns-then-not-is_const : goal.returns-then-not-is_const
+unfolding constants_from
+returns-then-not-is_const c =
+    let e = one_more (λ n. constants_from n (seen c.loop-turn.cursor)) _ c.loop-turn._turn c.loop-turn-test.true c.loop-turn.invariant in
+    first_of (search rules, grind (arith, common_steps))
+
+pub returns-in_err-expect : goal.returns-in_err-expect
+unfolding constants_from
+returns-in_err-expect c =
+    let e = one_more (λ n. constants_from n (seen c.loop-turn.cursor)) _ c.loop-turn._turn c.loop-turn-test.true c.loop-turn.invariant in
+    first_of (search rules, grind (arith, common_steps))
+
+pub loop-turn-preserved : goal.loop-turn-preserved
+unfolding constants_from
+loop-turn-preserved c =
+    let e = one_more (λ n. constants_from n (seen c.loop-turn.cursor)) _ c.loop-turn._turn c.loop-turn-test.true c.loop-turn.invariant in
+    first_of (search rules, grind (arith, common_steps))
+
+pub returns : goal.returns
+unfolding constants_from
+returns c =
+    let e = no_more (λ n. constants_from n (seen c.loop-turn.cursor)) _ c.loop-turn._turn c.loop-turn-test.false c.loop-turn.invariant in
+    first_of (search rules, grind (arith, common_steps))

@@ -1,0 +1,6 @@
+pub mod Branches
+pub mod Nests
+pub mod Parts
+pub mod Primaries
+pub mod Ranks
+pub mod States

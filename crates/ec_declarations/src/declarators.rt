@@ -1,0 +1,296 @@
+//! Declarators and initializers (ISO/IEC 9899:1999, 6.7.5 and 6.7.8). The rules take the readers of what stands one
+//! level deeper as parameters, so that each is proved by itself.
+
+ghost use Rattle.std.specs.Prelude.{◌≡◌, ◌<◌, ◌-◌};
+ghost use Rattle.ec_ctypes.specs.declared.text.token.Punct.TheVariants as mark;
+ghost use Rattle.ec_ctypes.specs.trees.Exprs as tree;
+ghost use Rattle.ec_ctypes.specs.views.Exprs.{expr_view, expr_option_view, init_view, inits_of, declarator_view, dims_of, init_of};
+ghost use Rattle.ec_grammar.specs.Input.{Reads, own};
+ghost use Rattle.ec_grammar.specs.ReadDeclarations as spec;
+ghost use Rattle.ec_grammar.specs.ReadDeclarations.{nested};
+ghost use Rattle.ec_grammar.specs.declared.kind.Kind.TheVariants as kind;
+ghost use Rattle.ec_language.specs.Syntax.{limits};
+ghost use Rattle.ec_declarations.specs.Nests.{NestsParts, NestsTypes, NestsInitializers};
+ghost use Rattle.ec_declarations.specs.Parts.{each_length, each_init, each_declarator, init_option, some_declarators};
+ghost use Rattle.ec_declarations.specs.States.{seen};
+
+use crate::counts::Counted;
+use crate::cursor::Cursor;
+use crate::expressions::Expressions;
+use crate::parts::Part;
+use crate::starts::{
+    begins_declarator, begins_expression, begins_initializer, is_assign, is_comma, is_left_bracket,
+};
+use crate::texts::name_in;
+use crate::types::stars;
+use ec_base::{List, Name};
+use ec_ctypes::{Base, Declarator, Expr, Init, Punct};
+use ec_grammar::{Failure, Kind};
+use std::alloc::Global;
+
+#[derive(Clone, Copy)]
+pub struct Declarators<E, T, I> {
+    pub expressions: Expressions<E, T>,
+    pub initializer_list: I,
+}
+
+fn one(expr: Expr) -> Init
+    ensures { init_view result ≡ tree.one (expr_view expr) }
+{
+    Init::One(expr)
+}
+
+fn many(inits: List<Init>) -> Init
+    ensures { init_view result ≡ tree.many (inits_of (each_init inits)) }
+{
+    Init::Many(inits)
+}
+
+fn declarator(stars: u32, name: Name, dims: List<Option<Expr>>, init: Option<Init>) -> Declarator
+    ensures { declarator_view result ≡ tree.declarator stars name (dims_of (each_length dims)) (init_of (init_option init)) }
+{
+    Declarator {
+        stars,
+        name,
+        dims,
+        init,
+    }
+}
+
+impl<E: Fn(Global, &mut Cursor<'_>, u32, Part) -> Result<Expr, Failure>, T, I> Declarators<
+    E,
+    T,
+    I,
+> {
+    fn operators(&self, cursor: &mut Cursor<'_>) -> Result<Expr, Failure>
+        requires { NestsParts self.now.expressions.levels (E.pre self.now.expressions.part) (E.post self.now.expressions.part) }
+        ensures { Reads expr_view ((nested limits self.now.expressions.levels).operators (seen cursor.old)) result (seen cursor.new) }
+    {
+        let within = &self.expressions;
+        (within.part)(within.alloc, cursor, within.levels, Part::Operators)
+    }
+
+    /// An array length, unless it is left out.
+    #[tactic(auto, unfolding(ec_grammar::specs::ReadDeclarations::length_option, ec_grammar::specs::Input::whole))]
+    fn length_option(&self, cursor: &mut Cursor<'_>) -> Result<Option<Expr>, Failure>
+        requires some { 0 < self.now.expressions.levels }
+        requires parts { NestsParts self.now.expressions.levels (E.pre self.now.expressions.part) (E.post self.now.expressions.part) }
+        ensures { Reads expr_option_view (spec.length_option limits (nested limits (self.now.expressions.levels - 1)) (seen cursor.old)) result (seen cursor.new) }
+    {
+        if !begins_expression(cursor.peek()) {
+            return Ok(None);
+        }
+        let outside = cursor.begin_expression();
+        let length = self.operators(cursor)?;
+        cursor.end_expression(outside);
+        Ok(Some(length))
+    }
+
+    /// An array length in brackets.
+    #[tactic(auto, unfolding(ec_grammar::specs::ReadDeclarations::length_part))]
+    fn length_in_brackets(&self, cursor: &mut Cursor<'_>) -> Result<Option<Expr>, Failure>
+        requires some { 0 < self.now.expressions.levels }
+        requires parts { NestsParts self.now.expressions.levels (E.pre self.now.expressions.part) (E.post self.now.expressions.part) }
+        ensures { Reads expr_option_view (spec.length_part limits (nested limits (self.now.expressions.levels - 1)) (seen cursor.old)) result (seen cursor.new) }
+    {
+        cursor.expect_counted(Counted::Derivations, Kind::Mark(Punct::LeftBracket))?;
+        let length = self.length_option(cursor)?;
+        cursor.expect(Kind::Mark(Punct::RightBracket))?;
+        Ok(length)
+    }
+
+    /// The same, one level deeper.
+    fn length_part(&self, cursor: &mut Cursor<'_>) -> Result<Option<Expr>, Failure>
+        requires { NestsParts self.now.expressions.levels (E.pre self.now.expressions.part) (E.post self.now.expressions.part) }
+        ensures { Reads expr_option_view ((nested limits self.now.expressions.levels).length_part (seen cursor.old)) result (seen cursor.new) }
+    {
+        if self.expressions.levels == 0 {
+            return Err(cursor.no_level(is_left_bracket(cursor.peek())));
+        }
+        self.length_in_brackets(cursor)
+    }
+
+    /// Array lengths, outermost first (ISO/IEC 9899:1999, 6.7.5.2).
+    pub fn lengths(&self, cursor: &mut Cursor<'_>) -> Result<List<Option<Expr>>, Failure>
+        requires { NestsParts self.now.expressions.levels (E.pre self.now.expressions.part) (E.post self.now.expressions.part) }
+        ensures { Reads each_length (spec.lengths limits (nested limits self.now.expressions.levels) (seen cursor.old)) result (seen cursor.new) }
+    {
+        let mut found = List::new(self.expressions.alloc);
+        for _turn in 0..cursor.left() {
+            if !is_left_bracket(cursor.peek()) {
+                return Ok(found);
+            }
+            let length = self.length_part(cursor)?;
+            found.push(length)?;
+        }
+        Ok(found)
+    }
+}
+
+impl<
+    E: Fn(Global, &mut Cursor<'_>, u32, Part) -> Result<Expr, Failure>,
+    T: Fn(Global, &mut Cursor<'_>, u32) -> Result<(Base, u32), Failure>,
+    I: Fn(Global, &mut Cursor<'_>, u32) -> Result<List<Init>, Failure>,
+> Declarators<E, T, I> {
+    fn braced(&self, cursor: &mut Cursor<'_>) -> Result<Init, Failure>
+        requires { NestsInitializers self.now.expressions.levels (I.pre self.now.initializer_list) (I.post self.now.initializer_list) }
+        ensures { Reads init_view (spec.initializer_by limits (nested limits self.now.expressions.levels) (kind.Mark mark.LeftBrace) (seen cursor.old)) result (seen cursor.new) }
+    {
+        let within = &self.expressions;
+        let found = (self.initializer_list)(within.alloc, cursor, within.levels)?;
+        Ok(many(found))
+    }
+
+    #[tactic(auto, unfolding(ec_grammar::specs::ReadDeclarations::initializer))]
+    fn initializer(&self, cursor: &mut Cursor<'_>) -> Result<Init, Failure>
+        requires parts { NestsParts self.now.expressions.levels (E.pre self.now.expressions.part) (E.post self.now.expressions.part) }
+        requires types { NestsTypes self.now.expressions.levels (T.pre self.now.expressions.type_in_parentheses) (T.post self.now.expressions.type_in_parentheses) }
+        requires initializers { NestsInitializers self.now.expressions.levels (I.pre self.now.initializer_list) (I.post self.now.initializer_list) }
+        ensures { Reads init_view (spec.initializer limits (nested limits self.now.expressions.levels) (seen cursor.old)) result (seen cursor.new) }
+    {
+        match cursor.peek() {
+            Kind::Mark(Punct::LeftBrace) => self.braced(cursor),
+            _ => {
+                let expr = self.expressions.expression(cursor)?;
+                Ok(one(expr))
+            }
+        }
+    }
+
+    /// Further initializers, each behind a comma. One comma may stand behind the last.
+    fn more_initializers(
+        &self,
+        cursor: &mut Cursor<'_>,
+        mut found: List<Init>,
+    ) -> Result<List<Init>, Failure>
+        requires parts { NestsParts self.now.expressions.levels (E.pre self.now.expressions.part) (E.post self.now.expressions.part) }
+        requires types { NestsTypes self.now.expressions.levels (T.pre self.now.expressions.type_in_parentheses) (T.post self.now.expressions.type_in_parentheses) }
+        requires initializers { NestsInitializers self.now.expressions.levels (I.pre self.now.initializer_list) (I.post self.now.initializer_list) }
+        ensures { Reads each_init (spec.more_initializers limits (nested limits self.now.expressions.levels) (each_init found) (seen cursor.old)) result (seen cursor.new) }
+    {
+        for _turn in 0..cursor.left() {
+            if !is_comma(cursor.peek()) {
+                return Ok(found);
+            }
+            let goes_on = begins_initializer(cursor.peek_next());
+            cursor.expect(Kind::Mark(Punct::Comma))?;
+            if !goes_on {
+                return Ok(found);
+            }
+            let initializer = self.initializer(cursor)?;
+            found.push(initializer)?;
+        }
+        Ok(found)
+    }
+
+    /// Initializers in braces.
+    #[tactic(auto, unfolding(ec_grammar::specs::ReadDeclarations::initializer_list))]
+    pub fn initializer_list(&self, cursor: &mut Cursor<'_>) -> Result<List<Init>, Failure>
+        requires parts { NestsParts self.now.expressions.levels (E.pre self.now.expressions.part) (E.post self.now.expressions.part) }
+        requires types { NestsTypes self.now.expressions.levels (T.pre self.now.expressions.type_in_parentheses) (T.post self.now.expressions.type_in_parentheses) }
+        requires initializers { NestsInitializers self.now.expressions.levels (I.pre self.now.initializer_list) (I.post self.now.initializer_list) }
+        ensures { Reads each_init (spec.initializer_list limits (nested limits self.now.expressions.levels) (seen cursor.old)) result (seen cursor.new) }
+    {
+        cursor.expect(Kind::Mark(Punct::LeftBrace))?;
+        let first = self.initializer(cursor)?;
+        let mut found = List::new(self.expressions.alloc);
+        found.push(first)?;
+        let found = self.more_initializers(cursor, found)?;
+        cursor.expect(Kind::Mark(Punct::RightBrace))?;
+        Ok(found)
+    }
+
+    /// `=` and an initializer, or nothing.
+    #[tactic(auto, unfolding(ec_grammar::specs::ReadDeclarations::initializer_option))]
+    pub fn initializer_option(&self, cursor: &mut Cursor<'_>) -> Result<Option<Init>, Failure>
+        requires parts { NestsParts self.now.expressions.levels (E.pre self.now.expressions.part) (E.post self.now.expressions.part) }
+        requires types { NestsTypes self.now.expressions.levels (T.pre self.now.expressions.type_in_parentheses) (T.post self.now.expressions.type_in_parentheses) }
+        requires initializers { NestsInitializers self.now.expressions.levels (I.pre self.now.initializer_list) (I.post self.now.initializer_list) }
+        ensures { Reads init_option (spec.initializer_option limits (nested limits self.now.expressions.levels) (seen cursor.old)) result (seen cursor.new) }
+    {
+        if !is_assign(cursor.peek()) {
+            return Ok(None);
+        }
+        cursor.expect(Kind::Mark(Punct::Assign))?;
+        let initializer = self.initializer(cursor)?;
+        Ok(Some(initializer))
+    }
+
+    #[tactic(auto, unfolding(ec_grammar::specs::ReadDeclarations::declarator_part))]
+    fn declarator_part(&self, cursor: &mut Cursor<'_>) -> Result<Declarator, Failure>
+        requires parts { NestsParts self.now.expressions.levels (E.pre self.now.expressions.part) (E.post self.now.expressions.part) }
+        requires types { NestsTypes self.now.expressions.levels (T.pre self.now.expressions.type_in_parentheses) (T.post self.now.expressions.type_in_parentheses) }
+        requires initializers { NestsInitializers self.now.expressions.levels (I.pre self.now.initializer_list) (I.post self.now.initializer_list) }
+        ensures { Reads declarator_view (spec.declarator_part limits (nested limits self.now.expressions.levels) (seen cursor.old)) result (seen cursor.new) }
+    {
+        let stars = stars(cursor)?;
+        let token = cursor.expect(Kind::Name)?;
+        let name = name_in(self.expressions.alloc, token)?;
+        let dims = self.lengths(cursor)?;
+        let init = self.initializer_option(cursor)?;
+        Ok(declarator(stars, name, dims, init))
+    }
+
+    /// A declarator. Its stars and lengths are counted by themselves.
+    #[tactic(auto, unfolding(ec_grammar::specs::Input::own))]
+    pub fn own_declarator(&self, cursor: &mut Cursor<'_>) -> Result<Declarator, Failure>
+        requires parts { NestsParts self.now.expressions.levels (E.pre self.now.expressions.part) (E.post self.now.expressions.part) }
+        requires types { NestsTypes self.now.expressions.levels (T.pre self.now.expressions.type_in_parentheses) (T.post self.now.expressions.type_in_parentheses) }
+        requires initializers { NestsInitializers self.now.expressions.levels (I.pre self.now.initializer_list) (I.post self.now.initializer_list) }
+        ensures { Reads declarator_view (own (spec.declarator_part limits (nested limits self.now.expressions.levels)) (seen cursor.old)) result (seen cursor.new) }
+    {
+        let outside = cursor.begin_declarator();
+        let found = self.declarator_part(cursor)?;
+        cursor.end_declarator(outside);
+        Ok(found)
+    }
+
+    /// Further declarators, each behind a comma, put behind those in `found`.
+    pub fn more_declarators(
+        &self,
+        cursor: &mut Cursor<'_>,
+        mut found: List<Declarator>,
+    ) -> Result<List<Declarator>, Failure>
+        requires parts { NestsParts self.now.expressions.levels (E.pre self.now.expressions.part) (E.post self.now.expressions.part) }
+        requires types { NestsTypes self.now.expressions.levels (T.pre self.now.expressions.type_in_parentheses) (T.post self.now.expressions.type_in_parentheses) }
+        requires initializers { NestsInitializers self.now.expressions.levels (I.pre self.now.initializer_list) (I.post self.now.initializer_list) }
+        ensures { Reads each_declarator (spec.more_declarators limits (nested limits self.now.expressions.levels) (each_declarator found) (seen cursor.old)) result (seen cursor.new) }
+    {
+        for _turn in 0..cursor.left() {
+            if !is_comma(cursor.peek()) {
+                return Ok(found);
+            }
+            cursor.expect(Kind::Mark(Punct::Comma))?;
+            let declarator = self.own_declarator(cursor)?;
+            found.push(declarator)?;
+        }
+        Ok(found)
+    }
+
+    /// A declarator and further ones, behind a comma each.
+    pub fn declarators(&self, cursor: &mut Cursor<'_>) -> Result<List<Declarator>, Failure>
+        requires parts { NestsParts self.now.expressions.levels (E.pre self.now.expressions.part) (E.post self.now.expressions.part) }
+        requires types { NestsTypes self.now.expressions.levels (T.pre self.now.expressions.type_in_parentheses) (T.post self.now.expressions.type_in_parentheses) }
+        requires initializers { NestsInitializers self.now.expressions.levels (I.pre self.now.initializer_list) (I.post self.now.initializer_list) }
+        ensures { Reads each_declarator (some_declarators limits (nested limits self.now.expressions.levels) (seen cursor.old)) result (seen cursor.new) }
+    {
+        let first = self.own_declarator(cursor)?;
+        let mut found = List::new(self.expressions.alloc);
+        found.push(first)?;
+        self.more_declarators(cursor, found)
+    }
+
+    /// Declarators, or none.
+    #[tactic(auto, unfolding(ec_grammar::specs::ReadDeclarations::declarators_option))]
+    pub fn declarators_option(&self, cursor: &mut Cursor<'_>) -> Result<List<Declarator>, Failure>
+        requires parts { NestsParts self.now.expressions.levels (E.pre self.now.expressions.part) (E.post self.now.expressions.part) }
+        requires types { NestsTypes self.now.expressions.levels (T.pre self.now.expressions.type_in_parentheses) (T.post self.now.expressions.type_in_parentheses) }
+        requires initializers { NestsInitializers self.now.expressions.levels (I.pre self.now.initializer_list) (I.post self.now.initializer_list) }
+        ensures { Reads each_declarator (spec.declarators_option limits (nested limits self.now.expressions.levels) (seen cursor.old)) result (seen cursor.new) }
+    {
+        if !begins_declarator(cursor.peek()) {
+            return Ok(List::new(self.expressions.alloc));
+        }
+        self.declarators(cursor)
+    }
+}

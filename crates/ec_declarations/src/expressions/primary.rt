@@ -1,0 +1,76 @@
+//! Primary expressions (ISO/IEC 9899:1999, 6.5.1).
+
+ghost use Rattle.std.specs.Prelude.{◌≡◌};
+ghost use Rattle.ec_ctypes.specs.views.Exprs.{expr_view};
+ghost use Rattle.ec_grammar.specs.Input.{Reads};
+ghost use Rattle.ec_grammar.specs.ReadDeclarations.{nested};
+ghost use Rattle.ec_grammar.specs.ReadExpressions as spec;
+ghost use Rattle.ec_language.specs.Syntax.{limits};
+ghost use Rattle.ec_declarations.specs.Nests.{NestsParts};
+ghost use Rattle.ec_declarations.specs.Primaries.{primary_view};
+ghost use Rattle.ec_declarations.specs.States.{seen};
+
+use crate::cursor::Cursor;
+use crate::expressions::Expressions;
+use crate::expressions::making::{bytes_of, character, integer, string};
+use crate::parts::Part;
+use ec_base::Name;
+use ec_ctypes::{Base, Expr, Punct};
+use ec_grammar::{Failure, Kind};
+use std::alloc::Global;
+
+/// A primary expression, or what is built on it.
+#[derive(Debug, Drop)]
+pub enum Primary {
+    /// A name without parentheses, which is called by that name.
+    Name(Name),
+    Other(Expr),
+}
+
+impl Primary {
+    /// The expression that it is.
+    #[tactic(auto, using(ec_ctypes::specs::declared::tree::expr::Expr::the_lemmas))]
+    pub fn into_expression(self) -> Expr
+        ensures { expr_view result ≡ (primary_view self).expression }
+    {
+        match self {
+            Primary::Name(name) => Expr::Name(name),
+            Primary::Other(other) => other,
+        }
+    }
+}
+
+impl<
+    E: Fn(Global, &mut Cursor<'_>, u32, Part) -> Result<Expr, Failure>,
+    T: Fn(Global, &mut Cursor<'_>, u32) -> Result<(Base, u32), Failure>,
+> Expressions<E, T> {
+    /// A name, a constant, a string literal, or an expression in parentheses.
+    #[tactic(auto, unfolding(ec_grammar::specs::ReadExpressions::primary))]
+    pub fn primary(&self, cursor: &mut Cursor<'_>) -> Result<Primary, Failure>
+        requires { NestsParts self.now.levels (E.pre self.now.part) (E.post self.now.part) }
+        ensures { Reads primary_view (spec.primary limits (nested limits self.now.levels) (seen cursor.old)) result (seen cursor.new) }
+    {
+        match cursor.peek() {
+            Kind::Name => {
+                let token = cursor.expect(Kind::Name)?;
+                Ok(Primary::Name(bytes_of(self.alloc, &token.tok)?))
+            }
+            Kind::Integer => {
+                let token = cursor.expect(Kind::Integer)?;
+                Ok(Primary::Other(integer(self.alloc, &token.tok)?))
+            }
+            Kind::Character => {
+                let token = cursor.expect(Kind::Character)?;
+                Ok(Primary::Other(character(&token.tok)))
+            }
+            Kind::Text => {
+                let token = cursor.expect(Kind::Text)?;
+                Ok(Primary::Other(string(self.alloc, &token.tok)?))
+            }
+            Kind::Mark(Punct::LeftParen) => {
+                Ok(Primary::Other(self.part(cursor, Part::Parenthesized)?))
+            }
+            _ => Err(cursor.refuse()),
+        }
+    }
+}

@@ -1,0 +1,28 @@
+//! Reads expressions, types and declarations.
+#![tactic(auto)]
+
+mod counts;
+mod cursor;
+mod declarations;
+mod declarators;
+mod expressions;
+mod kinds;
+mod nested;
+mod parts;
+mod reading;
+mod starts;
+mod texts;
+mod types;
+
+pub use counts::{Counted, Counts};
+pub use cursor::{Cursor, Start};
+pub use parts::{ForHead, ForStart, Part};
+pub use reading::{
+    declaration, expression, expression_option, for_head, initializer_option, lengths,
+    more_declarators, parameter_part, parenthesized, specifiers, stars,
+};
+pub use starts::{
+    begins_block_item, begins_declarator, begins_expression, begins_initializer, begins_item,
+    begins_postfix_part, begins_statement, begins_type, is_assign, is_comma, is_const, is_else,
+    is_left_brace, is_left_bracket, is_left_parenthesis, is_name, is_star,
+};

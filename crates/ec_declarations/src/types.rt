@@ -1,0 +1,235 @@
+//! Types (ISO/IEC 9899:1999, 6.7.2 and 6.7.6). The rules take the reader of the members of structs, which stand one
+//! level deeper, as a parameter, so that each is proved by itself.
+
+ghost use Rattle.std.specs.Prelude.{◌≡◌, ◌∷◌, [], IfOk, OnOk};
+ghost use Rattle.ec_ctypes.specs.trees.Exprs as tree;
+ghost use Rattle.ec_ctypes.specs.views.Exprs.{base_view, decls_view};
+ghost use Rattle.ec_grammar.specs.Input.{Reads};
+ghost use Rattle.ec_grammar.specs.ReadDeclarations as spec;
+ghost use Rattle.ec_grammar.specs.ReadDeclarations.{nested};
+ghost use Rattle.ec_grammar.specs.declared.kind.Kind.TheVariants as kind;
+ghost use Rattle.ec_language.specs.Syntax.{limits};
+ghost use Rattle.ec_declarations.specs.Nests.{NestsMembers};
+ghost use Rattle.ec_declarations.specs.Parts.{decls_option, each_decl, type_view};
+ghost use Rattle.ec_declarations.specs.States.{seen};
+
+use crate::counts::Counted;
+use crate::cursor::Cursor;
+use crate::starts::{is_const, is_left_brace, is_star};
+use crate::texts::name_in;
+use ec_base::{List, Name};
+use ec_ctypes::{Base, Decl, Punct};
+use ec_grammar::{Failure, Kind};
+use std::alloc::Global;
+
+#[derive(Clone, Copy)]
+pub struct Types<M> {
+    pub alloc: Global,
+    /// How many levels are left where the types stand.
+    pub levels: u32,
+    pub members: M,
+}
+
+/// Any number of `const` (ISO/IEC 9899:1999, 6.7.3).
+fn constants(cursor: &mut Cursor<'_>) -> Result<(), Failure>
+    ensures { Reads (λ u. u) (spec.constants (seen cursor.old)) result (seen cursor.new) }
+{
+    for _turn in 0..cursor.left() {
+        if !is_const(cursor.peek()) {
+            return Ok(());
+        }
+        cursor.expect(Kind::Const)?;
+    }
+    Ok(())
+}
+
+/// Further words of a type, and `const` among them.
+fn more_words(
+    alloc: Global,
+    cursor: &mut Cursor<'_>,
+    mut found: List<Name>,
+) -> Result<List<Name>, Failure>
+    ensures { Reads (λ ws. ws) (spec.more_words found (seen cursor.old)) result (seen cursor.new) }
+{
+    for _turn in 0..cursor.left() {
+        match cursor.peek() {
+            Kind::Const => {
+                cursor.expect(Kind::Const)?;
+            }
+            Kind::TypeWord => {
+                let word = cursor.expect(Kind::TypeWord)?;
+                found.push(name_in(alloc, word)?)?;
+            }
+            _ => return Ok(found),
+        }
+    }
+    Ok(found)
+}
+
+/// How many stars stand before a name, each with its `const` behind it (ISO/IEC 9899:1999, 6.7.5.1).
+pub fn stars(cursor: &mut Cursor<'_>) -> Result<u32, Failure>
+    ensures { Reads (λ n. n) (spec.stars limits (seen cursor.old)) result (seen cursor.new) }
+{
+    let mut found = 0u32;
+    for _turn in 0..cursor.left() {
+        if !is_star(cursor.peek()) {
+            return Ok(found);
+        }
+        cursor.expect_counted(Counted::Derivations, Kind::Mark(Punct::Star))?;
+        constants(cursor)?;
+        found += 1;
+    }
+    Ok(found)
+}
+
+fn words(words: List<Name>) -> Base
+    ensures { base_view result ≡ tree.words words }
+{
+    Base::Words(words)
+}
+
+fn varchar() -> Base
+    ensures { base_view result ≡ tree.varchar }
+{
+    Base::Varchar
+}
+
+fn tag_base(tag: Name, members: Option<List<Decl>>) -> Base
+    ensures { base_view result ≡ spec.tag_base tag (decls_option members) }
+{
+    match members {
+        Some(members) => Base::Struct(Some(tag), members),
+        None => Base::Tag(tag),
+    }
+}
+
+fn nameless(members: List<Decl>) -> Base
+    ensures { base_view result ≡ tree.struct_base None (decls_view members) }
+{
+    Base::Struct(None, members)
+}
+
+impl<M: Fn(Global, &mut Cursor<'_>, u32) -> Result<List<Decl>, Failure>> Types<M> {
+    fn nested_members(&self, cursor: &mut Cursor<'_>) -> Result<List<Decl>, Failure>
+        requires { NestsMembers self.now.levels (M.pre self.now.members) (M.post self.now.members) }
+        ensures { Reads each_decl ((nested limits self.now.levels).members (seen cursor.old)) result (seen cursor.new) }
+    {
+        (self.members)(self.alloc, cursor, self.levels)
+    }
+
+    #[tactic(auto, unfolding(ec_grammar::specs::ReadDeclarations::members_option))]
+    fn members_option(&self, cursor: &mut Cursor<'_>) -> Result<Option<List<Decl>>, Failure>
+        requires { NestsMembers self.now.levels (M.pre self.now.members) (M.post self.now.members) }
+        ensures { Reads decls_option (spec.members_option limits (nested limits self.now.levels) (seen cursor.old)) result (seen cursor.new) }
+    {
+        if !is_left_brace(cursor.peek()) {
+            return Ok(None);
+        }
+        let members = self.nested_members(cursor)?;
+        Ok(Some(members))
+    }
+
+    /// A tag, with its members where they follow.
+    fn tagged(&self, cursor: &mut Cursor<'_>) -> Result<Base, Failure>
+        requires { NestsMembers self.now.levels (M.pre self.now.members) (M.post self.now.members) }
+        ensures { Reads base_view (spec.tag_or_members_by limits (nested limits self.now.levels) kind.Name (seen cursor.old)) result (seen cursor.new) }
+    {
+        let token = cursor.expect(Kind::Name)?;
+        let tag = name_in(self.alloc, token)?;
+        let members = self.members_option(cursor)?;
+        Ok(tag_base(tag, members))
+    }
+
+    #[tactic(auto, unfolding(ec_grammar::specs::ReadDeclarations::tag_or_members))]
+    fn tag_or_members(&self, cursor: &mut Cursor<'_>) -> Result<Base, Failure>
+        requires { NestsMembers self.now.levels (M.pre self.now.members) (M.post self.now.members) }
+        ensures { Reads base_view (spec.tag_or_members limits (nested limits self.now.levels) (seen cursor.old)) result (seen cursor.new) }
+    {
+        match cursor.peek() {
+            Kind::Name => self.tagged(cursor),
+            Kind::Mark(Punct::LeftBrace) => {
+                let members = self.nested_members(cursor)?;
+                Ok(nameless(members))
+            }
+            _ => Err(cursor.refuse()),
+        }
+    }
+
+    /// The words of a type.
+    fn words_base(&self, cursor: &mut Cursor<'_>) -> Result<Base, Failure>
+        ensures { Reads base_view (spec.base_by limits (nested limits self.now.levels) kind.TypeWord (seen cursor.old)) result (seen cursor.new) }
+    {
+        let first = cursor.expect(Kind::TypeWord)?;
+        let mut found = List::new(self.alloc);
+        found.push(name_in(self.alloc, first)?)?;
+        let found = more_words(self.alloc, cursor, found)?;
+        Ok(words(found))
+    }
+
+    fn varchar_base(&self, cursor: &mut Cursor<'_>) -> Result<Base, Failure>
+        ensures { Reads base_view (spec.base_by limits (nested limits self.now.levels) kind.Varchar (seen cursor.old)) result (seen cursor.new) }
+    {
+        cursor.expect(Kind::Varchar)?;
+        constants(cursor)?;
+        Ok(varchar())
+    }
+
+    fn struct_base(&self, cursor: &mut Cursor<'_>) -> Result<Base, Failure>
+        requires { NestsMembers self.now.levels (M.pre self.now.members) (M.post self.now.members) }
+        ensures { Reads base_view (spec.base_by limits (nested limits self.now.levels) kind.Struct (seen cursor.old)) result (seen cursor.new) }
+    {
+        cursor.expect(Kind::Struct)?;
+        let base = self.tag_or_members(cursor)?;
+        constants(cursor)?;
+        Ok(base)
+    }
+
+    /// A type without its stars (ISO/IEC 9899:1999, 6.7.2).
+    #[tactic(auto, unfolding(ec_grammar::specs::ReadDeclarations::base))]
+    fn base(&self, cursor: &mut Cursor<'_>) -> Result<Base, Failure>
+        requires { NestsMembers self.now.levels (M.pre self.now.members) (M.post self.now.members) }
+        ensures { Reads base_view (spec.base limits (nested limits self.now.levels) (seen cursor.old)) result (seen cursor.new) }
+    {
+        match cursor.peek() {
+            Kind::TypeWord => self.words_base(cursor),
+            Kind::Varchar => self.varchar_base(cursor),
+            Kind::Struct => self.struct_base(cursor),
+            _ => Err(cursor.refuse()),
+        }
+    }
+
+    /// What a declaration begins with (ISO/IEC 9899:1999, 6.7).
+    #[tactic(auto, unfolding(ec_grammar::specs::ReadDeclarations::specifiers))]
+    pub fn specifiers(&self, cursor: &mut Cursor<'_>) -> Result<Base, Failure>
+        requires { NestsMembers self.now.levels (M.pre self.now.members) (M.post self.now.members) }
+        ensures { Reads base_view (spec.specifiers limits (nested limits self.now.levels) (seen cursor.old)) result (seen cursor.new) }
+    {
+        constants(cursor)?;
+        self.base(cursor)
+    }
+
+    /// A type, as its base and its stars (ISO/IEC 9899:1999, 6.7.6).
+    #[tactic(auto, unfolding(ec_grammar::specs::ReadDeclarations::type_name))]
+    fn type_name(&self, cursor: &mut Cursor<'_>) -> Result<(Base, u32), Failure>
+        requires { NestsMembers self.now.levels (M.pre self.now.members) (M.post self.now.members) }
+        ensures { Reads type_view (spec.type_name limits (nested limits self.now.levels) (seen cursor.old)) result (seen cursor.new) }
+    {
+        let base = self.specifiers(cursor)?;
+        let stars = stars(cursor)?;
+        Ok((base, stars))
+    }
+
+    /// A type in parentheses. Its stars are counted by themselves.
+    #[tactic(auto, unfolding(ec_grammar::specs::ReadDeclarations::type_in_parentheses, ec_grammar::specs::Input::own))]
+    pub fn type_in_parentheses(&self, cursor: &mut Cursor<'_>) -> Result<(Base, u32), Failure>
+        requires { NestsMembers self.now.levels (M.pre self.now.members) (M.post self.now.members) }
+        ensures { Reads type_view (spec.type_in_parentheses limits (nested limits self.now.levels) (seen cursor.old)) result (seen cursor.new) }
+    {
+        cursor.expect(Kind::Mark(Punct::LeftParen))?;
+        let outside = cursor.begin_declarator();
+        let found = self.type_name(cursor)?;
+        cursor.end_declarator(outside);
+        cursor.expect(Kind::Mark(Punct::RightParen))?;
+        Ok(found)
+    }
+}
