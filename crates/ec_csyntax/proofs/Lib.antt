@@ -1,0 +1,9 @@
+pub mod Answered
+pub mod Embedded
+pub mod Externals
+pub mod FormSteps
+pub mod Levels
+pub mod Lines
+pub mod TokensEnd
+pub mod Trees
+pub mod Turns

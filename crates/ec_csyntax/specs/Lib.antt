@@ -1,0 +1,7 @@
+pub mod Answers
+pub mod Arms
+pub mod Forms
+pub mod Nests
+pub mod Texts
+pub mod Tops
+pub mod Views

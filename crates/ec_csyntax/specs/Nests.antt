@@ -1,0 +1,24 @@
+-- Function values that read statements and blocks one level deeper, with so many levels left where they stand.
+use Rattle.std.specs.Prelude.{ℕ, List, Result}
+use Rattle.std.specs.declared.alloc.Global.{Global}
+use denote.Ref.{MutBor}
+use Rattle.ec_ctypes.specs.declared.tree.stmt.Stmt.{Stmt}
+use Rattle.ec_ctypes.specs.views.Stmts.{stmt_view}
+use Rattle.ec_language.specs.Syntax.{limits}
+use Rattle.ec_grammar.specs.declared.failure.Failure.{Failure}
+use Rattle.ec_grammar.specs.Input.{Reads}
+use Rattle.ec_grammar.specs.ReadStatements.{nested_statements}
+use Rattle.ec_declarations.specs.States.{Left, seen}
+use Rattle.ec_csyntax.specs.Views.{each_stmt}
+
+pub record NestsStatements (levels : ℕ) (pre : Global → MutBor Left → ℕ → Type 0)
+    (post : Global → MutBor Left → ℕ → Result Stmt Failure → MutBor Left → Type 0) : Type 0 where
+  pub callable : (alloc : Global) (old : MutBor Left) → pre alloc old levels
+  pub reads : (alloc : Global) (old new : MutBor Left) (r : Result Stmt Failure) → post alloc old levels r new
+      → Reads stmt_view ((nested_statements limits levels).statement (seen old.now)) r (seen new.now)
+
+pub record NestsBlocks (levels : ℕ) (pre : Global → MutBor Left → ℕ → Type 0)
+    (post : Global → MutBor Left → ℕ → Result (List Stmt) Failure → MutBor Left → Type 0) : Type 0 where
+  pub callable : (alloc : Global) (old : MutBor Left) → pre alloc old levels
+  pub reads : (alloc : Global) (old new : MutBor Left) (r : Result (List Stmt) Failure) → post alloc old levels r new
+      → Reads each_stmt ((nested_statements limits levels).block (seen old.now)) r (seen new.now)

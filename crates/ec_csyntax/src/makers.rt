@@ -1,0 +1,115 @@
+//! Statements that hold others.
+
+ghost use Rattle.std.specs.Prelude.{◌≡◌, IfOk, [], ◌∷◌, ◌++◌};
+ghost use Rattle.ec_ctypes.specs.trees.Stmts as trees;
+ghost use Rattle.ec_ctypes.specs.views.Exprs.{expr_view, expr_option_view, decl_view};
+ghost use Rattle.ec_ctypes.specs.views.Stmts.{stmt_view, kind_view, stmt_of, stmts_of};
+ghost use Rattle.ec_declarations.specs.Parts.{start_view, for_head_view};
+ghost use Rattle.ec_grammar.specs.ReadStatements as spec;
+ghost use Rattle.ec_language.specs.Productions as places;
+ghost use Rattle.ec_csyntax.specs.Views.{each_stmt, stmt_option};
+
+use ec_base::{Boxed, Line, List, OutOfMemory};
+use ec_ctypes::{Decl, Expr, Stmt, StmtKind};
+use ec_declarations::{ForHead, ForStart, Start};
+use std::alloc::Global;
+
+/// A statement of this kind.
+#[tactic(auto, using(crate::proofs::Trees::statements))]
+pub fn at(start: Start, kind: StmtKind) -> Stmt
+    ensures { stmt_view result ≡ places.at (start_view start) (kind_view kind) }
+{
+    Stmt {
+        line: start.line,
+        kind,
+    }
+}
+
+/// `if`, with the statement behind `else` (ISO/IEC 9899:1999, 6.8.4.1).
+#[tactic(auto, using(crate::proofs::Trees::statements))]
+pub fn branch(start: Start, test: Expr, then: Boxed<Stmt>, other: Option<Boxed<Stmt>>) -> Stmt
+    ensures { stmt_view result ≡ places.at (start_view start) (trees.if_stmt (expr_view test) (stmt_view then) (stmt_of (stmt_option other))) }
+{
+    at(start, StmtKind::If(test, then, other))
+}
+
+/// A loop with these parts in its parentheses (ISO/IEC 9899:1999, 6.8.5.3).
+#[tactic(auto, using(crate::proofs::Trees::statements))]
+fn loop_of(
+    start: Start,
+    first: Option<Expr>,
+    condition: Option<Expr>,
+    step: Option<Expr>,
+    inner: Boxed<Stmt>,
+) -> Stmt
+    ensures { stmt_view result ≡ places.at (start_view start) (trees.for_stmt (expr_option_view first) (expr_option_view condition) (expr_option_view step) (stmt_view inner)) }
+{
+    at(start, StmtKind::For(first, condition, step, inner))
+}
+
+/// A block of these statements.
+#[tactic(auto, using(crate::proofs::Trees::block_view))]
+pub fn block_of(start: Start, items: List<Stmt>) -> Stmt
+    ensures { stmt_view result ≡ places.at (start_view start) (trees.block_stmt (stmts_of (each_stmt items))) }
+{
+    at(start, StmtKind::Block(items))
+}
+
+/// The line of a declaration.
+#[tactic(auto, using(crate::proofs::Trees::declarations))]
+fn line_of(declaration: &Decl) -> Line
+    ensures { result ≡ places.line_of (decl_view declaration.now) }
+{
+    declaration.line
+}
+
+/// A declaration, as it stands in a block.
+#[tactic(auto, using(crate::proofs::Trees::statements))]
+fn declaration_statement(declaration: Decl) -> Stmt
+    ensures { stmt_view result ≡ trees.stmt (places.line_of (decl_view declaration)) (trees.decl_stmt (decl_view declaration)) }
+{
+    Stmt {
+        line: line_of(&declaration),
+        kind: StmtKind::Decl(declaration),
+    }
+}
+
+/// A list of one statement.
+fn single(alloc: Global, first: Stmt) -> Result<List<Stmt>, OutOfMemory>
+    ensures { IfOk result (λ items. items ≡ first ∷ []) }
+{
+    let mut items = List::new(alloc);
+    items.push(first)?;
+    Ok(items)
+}
+
+/// A block of these statements and a last one.
+fn block_with(start: Start, mut items: List<Stmt>, last: Stmt) -> Result<Stmt, OutOfMemory>
+    ensures { IfOk result (λ s. stmt_view s ≡ places.at (start_view start) (trees.block_stmt (stmts_of (each_stmt (items ++ last ∷ []))))) }
+{
+    items.push(last)?;
+    Ok(block_of(start, items))
+}
+
+/// `for`. With a declaration it is a block that holds the declaration and the loop (ISO/IEC 9899:1999, 6.8.5.3).
+pub fn for_loop(
+    alloc: Global,
+    start: Start,
+    head: ForHead,
+    inner: Boxed<Stmt>,
+) -> Result<Stmt, OutOfMemory>
+    ensures { IfOk result (λ s. stmt_view s ≡ spec.for_loop (start_view start) (for_head_view head) (stmt_view inner)) }
+{
+    let ForHead {
+        first,
+        condition,
+        step,
+    } = head;
+    match first {
+        ForStart::Expression(first) => Ok(loop_of(start, first, condition, step, inner)),
+        ForStart::Declaration(declaration) => {
+            let items = single(alloc, declaration_statement(declaration))?;
+            block_with(start, items, loop_of(start, None, condition, step, inner))
+        }
+    }
+}
