@@ -1,9 +1,11 @@
-//! Reads a source on standard input by one part of the precompiler, and prints what it found, so that the part can be
-//! measured: `ec_bench pieces`.
+//! Reads a source on standard input by one part of the precompiler, and prints how much it found, so that the part can be
+//! measured: `ec_bench pieces`, `ec_bench tokens` or `ec_bench syntax`.
 #![tactic(auto)]
 
+mod count;
+
+use crate::count::{count_pieces, count_tokens, count_tops};
 use ec_base::{OutOfMemory, ReadStop, StdSource, Stop, read_all};
-use ec_split::split;
 use std::alloc::Global;
 use std::env;
 use std::process::ExitCode;
@@ -43,35 +45,63 @@ impl From<Stop> for Failure {
     }
 }
 
-// How many pieces the text has.
-fn count_pieces(alloc: Global, text: &[u8]) -> Result<usize, Failure> {
-    if text.len() > MAX_TEXT {
-        return Err(Failure::Read);
-    }
-    Ok(split(alloc, text)?.len())
+// What is counted.
+#[derive(Clone, Copy)]
+enum Part {
+    Pieces,
+    Tokens,
+    Syntax,
 }
 
-// Whether the words behind the program's name are this one alone.
-fn asks_for(rt: &HostRuntime, wanted: &str) -> bool {
+// The part that a word names.
+fn part_named(word: &str) -> Option<Part> {
+    if word == "pieces" {
+        return Some(Part::Pieces);
+    }
+    if word == "tokens" {
+        return Some(Part::Tokens);
+    }
+    if word == "syntax" {
+        return Some(Part::Syntax);
+    }
+    None
+}
+
+// The part that the words behind the program's name ask for.
+fn asked_for(rt: &HostRuntime) -> Option<Part> {
     match env::args(rt) {
         Ok(all) => {
             let mut words = all.skip(1);
             match (words.next(), words.next()) {
-                (Some(word), None) => word.as_str() == wanted,
-                _ => false,
+                (Some(word), None) => part_named(word.as_str()),
+                _ => None,
             }
         }
-        Err(_) => false,
+        Err(_) => None,
+    }
+}
+
+// How many parts of this kind the text has.
+fn count_of(alloc: Global, part: Part, text: &[u8]) -> Result<usize, Failure> {
+    if text.len() > MAX_TEXT {
+        return Err(Failure::Read);
+    }
+    match part {
+        Part::Pieces => Ok(count_pieces(alloc, text)?),
+        Part::Tokens => Ok(count_tokens(alloc, text)?),
+        Part::Syntax => Ok(count_tops(alloc, text)?),
     }
 }
 
 fn run(rt: &HostRuntime) -> Result<usize, Failure> {
-    if !asks_for(rt, "pieces") {
-        return Err(Failure::Usage);
+    match asked_for(rt) {
+        Some(part) => {
+            let mut input = StdSource::new(rt.stdin());
+            let text = read_all(rt.alloc(), &mut input, MAX_TEXT)?;
+            count_of(rt.alloc(), part, text.as_slice())
+        }
+        None => Err(Failure::Usage),
     }
-    let mut input = StdSource::new(rt.stdin());
-    let text = read_all(rt.alloc(), &mut input, MAX_TEXT)?;
-    count_pieces(rt.alloc(), text.as_slice())
 }
 
 fn main(rt: HostRuntime) -> ExitCode {
