@@ -4,6 +4,4 @@ pub mod Externals
 pub mod FormSteps
 pub mod Levels
 pub mod Lines
-pub mod TokensEnd
 pub mod Trees
-pub mod Turns

@@ -3,8 +3,8 @@ use Rattle.std.proofs.Common.{◌≡◌, ℕ, zero, suc, true, List, [], ◌∷�
 use Rattle.ec_language.specs.Productions.{Sym, Element, tok, count, sym as ofs, nest, whole, own, Row, Follows, Production, productions}
 use Rattle.ec_language.specs.Grammar.{Tokens, Limits, Counts, in_expression, in_declarator, AnyOf, FrontBelow}
 use Rattle.ec_language.proofs.Heights.{nothing_left}
-use Rattle.ec_exact.proofs.Prefixes.{Cut, cut, one_left}
-use Rattle.ec_exact.proofs.Prefixes as prefix
+use Rattle.ec_language.proofs.Prefixes.{Cut, cut, one_left}
+use Rattle.ec_language.proofs.Prefixes as prefix
 use Rattle.ec_exact.proofs.Sound.{Gives, Opens, OpensRow}
 
 module _ (lim : Limits) where

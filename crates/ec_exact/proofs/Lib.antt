@@ -14,10 +14,11 @@ mod Joins
 mod Levels
 mod Lists
 mod Nests
+mod OneReading
 mod Operators
 mod Postfixes
-mod Prefixes
 mod Sound
 mod Statements
+pub mod TokensEnd
 mod Types
 mod Units

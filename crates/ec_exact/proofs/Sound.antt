@@ -6,7 +6,7 @@ use Rattle.ec_language.specs.Productions.{Terminal, Placed, is, Sym, Value, Elem
 use Rattle.ec_language.specs.Grammar.{Tokens, Limits, Counts, in_expression, in_declarator, DerivesElement, DerivesRow, AnyOf, Makes, DerivesBelow, FrontElement, FrontRow, FrontBelow}
 use Rattle.ec_language.proofs.TableTests.{any_row}
 use Rattle.ec_language.proofs.Heights.{takes_token}
-use Rattle.ec_exact.proofs.Prefixes as prefix
+use Rattle.ec_language.proofs.Prefixes as prefix
 use Rattle.ec_language.proofs.Limits.{Room, room_counted, room_expression, room_declarator}
 use Rattle.ec_grammar.specs.declared.kind.Kind.{Kind}
 use Rattle.ec_grammar.specs.Kinds.{kind_of}

@@ -3,4 +3,4 @@
 
 mod laws;
 
-pub use laws::readings_are_exact;
+pub use laws::{readings_are_exact, readings_are_single};
