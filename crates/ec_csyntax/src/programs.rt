@@ -55,9 +55,9 @@ fn read_unit(alloc: Global, tokens: &[Token]) -> Result<Unit, Stop>
 /// The tree of the tokens of a text, the last of which is the end, and no other. Its embedded statements are left out.
 ///
 /// Where no program has these tokens, the answer is the fault F7 at the line of the first token with which no program goes
-/// on. It is the limit L3 where, before such a token, one stands at which more than 64 levels nest, one name has more than
-/// 64 stars and array lengths, or one whole expression more than 4096 binary operators and postfix parts. The grammar is
-/// that of ISO/IEC 9899:1999, 6.5 to 6.9, as far as `docs/LANGUAGE.md` has it.
+/// on. It is the limit L3 where, before such a token, one stands at which more than 64 levels nest, one declarator,
+/// function, parameter or type name has more than 64 stars and array lengths, or one whole expression more than 4096 binary
+/// operators and postfix parts. The grammar is that of ISO/IEC 9899:1999, 6.5 to 6.9, as far as `docs/LANGUAGE.md` has it.
 pub fn parse(alloc: Global, tokens: &List<Token>) -> Result<Unit, Stop>
     requires { EndsOnce (tokens_view tokens.now) }
     ensures tree { IfOk result (λ unit. TreeOrStop (tokens_view tokens.now) (Ok (unit_view unit))) }

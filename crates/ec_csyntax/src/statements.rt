@@ -18,11 +18,11 @@ ghost use Rattle.ec_csyntax.specs.Views.{each_stmt, stmt_option};
 
 use crate::forms::{Form, statement_form};
 use crate::makers::{at, block_of, branch, for_loop};
-use crate::texts::{copy_text, embedded_number};
+use crate::texts::embedded_number;
 use ec_base::{Boxed, List};
 use ec_ctypes::{Expr, Punct, Stmt, StmtKind};
 use ec_declarations::{
-    Cursor, Start, expression, expression_option, for_head, is_else, parenthesized,
+    Cursor, Start, copy_text, expression, expression_option, for_head, is_else, parenthesized,
 };
 use ec_grammar::{Failure, Kind};
 use std::alloc::Global;
@@ -215,7 +215,7 @@ impl<
     {
         cursor.expect(Kind::Goto)?;
         let token = cursor.expect(Kind::Name)?;
-        let name = copy_text(self.alloc, token)?;
+        let name = copy_text(self.alloc, &token.tok)?;
         cursor.expect(Kind::Mark(Punct::Semicolon))?;
         Ok(at(start, StmtKind::Goto(name)))
     }
@@ -227,7 +227,7 @@ impl<
         ensures { Reads stmt_view (statement_of self.now.levels (start_view start) forms.Label (seen cursor.old)) result (seen cursor.new) }
     {
         let token = cursor.expect(Kind::Name)?;
-        let name = copy_text(self.alloc, token)?;
+        let name = copy_text(self.alloc, &token.tok)?;
         cursor.expect(Kind::Mark(Punct::Colon))?;
         let inner = self.boxed_statement(cursor)?;
         Ok(at(start, StmtKind::Label(name, inner)))

@@ -18,12 +18,12 @@ ghost use Rattle.ec_csyntax.specs.Views.{block_option, each_top};
 
 use crate::forms::{TopForm, top_form};
 use crate::nested::nested_block;
-use crate::texts::{copy_text, embedded_number};
+use crate::texts::embedded_number;
 use ec_base::{List, Name};
 use ec_ctypes::{Base, Decl, Declarator, Expr, Func, Init, Punct, Stmt, Top, Unit};
 use ec_declarations::{
-    Cursor, Start, begins_item, initializer_option, is_left_parenthesis, lengths, more_declarators,
-    parameter_part, specifiers, stars,
+    Cursor, Start, begins_item, copy_text, initializer_option, is_left_parenthesis, lengths,
+    more_declarators, parameter_part, specifiers, stars,
 };
 use ec_grammar::{Failure, Kind};
 use std::alloc::Global;
@@ -179,7 +179,7 @@ fn with_name(
 {
     let stars = stars(cursor)?;
     let token = cursor.expect(Kind::Name)?;
-    let name = copy_text(alloc, token)?;
+    let name = copy_text(alloc, &token.tok)?;
     behind_name(alloc, cursor, start, base, stars, name)
 }
 
@@ -227,7 +227,7 @@ fn include(alloc: Global, cursor: &mut Cursor<'_>) -> Result<Top, Failure>
     ensures { (start : _) → Reads top_view (item_of start forms.Include (seen cursor.old)) result (seen cursor.new) }
 {
     let token = cursor.expect(Kind::Include)?;
-    Ok(Top::Include(copy_text(alloc, token)?))
+    Ok(Top::Include(copy_text(alloc, &token.tok)?))
 }
 
 /// A directive.

@@ -10,21 +10,10 @@ ghost use Rattle.ec_declarations.specs.Parts.{each_expr};
 ghost use Rattle.ec_declarations.specs.Primaries.{primary_view};
 
 use crate::expressions::primary::Primary;
+use crate::texts::copy_text;
 use ec_base::{Boxed, List, Name, OutOfMemory};
 use ec_ctypes::{Base, BinOp, Expr, Tok, Ty, UnOp, copy_ty};
 use std::alloc::{AllocError, Global};
-
-/// The bytes that a token holds, or none.
-pub fn bytes_of(alloc: Global, tok: &Tok) -> Result<Name, OutOfMemory>
-    ensures { IfOk result (λ bytes. bytes ≡ bytes_in (tok_view tok.now)) }
-{
-    match tok {
-        Tok::Word(bytes) => List::from_slice(alloc, bytes.as_slice()),
-        Tok::Str(bytes) => List::from_slice(alloc, bytes.as_slice()),
-        Tok::Include(bytes) => List::from_slice(alloc, bytes.as_slice()),
-        _ => Ok(List::new(alloc)),
-    }
-}
 
 /// The integer constant that a token is.
 #[tactic(auto, using(ec_ctypes::specs::declared::tree::expr::Expr::the_lemmas))]
@@ -54,7 +43,7 @@ pub fn character(tok: &Tok) -> Expr
 pub fn string(alloc: Global, tok: &Tok) -> Result<Expr, OutOfMemory>
     ensures { IfOk result (λ e. expr_view e ≡ tree.string (bytes_in (tok_view tok.now))) }
 {
-    Ok(Expr::Str(bytes_of(alloc, tok)?))
+    Ok(Expr::Str(copy_text(alloc, tok)?))
 }
 
 #[tactic(auto, using(ec_ctypes::specs::declared::tree::expr::Expr::the_lemmas))]

@@ -12,8 +12,9 @@ ghost use Rattle.ec_declarations.specs.States.{seen};
 
 use crate::cursor::Cursor;
 use crate::expressions::Expressions;
-use crate::expressions::making::{bytes_of, character, integer, string};
+use crate::expressions::making::{character, integer, string};
 use crate::parts::Part;
+use crate::texts::copy_text;
 use ec_base::Name;
 use ec_ctypes::{Base, Expr, Punct};
 use ec_grammar::{Failure, Kind};
@@ -53,7 +54,7 @@ impl<
         match cursor.peek() {
             Kind::Name => {
                 let token = cursor.expect(Kind::Name)?;
-                Ok(Primary::Name(bytes_of(self.alloc, &token.tok)?))
+                Ok(Primary::Name(copy_text(self.alloc, &token.tok)?))
             }
             Kind::Integer => {
                 let token = cursor.expect(Kind::Integer)?;
