@@ -176,10 +176,6 @@ abbrev pub piece_rest : Bool → ℕ → Mid → Piece → Result Mid Stop
 piece_rest written statements m p =
     at_end (piece_parts written m.line m.fresh statements p).last (is_fresh_after m.fresh p.bytes) (fed_all m.taken (piece_parts written m.line m.fresh statements p).parts)
 
-abbrev pub pieces_rest : Bool → ℕ → Mid → List Piece → Result Mid Stop
-pieces_rest written statements m [] = Ok m
-pieces_rest written statements m (p ∷ ps) = and_then (piece_rest written statements m p) (λ next. pieces_rest written (statements_behind statements p.kind) next ps)
-
 -- the tokens, with the end
 abbrev pub with_end_token : ℕ → Taken → List TokenData
 with_end_token line s = s.done ++ token end_token line (length s.done) ∷ []

@@ -10,6 +10,7 @@ use ec_split::bytes::{begins_two, byte_at, is_digit};
 /// What the letters behind the digits of a constant say.
 #[derive(Clone, Copy)]
 pub struct Suffix {
+    /// Whether it is unsigned.
     pub unsigned: bool,
     /// How often it is long: not, once or twice.
     pub longs: u8,
