@@ -5,6 +5,7 @@
 mod boxed;
 mod calls;
 mod fault;
+mod keeping;
 mod line;
 mod list;
 mod mem_sink;
@@ -20,6 +21,7 @@ mod texts;
 
 pub use boxed::Boxed;
 pub use fault::{FaultKind, LimitKind};
+pub use keeping::beside;
 pub use line::Line;
 pub use list::{Bytes, List, Name};
 pub use mem_sink::MemSink;
