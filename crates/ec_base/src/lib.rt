@@ -32,7 +32,7 @@ pub use sink::Sink;
 pub use source::Source;
 pub use std_sink::StdSink;
 pub use std_source::StdSource;
-pub use stop::{Failed, OutOfMemory, ReadStop, Stop, Trap};
+pub use stop::{Failed, InputStop, OutOfMemory, Stop, Trap};
 
 #[cfg(test)]
 mod tests;

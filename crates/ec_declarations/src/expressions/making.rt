@@ -13,7 +13,7 @@ use crate::expressions::primary::Primary;
 use crate::texts::copy_text;
 use ec_base::{Boxed, List, Name, OutOfMemory};
 use ec_ctypes::{Base, BinOp, Expr, Tok, Ty, UnOp, copy_ty};
-use std::alloc::{AllocError, Global};
+use std::alloc::Global;
 
 /// The integer constant that a token is.
 #[tactic(auto, using(ec_ctypes::specs::declared::tree::expr::Expr::the_lemmas))]
@@ -47,28 +47,28 @@ pub fn string(alloc: Global, tok: &Tok) -> Result<Expr, OutOfMemory>
 }
 
 #[tactic(auto, using(ec_ctypes::specs::declared::tree::expr::Expr::the_lemmas))]
-pub fn unary(alloc: Global, op: UnOp, a: Expr) -> Result<Expr, AllocError>
+pub fn unary(alloc: Global, op: UnOp, a: Expr) -> Result<Expr, OutOfMemory>
     ensures { IfOk result (λ e. expr_view e ≡ tree.unary op (expr_view a)) }
 {
     Ok(Expr::Unary(op, Boxed::new(alloc, a)?))
 }
 
 #[tactic(auto, using(ec_ctypes::specs::declared::tree::expr::Expr::the_lemmas))]
-pub fn binary(alloc: Global, op: BinOp, a: Expr, b: Expr) -> Result<Expr, AllocError>
+pub fn binary(alloc: Global, op: BinOp, a: Expr, b: Expr) -> Result<Expr, OutOfMemory>
     ensures { IfOk result (λ e. expr_view e ≡ tree.binary op (expr_view a) (expr_view b)) }
 {
     Ok(Expr::Binary(op, Boxed::new(alloc, a)?, Boxed::new(alloc, b)?))
 }
 
 #[tactic(auto, using(ec_ctypes::specs::declared::tree::expr::Expr::the_lemmas))]
-pub fn assign(alloc: Global, op: Option<BinOp>, a: Expr, b: Expr) -> Result<Expr, AllocError>
+pub fn assign(alloc: Global, op: Option<BinOp>, a: Expr, b: Expr) -> Result<Expr, OutOfMemory>
     ensures { IfOk result (λ e. expr_view e ≡ tree.assign op (expr_view a) (expr_view b)) }
 {
     Ok(Expr::Assign(op, Boxed::new(alloc, a)?, Boxed::new(alloc, b)?))
 }
 
 #[tactic(auto, using(ec_ctypes::specs::declared::tree::expr::Expr::the_lemmas))]
-pub fn bump(alloc: Global, before: bool, up: bool, a: Expr) -> Result<Expr, AllocError>
+pub fn bump(alloc: Global, before: bool, up: bool, a: Expr) -> Result<Expr, OutOfMemory>
     ensures { IfOk result (λ e. expr_view e ≡ tree.bump before up (expr_view a)) }
 {
     Ok(Expr::Bump {
@@ -79,21 +79,21 @@ pub fn bump(alloc: Global, before: bool, up: bool, a: Expr) -> Result<Expr, Allo
 }
 
 #[tactic(auto, using(ec_ctypes::specs::declared::tree::expr::Expr::the_lemmas))]
-pub fn index(alloc: Global, a: Expr, b: Expr) -> Result<Expr, AllocError>
+pub fn index(alloc: Global, a: Expr, b: Expr) -> Result<Expr, OutOfMemory>
     ensures { IfOk result (λ e. expr_view e ≡ tree.index (expr_view a) (expr_view b)) }
 {
     Ok(Expr::Index(Boxed::new(alloc, a)?, Boxed::new(alloc, b)?))
 }
 
 #[tactic(auto, using(ec_ctypes::specs::declared::tree::expr::Expr::the_lemmas))]
-pub fn member(alloc: Global, a: Expr, name: Name) -> Result<Expr, AllocError>
+pub fn member(alloc: Global, a: Expr, name: Name) -> Result<Expr, OutOfMemory>
     ensures { IfOk result (λ e. expr_view e ≡ tree.member (expr_view a) name) }
 {
     Ok(Expr::Member(Boxed::new(alloc, a)?, name))
 }
 
 #[tactic(auto, using(ec_ctypes::specs::declared::tree::expr::Expr::the_lemmas))]
-pub fn arrow(alloc: Global, a: Expr, name: Name) -> Result<Expr, AllocError>
+pub fn arrow(alloc: Global, a: Expr, name: Name) -> Result<Expr, OutOfMemory>
     ensures { IfOk result (λ e. expr_view e ≡ tree.arrow (expr_view a) name) }
 {
     Ok(Expr::Arrow(Boxed::new(alloc, a)?, name))
@@ -101,7 +101,7 @@ pub fn arrow(alloc: Global, a: Expr, name: Name) -> Result<Expr, AllocError>
 
 /// A call, by its name where what is called is a bare name.
 #[tactic(auto, using(ec_ctypes::specs::declared::tree::expr::Expr::the_lemmas))]
-pub fn call(alloc: Global, called: Primary, arguments: List<Expr>) -> Result<Expr, AllocError>
+pub fn call(alloc: Global, called: Primary, arguments: List<Expr>) -> Result<Expr, OutOfMemory>
     ensures { IfOk result (λ e. expr_view e ≡ called_by (primary_view called) (each_expr arguments)) }
 {
     match called {
@@ -111,7 +111,7 @@ pub fn call(alloc: Global, called: Primary, arguments: List<Expr>) -> Result<Exp
 }
 
 #[tactic(auto, using(ec_ctypes::specs::declared::tree::expr::Expr::the_lemmas))]
-pub fn cast(alloc: Global, base: Base, stars: u32, a: Expr) -> Result<Expr, AllocError>
+pub fn cast(alloc: Global, base: Base, stars: u32, a: Expr) -> Result<Expr, OutOfMemory>
     ensures { IfOk result (λ e. expr_view e ≡ tree.cast (base_view base) stars (expr_view a)) }
 {
     Ok(Expr::Cast(base, stars, Boxed::new(alloc, a)?))
@@ -125,7 +125,7 @@ pub fn size_type(base: Base, stars: u32) -> Expr
 }
 
 #[tactic(auto, using(ec_ctypes::specs::declared::tree::expr::Expr::the_lemmas))]
-pub fn size_expr(alloc: Global, a: Expr) -> Result<Expr, AllocError>
+pub fn size_expr(alloc: Global, a: Expr) -> Result<Expr, OutOfMemory>
     ensures { IfOk result (λ e. expr_view e ≡ tree.size_expr (expr_view a)) }
 {
     Ok(Expr::SizeExpr(Boxed::new(alloc, a)?))
