@@ -1,9 +1,10 @@
 //! Makes expressions of their parts.
 
-ghost use Rattle.std.specs.Prelude.{◌≡◌, true, false, IfOk};
+ghost use Rattle.std.specs.Prelude.{◌≡◌, true, false, codes, IfOk};
 ghost use Rattle.ec_ctypes.specs.trees.Exprs as tree;
 ghost use Rattle.ec_ctypes.specs.views.Exprs.{expr_view, base_view};
 ghost use Rattle.ec_ctypes.specs.views.Tokens.{tok_view};
+ghost use Rattle.ec_language.specs.Productions as spec;
 ghost use Rattle.ec_language.specs.Productions.{bytes_in, number_in, type_in, character_in};
 ghost use Rattle.ec_grammar.specs.ReadExpressions.{called_by};
 ghost use Rattle.ec_declarations.specs.Parts.{each_expr};
@@ -44,6 +45,35 @@ pub fn string(alloc: Global, tok: &Tok) -> Result<Expr, OutOfMemory>
     ensures { IfOk result (λ e. expr_view e ≡ tree.string (bytes_in (tok_view tok.now))) }
 {
     Ok(Expr::Str(copy_text(alloc, tok)?))
+}
+
+/// A member of the communication area.
+#[tactic(auto, using(ec_ctypes::specs::declared::tree::expr::Expr::the_lemmas))]
+fn area_member(alloc: Global, member: &[u8]) -> Result<Primary, OutOfMemory>
+    ensures { IfOk result (λ x. primary_view x ≡ record {
+        expression = tree.member (tree.identifier (codes "sqlca")) member.now;
+        is_name = false;
+    }) }
+{
+    let member = List::from_slice(alloc, member)?;
+    let area = List::from_slice(alloc, b"sqlca".as_slice())?;
+    let area = Boxed::new(alloc, Expr::Name(area))?;
+    Ok(Primary::Other(Expr::Member(area, member)))
+}
+
+/// The name that a token is, or the member of the communication area that `SQLCODE` or `SQLSTATE` stands for (PostgreSQL
+/// manual, 34.8.3).
+pub fn named(alloc: Global, tok: &Tok) -> Result<Primary, OutOfMemory>
+    ensures { IfOk result (λ x. primary_view x ≡ spec.named (bytes_in (tok_view tok.now))) }
+{
+    let word = copy_text(alloc, tok)?;
+    if word.as_slice() == b"SQLCODE".as_slice() {
+        return area_member(alloc, b"sqlcode".as_slice());
+    }
+    if word.as_slice() == b"SQLSTATE".as_slice() {
+        return area_member(alloc, b"sqlstate".as_slice());
+    }
+    Ok(Primary::Name(word))
 }
 
 #[tactic(auto, using(ec_ctypes::specs::declared::tree::expr::Expr::the_lemmas))]
