@@ -10,7 +10,7 @@ use Rattle.ec_base.specs.declared.stop.Stop.TheVariants.{Refused, Limit}
 use Rattle.ec_ctypes.specs.trees.Tokens.{TokData, end_token, TokenData}
 use Rattle.ec_ctypes.specs.trees.Units.{UnitData}
 use Rattle.ec_language.specs.Productions.{Placed, is, end_of_text, placed, placed_from, section_behind, unit, sym as ofs}
-use Rattle.ec_language.specs.Grammar.{Tokens, Limits, no_counts, DerivesBelow, DerivesWithin, FrontBelow, FrontWithin}
+use Rattle.ec_language.specs.Grammar.{Tokens, Limits, no_counts, DerivesBelow, DerivesWithin, Derives, FrontBelow, FrontWithin}
 use Rattle.ec_language.specs.Syntax.{AllFit, EndsOnce, TreeOrStop, dead, limits, too_deep, tree}
 use Rattle.ec_language.proofs.TokenEnds.{whole_front}
 use Rattle.ec_language.proofs.SyntaxAnswers.{stop_exact, tree_or_else}
@@ -166,3 +166,23 @@ only_answer ts a e x = go a x (reading (placed ts)) (reading_out (placed ts)) (e
     go (Ok u) x (Err f) y z = absurd (tree_or_else ts u _ x z)
     go (Err s) x (Ok p) y z = absurd (tree_or_else ts p.0 s z x)
     go (Err s) x (Err f) y z = ap (λ v. Err v) (one_stop ts s _ x z)
+
+-- What is derived within any limits is the answer, or a limit is passed: no token of it is dead, and it has no other tree.
+pub derived_answer : (ts : List TokenData) (u : UnitData) → Derives unit (placed ts) u → (answer ts ≡ Ok u) ⊎ (answer ts ≡ Err (Limit L3))
+derived_answer ts u d = go (reading (placed ts)) (reading_out (placed ts))
+  where
+    w : Tokens
+    w = placed ts
+
+    here : w ≡ w ++ []
+    here = sym (append-nil w)
+
+    go : (o : Outcome UnitData) → ElementOut limits limits.nesting no_counts (ofs unit) (λ v. v) w o → (answered w o ≡ Ok u) ⊎ (answered w o ≡ Err (Limit L3))
+    go (Ok p) x = inl (ap (λ v. Ok v) (x.1 ∙ sym (only (x.2.only d.0 d.1.0 d.0.nesting w [] u d.1.1 here d.1.2))))
+      where
+        only : (([] ≡ p.1.tokens) × (u ≡ x.0) × (d.1.1 ≡ p.1.counts)) ⊎ (false ≡ true) → u ≡ x.0
+        only (inl h) = h.1
+        only (inr h) = absurd (false≢true h)
+    go (Err (Dead n)) x = absurd (let h : false ≡ true = x.only d.0 d.1.0 d.0.nesting tt w [] u d.1.1 here d.1.2 in false≢true h)
+    go (Err (TooDeep n)) x = inr refl
+    go (Err OutOfMemory) x = absurd x

@@ -12,6 +12,7 @@ mod Fronts
 mod Inner
 mod Joins
 mod Levels
+pub mod LimitsAside
 mod Lists
 mod Nests
 mod OneReading

@@ -3,4 +3,4 @@
 
 mod laws;
 
-pub use laws::{readings_are_exact, readings_are_single};
+pub use laws::{derived_trees_are_read, readings_are_exact, readings_are_single, trees_are_read};

@@ -21,6 +21,7 @@ pub mod LastToken
 pub mod Limits
 pub mod LongestMatch
 pub mod Marks
+pub mod Numbered
 pub mod PieceParts
 pub mod Prefixes
 pub mod Readings
@@ -31,6 +32,7 @@ pub mod SqlWalks
 pub mod Starts
 pub mod SyntaxAnswers
 pub mod TableTests
-mod TextReads
+pub mod TextReads
 pub mod TokenEnds
+pub mod Unlimited
 pub mod Walks

@@ -35,7 +35,7 @@ less_room limits k m c le r = (omega (arith, r.0), omega (arith, r.1))
 pub room_expression : (limits : Limits) (k : ℕ) (c : Counts) → Room limits k c → Room limits k (in_expression c)
 room_expression limits k c r = (omega (arith, total_begun c.operations, r.0), r.1)
 
-room_behind_expression : (limits : Limits) (k : ℕ) (c inner : Counts) → Room limits k c → Room limits k inner → Room limits k (behind_expression c inner)
+pub room_behind_expression : (limits : Limits) (k : ℕ) (c inner : Counts) → Room limits k c → Room limits k inner → Room limits k (behind_expression c inner)
 room_behind_expression limits k c inner r i = (omega (arith, total_ended c.operations inner.operations, i.0), r.1)
 
 pub room_declarator : (limits : Limits) (k : ℕ) (c : Counts) → Room limits k c → Room limits k (in_declarator c)

@@ -12,8 +12,10 @@ use Rattle.ec_ctypes.specs.trees.Units.{UnitData}
 use Rattle.ec_language.specs.Letters.{Text}
 use Rattle.ec_language.specs.Pieces.{Pieces}
 use Rattle.ec_language.specs.PieceFaults.{PieceFault}
-use Rattle.ec_language.specs.Tokens.{Part, max_tokens, Tokens, TokensOrStop}
-use Rattle.ec_language.specs.Syntax.{TreeOrStop}
+use Rattle.ec_language.specs.Tokens.{Part, max_tokens, TokensWithin, Tokens, TokensOrStop}
+use Rattle.ec_language.specs.Productions.{placed, unit}
+use Rattle.ec_language.specs.Grammar.{DerivesWithin, Derives}
+use Rattle.ec_language.specs.Syntax.{limits, TreeOrStop}
 
 -- ---- the order
 
@@ -126,3 +128,24 @@ pub data Reads (written : Bool) (text : Text) : Result UnitData Stop → Type 0 
   no_tokens : (pieces : List Piece) (stop : Stop) → length text ≤ max_text → Pieces text pieces → TokensOrStop written pieces (Err stop) → Reads written text (Err stop)
   tokens : (pieces : List Piece) (ts : List TokenData) (answer : Result UnitData Stop) → length text ≤ max_text → Pieces text pieces → Tokens written pieces ts
       → TreeOrStop ts answer → Reads written text answer
+
+-- ---- limits aside
+
+-- Limits aside, this is the tree of the text: the text has pieces, these have tokens, however many, and the grammar derives the tree of them, however deep it is. So there is no fault in the text.
+pub record HasTree (written : Bool) (text : Text) (u : UnitData) : Type 0 where
+  pub pieces : List Piece
+  pub tokens : List TokenData
+  pub cut : Pieces text pieces
+  pub lexed : TokensWithin None written pieces (Ok tokens)
+  pub derived : Derives unit (placed tokens) u
+
+-- The text passes the limit: it is too long, has too many tokens before its end, or nests too deep or counts too high.
+abbrev pub PassesLimit : {written : Bool} {text : Text} {u : UnitData} → HasTree written text u → LimitKind → Type 0
+PassesLimit {text = text} h L6 = max_text < length text
+PassesLimit h L2 = suc max_tokens < length h.tokens
+PassesLimit {u = u} h L3 = DerivesWithin limits unit (placed h.tokens) u → ⊥
+PassesLimit h _ = ⊥
+
+-- The text is read as its tree, or passes the limit that it is refused for.
+abbrev pub IsReadAs : {written : Bool} {text : Text} {u : UnitData} → HasTree written text u → Result UnitData Stop → Type 0
+IsReadAs {u = u} h answer = (answer ≡ Ok u) ⊎ ((kind : LimitKind) × (answer ≡ Err (Limit kind)) × PassesLimit h kind)

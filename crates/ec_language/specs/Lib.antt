@@ -20,3 +20,4 @@ pub mod SyntaxAnswer
 pub mod SyntaxExamples
 pub mod TokenRows
 pub mod Tokens
+pub mod Unlimited

@@ -176,20 +176,38 @@ abbrev pub with_token : TokenData → Result (List TokenData) Stop → Result (L
 with_token t (Ok ts) = Ok (t ∷ ts)
 with_token t (Err stop) = Err stop
 
--- a part, and what follows it
-abbrev pub numbered_part : ℕ → ℕ → Result TokData FaultKind → Result (List TokenData) Stop → Result (List TokenData) Stop
-numbered_part place line (Err kind) others = Err (Refused kind (record { 0 = line }))
-numbered_part place line (Ok tok) others = if place == max_tokens then Err (Limit L2) else with_token (token tok line place) others
+-- so many tokens are as many as there may be; `None` for no limit
+abbrev pub is_full : Option ℕ → ℕ → Bool
+is_full None tokens = false
+is_full (Some most) tokens = tokens == most
+
+-- a part, and what follows it, with so many tokens at most
+abbrev pub part_within : Option ℕ → ℕ → ℕ → Result TokData FaultKind → Result (List TokenData) Stop → Result (List TokenData) Stop
+part_within most place line (Err kind) others = Err (Refused kind (record { 0 = line }))
+part_within most place line (Ok tok) others = if is_full most place then Err (Limit L2) else with_token (token tok line place) others
 
 -- The tokens of the parts, the first of which has this place, and the end; or the first fault, or the limit. The end is not counted.
+abbrev pub numbered_within : Option ℕ → ℕ → ℕ → List Part → Result (List TokenData) Stop
+numbered_within most place last [] = Ok (token end_token last place ∷ [])
+numbered_within most place last (p ∷ parts) = part_within most place p.line p.tok (numbered_within most (suc place) last parts)
+
+-- What the tokens of the pieces are, with so many at most, or why there are none.
+abbrev pub TokensWithin : Option ℕ → Bool → List Piece → Result (List TokenData) Stop → Type 0
+TokensWithin most written pieces answer =
+    (parts : List Part) × (last : ℕ) × AllParts written 1 true 0 pieces parts last
+    × (answer ≡ numbered_within most 0 last (without_head written (join_strings parts)))
+
+-- ---- tokens within the limit
+
+abbrev pub numbered_part : ℕ → ℕ → Result TokData FaultKind → Result (List TokenData) Stop → Result (List TokenData) Stop
+numbered_part = part_within (Some max_tokens)
+
 abbrev pub numbered : ℕ → ℕ → List Part → Result (List TokenData) Stop
-numbered place last [] = Ok (token end_token last place ∷ [])
-numbered place last (p ∷ parts) = numbered_part place p.line p.tok (numbered (suc place) last parts)
+numbered = numbered_within (Some max_tokens)
 
 -- What the tokens of the pieces are, or why there are none.
 abbrev pub TokensOrStop : Bool → List Piece → Result (List TokenData) Stop → Type 0
-TokensOrStop written pieces answer =
-    (parts : List Part) × (last : ℕ) × AllParts written 1 true 0 pieces parts last × (answer ≡ numbered 0 last (without_head written (join_strings parts)))
+TokensOrStop = TokensWithin (Some max_tokens)
 
 -- These are the tokens of the pieces.
 abbrev pub Tokens : Bool → List Piece → List TokenData → Type 0

@@ -35,6 +35,7 @@ pub use Rattle.ec_language.specs.SqlText
 pub use Rattle.ec_language.specs.SqlTokens
 pub use Rattle.ec_language.specs.Syntax
 pub use Rattle.ec_language.specs.Tokens
+pub use Rattle.ec_language.specs.Unlimited
 pub use Rattle.ec_link.specs.Logged
 pub use Rattle.ec_link.specs.SlotState
 pub use Rattle.ec_link.specs.Told
