@@ -5,7 +5,8 @@ use Rattle.std.specs.List.{list_all}
 use Rattle.std.specs.Vec.{with_items}
 use Rattle.std.specs.declared.vec.Vec.{Vec}
 use Rattle.std.proofs.lemmas.List.{with_items_is, length-take-le, length-replicate, take_all, drop-drop, take-append-drop}
-use Rattle.ec_bytes.specs.Region.{Cell, cells_at, bytes_of, value_of, cells_of, written, set_cells, unset_cells, filled_cells}
+use Rattle.ec_objects.specs.Cells.{Cell, part_of, bytes_of, value_of, written, set_cells, unset_cells, filled_cells}
+use Rattle.ec_bytes.specs.Region.{cells_of}
 
 -- there are as many cells as bytes
 pub length_cells : (bytes : List ℕ) (marks : List Bool) → length marks ≡ length bytes → length (cells_of bytes marks) ≡ length bytes
@@ -36,7 +37,7 @@ drop_cells (suc n) (b ∷ bytes) (false ∷ marks) = drop_cells n bytes marks
 drop_cells (suc n) (b ∷ bytes) (true ∷ marks) = drop_cells n bytes marks
 
 -- cells in the middle
-pub part_cells : (at n : ℕ) (bytes : List ℕ) (marks : List Bool) → cells_at (cells_of bytes marks) at n ≡ cells_of (take n (drop at bytes)) (take n (drop at marks))
+pub part_cells : (at n : ℕ) (bytes : List ℕ) (marks : List Bool) → part_of (cells_of bytes marks) at n ≡ cells_of (take n (drop at bytes)) (take n (drop at marks))
 part_cells at n bytes marks = ap (take n) (drop_cells at bytes marks) ∙ take_cells n (drop at bytes) (drop at marks)
 
 -- the cells of joined lists are joined
@@ -122,14 +123,14 @@ unset cells bytes marks at n marked view e fits m =
     ∙ ap (written cells at) (cells_unset (take n (drop at bytes)) n (sym whole))
 
 -- cells copied from one place to another
-pub copied : (cells : List Cell) (bytes : List ℕ) (marks : List Bool) (from to n : ℕ) (after : List ℕ) (marked : List Bool) → cells_of bytes marks ≡ cells → length marks ≡ length bytes → from + n ≤ length cells → to + n ≤ length cells → after ≡ written bytes to (take n (drop from bytes)) → marked ≡ written marks to (take n (drop from marks)) → cells_of after marked ≡ written cells to (cells_at cells from n)
+pub copied : (cells : List Cell) (bytes : List ℕ) (marks : List Bool) (from to n : ℕ) (after : List ℕ) (marked : List Bool) → cells_of bytes marks ≡ cells → length marks ≡ length bytes → from + n ≤ length cells → to + n ≤ length cells → after ≡ written bytes to (take n (drop from bytes)) → marked ≡ written marks to (take n (drop from marks)) → cells_of after marked ≡ written cells to (part_of cells from n)
 copied cells bytes marks from to n after marked view e source target a m =
     let same = length_cells bytes marks e in
     let inside : from + n ≤ length bytes = omega (arith, ap length view, same) in
     let whole : length (take n (drop from bytes)) ≡ n = length-take-le n (drop from bytes) (omega (arith, length-drop from bytes)) in
     let whole_marks : length (take n (drop from marks)) ≡ n = length-take-le n (drop from marks) (omega (arith, length-drop from marks)) in
     wrote cells bytes marks to (take n (drop from bytes)) (take n (drop from marks)) after marked view e (omega arith) (whole_marks ∙ sym whole) a m
-    ∙ ap (written cells to) (sym (part_cells from n bytes marks) ∙ ap (λ those. cells_at those from n) view)
+    ∙ ap (written cells to) (sym (part_cells from n bytes marks) ∙ ap (λ those. part_of those from n) view)
 
 -- bytes written, all of them set
 pub put_set : (cells : List Cell) (bytes : List ℕ) (marks : List Bool) (at : ℕ) (piece : List ℕ) (n : ℕ) (after : List ℕ) (marked : List Bool) → cells_of bytes marks ≡ cells → length marks ≡ length bytes → at + n ≤ length cells → length piece ≡ n → after ≡ written bytes at piece → marked ≡ written marks at (replicate n true) → cells_of after marked ≡ written cells at (set_cells piece)
@@ -147,15 +148,15 @@ part_lengths : (bytes : List ℕ) (marks : List Bool) (at n : ℕ) → length ma
 part_lengths bytes marks at n e = omega (arith, length-take n (drop at marks), length-take n (drop at bytes), length-drop at marks, length-drop at bytes)
 
 -- what is read where each cell is set
-pub read_set : (cells : List Cell) (bytes : List ℕ) (marks : List Bool) (at n : ℕ) → cells_of bytes marks ≡ cells → length marks ≡ length bytes → list_all (λ mark. mark) (take n (drop at marks)) ≡ true → bytes_of (cells_at cells at n) ≡ Some (take n (drop at bytes))
+pub read_set : (cells : List Cell) (bytes : List ℕ) (marks : List Bool) (at n : ℕ) → cells_of bytes marks ≡ cells → length marks ≡ length bytes → list_all (λ mark. mark) (take n (drop at marks)) ≡ true → bytes_of (part_of cells at n) ≡ Some (take n (drop at bytes))
 read_set cells bytes marks at n view e h =
-    ap (λ those. bytes_of (cells_at those at n)) (sym view) ∙ ap bytes_of (part_cells at n bytes marks)
+    ap (λ those. bytes_of (part_of those at n)) (sym view) ∙ ap bytes_of (part_cells at n bytes marks)
     ∙ bytes_if_set (take n (drop at bytes)) (take n (drop at marks)) (part_lengths bytes marks at n e) h
 
 -- and where one is not
-pub read_unset : (cells : List Cell) (bytes : List ℕ) (marks : List Bool) (at n : ℕ) → cells_of bytes marks ≡ cells → length marks ≡ length bytes → list_all (λ mark. mark) (take n (drop at marks)) ≡ false → bytes_of (cells_at cells at n) ≡ None
+pub read_unset : (cells : List Cell) (bytes : List ℕ) (marks : List Bool) (at n : ℕ) → cells_of bytes marks ≡ cells → length marks ≡ length bytes → list_all (λ mark. mark) (take n (drop at marks)) ≡ false → bytes_of (part_of cells at n) ≡ None
 read_unset cells bytes marks at n view e h =
-    ap (λ those. bytes_of (cells_at those at n)) (sym view) ∙ ap bytes_of (part_cells at n bytes marks)
+    ap (λ those. bytes_of (part_of those at n)) (sym view) ∙ ap bytes_of (part_cells at n bytes marks)
     ∙ none_if_unset (take n (drop at bytes)) (take n (drop at marks)) (part_lengths bytes marks at n e) h
 
 -- one byte more of one cell more
@@ -170,16 +171,16 @@ as_many (None ∷ cells) = tt
 as_many (Some byte ∷ cells) = one_byte_more byte (length cells) (bytes_of cells) (as_many cells)
 
 -- as many bytes as the cells at a place
-length_bytes : (cells : List Cell) (at n : ℕ) (bytes : List ℕ) → at + n ≤ length cells → Some bytes ≡ bytes_of (cells_at cells at n) → length bytes ≡ n
+length_bytes : (cells : List Cell) (at n : ℕ) (bytes : List ℕ) → at + n ≤ length cells → Some bytes ≡ bytes_of (part_of cells at n) → length bytes ≡ n
 length_bytes cells at n bytes fits e =
-    subst (λ (them : Option (List ℕ)). IfSome them (λ bytes. length bytes ≡ length (cells_at cells at n))) (sym e) (as_many (cells_at cells at n))
+    subst (λ (them : Option (List ℕ)). IfSome them (λ bytes. length bytes ≡ length (part_of cells at n))) (sym e) (as_many (part_of cells at n))
     ∙ length-take-le n (drop at cells) (omega (arith, length-drop at cells))
 
 -- what is read of the bytes of a scalar, whose size is n
-pub loaded : {A : Type 0} (decode : List ℕ → A) (cells : List Cell) (at n size : ℕ) (bytes : List ℕ) (value : A) → size ≡ n → at + n ≤ length cells → Some bytes ≡ bytes_of (cells_at cells at size) → value ≡ decode (take n bytes) → Some value ≡ value_of decode (cells_at cells at n)
+pub loaded : {A : Type 0} (decode : List ℕ → A) (cells : List Cell) (at n size : ℕ) (bytes : List ℕ) (value : A) → size ≡ n → at + n ≤ length cells → Some bytes ≡ bytes_of (part_of cells at size) → value ≡ decode (take n bytes) → Some value ≡ value_of decode (part_of cells at n)
 loaded decode cells at n size bytes value is fits e v =
-    ap Some (v ∙ ap decode (take_all n bytes (omega (arith, length_bytes cells at n bytes fits (e ∙ ap (λ m. bytes_of (cells_at cells at m)) is)))))
-    ∙ ap (option_map decode) (e ∙ ap (λ m. bytes_of (cells_at cells at m)) is)
+    ap Some (v ∙ ap decode (take_all n bytes (omega (arith, length_bytes cells at n bytes fits (e ∙ ap (λ m. bytes_of (part_of cells at m)) is)))))
+    ∙ ap (option_map decode) (e ∙ ap (λ m. bytes_of (part_of cells at m)) is)
 
 -- as many cells as before, where there are as many bytes and marks
 pub kept_length : (cells : List Cell) (bytes : List ℕ) (marks : List Bool) (after : List ℕ) (marked : List Bool) → cells_of bytes marks ≡ cells → length marks ≡ length bytes → length after ≡ length bytes → length marked ≡ length marks → length (cells_of after marked) ≡ length cells

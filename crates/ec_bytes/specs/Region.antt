@@ -1,40 +1,6 @@
--- A region of memory is a list of cells. A cell holds a byte, or nothing yet.
-use Rattle.std.specs.Prelude.{ℕ, ◌+◌, Bool, true, false, Option, None, Some, List, [], ◌∷◌, ◌++◌, length, take, drop, map, replicate}
-use Rattle.std.specs.Option.{option_map}
-
--- a byte below 256, or none that was written
-abbrev pub Cell : Type 0
-Cell = Option ℕ
-
--- the n cells from place at on
-abbrev pub cells_at : List Cell → ℕ → ℕ → List Cell
-cells_at cells at n = take n (drop at cells)
-
--- the bytes of the cells, or none where one of them is unset
-abbrev pub bytes_of : List Cell → Option (List ℕ)
-bytes_of [] = Some []
-bytes_of (None ∷ cells) = None
-bytes_of (Some byte ∷ cells) = option_map (λ bytes. byte ∷ bytes) (bytes_of cells)
-
--- the value that the cells hold, or none where one of them is unset
-abbrev pub value_of : {A : Type 0} → (List ℕ → A) → List Cell → Option A
-value_of decode cells = option_map decode (bytes_of cells)
-
--- xs with piece in the place of what stands from place at on
-abbrev pub written : {X : Type 0} → List X → ℕ → List X → List X
-written xs at piece = take at xs ++ piece ++ drop (at + length piece) xs
-
--- the cells that hold these bytes
-abbrev pub set_cells : List ℕ → List Cell
-set_cells bytes = map Some bytes
-
--- n cells that hold this byte
-abbrev pub filled_cells : ℕ → ℕ → List Cell
-filled_cells n byte = replicate n (Some byte)
-
--- n cells that hold nothing
-abbrev pub unset_cells : ℕ → List Cell
-unset_cells n = replicate n None
+-- A region of memory is a list of cells, of which it keeps the bytes and the marks.
+use Rattle.std.specs.Prelude.{ℕ, Bool, true, false, None, Some, List, [], ◌∷◌}
+use Rattle.ec_objects.specs.Cells.{Cell}
 
 -- the cells of bytes and of marks, which say of each byte whether it is set
 abbrev pub cells_of : List ℕ → List Bool → List Cell

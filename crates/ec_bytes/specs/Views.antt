@@ -1,7 +1,7 @@
 -- The parts of the views of a region.
 use Rattle.std.specs.Prelude.{◌≡◌, ℕ, ◌+◌, ◌*◌, List}
 use Rattle.std.specs.Borrow.{MutBor}
-use Rattle.ec_bytes.specs.Region.{Cell}
+use Rattle.ec_objects.specs.Cells.{Cell}
 use Rattle.ec_bytes.specs.declared.scalar.Scalar.{Ghosts}
 use Rattle.ec_bytes.specs.declared.view.View.{View}
 use Rattle.ec_bytes.specs.declared.view.ViewMut.{ViewMut}

@@ -2,7 +2,7 @@
 
 ghost use Rattle.std.specs.Prelude.{◌≡◌, ◌+◌, ◌≤◌, length, replicate, take, drop};
 ghost use Rattle.std.specs.List.{list_all};
-ghost use Rattle.ec_bytes.specs.Region.{written};
+ghost use Rattle.ec_objects.specs.Cells.{written};
 
 use crate::scalar::Scalar;
 

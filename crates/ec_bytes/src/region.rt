@@ -2,7 +2,7 @@
 
 ghost use Rattle.std.specs.Prelude.{◌≡◌, ◌+◌, ◌*◌, ◌≤◌, [], ◌++◌, length, take, OnOk, OnErr, IfOk, IfSome};
 ghost use Rattle.std.specs.Option.{option_map};
-ghost use Rattle.ec_bytes.specs.Region.{bytes_of, cells_at, filled_cells, set_cells, unset_cells, value_of, written};
+ghost use Rattle.ec_objects.specs.Cells.{bytes_of, part_of, filled_cells, set_cells, unset_cells, value_of, written};
 
 use crate::parts::{all_set, encode, mark, part, put, shift, spread};
 use crate::scalar::Scalar;
@@ -20,7 +20,8 @@ pub struct Region {
 
 impl Model for Region {
     ghost use Rattle.std.specs.Prelude.{◌≡◌, List, length};
-    ghost use Rattle.ec_bytes.specs.Region.{Cell, cells_of};
+    ghost use Rattle.ec_objects.specs.Cells.{Cell};
+    ghost use Rattle.ec_bytes.specs.Region.{cells_of};
 
     ghost Value = { List Cell };
 
@@ -78,7 +79,7 @@ impl Region {
     /// The `n` bytes from `at` on, or `None` where one of their cells is unset. They lie in the region.
     pub fn bytes(&self, at: usize, n: usize) -> Option<&[u8]>
         requires { at + n ≤ length self.now }
-        ensures cells { option_map (λ piece. piece.now) result ≡ bytes_of (cells_at self.now at n) }
+        ensures cells { option_map (λ piece. piece.now) result ≡ bytes_of (part_of self.now at n) }
         ensures length { IfSome result (λ piece. length piece.now ≡ n) }
     {
         if all_set(&self.set, at, n) {
@@ -113,7 +114,7 @@ impl Region {
     pub fn copy(&mut self, from: usize, to: usize, n: usize)
         requires source { from + n ≤ length self.old }
         requires target { to + n ≤ length self.old }
-        ensures cells { self.new ≡ written self.old to (cells_at self.old from n) }
+        ensures cells { self.new ≡ written self.old to (part_of self.old from n) }
         ensures length { length self.new ≡ length self.old }
     {
         shift(&mut self.bytes, from, to, n);
@@ -143,7 +144,7 @@ impl Region {
     /// The value in the cells from `at` on, or `None` where one of them is unset.
     pub(crate) fn load<T: Scalar>(&self, at: usize) -> Option<T>
         requires { at + T.SIZE ≤ length self.now }
-        ensures { result ≡ value_of T.decode (cells_at self.now at T.SIZE) }
+        ensures { result ≡ value_of T.decode (part_of self.now at T.SIZE) }
     {
         let piece = self.bytes(at, T::SIZE)?;
         Some(T::get_le(piece))

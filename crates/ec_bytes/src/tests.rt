@@ -1,5 +1,5 @@
 ghost use Rattle.std.specs.Prelude.{◌≡◌, ◌+◌, ◌≤◌, Some, [], ◌∷◌, length};
-ghost use Rattle.ec_bytes.specs.Region.{set_cells, written};
+ghost use Rattle.ec_objects.specs.Cells.{set_cells, written};
 
 use crate::*;
 use std::alloc::Global;

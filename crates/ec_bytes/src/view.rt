@@ -1,5 +1,5 @@
 ghost use Rattle.std.specs.Prelude.{◌≡◌, ◌+◌, ◌*◌, ◌≤◌, ◌<◌, ℕ, length};
-ghost use Rattle.ec_bytes.specs.Region.{cells_at, set_cells, value_of, written};
+ghost use Rattle.ec_objects.specs.Cells.{part_of, set_cells, value_of, written};
 
 use crate::region::Region;
 use crate::scalar::Scalar;
@@ -94,7 +94,7 @@ impl<T: Scalar> View<'_, T> {
 
     /// The value, or `None` where one of its bytes is unset.
     pub fn get(&self) -> Option<T>
-        ensures { result ≡ value_of T.decode (cells_at (view_cells self.now) (view_place self.now) T.SIZE) }
+        ensures { result ≡ value_of T.decode (part_of (view_cells self.now) (view_place self.now) T.SIZE) }
     {
         self.region.load(self.at)
     }
@@ -105,7 +105,7 @@ impl<T: Scalar> ViewMut<'_, T> {
 
     /// The value, or `None` where one of its bytes is unset.
     pub fn get(&self) -> Option<T>
-        ensures { result ≡ value_of T.decode (cells_at (view_mut_cells self.now) (view_mut_place self.now) T.SIZE) }
+        ensures { result ≡ value_of T.decode (part_of (view_mut_cells self.now) (view_mut_place self.now) T.SIZE) }
     {
         self.region.load(self.at)
     }
@@ -126,7 +126,7 @@ impl<T: Scalar> Stride<'_, T> {
     /// Value `i`, the first being 0, or `None` where one of its bytes is unset. There are more than `i`.
     pub fn get(&self, i: usize) -> Option<T>
         requires { i < stride_count self.now }
-        ensures { result ≡ value_of T.decode (cells_at (stride_cells self.now) (stride_place self.now i) T.SIZE) }
+        ensures { result ≡ value_of T.decode (part_of (stride_cells self.now) (stride_place self.now i) T.SIZE) }
     {
         let place = self.region.place(self.at, self.step, i);
         self.region.load(place)

@@ -3,7 +3,7 @@ use Rattle.std.proofs.Common.{◌≡◌, ℕ, suc, ◌+◌, ◌<◌, ◌≤◌, 
 use Rattle.std.specs.Option.{option_map}
 use Rattle.std.proofs.lemmas.List.{length-take-le, drop-drop, length-map, take_at}
 use Rattle.std.proofs.Math.Seq.{drop-append-add, take-add}
-use Rattle.ec_bytes.specs.Region.{Cell, cells_at, bytes_of, written, set_cells, unset_cells}
+use Rattle.ec_objects.specs.Cells.{Cell, part_of, bytes_of, written, set_cells, unset_cells}
 
 -- cells that are all set are those of their bytes
 pub bytes_back : (cells : List Cell) (bytes : List ℕ) → Some bytes ≡ bytes_of cells → set_cells bytes ≡ cells
@@ -16,7 +16,7 @@ bytes_back (Some b ∷ cells) bytes e = one_more (bytes_of cells) (λ rest is. b
     one_more (Some rest) same e = let is : bytes ≡ b ∷ rest = cc in ap set_cells is ∙ ap (λ cs. Some b ∷ cs) (same rest refl)
 
 -- a cell that is unset, read alone
-pub unset_back : (cells : List Cell) (at : ℕ) → at < length cells → None ≡ bytes_of (cells_at cells at 1) → unset_cells 1 ≡ cells_at cells at 1
+pub unset_back : (cells : List Cell) (at : ℕ) → at < length cells → None ≡ bytes_of (part_of cells at 1) → unset_cells 1 ≡ part_of cells at 1
 unset_back cells at within e = rw (drop-cons cells at None within) (of_cell (get_or cells at None) (e ∙ ap (λ c. bytes_of (take 1 c)) (drop-cons cells at None within)))
   where
     of_cell : (cell : Cell) → None ≡ bytes_of (take 1 (cell ∷ drop (suc at) cells)) → unset_cells 1 ≡ take 1 (cell ∷ drop (suc at) cells)
@@ -39,7 +39,7 @@ written_on xs at p q k e fits =
     ∙ ap (λ t. t ++ drop (at + length (p ++ q)) xs) (append_assoc (take at xs) p q)
 
 -- one more cell
-pub copied_more : (xs ys : List Cell) (to from i : ℕ) → from + i < length ys → to + i < length xs → written (written xs to (cells_at ys from i)) (to + i) (cells_at ys (from + i) 1) ≡ written xs to (cells_at ys from (i + 1))
+pub copied_more : (xs ys : List Cell) (to from i : ℕ) → from + i < length ys → to + i < length xs → written (written xs to (part_of ys from i)) (to + i) (part_of ys (from + i) 1) ≡ written xs to (part_of ys from (i + 1))
 copied_more xs ys to from i inside fits =
     let whole : length (take i (drop from ys)) ≡ i = length-take-le i (drop from ys) (omega (arith, length-drop from ys)) in
     let joined : take i (drop from ys) ++ take 1 (drop (from + i) ys) ≡ take (i + 1) (drop from ys) =
@@ -48,6 +48,6 @@ copied_more xs ys to from i inside fits =
     ∙ ap (written xs to) joined
 
 -- as many bytes as cells were read
-pub bytes_length : (cells : List Cell) (at n : ℕ) (bytes : List ℕ) → at + n ≤ length cells → Some bytes ≡ bytes_of (cells_at cells at n) → length bytes ≡ n
+pub bytes_length : (cells : List Cell) (at n : ℕ) (bytes : List ℕ) → at + n ≤ length cells → Some bytes ≡ bytes_of (part_of cells at n) → length bytes ≡ n
 bytes_length cells at n bytes fits e =
-    sym (length-map bytes Some) ∙ ap length (bytes_back (cells_at cells at n) bytes e) ∙ length-take-le n (drop at cells) (omega (arith, length-drop at cells))
+    sym (length-map bytes Some) ∙ ap length (bytes_back (part_of cells at n) bytes e) ∙ length-take-le n (drop at cells) (omega (arith, length-drop at cells))

@@ -9,7 +9,8 @@ use Rattle.std.proofs.lemmas.Bool.Decides.{nat_tests}
 use Rattle.ec_base.specs.declared.stop.Trap.{Trap}
 use Rattle.ec_base.specs.declared.stop.Trap.TheVariants.{Outside}
 use Rattle.ec_memory.specs.declared.object.Object.{Object}
-use Rattle.ec_model.specs.Memory.{Cell, ObjectData, alive, ended, Memory, and_then, object_of, offset_of, object_cells, cells_found, cells_at, with_cells, overwritten, copy, live_bytes, end_to}
+use Rattle.ec_objects.specs.Cells.{Cell, written}
+use Rattle.ec_objects.specs.Memory.{ObjectData, alive, ended, Memory, and_then, object_of, offset_of, object_cells, cells_found, cells_at, with_cells, copy, live_bytes, end_to}
 use Rattle.ec_memory.specs.Store.{outcome}
 use Rattle.ec_memory.specs.Objects.{object_view, objects_view, Counted}
 use Rattle.ec_memory.proofs.Objects.{write_at}
@@ -50,7 +51,7 @@ object_found m (suc n) cells e = let same : suc n - 1 ≡ n = omega arith in rw 
     at_index (Some ended) e = cc
 
 -- as many cells as before
-pub overwritten_length : (cells : List Cell) (at : ℕ) (piece : List Cell) → at + length piece ≤ length cells → length (overwritten cells at piece) ≡ length cells
+pub overwritten_length : (cells : List Cell) (at : ℕ) (piece : List Cell) → at + length piece ≤ length cells → length (written cells at piece) ≡ length cells
 overwritten_length cells at piece fits =
     omega (arith, length-append (take at cells ++ piece) (drop (at + length piece) cells), length-append (take at cells) piece, length-take-le at cells (omega arith), length-drop (at + length piece) cells)
 
@@ -64,14 +65,14 @@ written_kept_at : (m : Memory) (i o : ℕ) (piece : List Cell) (after : Memory) 
 written_kept_at m i o piece after (Err trap) there e = cc
 written_kept_at m i o piece after (Ok cells) there e = either (nat_le (o + length piece) (length cells)) refl e
   where
-    either : (b : Bool) → nat_le (o + length piece) (length cells) ≡ b → (if b then Ok (slice_set m i (alive (overwritten cells o piece))) else Err Outside) ≡ Ok after → Kept m after
+    either : (b : Bool) → nat_le (o + length piece) (length cells) ≡ b → (if b then Ok (slice_set m i (alive (written cells o piece))) else Err Outside) ≡ Ok after → Kept m after
     either false test e = cc
     either true test e =
-        let is : slice_set m i (alive (overwritten cells o piece)) ≡ after = cc in
+        let is : slice_set m i (alive (written cells o piece)) ≡ after = cc in
         let fits : o + length piece ≤ length cells = grind (arith, nat_tests) in
         record {
-          bytes = ap live_bytes (sym is) ∙ live_set m i cells (overwritten cells o piece) (there cells refl) (overwritten_length cells o piece fits);
-          objects = ap length (sym is) ∙ length-set m i (alive (overwritten cells o piece));
+          bytes = ap live_bytes (sym is) ∙ live_set m i cells (written cells o piece) (there cells refl) (overwritten_length cells o piece fits);
+          objects = ap length (sym is) ∙ length-set m i (alive (written cells o piece));
         }
 
 -- what is written keeps bytes and objects

@@ -9,7 +9,8 @@ use Rattle.ec_base.specs.declared.stop.Trap.{Trap}
 use Rattle.ec_base.specs.declared.stop.Trap.TheVariants.{Dead, Outside}
 use Rattle.ec_memory.specs.declared.object.Object.{Object}
 use Rattle.ec_memory.specs.declared.object.Object.TheVariants.{Alive, Ended}
-use Rattle.ec_model.specs.Memory.{Cell, ObjectData, alive, ended, Memory, and_then, object_of, offset_of, object_cells, cells_found, with_cells, overwritten}
+use Rattle.ec_objects.specs.Cells.{Cell, written}
+use Rattle.ec_objects.specs.Memory.{ObjectData, alive, ended, Memory, and_then, object_of, offset_of, object_cells, cells_found, with_cells}
 use Rattle.ec_memory.specs.Objects.{object_view, objects_view, Placed, Lies, cells_in, with_copied}
 
 -- what is found under a number is at the index below it
@@ -52,20 +53,20 @@ read_at o n found = and_then found (λ cells. if nat_le (o + n) (length cells) t
 
 -- cells written into what was found
 abbrev pub write_at : Memory → ℕ → ℕ → List Cell → Result (List Cell) Trap → Result Memory Trap
-write_at m i o piece found = and_then found (λ cells. if nat_le (o + length piece) (length cells) then Ok (slice_set m i (alive (overwritten cells o piece))) else Err Outside)
+write_at m i o piece found = and_then found (λ cells. if nat_le (o + length piece) (length cells) then Ok (slice_set m i (alive (written cells o piece))) else Err Outside)
 
 -- cells that fit are read
 pub read_fits : (o n : ℕ) (cells : List Cell) → o + n ≤ length cells → read_at o n (Ok cells) ≡ Ok (take n (drop o cells))
 read_fits o n cells fits = let test : nat_le (o + n) (length cells) ≡ true = grind (arith, nat_tests) in ap (λ b. if b then Ok (take n (drop o cells)) else Err Outside) test
 
 -- cells that fit are written
-pub write_fits : (m : Memory) (i o : ℕ) (piece cells : List Cell) → o + length piece ≤ length cells → write_at m i o piece (Ok cells) ≡ Ok (slice_set m i (alive (overwritten cells o piece)))
+pub write_fits : (m : Memory) (i o : ℕ) (piece cells : List Cell) → o + length piece ≤ length cells → write_at m i o piece (Ok cells) ≡ Ok (slice_set m i (alive (written cells o piece)))
 write_fits m i o piece cells fits =
     let test : nat_le (o + length piece) (length cells) ≡ true = grind (arith, nat_tests) in
-    ap (λ b. if b then Ok (slice_set m i (alive (overwritten cells o piece))) else Err Outside) test
+    ap (λ b. if b then Ok (slice_set m i (alive (written cells o piece))) else Err Outside) test
 
 -- the memory with a piece written at a place
-placed_write : (m : Memory) (p n i o : ℕ) (at : Placed m p n i o) (piece : List Cell) → length piece ≡ n → with_cells m p piece ≡ Ok (slice_set m i (alive (overwritten at.cells o piece)))
+placed_write : (m : Memory) (p n i o : ℕ) (at : Placed m p n i o) (piece : List Cell) → length piece ≡ n → with_cells m p piece ≡ Ok (slice_set m i (alive (written at.cells o piece)))
 placed_write m p n i o at piece whole =
     let index : object_of p - 1 ≡ i = omega (arith, at.number) in
     ap (λ i. write_at m i (offset_of p) piece (object_cells m (object_of p))) index
@@ -74,11 +75,11 @@ placed_write m p n i o at piece whole =
     ∙ write_fits m i o piece at.cells (omega (arith, at.inside))
 
 -- what the code leaves when it writes at a place
-pub placed_written : (objects : List Object) (p n i o : ℕ) → Placed (objects_view objects) p n i o → (d : Object) (cells : List Cell) → get_or objects i d ≡ Alive cells → (piece : List Cell) → length piece ≡ n → (after : List Cell) → after ≡ overwritten cells o piece → Ok (objects_view (slice_set objects i (Alive after))) ≡ with_cells (objects_view objects) p piece
+pub placed_written : (objects : List Object) (p n i o : ℕ) → Placed (objects_view objects) p n i o → (d : Object) (cells : List Cell) → get_or objects i d ≡ Alive cells → (piece : List Cell) → length piece ≡ n → (after : List Cell) → after ≡ written cells o piece → Ok (objects_view (slice_set objects i (Alive after))) ≡ with_cells (objects_view objects) p piece
 placed_written objects p n i o at d cells is piece whole after e =
     let seen : alive at.cells ≡ alive cells = sym (placed_object objects p n i o at d) ∙ ap object_view is in
     let same : at.cells ≡ cells = cc in
-    ap Ok (map-set object_view objects i (Alive after) ∙ ap (λ cells. slice_set (objects_view objects) i (alive cells)) (e ∙ ap (λ cells. overwritten cells o piece) (sym same)))
+    ap Ok (map-set object_view objects i (Alive after) ∙ ap (λ cells. slice_set (objects_view objects) i (alive cells)) (e ∙ ap (λ cells. written cells o piece) (sym same)))
     ∙ sym (placed_write (objects_view objects) p n i o at piece whole)
 
 -- an object that has ended is no place
@@ -102,15 +103,15 @@ pub same_room : (it : ObjectData) (cells others : List Cell) (o n : ℕ) → it 
 same_room it cells others o n is also fits = let same : cells ≡ others = let e : alive cells ≡ alive others = sym is ∙ also in cc in rw (← same) fits
 
 -- cells copied within an object
-pub copied_within : (objects : List Object) (n from i s t : ℕ) → from ≡ i → Lies (objects_view objects) n i t → (d : Object) (cells after : List Cell) → get_or objects i d ≡ Alive cells → after ≡ overwritten cells t (take n (drop s cells)) → objects_view (slice_set objects i (Alive after)) ≡ with_copied (objects_view objects) from s i t n
+pub copied_within : (objects : List Object) (n from i s t : ℕ) → from ≡ i → Lies (objects_view objects) n i t → (d : Object) (cells after : List Cell) → get_or objects i d ≡ Alive cells → after ≡ written cells t (take n (drop s cells)) → objects_view (slice_set objects i (Alive after)) ≡ with_copied (objects_view objects) from s i t n
 copied_within objects n from i s t e at d cells after is wrote =
     let seen : alive (cells_in (objects_view objects) i) ≡ alive cells = sym (lies_object objects n i t at d) ∙ ap object_view is in
     let same : cells ≡ cells_in (objects_view objects) i = cc in
     map-set object_view objects i (Alive after)
-    ∙ ap (λ cells. slice_set (objects_view objects) i (alive cells)) (wrote ∙ ap (λ cells. overwritten cells t (take n (drop s cells))) same)
+    ∙ ap (λ cells. slice_set (objects_view objects) i (alive cells)) (wrote ∙ ap (λ cells. written cells t (take n (drop s cells))) same)
     ∙ ap (λ from. with_copied (objects_view objects) from s i t n) (sym e)
 
 -- cells copied from one object to another
-pub copied_across : (objects : List Object) (n from to s t : ℕ) (gone after : Object) → object_view after ≡ alive (overwritten (cells_in (objects_view objects) to) t (take n (drop s (cells_in (objects_view objects) from)))) → objects_view (slice_set (slice_set objects to gone) to after) ≡ with_copied (objects_view objects) from s to t n
+pub copied_across : (objects : List Object) (n from to s t : ℕ) (gone after : Object) → object_view after ≡ alive (written (cells_in (objects_view objects) to) t (take n (drop s (cells_in (objects_view objects) from)))) → objects_view (slice_set (slice_set objects to gone) to after) ≡ with_copied (objects_view objects) from s to t n
 copied_across objects n from to s t gone after is =
     ap objects_view (set-set objects to gone after) ∙ map-set object_view objects to after ∙ ap (slice_set (objects_view objects) to) is

@@ -1,16 +1,17 @@
 -- Elements of an object.
-use Rattle.std.proofs.Common.{◌≡◌, ℕ, ◌+◌, ◌-◌, ◌*◌, ◌^◌, ◌<◌, ◌≤◌, Bool, true, false, List, [], ◌∷◌, length, take, drop, Option, Some, None, Result, Ok, Err, MatchOption, refl, sym, ap, ◌∙◌, arith}
+use Rattle.std.proofs.Common.{◌≡◌, ℕ, ◌+◌, ◌-◌, ◌*◌, ◌^◌, ◌<◌, ◌≤◌, Bool, true, false, List, length, take, drop, Option, Some, None, Result, Ok, Err, MatchOption, refl, sym, ap, ◌∙◌, arith}
 use Rattle.std.specs.Prelude.{nat_le, if◌then◌else◌}
 use Rattle.std.specs.Result.{result_err, result_ok, is_ok}
 use Rattle.std.proofs.Math.Nat.{mul-le-mul_right}
 use Rattle.std.proofs.lemmas.Bool.Decides.{nat_tests}
 use Rattle.ec_base.specs.declared.stop.Trap.{Trap}
 use Rattle.ec_base.specs.declared.stop.Trap.TheVariants.{Outside, Unset}
-use Rattle.ec_model.specs.Memory.{Cell, Memory, and_then, object_of, offset_of, object_cells, cells_at, bytes_of, span, extent, live_bytes}
+use Rattle.ec_objects.specs.Cells.{Cell, bytes_of}
+use Rattle.ec_objects.specs.Memory.{Memory, and_then, object_of, offset_of, object_cells, cells_at, or_unset, span, extent, live_bytes}
 use Rattle.ec_memory.specs.Objects.{Reaches, cells_or_none, cells_of_pointer}
 use Rattle.ec_memory.specs.Store.{seen}
 use Rattle.ec_memory.proofs.Objects.{read_at}
-use Rattle.ec_memory.proofs.Reading.{inside_read}
+use Rattle.ec_memory.proofs.Reading.{inside_read, read_bytes}
 use Rattle.ec_memory.proofs.Counts.{few_cells}
 
 -- an access that does not trap lies in its object
@@ -34,14 +35,12 @@ found_cells (Err t) e = cc
 found_cells (Ok cells) e = refl
 
 -- only an unset byte keeps bytes from being read
-only_unset : (cells : List Cell) (t : Trap) → bytes_of cells ≡ Err t → t ≡ Unset
-only_unset [] t e = cc
-only_unset (None ∷ cells) t e = cc
-only_unset (Some b ∷ cells) t e = one_more (bytes_of cells) (λ is. only_unset cells t is) e
+only_unset : (cells : List Cell) (t : Trap) → read_bytes cells ≡ Err t → t ≡ Unset
+only_unset cells t e = of_bytes (bytes_of cells) e
   where
-    one_more : (r : Result (List ℕ) Trap) → (r ≡ Err t → t ≡ Unset) → and_then r (λ bs. Ok (b ∷ bs)) ≡ Err t → t ≡ Unset
-    one_more (Ok bs) same e = cc
-    one_more (Err u) same e = same (let is : u ≡ t = cc in ap Err is)
+    of_bytes : (o : Option (List ℕ)) → or_unset o ≡ Err t → t ≡ Unset
+    of_bytes None e = cc
+    of_bytes (Some bytes) e = cc
 
 -- element i lies in the object
 pub element_inside : (m : Memory) (p count step size i : ℕ) → Reaches m p count step size → i < count → (object_of (p + i * step) ≡ object_of p) × (offset_of (p + i * step) ≡ offset_of p + i * step) × (offset_of p + i * step + size ≤ length (cells_of_pointer m p))
@@ -59,7 +58,7 @@ element_unset m p count step size i reaches within t e =
     let cells = cells_of_pointer m p in
     let found : Ok cells ≡ object_cells m (object_of (p + i * step)) = found_cells (object_cells m (object_of p)) reaches.lives ∙ ap (object_cells m) (sym there.0) in
     let read = inside_read m (p + i * step) size (offset_of p + i * step) cells found (sym there.1) there.2 in
-    only_unset (take size (drop (offset_of p + i * step) cells)) t (sym (ap (λ r. and_then r bytes_of) read) ∙ e)
+    only_unset (take size (drop (offset_of p + i * step) cells)) t (sym (ap (λ r. and_then r read_bytes) read) ∙ e)
 
 -- an element that was read, or that one of its bytes is unset
 pub got : {A : Type 0} (decode : List ℕ → A) (bytes : Result (List ℕ) Trap) (r : Result A Trap) (o : Option A) → o ≡ result_ok r → r ≡ seen decode bytes → ((t : Trap) → bytes ≡ Err t → t ≡ Unset) → MatchOption o (bytes ≡ Err Unset) (λ value. seen decode bytes ≡ Ok value)

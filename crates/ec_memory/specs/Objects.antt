@@ -4,7 +4,8 @@ use Rattle.ec_base.specs.declared.stop.Trap.{Trap}
 use Rattle.ec_base.specs.declared.stop.Trap.TheVariants.{Outside, Unset}
 use Rattle.ec_memory.specs.declared.object.Object.{Object}
 use Rattle.ec_memory.specs.declared.object.Object.TheVariants.{Alive, Ended}
-use Rattle.ec_model.specs.Memory.{Cell, ObjectData, alive, ended, Memory, object_of, offset_of, and_then, object_cells, overwritten, live_bytes, extent}
+use Rattle.ec_objects.specs.Cells.{Cell, written}
+use Rattle.ec_objects.specs.Memory.{ObjectData, alive, ended, Memory, object_of, offset_of, and_then, object_cells, live_bytes, extent}
 
 abbrev pub object_view : Object → ObjectData
 object_view (Alive region) = alive region
@@ -37,7 +38,7 @@ pub record Lies (m : Memory) (n index offset : ℕ) : Type 0 where
 
 -- the memory with n cells copied from one place to another
 abbrev pub with_copied : Memory → ℕ → ℕ → ℕ → ℕ → ℕ → Memory
-with_copied m from from_offset to to_offset n = slice_set m to (alive (overwritten (cells_in m to) to_offset (take n (drop from_offset (cells_in m from)))))
+with_copied m from from_offset to to_offset n = slice_set m to (alive (written (cells_in m to) to_offset (take n (drop from_offset (cells_in m from)))))
 
 -- how many bytes stand before the first zero byte, each read as an access of its own
 abbrev pub length_of_text : List Cell → Result ℕ Trap

@@ -1,7 +1,7 @@
 -- What a call on a memory gives, as the definition of memory gives it.
 use Rattle.std.specs.Prelude.{Result, Ok, Err}
 use Rattle.ec_base.specs.declared.stop.Trap.{Trap}
-use Rattle.ec_model.specs.Memory.{Memory}
+use Rattle.ec_objects.specs.Memory.{Memory}
 
 -- the memory behind a call that changes it, or the trap
 abbrev pub outcome : {A : Type 0} → Result A Trap → Memory → Result Memory Trap

@@ -1,7 +1,7 @@
 //! Copies of cells from one region to another.
 
 ghost use Rattle.std.specs.Prelude.{◌≡◌, ◌+◌, ◌<◌, ◌≤◌, length};
-ghost use Rattle.ec_bytes.specs.Region.{cells_at, written};
+ghost use Rattle.ec_objects.specs.Cells.{part_of, written};
 
 use ec_bytes::Region;
 
@@ -9,7 +9,7 @@ use ec_bytes::Region;
 pub(crate) fn copy_between(target: &mut Region, to: usize, source: &Region, from: usize, n: usize)
     requires source { from + n ≤ length source.now }
     requires target { to + n ≤ length target.old }
-    ensures { target.new ≡ written target.old to (cells_at source.now from n) }
+    ensures { target.new ≡ written target.old to (part_of source.now from n) }
 {
     match source.bytes(from, n) {
         Some(piece) => target.write(to, piece),
@@ -21,7 +21,7 @@ pub(crate) fn copy_between(target: &mut Region, to: usize, source: &Region, from
 fn copy_each(target: &mut Region, to: usize, source: &Region, from: usize, n: usize)
     requires source { from + n ≤ length source.now }
     requires target { to + n ≤ length target.old }
-    ensures { target.new ≡ written target.old to (cells_at source.now from n) }
+    ensures { target.new ≡ written target.old to (part_of source.now from n) }
 {
     // No place among the cells of a region is beyond a usize.
     let _ = (target.len(), source.len());
@@ -34,7 +34,7 @@ fn copy_each(target: &mut Region, to: usize, source: &Region, from: usize, n: us
 fn copy_cell(target: &mut Region, to: usize, source: &Region, from: usize)
     requires source { from < length source.now }
     requires target { to < length target.old }
-    ensures { target.new ≡ written target.old to (cells_at source.now from 1) }
+    ensures { target.new ≡ written target.old to (part_of source.now from 1) }
 {
     match source.bytes(from, 1) {
         Some(piece) => target.write(to, piece),

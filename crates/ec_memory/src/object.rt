@@ -4,7 +4,8 @@ ghost use Rattle.std.specs.Prelude.{◌≡◌, ◌≢◌, ℕ, ◌+◌, ◌≤�
 ghost use Rattle.std.specs.Option.{option_copied};
 ghost use Rattle.std.specs.Result.{result_err};
 ghost use Rattle.ec_base.specs.declared.stop.Trap.TheVariants as trap;
-ghost use Rattle.ec_model.specs.Memory.{Cell, alive, ended, live_bytes, end_to, moved, pointer_to, overwritten, object_of, offset_of, object_cells, cells_at, span, text_at, with_cells, put, fill, unset, copy};
+ghost use Rattle.ec_objects.specs.Cells.{Cell, written};
+ghost use Rattle.ec_objects.specs.Memory.{alive, ended, live_bytes, end_to, moved, pointer_to, object_of, offset_of, object_cells, cells_at, span, text_at, with_cells, put, fill, unset, copy};
 ghost use Rattle.ec_memory.specs.Objects.{object_view, objects_view, Lies, Placed, length_of_text, with_copied};
 ghost use Rattle.ec_memory.specs.Store.{outcome, seen};
 
@@ -225,7 +226,7 @@ fn copy_across(objects: &mut [Object], source: Place, target: Place, n: usize)
 fn copy_object(object: &mut Object, to: usize, other: &Object, from: usize, n: usize)
     requires source { (others : List Cell) → object_view other.now ≡ alive others → from + n ≤ length others }
     requires target { (cells : List Cell) → object_view object.old ≡ alive cells → to + n ≤ length cells }
-    ensures { (cells others : List Cell) → object_view object.old ≡ alive cells → object_view other.now ≡ alive others → object_view object.new ≡ alive (overwritten cells to (take n (drop from others))) }
+    ensures { (cells others : List Cell) → object_view object.old ≡ alive cells → object_view other.now ≡ alive others → object_view object.new ≡ alive (written cells to (take n (drop from others))) }
 {
     if let Object::Alive(region) = object {
         if let Object::Alive(source) = other {

@@ -2,7 +2,7 @@
 
 ghost use Rattle.std.specs.Prelude.{◌≡◌, ℕ, length, OnErr, IsSome, Some};
 ghost use Rattle.ec_ctypes.specs.views.Types.{ty_view};
-ghost use Rattle.ec_model.specs.Memory.{ScalarType, scalar_type, Fits, decoded, span, put, load, store};
+ghost use Rattle.ec_objects.specs.Memory.{ScalarType, scalar_type, Fits, decoded, span, put, load, store};
 ghost use Rattle.ec_memory.specs.Store.{outcome, seen};
 ghost use Rattle.ec_memory.specs.Values.{value_view};
 

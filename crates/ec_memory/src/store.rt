@@ -4,7 +4,7 @@ ghost use Rattle.std.specs.Prelude.{◌≡◌, ℕ, ◌+◌, ◌^◌, ◌≤◌,
 ghost use Rattle.std.specs.Result.{result_err};
 ghost use Rattle.ec_base.specs.declared.stop.Trap.TheVariants as trap;
 ghost use Rattle.ec_memory.specs.declared.store.MakeStop.TheVariants as stops;
-ghost use Rattle.ec_model.specs.Memory.{object_of, offset_of, object_cells, cells_at, live_bytes, span, text_at, moved, with_cells, put, fill, unset, copy, make, last_number, end_to};
+ghost use Rattle.ec_objects.specs.Memory.{object_of, offset_of, object_cells, cells_at, live_bytes, span, text_at, moved, with_cells, put, fill, unset, copy, make, last_number, end_to};
 ghost use Rattle.ec_memory.specs.Store.{outcome, seen};
 
 use crate::object::{
@@ -50,7 +50,7 @@ pub struct Store {
 }
 
 impl Model for Store {
-    ghost use Rattle.ec_model.specs.Memory.{Memory};
+    ghost use Rattle.ec_objects.specs.Memory.{Memory};
 
     ghost Value = { Memory };
 

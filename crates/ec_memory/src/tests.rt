@@ -1,5 +1,5 @@
 ghost use Rattle.std.specs.Prelude.{◌≡◌, ◌+◌, ◌^◌, ◌≤◌, [], ◌∷◌, Ok, MatchResult};
-ghost use Rattle.ec_model.specs.Memory.{and_then, put};
+ghost use Rattle.ec_objects.specs.Memory.{and_then, put};
 
 use crate::*;
 use ec_base::Trap;

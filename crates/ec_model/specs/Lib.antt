@@ -4,8 +4,6 @@ pub mod Faults
 pub mod Headline
 pub mod Labels
 pub mod Lines
-pub mod Memory
-pub mod MemoryExamples
 pub mod Mentions
 pub mod Numbers
 pub mod Observed
@@ -39,3 +37,5 @@ pub use Rattle.ec_language.specs.Unlimited
 pub use Rattle.ec_link.specs.Logged
 pub use Rattle.ec_link.specs.SlotState
 pub use Rattle.ec_link.specs.Told
+pub use Rattle.ec_objects.specs.Cells
+pub use Rattle.ec_objects.specs.Memory

@@ -3,15 +3,11 @@
 #![tactic(auto)]
 
 mod laws;
-mod memory_laws;
 mod source;
 mod walks;
 mod written;
 
 pub use laws::{direct_example, written_example, written_program_means_the_same};
-pub use memory_laws::{
-    access_examples, object_examples, pointer_examples, text_examples, value_examples,
-};
 pub use source::{Letter, Source, Statement};
 pub use walks::{any_has_label, has_label, is_mentioned, is_mentioned_in};
 pub use written::{Action, Call, Global, Pointer, Symbol, Written, WrittenStatement};

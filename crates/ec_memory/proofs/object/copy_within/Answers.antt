@@ -1,6 +1,6 @@
 -- The object after its cells were copied.
 use Rattle.std.proofs.Common.{◌≡◌, ◌∙◌, sym, ap}
-use Rattle.ec_model.specs.Memory.{alive, ended}
+use Rattle.ec_objects.specs.Memory.{alive, ended}
 use Rattle.ec_memory.specs.Objects.{object_view, objects_view, cells_in}
 use Rattle.ec_memory.proofs.Objects.{copied_within, lies_object}
 use Rattle.ec_memory.proofs.object.copy_within.Goals as goal

@@ -1,6 +1,6 @@
 -- The objects that have ended so far, and their bytes.
 use Rattle.std.proofs.Common.{◌≡◌, ◌++◌, map, take, drop}
-use Rattle.ec_model.specs.Memory.{ended, live_bytes}
+use Rattle.ec_objects.specs.Memory.{ended, live_bytes}
 use Rattle.ec_memory.specs.Objects.{objects_view}
 use Rattle.ec_memory.proofs.object.end_all.Given as goal
 

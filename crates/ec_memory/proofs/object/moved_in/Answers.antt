@@ -1,6 +1,6 @@
 -- An offset in an object is small.
 use Rattle.std.proofs.Common.{arith}
-use Rattle.ec_model.specs.Memory.{object_of}
+use Rattle.ec_objects.specs.Memory.{object_of}
 use Rattle.ec_memory.specs.Objects.{objects_view}
 use Rattle.ec_memory.proofs.Counts.{few_cells}
 use Rattle.ec_memory.proofs.object.moved_in.Goals as goal

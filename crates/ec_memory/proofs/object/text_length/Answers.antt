@@ -1,6 +1,6 @@
 -- How long the text is, as far as it was read.
 use Rattle.std.proofs.Common.{◌∙◌, sym, ap, ◌+◌, ◌-◌, arith, Ok}
-use Rattle.ec_model.specs.Memory.{and_then}
+use Rattle.ec_objects.specs.Memory.{and_then}
 use Rattle.ec_memory.proofs.Reading.{one_byte, text_ends, text_goes_on, text_step}
 use Rattle.ec_memory.proofs.object.text_length.Goals as goal
 

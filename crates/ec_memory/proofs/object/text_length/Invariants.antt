@@ -1,6 +1,6 @@
 -- What was read so far is no end of the text.
 use Rattle.std.proofs.Common.{◌≡◌, ◌+◌, ◌-◌, ◌≤◌, length, drop, Ok}
-use Rattle.ec_model.specs.Memory.{and_then}
+use Rattle.ec_objects.specs.Memory.{and_then}
 use Rattle.ec_memory.specs.Objects.{length_of_text}
 use Rattle.ec_memory.proofs.object.text_length.Given as goal
 

@@ -1,7 +1,7 @@
 -- The cells after the call.
 use Rattle.std.proofs.Common.{◌∙◌, ap, true, replicate, rules}
 use Rattle.std.proofs.lemmas.List.{length-replicate}
-use Rattle.ec_bytes.specs.Region.{written}
+use Rattle.ec_objects.specs.Cells.{written}
 use Rattle.ec_bytes.proofs.Cells.{put_set, filled_as_set, placed, same_length, kept_length}
 use Rattle.ec_bytes.proofs.region.Region.fill.Goals as goal
 

@@ -1,6 +1,6 @@
 -- The value of the bytes that were read.
 use Rattle.std.proofs.Common.{◌∙◌, sym, ap, Ok}
-use Rattle.ec_model.specs.Memory.{and_then, span, decoded}
+use Rattle.ec_objects.specs.Memory.{and_then, span, decoded}
 use Rattle.ec_memory.proofs.Reading.{span_length}
 use Rattle.ec_memory.proofs.store.Store.load_scalar.Goals as goal
 

@@ -1,7 +1,7 @@
 -- The bytes of the scalar are all that was read.
 use Rattle.std.proofs.Common.{◌∙◌, ap, Ok, arith}
 use Rattle.std.proofs.lemmas.List.{take_all}
-use Rattle.ec_model.specs.Memory.{span}
+use Rattle.ec_objects.specs.Memory.{span}
 use Rattle.ec_memory.specs.Store.{seen}
 use Rattle.ec_memory.proofs.Reading.{span_length}
 use Rattle.ec_memory.proofs.store.Store.read_scalar.Goals as goal

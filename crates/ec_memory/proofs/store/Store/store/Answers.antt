@@ -2,7 +2,7 @@
 use Rattle.std.proofs.Common.{ap, ◌∙◌}
 use Rattle.ec_ctypes.specs.declared.types.arith.Arith.TheVariants.{LLong, ULLong}
 use Rattle.ec_ctypes.specs.views.Types.{ty_view}
-use Rattle.ec_model.specs.Memory.{integer_type, scalar_type}
+use Rattle.ec_objects.specs.Memory.{integer_type, scalar_type}
 use Rattle.ec_memory.proofs.Numbers.{as_long, as_ulong, llong_type, ullong_type}
 use Rattle.ec_memory.proofs.store.Store.store.Goals as goal
 

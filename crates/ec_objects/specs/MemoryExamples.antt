@@ -1,6 +1,6 @@
 -- Three objects: one of four bytes, of which the third is unset; one that has ended; and the text "h".
 use Rattle.std.specs.Prelude.{ℕ, [], ◌∷◌, Some, None}
-use Rattle.ec_model.specs.Memory.{Memory, alive, ended, pointer_to}
+use Rattle.ec_objects.specs.Memory.{Memory, alive, ended, pointer_to}
 
 abbrev pub three_objects : Memory
 three_objects = alive (Some 1 ∷ Some 2 ∷ None ∷ Some 4 ∷ []) ∷ ended ∷ alive (Some 104 ∷ Some 0 ∷ []) ∷ []

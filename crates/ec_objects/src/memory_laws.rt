@@ -1,10 +1,11 @@
 //! What memory does, as the contracts of functions that do nothing.
 
-ghost use Rattle.std.specs.Prelude.{◌≡◌, ℕ, ◌+◌, ◌<◌, ◌≤◌, ◌^◌, pos, negsuc, [], ◌∷◌, length, Some, None, Ok, Err};
+ghost use Rattle.std.specs.Prelude.{◌≡◌, ℕ, ◌+◌, ◌<◌, ◌≤◌, ◌^◌, ◌-◌, pos, negsuc, [], ◌∷◌, length, Some, None, Ok, Err};
+ghost use Rattle.std.specs.declared.cmp.Ordering.TheVariants.{Less, Equal, Greater};
 ghost use Rattle.ec_base.specs.declared.stop.Trap.TheVariants as trap;
 ghost use Rattle.ec_ctypes.specs.declared.types.arith.Arith.TheVariants as arith;
-ghost use Rattle.ec_model.specs.Memory.{Memory, alive, ended, pointer_to, integer_type, pointer_type, number, address, load, store, span, text_at, moved, make, end_to, copy, unset, fill, live_bytes, last_number, little_endian_bytes};
-ghost use Rattle.ec_model.specs.MemoryExamples.{three_objects, first, second, third};
+ghost use Rattle.ec_objects.specs.Memory.{Memory, alive, ended, text_up_to, difference, order, make_zeroed, pointer_to, integer_type, pointer_type, number, address, load, store, span, text_at, moved, make, end_to, copy, unset, fill, live_bytes, last_number, little_endian_bytes};
+ghost use Rattle.ec_objects.specs.MemoryExamples.{three_objects, first, second, third};
 
 /// The traps of accesses, in their order: Null, Dead, Outside, Unset.
 pub fn access_examples()
@@ -33,12 +34,46 @@ pub fn text_examples()
     ensures dead { text_at three_objects second ≡ Err trap.Dead }
 {}
 
+/// Texts of at most so many bytes: what stands behind these is not read.
+pub fn front_examples()
+    ensures zero_byte { text_up_to three_objects third 2 ≡ Ok (104 ∷ []) }
+    ensures length { text_up_to three_objects third 1 ≡ Ok (104 ∷ []) }
+    ensures zero_at_once { text_up_to three_objects (third + 1) 9 ≡ Ok [] }
+    ensures before_the_unset { text_up_to three_objects first 2 ≡ Ok (1 ∷ 2 ∷ []) }
+    ensures unset { text_up_to three_objects first 3 ≡ Err trap.Unset }
+    ensures before_the_end { text_up_to three_objects (first + 3) 1 ≡ Ok (4 ∷ []) }
+    ensures no_end { text_up_to three_objects (first + 3) 2 ≡ Err trap.Outside }
+    ensures behind { text_up_to three_objects (third + 2) 1 ≡ Err trap.Outside }
+    ensures null { text_up_to three_objects 0 1 ≡ Err trap.Null }
+    ensures dead { text_up_to three_objects second 1 ≡ Err trap.Dead }
+    ensures none_of_null { text_up_to three_objects 0 0 ≡ Ok [] }
+    ensures none_of_the_dead { text_up_to three_objects second 0 ≡ Ok [] }
+{}
+
+/// Differences and the order of pointers, which test no object.
+pub fn two_pointer_examples()
+    ensures forward { difference (first + 4) first 2 ≡ Ok (pos 2) }
+    ensures back { difference first (first + 4) 2 ≡ Ok (negsuc 1) }
+    ensures cut { difference (first + 3) first 2 ≡ Ok (pos 1) }
+    ensures cut_towards_zero { difference first (first + 3) 2 ≡ Ok (negsuc 0) }
+    ensures other_object { difference (first + 4) second 1 ≡ Err trap.Outside }
+    ensures null { difference 0 first 1 ≡ Err trap.Outside }
+    ensures both_null { difference 0 0 4 ≡ Ok (pos 0) }
+    ensures never_made { difference (pointer_to 9 7) (pointer_to 9 3) 4 ≡ Ok (pos 1) }
+    ensures within { order first (first + 1) ≡ Less }
+    ensures later_object { order second (first + 4) ≡ Greater }
+    ensures null_first { order 0 first ≡ Less }
+    ensures same { order third third ≡ Equal }
+{}
+
 /// Pointers move within their object and to its end.
 pub fn pointer_examples()
     ensures one_past { moved three_objects first (pos 2) 2 ≡ Ok (first + 4) }
     ensures too_far { moved three_objects first (pos 5) 1 ≡ Err trap.Outside }
     ensures back { moved three_objects (first + 4) (negsuc 3) 1 ≡ Ok first }
     ensures too_far_back { moved three_objects (first + 4) (negsuc 4) 1 ≡ Err trap.Outside }
+    ensures index_of_any_size { moved three_objects first (pos (2 ^ 127 - 1)) 8 ≡ Err trap.Outside }
+    ensures no_wrap { moved three_objects first (pos (2 ^ 64)) 1 ≡ Err trap.Outside }
     ensures null { moved three_objects 0 (pos 0) 1 ≡ Err trap.Null }
     ensures dead { moved three_objects second (pos 0) 1 ≡ Err trap.Dead }
     ensures dead_before_outside { moved three_objects second (pos 9) 1 ≡ Err trap.Dead }
@@ -62,6 +97,7 @@ pub fn value_examples()
 /// Objects are made and end, and no number is used again.
 pub fn object_examples()
     ensures numbered { make three_objects 2 ≡ Ok (pointer_to 4 0, alive (Some 1 ∷ Some 2 ∷ None ∷ Some 4 ∷ []) ∷ ended ∷ alive (Some 104 ∷ Some 0 ∷ []) ∷ alive (None ∷ None ∷ []) ∷ []) }
+    ensures zeroed { make_zeroed (ended ∷ []) 2 ≡ Ok (second, ended ∷ alive (Some 0 ∷ Some 0 ∷ []) ∷ []) }
     ensures last { last_number three_objects ≡ 3 }
     ensures ended_behind { end_to three_objects 1 ≡ alive (Some 1 ∷ Some 2 ∷ None ∷ Some 4 ∷ []) ∷ ended ∷ ended ∷ [] }
     ensures not_again { make (end_to three_objects 0) 1 ≡ Ok (pointer_to 4 0, ended ∷ ended ∷ ended ∷ alive (None ∷ []) ∷ []) }

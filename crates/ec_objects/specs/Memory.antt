@@ -1,16 +1,15 @@
 -- The memory of a C program: objects of cells, pointers into them, and accesses, which give what they read or leave, or trap (ISO/IEC 9899:1999, 6.2.4, 6.2.6, 6.5.3.2 and 6.5.6). An access through a pointer is tested in this order: Null, Dead, Outside, Unset.
-use Rattle.std.specs.Prelude.{ℕ, zero, suc, ◌+◌, ◌-◌, ◌*◌, ◌/◌, ◌%◌, ◌^◌, ◌<◌, ◌&&◌, ℤ, pos, ◌+ℤ◌, ◌*ℤ◌, int_le, unsigned_abs, nat_lt, nat_le, List, [], ◌∷◌, ◌++◌, map, length, take, drop, replicate, slice_get, slice_set, Option, Some, None, Result, Ok, Err, if◌then◌else◌}
+use Rattle.std.specs.Prelude.{ℕ, zero, suc, ◌+◌, ◌-◌, ◌*◌, ◌/◌, ◌%◌, ◌^◌, ◌<◌, ◌&&◌, ℤ, pos, ◌+ℤ◌, ◌-ℤ◌, ◌*ℤ◌, int_le, int_div, ◌==◌, unsigned_abs, nat_lt, nat_le, List, [], ◌∷◌, ◌++◌, map, length, take, drop, slice_get, slice_set, Option, Some, None, Result, Ok, Err, if◌then◌else◌}
 use Rattle.std.specs.Int.{int_rem_euclid}
+use Rattle.std.specs.declared.cmp.Ordering.{Ordering}
+use Rattle.std.specs.Ordering.{nat_cmp}
 use Rattle.ec_base.specs.declared.stop.Trap.{Trap}
 use Rattle.ec_base.specs.declared.stop.Trap.TheVariants.{Outside, Dead, Null, Unset, Spent}
 use Rattle.ec_ctypes.specs.declared.types.arith.Arith.{Arith}
 use Rattle.ec_ctypes.specs.trees.Types.{TyData, void, arithmetic, pointer, array, structure}
 use Rattle.ec_ctypes.specs.Arithmetic.{IsValue, converted}
 use Rattle.ec_ctypes.specs.Layout.{arith_size, pointer_size}
-
--- a byte of an object: unset, or a number below 256
-abbrev pub Cell : Type 0
-Cell = Option ℕ
+use Rattle.ec_objects.specs.Cells.{Cell, bytes_of, part_of, written, set_cells, filled_cells, unset_cells}
 
 -- an object: it is alive and has its cells, or it has ended
 pub data ObjectData : Type 0 where
@@ -50,17 +49,16 @@ object_cells m (suc n) = cells_found (slice_get m n)
 -- the cells of an access to n bytes, which lie in the object
 abbrev pub cells_at : Memory → ℕ → ℕ → Result (List Cell) Trap
 cells_at m p n = and_then (object_cells m (object_of p)) (λ cells.
-    if nat_le (offset_of p + n) (length cells) then Ok (take n (drop (offset_of p) cells)) else Err Outside)
+    if nat_le (offset_of p + n) (length cells) then Ok (part_of cells (offset_of p) n) else Err Outside)
 
--- the bytes of cells, none of which is unset
-abbrev pub bytes_of : List Cell → Result (List ℕ) Trap
-bytes_of [] = Ok []
-bytes_of (None ∷ cells) = Err Unset
-bytes_of (Some b ∷ cells) = and_then (bytes_of cells) (λ bs. Ok (b ∷ bs))
+-- what was read, or that a cell of it is unset
+abbrev pub or_unset : {A : Type 0} → Option A → Result A Trap
+or_unset None = Err Unset
+or_unset (Some a) = Ok a
 
 -- n bytes, read as one access
 abbrev pub span : Memory → ℕ → ℕ → Result (List ℕ) Trap
-span m p n = and_then (cells_at m p n) bytes_of
+span m p n = and_then (cells_at m p n) (λ cells. or_unset (bytes_of cells))
 
 -- the bytes before the first zero byte, each read as an access of its own
 abbrev pub text_of : List Cell → Result (List ℕ) Trap
@@ -72,26 +70,35 @@ text_of (Some (suc b) ∷ cells) = and_then (text_of cells) (λ bs. Ok (suc b �
 abbrev pub text_at : Memory → ℕ → Result (List ℕ) Trap
 text_at m p = and_then (object_cells m (object_of p)) (λ cells. text_of (drop (offset_of p) cells))
 
--- cells with others in the place of those from an index on
-abbrev pub overwritten : List Cell → ℕ → List Cell → List Cell
-overwritten cells at piece = take at cells ++ piece ++ drop (at + length piece) cells
+-- the bytes before the first zero byte, and at most so many: no byte behind these is read
+abbrev pub front_of : ℕ → List Cell → Result (List ℕ) Trap
+front_of zero cells = Ok []
+front_of (suc n) [] = Err Outside
+front_of (suc n) (None ∷ cells) = Err Unset
+front_of (suc n) (Some zero ∷ cells) = Ok []
+front_of (suc n) (Some (suc b) ∷ cells) = and_then (front_of n cells) (λ bs. Ok (suc b ∷ bs))
+
+-- the same at a pointer, each byte read as an access of its own: so nothing is tested where none is read
+abbrev pub text_up_to : Memory → ℕ → ℕ → Result (List ℕ) Trap
+text_up_to m p zero = Ok []
+text_up_to m p (suc n) = and_then (object_cells m (object_of p)) (λ cells. front_of (suc n) (drop (offset_of p) cells))
 
 -- the memory with these cells from the pointer on, written as one access
 abbrev pub with_cells : Memory → ℕ → List Cell → Result Memory Trap
 with_cells m p piece = and_then (object_cells m (object_of p)) (λ cells.
-    if nat_le (offset_of p + length piece) (length cells) then Ok (slice_set m (object_of p - 1) (alive (overwritten cells (offset_of p) piece))) else Err Outside)
+    if nat_le (offset_of p + length piece) (length cells) then Ok (slice_set m (object_of p - 1) (alive (written cells (offset_of p) piece))) else Err Outside)
 
 -- bytes are put
 abbrev pub put : Memory → ℕ → List ℕ → Result Memory Trap
-put m p bytes = with_cells m p (map Some bytes)
+put m p bytes = with_cells m p (set_cells bytes)
 
 -- n times a byte is put
 abbrev pub fill : Memory → ℕ → ℕ → ℕ → Result Memory Trap
-fill m p n byte = with_cells m p (replicate n (Some byte))
+fill m p n byte = with_cells m p (filled_cells n byte)
 
 -- n cells become unset
 abbrev pub unset : Memory → ℕ → ℕ → Result Memory Trap
-unset m p n = with_cells m p (replicate n None)
+unset m p n = with_cells m p (unset_cells n)
 
 -- n cells are copied, unset ones too. The source is tested before the destination
 abbrev pub copy : Memory → ℕ → ℕ → ℕ → Result Memory Trap
@@ -103,18 +110,34 @@ moved m p by size = and_then (object_cells m (object_of p)) (λ cells.
     let offset = pos (offset_of p) +ℤ (by *ℤ pos size) in
     if int_le (pos 0) offset && int_le offset (pos (length cells)) then Ok (pointer_to (object_of p) (unsigned_abs offset)) else Err Outside)
 
+-- how many elements of this size lie between two pointers, cut towards zero (6.5.6). They are pointers into one object, and no more is tested
+abbrev pub difference : ℕ → ℕ → ℕ → Result ℤ Trap
+difference p from size = if object_of p == object_of from then Ok (int_div (pos (offset_of p) -ℤ pos (offset_of from)) (pos size)) else Err Outside
+
+-- the order of two pointers is that of their numbers, whatever they lead to (6.5.8)
+abbrev pub order : ℕ → ℕ → Ordering
+order p q = nat_cmp p q
+
 -- how many bytes are alive
 abbrev pub live_bytes : Memory → ℕ
 live_bytes [] = 0
 live_bytes (alive cells ∷ m) = length cells + live_bytes m
 live_bytes (ended ∷ m) = live_bytes m
 
--- an object of so many unset bytes is made, with the pointer to it. The numbers are below 2 ^ 32, and at most 2 ^ 28 bytes are alive
-abbrev pub make : Memory → ℕ → Result (ℕ × Memory) Trap
-make m size =
-    if nat_lt (suc (length m)) (2 ^ 32) && nat_le (live_bytes m + size) (2 ^ 28)
-    then Ok (pointer_to (suc (length m)) 0, m ++ alive (replicate size None) ∷ [])
+-- an object of these cells is made, with the pointer to it. The numbers are below 2 ^ 32, and at most 2 ^ 28 bytes are alive
+abbrev pub with_object : Memory → List Cell → Result (ℕ × Memory) Trap
+with_object m cells =
+    if nat_lt (suc (length m)) (2 ^ 32) && nat_le (live_bytes m + length cells) (2 ^ 28)
+    then Ok (pointer_to (suc (length m)) 0, m ++ alive cells ∷ [])
     else Err Spent
+
+-- an object of so many unset bytes
+abbrev pub make : Memory → ℕ → Result (ℕ × Memory) Trap
+make m size = with_object m (unset_cells size)
+
+-- an object of so many zero bytes
+abbrev pub make_zeroed : Memory → ℕ → Result (ℕ × Memory) Trap
+make_zeroed m size = with_object m (filled_cells size 0)
 
 -- the number of the object that was made last, or 0
 abbrev pub last_number : Memory → ℕ
