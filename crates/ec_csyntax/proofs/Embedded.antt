@@ -5,7 +5,8 @@ use Rattle.std.proofs.lemmas.Bool.{false≢true}
 use Rattle.ec_ctypes.specs.trees.Tokens.{TokData, word_token, emb_token}
 use Rattle.ec_language.specs.Grammar.{Tokens, Counts}
 use Rattle.ec_language.specs.Letters.{Text, same_text, is_among}
-use Rattle.ec_language.specs.Productions.{Placed, type_words, varchar_words}
+use Rattle.ec_language.specs.Keywords.{type_words, varchar_words}
+use Rattle.ec_language.specs.Productions.{Placed}
 use Rattle.ec_grammar.specs.declared.kind.Kind.{Kind}
 use Rattle.ec_grammar.specs.declared.kind.Kind.TheVariants as k
 use Rattle.ec_grammar.specs.declared.failure.Failure.TheVariants.{Dead}

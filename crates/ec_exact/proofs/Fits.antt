@@ -7,7 +7,8 @@ use Rattle.ec_ctypes.specs.contracts.text.token.Punct.{the_type}
 use Rattle.ec_ctypes.specs.declared.text.token.Punct.TheVariants as p
 use Rattle.ec_ctypes.specs.trees.Tokens.{TokData, word_token, integer_token, character_token, string_token, punct_token, include_token, emb_token, section_start, section_end, end_token}
 use Rattle.ec_language.specs.Letters.{Text, same_text, is_among}
-use Rattle.ec_language.specs.Productions.{Terminal, type_words, varchar_words, other_keywords, is, same_punct}
+use Rattle.ec_language.specs.Keywords.{type_words, varchar_words, other_keywords}
+use Rattle.ec_language.specs.Productions.{Terminal, is, same_punct}
 use Rattle.ec_language.specs.Productions as g
 use Rattle.ec_language.proofs.Marks.{same_text_is}
 use Rattle.ec_grammar.specs.declared.kind.Kind.{Kind}

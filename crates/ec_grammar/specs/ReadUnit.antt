@@ -12,7 +12,7 @@ use Rattle.ec_language.specs.Grammar.{Tokens, no_counts}
 use Rattle.ec_language.specs.Syntax.{limits}
 use Rattle.ec_grammar.specs.declared.failure.Failure.{Failure}
 use Rattle.ec_grammar.specs.declared.failure.Failure.TheVariants.{OutOfMemory, Dead, TooDeep}
-use Rattle.ec_grammar.specs.Input.{State, state, Outcome}
+use Rattle.ec_grammar.specs.Input.{state, Outcome}
 use Rattle.ec_grammar.specs.ReadDeclarations.{nested}
 use Rattle.ec_grammar.specs.ReadStatements.{nested_statements, unit}
 

@@ -3,6 +3,8 @@
 
 mod failure;
 mod kind;
+mod laws;
 
 pub use failure::Failure;
 pub use kind::Kind;
+pub use laws::keywords_are_the_languages;

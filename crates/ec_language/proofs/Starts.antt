@@ -4,6 +4,7 @@ use Rattle.std.specs.Prelude.{codes, ◌==◌, if◌then◌else◌}
 use Rattle.std.specs.List.{list_all}
 use Rattle.std.proofs.lemmas.Bool.Decides.{nat_tests}
 use Rattle.ec_language.specs.Letters.{Text, is_blank, is_word_start, is_word_byte, is_number_byte, is_not_newline, is_sql_word_start, is_sql_word_byte, is_quote, is_empty, begins, begins_with, each, same_text, same_word, is_among, skip_blanks}
+use Rattle.ec_language.specs.Keywords.{declaring_words}
 use Rattle.ec_language.specs.CText as c
 use Rattle.ec_language.specs.CText.{CUnit, is_word}
 use Rattle.ec_language.specs.SqlText as sql
@@ -70,14 +71,11 @@ among P (t ∷ ts) u a e =
     let k = both (P t) (list_all P ts) a in
     elim (either (same_text t u) (is_among ts u) e) [ inl h ↦ subst (λ x. P x ≡ true) (text_is t u h) k.0 | inr h ↦ among P ts u k.1 h ]
 
-abbrev type_words : List Text
-type_words = codes "char" ∷ codes "short" ∷ codes "int" ∷ codes "long" ∷ codes "signed" ∷ codes "unsigned" ∷ codes "bool" ∷ codes "struct" ∷ codes "const" ∷ codes "VARCHAR" ∷ codes "varchar" ∷ []
-
 pub type_word_is_word : (u : Text) → is_type_word u ≡ true → is_word u ≡ true
-type_word_is_word u e = among is_word type_words u refl e
+type_word_is_word u e = among is_word declaring_words u refl e
 
 pub type_word_solid : (u : Text) → is_type_word u ≡ true → is_sql_gap u ≡ false
-type_word_solid u e = go (is_sql_gap u) (among (λ t. not (is_sql_gap t)) type_words u refl e)
+type_word_solid u e = go (is_sql_gap u) (among (λ t. not (is_sql_gap t)) declaring_words u refl e)
   where
     go : (x : Bool) → not x ≡ true → x ≡ false
     go true p = absurd (cc)

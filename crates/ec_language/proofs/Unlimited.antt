@@ -2,7 +2,7 @@
 use Rattle.std.proofs.Common.{◌≡◌, ℕ, zero, suc, ◌+◌, ◌≤◌, List, [], ◌∷◌, length, refl, inl, inr, ap, ◌∙◌, arith, length-append}
 use Rattle.ec_language.specs.Productions.{Sym, Value, Element, tok, count, sym as ofs, nest, whole, own, Row, Node, Nodes, Follows, Production, productions}
 use Rattle.ec_language.specs.Grammar.{Tokens, Limits, Counts, counted, in_expression, behind_expression, in_declarator, behind_declarator, DerivesElement, DerivesRow, AnyOf, Makes, DerivesBelow, no_counts, Derives}
-use Rattle.ec_language.specs.Unlimited.{UnlimitedElement, UnlimitedRow, UnlimitedMakes, OneOf, UnlimitedBelow, DerivesUnlimited}
+use Rattle.ec_language.specs.Unlimited.{Unlimited, UnlimitedElement, UnlimitedRow, UnlimitedMakes, OneOf, UnlimitedBelow, DerivesUnlimited}
 use Rattle.ec_language.proofs.Limits.{Room, less_room, room_expression, room_behind_expression, room_declarator, room_counted}
 
 -- ---- into limits that are wide enough
@@ -89,30 +89,65 @@ module _ (from : Limits) where
 pub derives_unlimited : (s : Sym) (w : Tokens) (v : Value s) → Derives s w v → DerivesUnlimited s w v
 derives_unlimited s w v d = (d.1.0, free d.0 d.1.0 d.0.nesting no_counts s w v d.1.1 d.1.2)
 
--- ---- heights
+-- ---- from one kind of derivation to another
 
-pub raise_element : (n m : ℕ) → ((s : Sym) (w : Tokens) (v : Value s) → UnlimitedBelow n s w v → UnlimitedBelow m s w v) → (i : Element) (w : Tokens) (v : Node i)
-    → UnlimitedElement (UnlimitedBelow n) i w v → UnlimitedElement (UnlimitedBelow m) i w v
-raise_element n m f (tok t) w v h = h
-raise_element n m f (count k t) w v h = h
-raise_element n m f (ofs s) w v h = f s w v h
-raise_element n m f (nest s) w v h = f s w v h
-raise_element n m f (whole s) w v h = f s w v h
-raise_element n m f (own s) w v h = f s w v h
+module _ (D E : Unlimited) (f : (s : Sym) (w : Tokens) (v : Value s) → D s w v → E s w v) where
+  map_element : (i : Element) (w : Tokens) (v : Node i) → UnlimitedElement D i w v → UnlimitedElement E i w v
+  map_element (tok t) w v h = h
+  map_element (count k t) w v h = h
+  map_element (ofs s) w v h = f s w v h
+  map_element (nest s) w v h = f s w v h
+  map_element (whole s) w v h = f s w v h
+  map_element (own s) w v h = f s w v h
 
-pub raise_row : (n m : ℕ) → ((s : Sym) (w : Tokens) (v : Value s) → UnlimitedBelow n s w v → UnlimitedBelow m s w v) → (follows : Follows) (r : Row) (w : Tokens) (vs : Nodes r)
-    → UnlimitedRow (UnlimitedBelow n) follows r w vs → UnlimitedRow (UnlimitedBelow m) follows r w vs
-raise_row n m f follows [] w vs h = h
-raise_row n m f follows (i ∷ r) w vs h = (h.0, h.1, h.2, raise_element n m f i h.0 vs.0 h.3, raise_row n m f follows r h.1 vs.1 h.4, h.5)
+  map_row : (follows : Follows) (r : Row) (w : Tokens) (vs : Nodes r) → UnlimitedRow D follows r w vs → UnlimitedRow E follows r w vs
+  map_row follows [] w vs h = h
+  map_row follows (i ∷ r) w vs h = (h.0, h.1, h.2, map_element i h.0 vs.0 h.3, map_row follows r h.1 vs.1 h.4, h.5)
 
-raise_any : (n m : ℕ) → ((s : Sym) (w : Tokens) (v : Value s) → UnlimitedBelow n s w v → UnlimitedBelow m s w v) → {A : Type 0} (ps : List (Production A)) (w : Tokens) (v : A)
-    → OneOf (UnlimitedMakes (UnlimitedBelow n) w v) ps → OneOf (UnlimitedMakes (UnlimitedBelow m) w v) ps
-raise_any n m f [] w v h = h
-raise_any n m f (a ∷ rest) w v (inl h) = inl (h.0, h.1, raise_row n m f a.follows a.row w h.0 h.2)
-raise_any n m f (a ∷ rest) w v (inr h) = inr (raise_any n m f rest w v h)
+  map_one : {A : Type 0} (ps : List (Production A)) (w : Tokens) (v : A) → OneOf (UnlimitedMakes D w v) ps → OneOf (UnlimitedMakes E w v) ps
+  map_one [] w v h = h
+  map_one (a ∷ rest) w v (inl h) = inl (h.0, h.1, map_row a.follows a.row w h.0 h.2)
+  map_one (a ∷ rest) w v (inr h) = inr (map_one rest w v h)
 
--- A derivation lower than n is one lower than all that is higher.
-pub raise : (n m : ℕ) → n ≤ m → (s : Sym) (w : Tokens) (v : Value s) → UnlimitedBelow n s w v → UnlimitedBelow m s w v
+-- A derivation lower than n is lower than all that is higher.
+raise : (n m : ℕ) → n ≤ m → (s : Sym) (w : Tokens) (v : Value s) → UnlimitedBelow n s w v → UnlimitedBelow m s w v
 raise zero m le s w v h = absurd h
 raise (suc n) zero le s w v h = absurd (omega arith)
-raise (suc n) (suc m) le s w v h = raise_any n m (raise n m (omega arith)) (productions s) w v h
+raise (suc n) (suc m) le s w v h = map_one (UnlimitedBelow n) (UnlimitedBelow m) (raise n m (omega arith)) (productions s) w v h
+
+-- ---- from the elements to the whole
+
+bounded_element : (i : Element) (w : Tokens) (v : Node i) → UnlimitedElement DerivesUnlimited i w v → (n : ℕ) × UnlimitedElement (UnlimitedBelow n) i w v
+bounded_element (tok t) w v h = (0, h)
+bounded_element (count k t) w v h = (0, h)
+bounded_element (ofs s) w v h = h
+bounded_element (nest s) w v h = h
+bounded_element (whole s) w v h = h
+bounded_element (own s) w v h = h
+
+bounded_row : (follows : Follows) (r : Row) (w : Tokens) (vs : Nodes r) → UnlimitedRow DerivesUnlimited follows r w vs → (n : ℕ) × UnlimitedRow (UnlimitedBelow n) follows r w vs
+bounded_row follows [] w vs h = (0, h)
+bounded_row follows (i ∷ r) w vs h =
+    let a = bounded_element i h.0 vs.0 h.3 in
+    let b = bounded_row follows r h.1 vs.1 h.4 in
+    let n = a.0 + b.0 in
+    let first = map_element (UnlimitedBelow a.0) (UnlimitedBelow n) (raise a.0 n (omega arith)) i h.0 vs.0 a.1 in
+    let rest = map_row (UnlimitedBelow b.0) (UnlimitedBelow n) (raise b.0 n (omega arith)) follows r h.1 vs.1 b.1 in
+    (n, (h.0, h.1, h.2, first, rest, h.5))
+
+bounded_one : {A : Type 0} (ps : List (Production A)) (w : Tokens) (v : A) → OneOf (UnlimitedMakes DerivesUnlimited w v) ps → (n : ℕ) × OneOf (UnlimitedMakes (UnlimitedBelow n) w v) ps
+bounded_one [] w v h = absurd h
+bounded_one (a ∷ rest) w v (inl h) = let b = bounded_row a.follows a.row w h.0 h.2 in (b.0, inl (h.0, h.1, b.1))
+bounded_one (a ∷ rest) w v (inr h) = let b = bounded_one rest w v h in (b.0, inr b.1)
+
+-- What a production makes of elements that are derived is derived.
+pub made : (s : Sym) (w : Tokens) (v : Value s) → OneOf (UnlimitedMakes DerivesUnlimited w v) (productions s) → DerivesUnlimited s w v
+made s w v h = let b = bounded_one (productions s) w v h in (suc b.0, b.1)
+
+-- And so is all that is derived.
+pub unmade : (s : Sym) (w : Tokens) (v : Value s) → DerivesUnlimited s w v → OneOf (UnlimitedMakes DerivesUnlimited w v) (productions s)
+unmade s w v h = go h.0 h.1
+  where
+    go : (n : ℕ) → UnlimitedBelow n s w v → OneOf (UnlimitedMakes DerivesUnlimited w v) (productions s)
+    go zero d = absurd d
+    go (suc n) d = map_one (UnlimitedBelow n) DerivesUnlimited (λ s w v h. (n, h)) (productions s) w v d

@@ -2,6 +2,7 @@ pub mod Constants
 pub mod CText
 pub mod First
 pub mod Grammar
+pub mod Keywords
 pub mod Letters
 pub mod Lexemes
 pub mod Line

@@ -5,6 +5,7 @@ use Rattle.ec_ctypes.specs.declared.text.piece.PieceKind.{PieceKind}
 use Rattle.ec_ctypes.specs.declared.text.piece.PieceKind.TheVariants.{C, Emb, InPlace, SectionStart, SectionEnd}
 use Rattle.ec_ctypes.specs.declared.text.piece.Piece.{Piece}
 use Rattle.ec_language.specs.Letters.{Text, is_blank, is_word_byte, is_empty, begins, same_text, same_word, is_among, skip_blanks}
+use Rattle.ec_language.specs.Keywords.{declaring_words}
 use Rattle.ec_language.specs.Line.{newlines}
 use Rattle.ec_language.specs.CText.{CUnits}
 use Rattle.ec_language.specs.SqlText.{SqlUnit, SqlUnits, is_sql_gap}
@@ -53,7 +54,7 @@ kind_of us =
 
 -- the words that begin a declaration, compared with case
 abbrev pub is_type_word : Text → Bool
-is_type_word = is_among (codes "char" ∷ codes "short" ∷ codes "int" ∷ codes "long" ∷ codes "signed" ∷ codes "unsigned" ∷ codes "bool" ∷ codes "struct" ∷ codes "const" ∷ codes "VARCHAR" ∷ codes "varchar" ∷ [])
+is_type_word = is_among declaring_words
 
 abbrev pub first_is_type_word : List Text → Bool
 first_is_type_word [] = false

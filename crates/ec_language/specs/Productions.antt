@@ -1,5 +1,5 @@
 -- The grammar of C as it is taken (ISO/IEC 9899:1999, 6.5 to 6.9): its symbols, and for each of them the productions, with the tree that each makes. A symbol for an optional or a repeated part has an empty production.
-use Rattle.std.specs.Prelude.{ℕ, zero, ◌+◌, Bool, true, false, not, ◌||◌, ℤ, pos, List, [], ◌∷◌, map, codes, Option, Some, None, fold, if◌then◌else◌}
+use Rattle.std.specs.Prelude.{ℕ, zero, ◌+◌, Bool, true, false, not, ℤ, pos, List, [], ◌∷◌, map, codes, Option, Some, None, fold, if◌then◌else◌}
 use Prim.Native.String.{String}
 use denote.Enum.Bare.{sameb}
 use Rattle.ec_base.specs.declared.line.Line.{Line}
@@ -16,6 +16,7 @@ use Rattle.ec_ctypes.specs.trees.Stmts.{StmtData, stmt, StmtKindData, empty_stmt
 use Rattle.ec_ctypes.specs.trees.Units.{ParamData, TopData, include_top, directive_top, decl_top, func_top, mark_top, UnitData}
 use Rattle.ec_ctypes.specs.trees.Tokens.{TokData, word_token, integer_token, character_token, string_token, punct_token, include_token, emb_token, section_start, section_end, end_token, TokenData}
 use Rattle.ec_language.specs.Letters.{Text, same_text, is_among}
+use Rattle.ec_language.specs.Keywords.{type_words, varchar_words, is_name}
 
 -- ---- tokens, as the grammar sees them
 
@@ -47,20 +48,6 @@ start_of [] = record { line = record { 0 = 0 }; section = false }
 start_of (t ∷ ts) = record { line = t.token.line; section = t.section }
 
 -- ---- terminals
-
--- the words of types
-abbrev pub type_words : List Text
-type_words = codes "void" ∷ codes "bool" ∷ codes "char" ∷ codes "short" ∷ codes "int" ∷ codes "long" ∷ codes "signed" ∷ codes "unsigned" ∷ []
-
-abbrev pub varchar_words : List Text
-varchar_words = codes "VARCHAR" ∷ codes "varchar" ∷ []
-
--- all other words that are no names
-abbrev pub other_keywords : List Text
-other_keywords = codes "static" ∷ codes "const" ∷ codes "struct" ∷ codes "if" ∷ codes "else" ∷ codes "while" ∷ codes "do" ∷ codes "for" ∷ codes "break" ∷ codes "continue" ∷ codes "return" ∷ codes "goto" ∷ codes "sizeof" ∷ []
-
-abbrev pub is_name : Text → Bool
-is_name w = not (is_among type_words w || is_among varchar_words w || is_among other_keywords w)
 
 pub data Terminal : Type 0 where
   mark : Punct → Terminal

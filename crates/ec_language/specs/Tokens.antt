@@ -13,6 +13,7 @@ use Rattle.ec_ctypes.specs.declared.types.arith.Arith.{Arith}
 use Rattle.ec_ctypes.specs.trees.Types.{arithmetic}
 use Rattle.ec_ctypes.specs.trees.Tokens.{TokData, word_token, integer_token, character_token, string_token, punct_token, include_token, emb_token, section_start, section_end, end_token, TokenData}
 use Rattle.ec_language.specs.Letters.{Text, newline, is_blank, is_empty, begins, begins_with, same_text, is_among}
+use Rattle.ec_language.specs.Keywords.{left_out_words}
 use Rattle.ec_language.specs.Line.{newlines}
 use Rattle.ec_language.specs.CText.{CUnits}
 use Rattle.ec_language.specs.Constants.{integer_constant, character_value, string_value}
@@ -29,7 +30,7 @@ pub record Part : Type 0 where
 
 -- words of C that are left out
 abbrev pub is_left_out_word : Text → Bool
-is_left_out_word = is_among (codes "float" ∷ codes "double" ∷ codes "typedef" ∷ codes "union" ∷ codes "extern" ∷ codes "register" ∷ codes "volatile" ∷ codes "inline" ∷ codes "auto" ∷ codes "restrict" ∷ codes "switch" ∷ codes "case" ∷ codes "default" ∷ codes "enum" ∷ [])
+is_left_out_word = is_among left_out_words
 
 abbrev pub integer_tok : Option (ℕ × Arith) → Result TokData FaultKind
 integer_tok None = Err F5

@@ -2,6 +2,7 @@
 #![tactic(auto)]
 
 mod first_examples;
+mod keyword_laws;
 mod piece_examples;
 mod piece_laws;
 mod reading_laws;
@@ -13,6 +14,7 @@ mod token_laws;
 pub use first_examples::{
     first_is_first, order_examples, tokens_stop_at_the_first, too_long_comes_first,
 };
+pub use keyword_laws::keywords_are_a_table;
 pub use piece_examples::{fault_examples, letter_examples, text_examples};
 pub use piece_laws::{one_splitting, pieces_are_read};
 pub use reading_laws::{each_text_is_read, reading_examples};

@@ -5,18 +5,21 @@ ghost use Rattle.ec_base.specs.declared.stop.Stop.{Stop};
 ghost use Rattle.ec_ctypes.specs.trees.Tokens.{TokenData};
 ghost use Rattle.ec_ctypes.specs.trees.Units.{UnitData};
 ghost use Rattle.ec_language.specs.Grammar.{Tokens, Limits, DerivesWithin, FrontWithin, Derives, Front};
-ghost use Rattle.ec_language.specs.Productions.{Sym, Value};
+ghost use Rattle.ec_language.specs.Productions.{Sym, Value, productions};
 ghost use Rattle.ec_language.specs.ReadSyntax.{trees, fits, unreached, IsAmong};
 ghost use Rattle.ec_language.specs.Syntax.{EndsOnce, TreeOrStop};
 ghost use Rattle.ec_language.specs.SyntaxAnswer.{trees_of, stop_of, read_syntax};
-ghost use Rattle.ec_language.specs.Unlimited.{DerivesUnlimited};
+ghost use Rattle.ec_language.specs.Unlimited.{UnlimitedMakes, OneOf, DerivesUnlimited};
 
 /// The trees of a list are exactly those that are derived, and the lists that pass the test are exactly the fronts,
-/// within limits and without. A derivation without levels and counts is one within limits that are high enough.
+/// within limits and without. A derivation without levels and counts is one within limits that are high enough, and is
+/// made by one of the productions of elements that are derived.
 pub fn grammar_laws()
     ensures derived { (limits : Limits) (s : Sym) (w : Tokens) (v : Value s) → DerivesWithin limits s w v ↔ IsAmong v (trees limits s w) }
     ensures front { (limits : Limits) (s : Sym) (u : Tokens) → FrontWithin limits s u ↔ (fits limits s u ≡ true) }
     ensures unlimited { (s : Sym) (w : Tokens) (v : Value s) → Derives s w v ↔ DerivesUnlimited s w v }
+    ensures made { (s : Sym) (w : Tokens) (v : Value s)
+        → DerivesUnlimited s w v ↔ OneOf (UnlimitedMakes DerivesUnlimited w v) (productions s) }
     ensures front_of_any_limits { (s : Sym) (u : Tokens) → Front s u ↔ (fits (unreached u) s u ≡ true) }
 {}
 
