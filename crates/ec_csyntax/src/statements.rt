@@ -123,13 +123,18 @@ impl<
         ensures { Reads stmt_view (statement_of self.now.levels (start_view start) forms.If (seen cursor.old)) result (seen cursor.new) }
     {
         cursor.expect(Kind::If)?;
-        let test = parenthesized(self.alloc, cursor, self.levels)?;
+        let test = Boxed::new(self.alloc, parenthesized(self.alloc, cursor, self.levels)?)?;
         self.branches(cursor, start, test)
     }
 
     /// What stands behind the test of an `if`.
     #[tactic(auto, unfolding(crate::specs::Arms::branches))]
-    fn branches(&self, cursor: &mut Cursor<'_>, start: Start, test: Expr) -> Result<Stmt, Failure>
+    fn branches(
+        &self,
+        cursor: &mut Cursor<'_>,
+        start: Start,
+        test: Boxed<Expr>,
+    ) -> Result<Stmt, Failure>
         requires { NestsStatements self.now.levels (S.pre self.now.statement) (S.post self.now.statement) }
         ensures { Reads stmt_view (branches self.now.levels (start_view start) (expr_view test) (seen cursor.old)) result (seen cursor.new) }
     {

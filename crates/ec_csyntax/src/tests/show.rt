@@ -1,8 +1,9 @@
 //! Trees in a written form, for tests: `(Add a (Mul b 2))`.
 
-use ec_base::{Bytes, Line, List, Name};
+use ec_base::{Boxed, Bytes, Line, List, Name};
 use ec_ctypes::{
-    Base, BinOp, Decl, Declarator, Expr, Func, Init, Param, Stmt, StmtKind, Top, Ty, UnOp, Unit,
+    Base, BinOp, Decl, Declarator, Expr, ForParts, Func, Init, Param, Stmt, StmtKind, Top, Ty,
+    UnOp, Unit,
 };
 use std::alloc::AllocError;
 
@@ -102,6 +103,13 @@ fn name_option(out: &mut Vec<u8>, name: &Option<Name>) -> Result<(), AllocError>
     }
 }
 
+fn boxed_name(out: &mut Vec<u8>, name: &Option<Boxed<Name>>) -> Result<(), AllocError> {
+    match name {
+        Some(name) => bytes(out, name.get()),
+        None => Ok(()),
+    }
+}
+
 fn line(out: &mut Vec<u8>, at: Line) -> Result<(), AllocError> {
     number(out, u64::from(at.0))?;
     text(out, b":")
@@ -179,7 +187,7 @@ fn postfix(out: &mut Vec<u8>, e: &Expr) -> Result<(), AllocError> {
         Expr::Call(name, args) => {
             text(out, b"(call ")?;
             bytes(out, name)?;
-            exprs(out, args)
+            exprs(out, args.get())
         }
         Expr::CallOther(function, args) => {
             text(out, b"(call-other ")?;
@@ -208,14 +216,14 @@ fn typed(out: &mut Vec<u8>, e: &Expr) -> Result<(), AllocError> {
     match e {
         Expr::Cast(kind, count, a) => {
             text(out, b"(cast ")?;
-            base(out, kind)?;
+            base(out, kind.get())?;
             stars(out, *count)?;
             text(out, b" ")?;
             closed(out, a.get())
         }
         Expr::SizeType(kind, count) => {
             text(out, b"(sizeof-type ")?;
-            base(out, kind)?;
+            base(out, kind.get())?;
             stars(out, *count)?;
             text(out, b")")
         }
@@ -238,9 +246,9 @@ fn base(out: &mut Vec<u8>, kind: &Base) -> Result<(), AllocError> {
         }
         Base::Struct(tag, members) => {
             text(out, b"struct ")?;
-            name_option(out, tag)?;
+            boxed_name(out, tag)?;
             text(out, b"{")?;
-            decls(out, members)?;
+            decls(out, members.get())?;
             text(out, b"}")
         }
     }
@@ -336,7 +344,7 @@ fn stmt(out: &mut Vec<u8>, s: &Stmt) -> Result<(), AllocError> {
             bytes(out, label)?;
             text(out, b")")
         }
-        StmtKind::Decl(d) => decl(out, d),
+        StmtKind::Decl(d) => decl(out, d.get()),
         StmtKind::Emb(n) => {
             text(out, b"emb")?;
             number(out, u64::from(*n))
@@ -352,12 +360,12 @@ fn holding(out: &mut Vec<u8>, kind: &StmtKind) -> Result<(), AllocError> {
     match kind {
         StmtKind::If(test, then, None) => {
             text(out, b"(if ")?;
-            expr(out, test)?;
+            expr(out, test.get())?;
             last(out, then.get())
         }
         StmtKind::If(test, then, Some(other)) => {
             text(out, b"(if ")?;
-            expr(out, test)?;
+            expr(out, test.get())?;
             text(out, b" ")?;
             stmt(out, then.get())?;
             text(out, b" else")?;
@@ -374,8 +382,8 @@ fn holding(out: &mut Vec<u8>, kind: &StmtKind) -> Result<(), AllocError> {
             text(out, b" ")?;
             closed(out, test)
         }
-        StmtKind::For(first, test, step, body) => {
-            heads(out, first, test, step)?;
+        StmtKind::For(parts, body) => {
+            heads(out, parts.get())?;
             last(out, body.get())
         }
         StmtKind::Label(name, body) => {
@@ -387,18 +395,13 @@ fn holding(out: &mut Vec<u8>, kind: &StmtKind) -> Result<(), AllocError> {
     }
 }
 
-fn heads(
-    out: &mut Vec<u8>,
-    first: &Option<Expr>,
-    test: &Option<Expr>,
-    step: &Option<Expr>,
-) -> Result<(), AllocError> {
+fn heads(out: &mut Vec<u8>, parts: &ForParts) -> Result<(), AllocError> {
     text(out, b"(for ")?;
-    expr_option(out, first)?;
+    expr_option(out, &parts.first)?;
     text(out, b" ")?;
-    expr_option(out, test)?;
+    expr_option(out, &parts.condition)?;
     text(out, b" ")?;
-    expr_option(out, step)
+    expr_option(out, &parts.step)
 }
 
 #[cycle(statements)]
@@ -455,7 +458,7 @@ fn top(out: &mut Vec<u8>, t: &Top) -> Result<(), AllocError> {
             number(out, u64::from(*n))
         }
         Top::Decl(d) => decl(out, d),
-        Top::Func(f) => func(out, f),
+        Top::Func(f) => func(out, f.get()),
         Top::Mark(opens, at) => {
             line(out, *at)?;
             text(out, if *opens { b"[[" } else { b"]]" })

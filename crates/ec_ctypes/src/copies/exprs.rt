@@ -1,6 +1,6 @@
 ghost use Rattle.std.specs.Prelude.{◌≡◌, IfOk};
 
-use crate::copies::lists::{copy_bytes, copy_tag, copy_words};
+use crate::copies::lists::{boxed_tag, copy_bytes, copy_words};
 use crate::copies::types::copy_ty;
 use crate::tree::{Base, Decl, Declarator, Expr, Init};
 use ec_base::{Boxed, List, OutOfMemory};
@@ -24,7 +24,10 @@ pub fn copy_expr(alloc: Global, expr: &Expr) -> Result<Expr, OutOfMemory>
             up: *up,
             of: copy_boxed(alloc, of)?,
         },
-        Expr::Call(name, args) => Expr::Call(copy_bytes(alloc, name)?, copy_exprs(alloc, args)?),
+        Expr::Call(name, args) => Expr::Call(
+            copy_bytes(alloc, name)?,
+            Boxed::new(alloc, copy_exprs(alloc, args.get())?)?,
+        ),
         Expr::CallOther(function, args) => {
             Expr::CallOther(copy_boxed(alloc, function)?, copy_exprs(alloc, args)?)
         }
@@ -32,9 +35,9 @@ pub fn copy_expr(alloc: Global, expr: &Expr) -> Result<Expr, OutOfMemory>
         Expr::Member(a, name) => Expr::Member(copy_boxed(alloc, a)?, copy_bytes(alloc, name)?),
         Expr::Arrow(a, name) => Expr::Arrow(copy_boxed(alloc, a)?, copy_bytes(alloc, name)?),
         Expr::Cast(base, stars, a) => {
-            Expr::Cast(copy_base(alloc, base)?, *stars, copy_boxed(alloc, a)?)
+            Expr::Cast(boxed_base(alloc, base)?, *stars, copy_boxed(alloc, a)?)
         }
-        Expr::SizeType(base, stars) => Expr::SizeType(copy_base(alloc, base)?, *stars),
+        Expr::SizeType(base, stars) => Expr::SizeType(boxed_base(alloc, base)?, *stars),
         Expr::SizeExpr(a) => Expr::SizeExpr(copy_boxed(alloc, a)?),
     })
 }
@@ -44,6 +47,13 @@ fn copy_boxed(alloc: Global, expr: &Boxed<Expr>) -> Result<Boxed<Expr>, OutOfMem
     ensures { IfOk result (λ copy. copy ≡ expr.now) }
 {
     Ok(Boxed::new(alloc, copy_expr(alloc, expr.get())?)?)
+}
+
+#[cycle(copies)]
+fn boxed_base(alloc: Global, base: &Boxed<Base>) -> Result<Boxed<Base>, OutOfMemory>
+    ensures { IfOk result (λ copy. copy ≡ base.now) }
+{
+    Ok(Boxed::new(alloc, copy_base(alloc, base.get())?)?)
 }
 
 /// A copy of a list of expressions.
@@ -68,7 +78,10 @@ pub fn copy_base(alloc: Global, base: &Base) -> Result<Base, OutOfMemory>
         Base::Varchar => Base::Varchar,
         Base::Tag(tag) => Base::Tag(copy_bytes(alloc, tag)?),
         Base::Struct(tag, members) => {
-            Base::Struct(copy_tag(alloc, tag)?, copy_decls(alloc, members)?)
+            Base::Struct(
+                boxed_tag(alloc, tag)?,
+                Boxed::new(alloc, copy_decls(alloc, members.get())?)?,
+            )
         }
     })
 }

@@ -1,6 +1,6 @@
 ghost use Rattle.std.specs.Prelude.{◌≡◌, IfOk};
 
-use ec_base::{Bytes, List, Name, OutOfMemory};
+use ec_base::{Boxed, Bytes, List, Name, OutOfMemory};
 use std::alloc::Global;
 
 // A copy of a text.
@@ -16,6 +16,19 @@ pub(crate) fn copy_tag(alloc: Global, tag: &Option<Name>) -> Result<Option<Name>
 {
     match tag {
         Some(name) => Ok(Some(copy_bytes(alloc, name)?)),
+        None => Ok(None),
+    }
+}
+
+// The same, where the name stands in a box.
+pub(crate) fn boxed_tag(
+    alloc: Global,
+    tag: &Option<Boxed<Name>>,
+) -> Result<Option<Boxed<Name>>, OutOfMemory>
+    ensures { IfOk result (λ copy. copy ≡ tag.now) }
+{
+    match tag {
+        Some(name) => Ok(Some(Boxed::new(alloc, copy_bytes(alloc, name.get())?)?)),
         None => Ok(None),
     }
 }

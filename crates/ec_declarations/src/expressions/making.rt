@@ -105,7 +105,7 @@ pub fn call(alloc: Global, called: Primary, arguments: List<Expr>) -> Result<Exp
     ensures { IfOk result (λ e. expr_view e ≡ called_by (primary_view called) (each_expr arguments)) }
 {
     match called {
-        Primary::Name(name) => Ok(Expr::Call(name, arguments)),
+        Primary::Name(name) => Ok(Expr::Call(name, Boxed::new(alloc, arguments)?)),
         Primary::Other(other) => Ok(Expr::CallOther(Boxed::new(alloc, other)?, arguments)),
     }
 }
@@ -114,14 +114,14 @@ pub fn call(alloc: Global, called: Primary, arguments: List<Expr>) -> Result<Exp
 pub fn cast(alloc: Global, base: Base, stars: u32, a: Expr) -> Result<Expr, OutOfMemory>
     ensures { IfOk result (λ e. expr_view e ≡ tree.cast (base_view base) stars (expr_view a)) }
 {
-    Ok(Expr::Cast(base, stars, Boxed::new(alloc, a)?))
+    Ok(Expr::Cast(Boxed::new(alloc, base)?, stars, Boxed::new(alloc, a)?))
 }
 
 #[tactic(auto, using(ec_ctypes::specs::declared::tree::expr::Expr::the_lemmas))]
-pub fn size_type(base: Base, stars: u32) -> Expr
-    ensures { expr_view result ≡ tree.size_type (base_view base) stars }
+pub fn size_type(alloc: Global, base: Base, stars: u32) -> Result<Expr, AllocError>
+    ensures { IfOk result (λ e. expr_view e ≡ tree.size_type (base_view base) stars) }
 {
-    Expr::SizeType(base, stars)
+    Ok(Expr::SizeType(Boxed::new(alloc, base)?, stars))
 }
 
 #[tactic(auto, using(ec_ctypes::specs::declared::tree::expr::Expr::the_lemmas))]
