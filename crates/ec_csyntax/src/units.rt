@@ -22,7 +22,7 @@ use crate::texts::embedded_number;
 use ec_base::{Boxed, List, Name};
 use ec_ctypes::{Base, Decl, Declarator, Expr, Func, Init, Punct, Stmt, Top, Unit};
 use ec_declarations::{
-    Cursor, Start, begins_item, copy_text, initializer_option, is_left_parenthesis, lengths,
+    Cursor, Start, begins_item, copy_name, copy_text, initializer_option, is_left_parenthesis, lengths,
     more_declarators, parameter_part, specifiers, stars,
 };
 use ec_grammar::{Failure, Kind};
@@ -180,7 +180,7 @@ fn with_name(
 {
     let stars = stars(cursor)?;
     let token = cursor.expect(Kind::Name)?;
-    let name = copy_text(alloc, &token.tok)?;
+    let name = copy_name(alloc, &token.tok)?;
     behind_name(alloc, cursor, start, base, stars, name)
 }
 

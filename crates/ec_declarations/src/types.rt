@@ -16,7 +16,7 @@ ghost use Rattle.ec_declarations.specs.States.{seen};
 use crate::counts::Counted;
 use crate::cursor::Cursor;
 use crate::starts::{is_const, is_left_brace, is_star};
-use crate::texts::copy_text;
+use crate::texts::copy_name;
 use ec_base::{Boxed, List, Name, OutOfMemory};
 use ec_ctypes::{Base, Decl, Punct};
 use ec_grammar::{Failure, Kind};
@@ -58,7 +58,7 @@ fn more_words(
             }
             Kind::TypeWord => {
                 let word = cursor.expect(Kind::TypeWord)?;
-                found.push(copy_text(alloc, &word.tok)?)?;
+                found.push(copy_name(alloc, &word.tok)?)?;
             }
             _ => return Ok(found),
         }
@@ -138,7 +138,7 @@ impl<M: Fn(Global, &mut Cursor<'_>, u32) -> Result<List<Decl>, Failure>> Types<M
         ensures { Reads base_view (spec.tag_or_members_by limits (nested limits self.now.levels) kind.Name (seen cursor.old)) result (seen cursor.new) }
     {
         let token = cursor.expect(Kind::Name)?;
-        let tag = copy_text(self.alloc, &token.tok)?;
+        let tag = copy_name(self.alloc, &token.tok)?;
         let members = self.members_option(cursor)?;
         Ok(tag_base(self.alloc, tag, members)?)
     }
@@ -164,7 +164,7 @@ impl<M: Fn(Global, &mut Cursor<'_>, u32) -> Result<List<Decl>, Failure>> Types<M
     {
         let first = cursor.expect(Kind::TypeWord)?;
         let mut found = List::new(self.alloc);
-        found.push(copy_text(self.alloc, &first.tok)?)?;
+        found.push(copy_name(self.alloc, &first.tok)?)?;
         let found = more_words(self.alloc, cursor, found)?;
         Ok(words(found))
     }

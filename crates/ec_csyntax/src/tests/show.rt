@@ -17,6 +17,11 @@ fn bytes(out: &mut Vec<u8>, bytes: &Bytes) -> Result<(), AllocError> {
     Ok(())
 }
 
+fn named(out: &mut Vec<u8>, name: &Name) -> Result<(), AllocError> {
+    out.extend_from_slice(name.as_slice())?;
+    Ok(())
+}
+
 fn number(out: &mut Vec<u8>, value: u64) -> Result<(), AllocError> {
     let alloc = *out.allocator();
     let digits = format!(in alloc; "{value}")?;
@@ -90,7 +95,7 @@ fn words(out: &mut Vec<u8>, all: &List<Name>) -> Result<(), AllocError> {
         if !is_first {
             text(out, b" ")?;
         }
-        bytes(out, one)?;
+        named(out, one)?;
         is_first = false;
     }
     Ok(())
@@ -98,14 +103,14 @@ fn words(out: &mut Vec<u8>, all: &List<Name>) -> Result<(), AllocError> {
 
 fn name_option(out: &mut Vec<u8>, name: &Option<Name>) -> Result<(), AllocError> {
     match name {
-        Some(name) => bytes(out, name),
+        Some(name) => named(out, name),
         None => Ok(()),
     }
 }
 
 fn boxed_name(out: &mut Vec<u8>, name: &Option<Boxed<Name>>) -> Result<(), AllocError> {
     match name {
-        Some(name) => bytes(out, name.get()),
+        Some(name) => named(out, name.get()),
         None => Ok(()),
     }
 }
@@ -133,7 +138,7 @@ fn spaced(out: &mut Vec<u8>, a: &Expr) -> Result<(), AllocError> {
 fn member(out: &mut Vec<u8>, a: &Expr, name: &Name) -> Result<(), AllocError> {
     expr(out, a)?;
     text(out, b" ")?;
-    bytes(out, name)?;
+    named(out, name)?;
     text(out, b")")
 }
 
@@ -158,7 +163,7 @@ fn expr(out: &mut Vec<u8>, e: &Expr) -> Result<(), AllocError> {
         Expr::Int(value, ty) => constant(out, *value, ty),
         Expr::Char(value) => character(out, *value),
         Expr::Str(contents) => quoted(out, contents),
-        Expr::Name(name) => bytes(out, name),
+        Expr::Name(name) => named(out, name),
         Expr::Unary(op, a) => {
             unary(out, *op)?;
             closed(out, a.get())
@@ -186,7 +191,7 @@ fn postfix(out: &mut Vec<u8>, e: &Expr) -> Result<(), AllocError> {
     match e {
         Expr::Call(name, args) => {
             text(out, b"(call ")?;
-            bytes(out, name)?;
+            named(out, name)?;
             exprs(out, args.get())
         }
         Expr::CallOther(function, args) => {
@@ -242,7 +247,7 @@ fn base(out: &mut Vec<u8>, kind: &Base) -> Result<(), AllocError> {
         Base::Varchar => text(out, b"VARCHAR"),
         Base::Tag(tag) => {
             text(out, b"struct ")?;
-            bytes(out, tag)
+            named(out, tag)
         }
         Base::Struct(tag, members) => {
             text(out, b"struct ")?;
@@ -276,7 +281,7 @@ fn decl(out: &mut Vec<u8>, d: &Decl) -> Result<(), AllocError> {
 #[cycle(show)]
 fn declarator(out: &mut Vec<u8>, d: &Declarator) -> Result<(), AllocError> {
     stars(out, d.stars)?;
-    bytes(out, &d.name)?;
+    named(out, &d.name)?;
     lengths(out, &d.dims)?;
     match &d.init {
         Some(value) => {
@@ -341,7 +346,7 @@ fn stmt(out: &mut Vec<u8>, s: &Stmt) -> Result<(), AllocError> {
         }
         StmtKind::Goto(label) => {
             text(out, b"(goto ")?;
-            bytes(out, label)?;
+            named(out, label)?;
             text(out, b")")
         }
         StmtKind::Decl(d) => decl(out, d.get()),
@@ -388,7 +393,7 @@ fn holding(out: &mut Vec<u8>, kind: &StmtKind) -> Result<(), AllocError> {
         }
         StmtKind::Label(name, body) => {
             text(out, b"(label ")?;
-            bytes(out, name)?;
+            named(out, name)?;
             last(out, body.get())
         }
         _ => Ok(()),
@@ -437,7 +442,7 @@ fn func(out: &mut Vec<u8>, f: &Func) -> Result<(), AllocError> {
     base(out, &f.base)?;
     text(out, b" ")?;
     stars(out, f.stars)?;
-    bytes(out, &f.name)?;
+    named(out, &f.name)?;
     text(out, b"(")?;
     for one in f.params.as_slice() {
         param(out, one)?;

@@ -1,6 +1,6 @@
 ghost use Rattle.std.specs.Prelude.{◌≡◌, IfOk};
 
-use crate::copies::lists::{boxed_tag, copy_bytes, copy_words};
+use crate::copies::lists::{boxed_tag, copy_bytes, copy_name, copy_words};
 use crate::copies::types::copy_ty;
 use crate::tree::{Base, Decl, Declarator, Expr, Init};
 use ec_base::{Boxed, List, OutOfMemory};
@@ -15,7 +15,7 @@ pub fn copy_expr(alloc: Global, expr: &Expr) -> Result<Expr, OutOfMemory>
         Expr::Int(value, ty) => Expr::Int(*value, copy_ty(alloc, ty)?),
         Expr::Char(value) => Expr::Char(*value),
         Expr::Str(bytes) => Expr::Str(copy_bytes(alloc, bytes)?),
-        Expr::Name(name) => Expr::Name(copy_bytes(alloc, name)?),
+        Expr::Name(name) => Expr::Name(copy_name(name)?),
         Expr::Unary(op, a) => Expr::Unary(*op, copy_boxed(alloc, a)?),
         Expr::Binary(op, a, b) => Expr::Binary(*op, copy_boxed(alloc, a)?, copy_boxed(alloc, b)?),
         Expr::Assign(op, a, b) => Expr::Assign(*op, copy_boxed(alloc, a)?, copy_boxed(alloc, b)?),
@@ -25,15 +25,15 @@ pub fn copy_expr(alloc: Global, expr: &Expr) -> Result<Expr, OutOfMemory>
             of: copy_boxed(alloc, of)?,
         },
         Expr::Call(name, args) => Expr::Call(
-            copy_bytes(alloc, name)?,
+            copy_name(name)?,
             Boxed::new(alloc, copy_exprs(alloc, args.get())?)?,
         ),
         Expr::CallOther(function, args) => {
             Expr::CallOther(copy_boxed(alloc, function)?, copy_exprs(alloc, args)?)
         }
         Expr::Index(a, b) => Expr::Index(copy_boxed(alloc, a)?, copy_boxed(alloc, b)?),
-        Expr::Member(a, name) => Expr::Member(copy_boxed(alloc, a)?, copy_bytes(alloc, name)?),
-        Expr::Arrow(a, name) => Expr::Arrow(copy_boxed(alloc, a)?, copy_bytes(alloc, name)?),
+        Expr::Member(a, name) => Expr::Member(copy_boxed(alloc, a)?, copy_name(name)?),
+        Expr::Arrow(a, name) => Expr::Arrow(copy_boxed(alloc, a)?, copy_name(name)?),
         Expr::Cast(base, stars, a) => {
             Expr::Cast(boxed_base(alloc, base)?, *stars, copy_boxed(alloc, a)?)
         }
@@ -76,7 +76,7 @@ pub fn copy_base(alloc: Global, base: &Base) -> Result<Base, OutOfMemory>
     Ok(match base {
         Base::Words(words) => Base::Words(copy_words(alloc, words)?),
         Base::Varchar => Base::Varchar,
-        Base::Tag(tag) => Base::Tag(copy_bytes(alloc, tag)?),
+        Base::Tag(tag) => Base::Tag(copy_name(tag)?),
         Base::Struct(tag, members) => {
             Base::Struct(
                 boxed_tag(alloc, tag)?,
@@ -102,9 +102,10 @@ fn copy_decls(alloc: Global, decls: &List<Decl>) -> Result<List<Decl>, OutOfMemo
 pub fn copy_decl(alloc: Global, decl: &Decl) -> Result<Decl, OutOfMemory>
     ensures { IfOk result (λ copy. copy ≡ decl.now) }
 {
+    let items = copy_declarators(alloc, &decl.items)?;
     Ok(Decl {
         base: copy_base(alloc, &decl.base)?,
-        items: copy_declarators(alloc, &decl.items)?,
+        items,
         section: decl.section,
         line: decl.line,
     })
@@ -130,7 +131,7 @@ fn copy_declarator(alloc: Global, declarator: &Declarator) -> Result<Declarator,
 {
     Ok(Declarator {
         stars: declarator.stars,
-        name: copy_bytes(alloc, &declarator.name)?,
+        name: copy_name(&declarator.name)?,
         dims: copy_dims(alloc, &declarator.dims)?,
         init: match &declarator.init {
             Some(init) => Some(copy_init(alloc, init)?),

@@ -10,12 +10,19 @@ pub(crate) fn copy_bytes(alloc: Global, bytes: &Bytes) -> Result<Bytes, OutOfMem
     List::from_slice(alloc, bytes.as_slice())
 }
 
+// A copy of a name.
+pub(crate) fn copy_name(name: &Name) -> Result<Name, OutOfMemory>
+    ensures { IfOk result (λ copy. copy ≡ name.now) }
+{
+    Ok(name.clone()?)
+}
+
 // A copy of a name that may be left out.
-pub(crate) fn copy_tag(alloc: Global, tag: &Option<Name>) -> Result<Option<Name>, OutOfMemory>
+pub(crate) fn copy_tag(tag: &Option<Name>) -> Result<Option<Name>, OutOfMemory>
     ensures { IfOk result (λ copy. copy ≡ tag.now) }
 {
     match tag {
-        Some(name) => Ok(Some(copy_bytes(alloc, name)?)),
+        Some(name) => Ok(Some(copy_name(name)?)),
         None => Ok(None),
     }
 }
@@ -28,7 +35,7 @@ pub(crate) fn boxed_tag(
     ensures { IfOk result (λ copy. copy ≡ tag.now) }
 {
     match tag {
-        Some(name) => Ok(Some(Boxed::new(alloc, copy_bytes(alloc, name.get())?)?)),
+        Some(name) => Ok(Some(Boxed::new(alloc, copy_name(name.get())?)?)),
         None => Ok(None),
     }
 }
@@ -39,7 +46,7 @@ pub(crate) fn copy_words(alloc: Global, words: &List<Name>) -> Result<List<Name>
 {
     let mut copy = List::new(alloc);
     for word in words.as_slice() {
-        copy.push(copy_bytes(alloc, word)?)?;
+        copy.push(copy_name(word)?)?;
     }
     Ok(copy)
 }

@@ -7,7 +7,7 @@ use std::alloc::Global;
 use std::test::Fail;
 
 fn text(alloc: Global, text: &str) -> Result<Name, Fail> {
-    Ok(List::from_slice(alloc, text.as_bytes())?)
+    Ok(Name::from_slice(alloc, text.as_bytes())?)
 }
 
 fn variable(alloc: Global, name: &str) -> Result<Boxed<Expr>, Fail> {
@@ -23,7 +23,7 @@ fn declaration(alloc: Global) -> Result<Decl, Fail> {
     dims.push(None)?;
     let mut inits = List::new(alloc);
     inits.push(Init::One(Expr::Char(97)))?;
-    inits.push(Init::One(Expr::Str(text(alloc, "b")?)))?;
+    inits.push(Init::One(Expr::Str(List::from_slice(alloc, b"b")?)))?;
     let mut items = List::new(alloc);
     items.push(Declarator {
         stars: 1,

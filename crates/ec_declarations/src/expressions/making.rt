@@ -11,7 +11,7 @@ ghost use Rattle.ec_declarations.specs.Primaries.{primary_view};
 
 use crate::expressions::primary::Primary;
 use crate::texts::copy_text;
-use ec_base::{Boxed, List, Name, OutOfMemory};
+use ec_base::{Boxed, List, Name, OutOfMemory, beside};
 use ec_ctypes::{Base, BinOp, Expr, Tok, Ty, UnOp, copy_ty};
 use std::alloc::Global;
 
@@ -114,11 +114,12 @@ pub fn call(alloc: Global, called: Primary, arguments: List<Expr>) -> Result<Exp
 pub fn cast(alloc: Global, base: Base, stars: u32, a: Expr) -> Result<Expr, OutOfMemory>
     ensures { IfOk result (λ e. expr_view e ≡ tree.cast (base_view base) stars (expr_view a)) }
 {
-    Ok(Expr::Cast(Boxed::new(alloc, base)?, stars, Boxed::new(alloc, a)?))
+    let (a, base) = beside(a, Boxed::new(alloc, base))?;
+    Ok(Expr::Cast(base, stars, Boxed::new(alloc, a)?))
 }
 
 #[tactic(auto, using(ec_ctypes::specs::declared::tree::expr::Expr::the_lemmas))]
-pub fn size_type(alloc: Global, base: Base, stars: u32) -> Result<Expr, AllocError>
+pub fn size_type(alloc: Global, base: Base, stars: u32) -> Result<Expr, OutOfMemory>
     ensures { IfOk result (λ e. expr_view e ≡ tree.size_type (base_view base) stars) }
 {
     Ok(Expr::SizeType(Boxed::new(alloc, base)?, stars))
