@@ -2,6 +2,7 @@ pub mod Causes
 pub mod Lending
 pub mod MemSink
 pub mod MemSource
+pub mod Names
 pub mod Putting
 pub mod Reading
 pub mod Texts

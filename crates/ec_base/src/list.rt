@@ -19,9 +19,6 @@ pub struct List<T> {
 /// A text: a list of bytes, in no particular encoding.
 pub type Bytes = List<u8>;
 
-/// A name, compared byte for byte.
-pub type Name = Bytes;
-
 impl<T> Model for List<T> {
     ghost use Rattle.std.specs.Prelude.{List as Sequence};
     ghost use Rattle.std.specs.Coded.{coded_list};

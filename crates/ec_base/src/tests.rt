@@ -86,6 +86,22 @@ fn boxes(rt: HostRuntime) -> Result<(), Fail> {
     Ok(())
 }
 
+// A name keeps its bytes, where they take no block and where they do.
+#[test]
+fn names(rt: HostRuntime) -> Result<(), Fail> {
+    let alloc = rt.alloc();
+    let longest = b"a_name_of_22_bytes_all";
+    let longer = b"a_name_of_23_bytes_all_";
+    for text in [b"".as_slice(), b"ada", longest, longer] {
+        let name = Name::from_slice(alloc, text)?;
+        assert_eq!(rt; name.as_slice(), text);
+        assert_eq!(rt; name.len(), text.len());
+        assert!(rt; name == name.clone()? && name.is_empty() == (name == Name::new()));
+        assert_ne!(rt; name, Name::from_slice(alloc, b"Ada")?);
+    }
+    Ok(())
+}
+
 #[test]
 fn copies_are_equal(rt: HostRuntime) -> Result<(), Fail> {
     let alloc = rt.alloc();

@@ -15,7 +15,7 @@ use crate::lines::{directive_at, include_line_end, stands_at};
 use crate::marks::mark_at;
 use crate::numbers::integer_constant;
 use crate::words::is_left_out_word;
-use ec_base::{FaultKind, Line, List, Stop};
+use ec_base::{FaultKind, Line, List, Name, Stop};
 use ec_ctypes::{Tok, Ty};
 use ec_split::bytes::{Class, begins_two, behind_all, is_blank, is_digit, is_quote, is_word_start};
 use ec_split::ends::{End, comment_end, quote_end};
@@ -81,7 +81,7 @@ fn word(alloc: Global, here: Here, text: &[u8]) -> Result<Tok, Stop>
     if is_left_out_word(text) {
         return Err(refused(here, FaultKind::F9));
     }
-    Ok(Tok::Word(List::from_slice(alloc, text)?))
+    Ok(Tok::Word(Name::from_slice(alloc, text)?))
 }
 
 /// The token of a number.

@@ -16,7 +16,7 @@ ghost use Rattle.ec_csyntax.specs.Views.{each_stmt};
 use crate::forms::{ItemForm, item_form};
 use crate::makers::at;
 use crate::statements::Statements;
-use ec_base::List;
+use ec_base::{Boxed, List};
 use ec_ctypes::{Punct, Stmt, StmtKind};
 use ec_declarations::{Cursor, Start, begins_block_item, declaration};
 use ec_grammar::{Failure, Kind};
@@ -50,6 +50,7 @@ impl<
         ensures { Reads stmt_view (block_item_of self.now.levels (start_view start) forms.Declaration (seen cursor.old)) result (seen cursor.new) }
     {
         let declaration = declaration(self.alloc, cursor, self.levels)?;
+        let declaration = Boxed::new(self.alloc, declaration)?;
         Ok(at(start, StmtKind::Decl(declaration)))
     }
 

@@ -10,7 +10,7 @@ ghost use Rattle.ec_language.specs.Productions as places;
 ghost use Rattle.ec_csyntax.specs.Views.{each_stmt, stmt_option};
 
 use ec_base::{Boxed, Line, List, OutOfMemory};
-use ec_ctypes::{Decl, Expr, Stmt, StmtKind};
+use ec_ctypes::{Decl, Expr, ForParts, Stmt, StmtKind};
 use ec_declarations::{ForHead, ForStart, Start};
 use std::alloc::Global;
 
@@ -27,7 +27,12 @@ pub fn at(start: Start, kind: StmtKind) -> Stmt
 
 /// `if`, with the statement behind `else` (ISO/IEC 9899:1999, 6.8.4.1).
 #[tactic(auto, using(crate::proofs::Trees::statements))]
-pub fn branch(start: Start, test: Expr, then: Boxed<Stmt>, other: Option<Boxed<Stmt>>) -> Stmt
+pub fn branch(
+    start: Start,
+    test: Boxed<Expr>,
+    then: Boxed<Stmt>,
+    other: Option<Boxed<Stmt>>,
+) -> Stmt
     ensures { stmt_view result ≡ places.at (start_view start) (trees.if_stmt (expr_view test) (stmt_view then) (stmt_of (stmt_option other))) }
 {
     at(start, StmtKind::If(test, then, other))
@@ -36,15 +41,21 @@ pub fn branch(start: Start, test: Expr, then: Boxed<Stmt>, other: Option<Boxed<S
 /// A loop with these parts in its parentheses (ISO/IEC 9899:1999, 6.8.5.3).
 #[tactic(auto, using(crate::proofs::Trees::statements))]
 fn loop_of(
+    alloc: Global,
     start: Start,
     first: Option<Expr>,
     condition: Option<Expr>,
     step: Option<Expr>,
     inner: Boxed<Stmt>,
-) -> Stmt
-    ensures { stmt_view result ≡ places.at (start_view start) (trees.for_stmt (expr_option_view first) (expr_option_view condition) (expr_option_view step) (stmt_view inner)) }
+) -> Result<Stmt, OutOfMemory>
+    ensures { IfOk result (λ s. stmt_view s ≡ places.at (start_view start) (trees.for_stmt (expr_option_view first) (expr_option_view condition) (expr_option_view step) (stmt_view inner))) }
 {
-    at(start, StmtKind::For(first, condition, step, inner))
+    let parts = ForParts {
+        first,
+        condition,
+        step,
+    };
+    Ok(at(start, StmtKind::For(Boxed::new(alloc, parts)?, inner)))
 }
 
 /// A block of these statements.
@@ -65,13 +76,14 @@ fn line_of(declaration: &Decl) -> Line
 
 /// A declaration, as it stands in a block.
 #[tactic(auto, using(crate::proofs::Trees::statements))]
-fn declaration_statement(declaration: Decl) -> Stmt
-    ensures { stmt_view result ≡ trees.stmt (places.line_of (decl_view declaration)) (trees.decl_stmt (decl_view declaration)) }
+fn declaration_statement(alloc: Global, declaration: Decl) -> Result<Stmt, OutOfMemory>
+    ensures { IfOk result (λ s. stmt_view s ≡ trees.stmt (places.line_of (decl_view declaration)) (trees.decl_stmt (decl_view declaration))) }
 {
-    Stmt {
-        line: line_of(&declaration),
-        kind: StmtKind::Decl(declaration),
-    }
+    let line = line_of(&declaration);
+    Ok(Stmt {
+        line,
+        kind: StmtKind::Decl(Boxed::new(alloc, declaration)?),
+    })
 }
 
 /// A list of one statement.
@@ -81,6 +93,13 @@ fn single(alloc: Global, first: Stmt) -> Result<List<Stmt>, OutOfMemory>
     let mut items = List::new(alloc);
     items.push(first)?;
     Ok(items)
+}
+
+/// A list of a declaration.
+fn declared(alloc: Global, declaration: Decl) -> Result<List<Stmt>, OutOfMemory>
+    ensures { IfOk result (λ items. each_stmt items ≡ trees.stmt (places.line_of (decl_view declaration)) (trees.decl_stmt (decl_view declaration)) ∷ []) }
+{
+    single(alloc, declaration_statement(alloc, declaration)?)
 }
 
 /// A block of these statements and a last one.
@@ -106,10 +125,11 @@ pub fn for_loop(
         step,
     } = head;
     match first {
-        ForStart::Expression(first) => Ok(loop_of(start, first, condition, step, inner)),
+        ForStart::Expression(first) => loop_of(alloc, start, first, condition, step, inner),
         ForStart::Declaration(declaration) => {
-            let items = single(alloc, declaration_statement(declaration))?;
-            block_with(start, items, loop_of(start, None, condition, step, inner))
+            let items = declared(alloc, declaration)?;
+            let repeated = loop_of(alloc, start, None, condition, step, inner)?;
+            block_with(start, items, repeated)
         }
     }
 }

@@ -22,7 +22,7 @@ use crate::texts::embedded_number;
 use ec_base::{Boxed, List};
 use ec_ctypes::{Expr, Punct, Stmt, StmtKind};
 use ec_declarations::{
-    Cursor, Start, copy_text, expression, expression_option, for_head, is_else, parenthesized,
+    Cursor, Start, copy_name, expression, expression_option, for_head, is_else, parenthesized,
 };
 use ec_grammar::{Failure, Kind};
 use std::alloc::Global;
@@ -123,13 +123,18 @@ impl<
         ensures { Reads stmt_view (statement_of self.now.levels (start_view start) forms.If (seen cursor.old)) result (seen cursor.new) }
     {
         cursor.expect(Kind::If)?;
-        let test = parenthesized(self.alloc, cursor, self.levels)?;
+        let test = Boxed::new(self.alloc, parenthesized(self.alloc, cursor, self.levels)?)?;
         self.branches(cursor, start, test)
     }
 
     /// What stands behind the test of an `if`.
     #[tactic(auto, unfolding(crate::specs::Arms::branches))]
-    fn branches(&self, cursor: &mut Cursor<'_>, start: Start, test: Expr) -> Result<Stmt, Failure>
+    fn branches(
+        &self,
+        cursor: &mut Cursor<'_>,
+        start: Start,
+        test: Boxed<Expr>,
+    ) -> Result<Stmt, Failure>
         requires { NestsStatements self.now.levels (S.pre self.now.statement) (S.post self.now.statement) }
         ensures { Reads stmt_view (branches self.now.levels (start_view start) (expr_view test) (seen cursor.old)) result (seen cursor.new) }
     {
@@ -215,7 +220,7 @@ impl<
     {
         cursor.expect(Kind::Goto)?;
         let token = cursor.expect(Kind::Name)?;
-        let name = copy_text(self.alloc, &token.tok)?;
+        let name = copy_name(self.alloc, &token.tok)?;
         cursor.expect(Kind::Mark(Punct::Semicolon))?;
         Ok(at(start, StmtKind::Goto(name)))
     }
@@ -227,7 +232,7 @@ impl<
         ensures { Reads stmt_view (statement_of self.now.levels (start_view start) forms.Label (seen cursor.old)) result (seen cursor.new) }
     {
         let token = cursor.expect(Kind::Name)?;
-        let name = copy_text(self.alloc, &token.tok)?;
+        let name = copy_name(self.alloc, &token.tok)?;
         cursor.expect(Kind::Mark(Punct::Colon))?;
         let inner = self.boxed_statement(cursor)?;
         Ok(at(start, StmtKind::Label(name, inner)))

@@ -19,10 +19,10 @@ ghost use Rattle.ec_csyntax.specs.Views.{block_option, each_top};
 use crate::forms::{TopForm, top_form};
 use crate::nested::nested_block;
 use crate::texts::embedded_number;
-use ec_base::{List, Name};
+use ec_base::{Boxed, List, Name};
 use ec_ctypes::{Base, Decl, Declarator, Expr, Func, Init, Punct, Stmt, Top, Unit};
 use ec_declarations::{
-    Cursor, Start, begins_item, copy_text, initializer_option, is_left_parenthesis, lengths,
+    Cursor, Start, begins_item, copy_name, copy_text, initializer_option, is_left_parenthesis, lengths,
     more_declarators, parameter_part, specifiers, stars,
 };
 use ec_grammar::{Failure, Kind};
@@ -89,7 +89,7 @@ fn function(
 {
     let params = parameter_part(alloc, cursor, MAX_NESTING)?;
     let body = body(alloc, cursor)?;
-    Ok(Top::Func(Func {
+    let function = Func {
         base,
         stars,
         name,
@@ -97,7 +97,8 @@ fn function(
         body,
         section: start.section,
         line: start.line,
-    }))
+    };
+    Ok(Top::Func(Boxed::new(alloc, function)?))
 }
 
 /// The declarator of an object, and further ones (ISO/IEC 9899:1999, 6.9.2).
@@ -179,7 +180,7 @@ fn with_name(
 {
     let stars = stars(cursor)?;
     let token = cursor.expect(Kind::Name)?;
-    let name = copy_text(alloc, &token.tok)?;
+    let name = copy_name(alloc, &token.tok)?;
     behind_name(alloc, cursor, start, base, stars, name)
 }
 

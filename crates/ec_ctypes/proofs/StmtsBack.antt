@@ -22,7 +22,7 @@ abbrev mutual
   kind_back (if_stmt e s other) = roll-StmtKind (StmtKind-F.If (expr_back e) (stmt_back s) (stmt_option_back other))
   kind_back (while_stmt e s) = roll-StmtKind (StmtKind-F.While (expr_back e) (stmt_back s))
   kind_back (do_stmt s e) = roll-StmtKind (StmtKind-F.Do (stmt_back s) (expr_back e))
-  kind_back (for_stmt a b c s) = roll-StmtKind (StmtKind-F.For (expr_option_back a) (expr_option_back b) (expr_option_back c) (stmt_back s))
+  kind_back (for_stmt a b c s) = roll-StmtKind (StmtKind-F.For (record { first = expr_option_back a; condition = expr_option_back b; step = expr_option_back c }) (stmt_back s))
   kind_back break_stmt = roll-StmtKind StmtKind-F.Break
   kind_back continue_stmt = roll-StmtKind StmtKind-F.Continue
   kind_back (return_stmt e) = roll-StmtKind (StmtKind-F.Return (expr_option_back e))
@@ -89,7 +89,7 @@ kind_layer (StmtKind-F.Block ss) = λ i. roll-StmtKind (StmtKind-F.Block (stmts_
 kind_layer (StmtKind-F.If e s other) = λ i. roll-StmtKind (StmtKind-F.If (expr_undone e i) (s.1 i) (else_such other i))
 kind_layer (StmtKind-F.While e s) = λ i. roll-StmtKind (StmtKind-F.While (expr_undone e i) (s.1 i))
 kind_layer (StmtKind-F.Do s e) = λ i. roll-StmtKind (StmtKind-F.Do (s.1 i) (expr_undone e i))
-kind_layer (StmtKind-F.For a b c s) = λ i. roll-StmtKind (StmtKind-F.For (expr_option_undone a i) (expr_option_undone b i) (expr_option_undone c i) (s.1 i))
+kind_layer (StmtKind-F.For p s) = λ i. roll-StmtKind (StmtKind-F.For (record { first = expr_option_undone p.first i; condition = expr_option_undone p.condition i; step = expr_option_undone p.step i }) (s.1 i))
 kind_layer StmtKind-F.Break = refl
 kind_layer StmtKind-F.Continue = refl
 kind_layer (StmtKind-F.Return e) = λ i. roll-StmtKind (StmtKind-F.Return (expr_option_undone e i))

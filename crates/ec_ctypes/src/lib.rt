@@ -19,7 +19,8 @@ pub use copies::{
 pub use embedded::{Action, Cond, Emb, EmbKind, Host, Input, Ins, Item, Outs, Part, TextArg};
 pub use text::{Piece, PieceKind, Punct, Tok, Token};
 pub use tree::{
-    Base, BinOp, Decl, Declarator, Expr, Func, Init, Param, Stmt, StmtKind, Top, UnOp, Unit,
+    Base, BinOp, Decl, Declarator, Expr, ForParts, Func, Init, Param, Stmt, StmtKind, Top, UnOp,
+    Unit,
 };
 pub use types::{
     Arith, Shape, StructDef, Ty, conversion_examples, convert, layout, layout_examples, member,

@@ -7,5 +7,5 @@ mod unit;
 
 pub use decl::{Base, Decl, Declarator, Init};
 pub use expr::{BinOp, Expr, UnOp};
-pub use stmt::{Stmt, StmtKind};
+pub use stmt::{ForParts, Stmt, StmtKind};
 pub use unit::{Func, Param, Top, Unit};

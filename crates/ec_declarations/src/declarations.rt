@@ -18,7 +18,7 @@ use crate::cursor::{Cursor, Start};
 use crate::declarators::Declarators;
 use crate::parts::{ForHead, ForStart, Part};
 use crate::starts::{begins_type, is_comma, is_name};
-use crate::texts::copy_text;
+use crate::texts::copy_name;
 use crate::types::{Types, stars};
 use ec_base::{List, Name};
 use ec_ctypes::{Base, Decl, Declarator, Expr, Init, Param, Punct};
@@ -107,7 +107,7 @@ impl<
             return Ok(None);
         }
         let token = cursor.expect(Kind::Name)?;
-        Ok(Some(copy_text(self.declarators.expressions.alloc, &token.tok)?))
+        Ok(Some(copy_name(self.declarators.expressions.alloc, &token.tok)?))
     }
 
     #[tactic(auto, unfolding(ec_grammar::specs::ReadDeclarations::parameter))]

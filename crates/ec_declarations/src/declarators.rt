@@ -21,7 +21,7 @@ use crate::parts::Part;
 use crate::starts::{
     begins_declarator, begins_expression, begins_initializer, is_assign, is_comma, is_left_bracket,
 };
-use crate::texts::copy_text;
+use crate::texts::copy_name;
 use crate::types::stars;
 use ec_base::{List, Name};
 use ec_ctypes::{Base, Declarator, Expr, Init, Punct};
@@ -225,7 +225,7 @@ impl<
     {
         let stars = stars(cursor)?;
         let token = cursor.expect(Kind::Name)?;
-        let name = copy_text(self.expressions.alloc, &token.tok)?;
+        let name = copy_name(self.expressions.alloc, &token.tok)?;
         let dims = self.lengths(cursor)?;
         let init = self.initializer_option(cursor)?;
         Ok(declarator(stars, name, dims, init))

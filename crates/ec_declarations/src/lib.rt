@@ -26,4 +26,4 @@ pub use starts::{
     begins_postfix_part, begins_statement, begins_type, is_assign, is_comma, is_const, is_else,
     is_left_brace, is_left_bracket, is_left_parenthesis, is_name, is_star,
 };
-pub use texts::copy_text;
+pub use texts::{copy_name, copy_text};

@@ -16,8 +16,8 @@ ghost use Rattle.ec_declarations.specs.States.{seen};
 use crate::counts::Counted;
 use crate::cursor::Cursor;
 use crate::starts::{is_const, is_left_brace, is_star};
-use crate::texts::copy_text;
-use ec_base::{List, Name};
+use crate::texts::copy_name;
+use ec_base::{Boxed, List, Name, OutOfMemory};
 use ec_ctypes::{Base, Decl, Punct};
 use ec_grammar::{Failure, Kind};
 use std::alloc::Global;
@@ -58,7 +58,7 @@ fn more_words(
             }
             Kind::TypeWord => {
                 let word = cursor.expect(Kind::TypeWord)?;
-                found.push(copy_text(alloc, &word.tok)?)?;
+                found.push(copy_name(alloc, &word.tok)?)?;
             }
             _ => return Ok(found),
         }
@@ -94,19 +94,22 @@ fn varchar() -> Base
     Base::Varchar
 }
 
-fn tag_base(tag: Name, members: Option<List<Decl>>) -> Base
-    ensures { base_view result ≡ spec.tag_base tag (decls_option members) }
+fn tag_base(alloc: Global, tag: Name, members: Option<List<Decl>>) -> Result<Base, OutOfMemory>
+    ensures { IfOk result (λ b. base_view b ≡ spec.tag_base tag (decls_option members)) }
 {
     match members {
-        Some(members) => Base::Struct(Some(tag), members),
-        None => Base::Tag(tag),
+        Some(members) => {
+            let members = Boxed::new(alloc, members)?;
+            Ok(Base::Struct(Some(Boxed::new(alloc, tag)?), members))
+        }
+        None => Ok(Base::Tag(tag)),
     }
 }
 
-fn nameless(members: List<Decl>) -> Base
-    ensures { base_view result ≡ tree.struct_base None (decls_view members) }
+fn nameless(alloc: Global, members: List<Decl>) -> Result<Base, OutOfMemory>
+    ensures { IfOk result (λ b. base_view b ≡ tree.struct_base None (decls_view members)) }
 {
-    Base::Struct(None, members)
+    Ok(Base::Struct(None, Boxed::new(alloc, members)?))
 }
 
 impl<M: Fn(Global, &mut Cursor<'_>, u32) -> Result<List<Decl>, Failure>> Types<M> {
@@ -135,9 +138,9 @@ impl<M: Fn(Global, &mut Cursor<'_>, u32) -> Result<List<Decl>, Failure>> Types<M
         ensures { Reads base_view (spec.tag_or_members_by limits (nested limits self.now.levels) kind.Name (seen cursor.old)) result (seen cursor.new) }
     {
         let token = cursor.expect(Kind::Name)?;
-        let tag = copy_text(self.alloc, &token.tok)?;
+        let tag = copy_name(self.alloc, &token.tok)?;
         let members = self.members_option(cursor)?;
-        Ok(tag_base(tag, members))
+        Ok(tag_base(self.alloc, tag, members)?)
     }
 
     #[tactic(auto, unfolding(ec_grammar::specs::ReadDeclarations::tag_or_members))]
@@ -149,7 +152,7 @@ impl<M: Fn(Global, &mut Cursor<'_>, u32) -> Result<List<Decl>, Failure>> Types<M
             Kind::Name => self.tagged(cursor),
             Kind::Mark(Punct::LeftBrace) => {
                 let members = self.nested_members(cursor)?;
-                Ok(nameless(members))
+                Ok(nameless(self.alloc, members)?)
             }
             _ => Err(cursor.refuse()),
         }
@@ -161,7 +164,7 @@ impl<M: Fn(Global, &mut Cursor<'_>, u32) -> Result<List<Decl>, Failure>> Types<M
     {
         let first = cursor.expect(Kind::TypeWord)?;
         let mut found = List::new(self.alloc);
-        found.push(copy_text(self.alloc, &first.tok)?)?;
+        found.push(copy_name(self.alloc, &first.tok)?)?;
         let found = more_words(self.alloc, cursor, found)?;
         Ok(words(found))
     }

@@ -55,15 +55,15 @@ impl Clone for Request {
                 params: fields_copy(params)?,
             }),
             Request::Prepare { name, text } => Ok(Request::Prepare {
-                name: list_copy(name)?,
+                name: name.clone()?,
                 text: list_copy(text)?,
             }),
             Request::Exec { name, params } => Ok(Request::Exec {
-                name: list_copy(name)?,
+                name: name.clone()?,
                 params: fields_copy(params)?,
             }),
             Request::Deallocate { name } => Ok(Request::Deallocate {
-                name: list_copy(name)?,
+                name: name.clone()?,
             }),
             Request::Close => Ok(Request::Close),
         }

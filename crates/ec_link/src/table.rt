@@ -18,7 +18,7 @@ impl Clone for Col {
 
     fn clone(&self) -> Result<Col, AllocError> {
         Ok(Col {
-            name: list_copy(&self.name)?,
+            name: self.name.clone()?,
             code: self.code,
         })
     }

@@ -22,7 +22,7 @@ pub fn is_mentioned(name: &[u8], expr: &Expr) -> bool
         Expr::Assign(_, a, b) => is_mentioned(name, a.get()) || is_mentioned(name, b.get()),
         Expr::Bump { of, .. } => is_mentioned(name, of.get()),
         Expr::Call(function, args) => {
-            function.as_slice() == name || is_mentioned_in(name, args.as_slice())
+            function.as_slice() == name || is_mentioned_in(name, args.get().as_slice())
         }
         Expr::CallOther(function, args) => {
             is_mentioned(name, function.get()) || is_mentioned_in(name, args.as_slice())
@@ -67,7 +67,7 @@ fn kind_has_label(label: &[u8], kind: &StmtKind) -> bool
         }
         StmtKind::While(_, stmt) => has_label(label, stmt.get()),
         StmtKind::Do(stmt, _) => has_label(label, stmt.get()),
-        StmtKind::For(_, _, _, stmt) => has_label(label, stmt.get()),
+        StmtKind::For(_, stmt) => has_label(label, stmt.get()),
         StmtKind::Label(name, stmt) => name.as_slice() == label || has_label(label, stmt.get()),
         _ => false,
     }

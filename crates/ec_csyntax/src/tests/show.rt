@@ -1,8 +1,9 @@
 //! Trees in a written form, for tests: `(Add a (Mul b 2))`.
 
-use ec_base::{Bytes, Line, List, Name};
+use ec_base::{Boxed, Bytes, Line, List, Name};
 use ec_ctypes::{
-    Base, BinOp, Decl, Declarator, Expr, Func, Init, Param, Stmt, StmtKind, Top, Ty, UnOp, Unit,
+    Base, BinOp, Decl, Declarator, Expr, ForParts, Func, Init, Param, Stmt, StmtKind, Top, Ty,
+    UnOp, Unit,
 };
 use std::alloc::AllocError;
 
@@ -13,6 +14,11 @@ fn text(out: &mut Vec<u8>, text: &[u8]) -> Result<(), AllocError> {
 
 fn bytes(out: &mut Vec<u8>, bytes: &Bytes) -> Result<(), AllocError> {
     out.extend_from_slice(bytes.as_slice())?;
+    Ok(())
+}
+
+fn named(out: &mut Vec<u8>, name: &Name) -> Result<(), AllocError> {
+    out.extend_from_slice(name.as_slice())?;
     Ok(())
 }
 
@@ -89,7 +95,7 @@ fn words(out: &mut Vec<u8>, all: &List<Name>) -> Result<(), AllocError> {
         if !is_first {
             text(out, b" ")?;
         }
-        bytes(out, one)?;
+        named(out, one)?;
         is_first = false;
     }
     Ok(())
@@ -97,7 +103,14 @@ fn words(out: &mut Vec<u8>, all: &List<Name>) -> Result<(), AllocError> {
 
 fn name_option(out: &mut Vec<u8>, name: &Option<Name>) -> Result<(), AllocError> {
     match name {
-        Some(name) => bytes(out, name),
+        Some(name) => named(out, name),
+        None => Ok(()),
+    }
+}
+
+fn boxed_name(out: &mut Vec<u8>, name: &Option<Boxed<Name>>) -> Result<(), AllocError> {
+    match name {
+        Some(name) => named(out, name.get()),
         None => Ok(()),
     }
 }
@@ -125,7 +138,7 @@ fn spaced(out: &mut Vec<u8>, a: &Expr) -> Result<(), AllocError> {
 fn member(out: &mut Vec<u8>, a: &Expr, name: &Name) -> Result<(), AllocError> {
     expr(out, a)?;
     text(out, b" ")?;
-    bytes(out, name)?;
+    named(out, name)?;
     text(out, b")")
 }
 
@@ -150,7 +163,7 @@ fn expr(out: &mut Vec<u8>, e: &Expr) -> Result<(), AllocError> {
         Expr::Int(value, ty) => constant(out, *value, ty),
         Expr::Char(value) => character(out, *value),
         Expr::Str(contents) => quoted(out, contents),
-        Expr::Name(name) => bytes(out, name),
+        Expr::Name(name) => named(out, name),
         Expr::Unary(op, a) => {
             unary(out, *op)?;
             closed(out, a.get())
@@ -178,8 +191,8 @@ fn postfix(out: &mut Vec<u8>, e: &Expr) -> Result<(), AllocError> {
     match e {
         Expr::Call(name, args) => {
             text(out, b"(call ")?;
-            bytes(out, name)?;
-            exprs(out, args)
+            named(out, name)?;
+            exprs(out, args.get())
         }
         Expr::CallOther(function, args) => {
             text(out, b"(call-other ")?;
@@ -208,14 +221,14 @@ fn typed(out: &mut Vec<u8>, e: &Expr) -> Result<(), AllocError> {
     match e {
         Expr::Cast(kind, count, a) => {
             text(out, b"(cast ")?;
-            base(out, kind)?;
+            base(out, kind.get())?;
             stars(out, *count)?;
             text(out, b" ")?;
             closed(out, a.get())
         }
         Expr::SizeType(kind, count) => {
             text(out, b"(sizeof-type ")?;
-            base(out, kind)?;
+            base(out, kind.get())?;
             stars(out, *count)?;
             text(out, b")")
         }
@@ -234,13 +247,13 @@ fn base(out: &mut Vec<u8>, kind: &Base) -> Result<(), AllocError> {
         Base::Varchar => text(out, b"VARCHAR"),
         Base::Tag(tag) => {
             text(out, b"struct ")?;
-            bytes(out, tag)
+            named(out, tag)
         }
         Base::Struct(tag, members) => {
             text(out, b"struct ")?;
-            name_option(out, tag)?;
+            boxed_name(out, tag)?;
             text(out, b"{")?;
-            decls(out, members)?;
+            decls(out, members.get())?;
             text(out, b"}")
         }
     }
@@ -268,7 +281,7 @@ fn decl(out: &mut Vec<u8>, d: &Decl) -> Result<(), AllocError> {
 #[cycle(show)]
 fn declarator(out: &mut Vec<u8>, d: &Declarator) -> Result<(), AllocError> {
     stars(out, d.stars)?;
-    bytes(out, &d.name)?;
+    named(out, &d.name)?;
     lengths(out, &d.dims)?;
     match &d.init {
         Some(value) => {
@@ -333,10 +346,10 @@ fn stmt(out: &mut Vec<u8>, s: &Stmt) -> Result<(), AllocError> {
         }
         StmtKind::Goto(label) => {
             text(out, b"(goto ")?;
-            bytes(out, label)?;
+            named(out, label)?;
             text(out, b")")
         }
-        StmtKind::Decl(d) => decl(out, d),
+        StmtKind::Decl(d) => decl(out, d.get()),
         StmtKind::Emb(n) => {
             text(out, b"emb")?;
             number(out, u64::from(*n))
@@ -352,12 +365,12 @@ fn holding(out: &mut Vec<u8>, kind: &StmtKind) -> Result<(), AllocError> {
     match kind {
         StmtKind::If(test, then, None) => {
             text(out, b"(if ")?;
-            expr(out, test)?;
+            expr(out, test.get())?;
             last(out, then.get())
         }
         StmtKind::If(test, then, Some(other)) => {
             text(out, b"(if ")?;
-            expr(out, test)?;
+            expr(out, test.get())?;
             text(out, b" ")?;
             stmt(out, then.get())?;
             text(out, b" else")?;
@@ -374,31 +387,26 @@ fn holding(out: &mut Vec<u8>, kind: &StmtKind) -> Result<(), AllocError> {
             text(out, b" ")?;
             closed(out, test)
         }
-        StmtKind::For(first, test, step, body) => {
-            heads(out, first, test, step)?;
+        StmtKind::For(parts, body) => {
+            heads(out, parts.get())?;
             last(out, body.get())
         }
         StmtKind::Label(name, body) => {
             text(out, b"(label ")?;
-            bytes(out, name)?;
+            named(out, name)?;
             last(out, body.get())
         }
         _ => Ok(()),
     }
 }
 
-fn heads(
-    out: &mut Vec<u8>,
-    first: &Option<Expr>,
-    test: &Option<Expr>,
-    step: &Option<Expr>,
-) -> Result<(), AllocError> {
+fn heads(out: &mut Vec<u8>, parts: &ForParts) -> Result<(), AllocError> {
     text(out, b"(for ")?;
-    expr_option(out, first)?;
+    expr_option(out, &parts.first)?;
     text(out, b" ")?;
-    expr_option(out, test)?;
+    expr_option(out, &parts.condition)?;
     text(out, b" ")?;
-    expr_option(out, step)
+    expr_option(out, &parts.step)
 }
 
 #[cycle(statements)]
@@ -434,7 +442,7 @@ fn func(out: &mut Vec<u8>, f: &Func) -> Result<(), AllocError> {
     base(out, &f.base)?;
     text(out, b" ")?;
     stars(out, f.stars)?;
-    bytes(out, &f.name)?;
+    named(out, &f.name)?;
     text(out, b"(")?;
     for one in f.params.as_slice() {
         param(out, one)?;
@@ -455,7 +463,7 @@ fn top(out: &mut Vec<u8>, t: &Top) -> Result<(), AllocError> {
             number(out, u64::from(*n))
         }
         Top::Decl(d) => decl(out, d),
-        Top::Func(f) => func(out, f),
+        Top::Func(f) => func(out, f.get()),
         Top::Mark(opens, at) => {
             line(out, *at)?;
             text(out, if *opens { b"[[" } else { b"]]" })

@@ -1,7 +1,7 @@
 ghost use Rattle.std.specs.Prelude.{◌≡◌, IfOk};
 
 use crate::copies::exprs::copy_exprs;
-use crate::copies::lists::copy_bytes;
+use crate::copies::lists::copy_name;
 use crate::embedded::Action;
 use ec_base::OutOfMemory;
 use std::alloc::Global;
@@ -12,13 +12,13 @@ pub fn copy_action(alloc: Global, action: &Action) -> Result<Action, OutOfMemory
 {
     Ok(match action {
         Action::Continue => Action::Continue,
-        Action::Goto(label) => Action::Goto(copy_bytes(alloc, label)?),
+        Action::Goto(label) => Action::Goto(copy_name(label)?),
         Action::Print => Action::Print,
         Action::Stop => Action::Stop,
         Action::Break => Action::Break,
         Action::Next => Action::Next,
         Action::Call(function, args) => {
-            Action::Call(copy_bytes(alloc, function)?, copy_exprs(alloc, args)?)
+            Action::Call(copy_name(function)?, copy_exprs(alloc, args)?)
         }
     })
 }

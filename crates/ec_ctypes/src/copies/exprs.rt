@@ -1,6 +1,6 @@
 ghost use Rattle.std.specs.Prelude.{◌≡◌, IfOk};
 
-use crate::copies::lists::{copy_bytes, copy_tag, copy_words};
+use crate::copies::lists::{boxed_tag, copy_bytes, copy_name, copy_words};
 use crate::copies::types::copy_ty;
 use crate::tree::{Base, Decl, Declarator, Expr, Init};
 use ec_base::{Boxed, List, OutOfMemory};
@@ -15,7 +15,7 @@ pub fn copy_expr(alloc: Global, expr: &Expr) -> Result<Expr, OutOfMemory>
         Expr::Int(value, ty) => Expr::Int(*value, copy_ty(alloc, ty)?),
         Expr::Char(value) => Expr::Char(*value),
         Expr::Str(bytes) => Expr::Str(copy_bytes(alloc, bytes)?),
-        Expr::Name(name) => Expr::Name(copy_bytes(alloc, name)?),
+        Expr::Name(name) => Expr::Name(copy_name(name)?),
         Expr::Unary(op, a) => Expr::Unary(*op, copy_boxed(alloc, a)?),
         Expr::Binary(op, a, b) => Expr::Binary(*op, copy_boxed(alloc, a)?, copy_boxed(alloc, b)?),
         Expr::Assign(op, a, b) => Expr::Assign(*op, copy_boxed(alloc, a)?, copy_boxed(alloc, b)?),
@@ -24,17 +24,20 @@ pub fn copy_expr(alloc: Global, expr: &Expr) -> Result<Expr, OutOfMemory>
             up: *up,
             of: copy_boxed(alloc, of)?,
         },
-        Expr::Call(name, args) => Expr::Call(copy_bytes(alloc, name)?, copy_exprs(alloc, args)?),
+        Expr::Call(name, args) => Expr::Call(
+            copy_name(name)?,
+            Boxed::new(alloc, copy_exprs(alloc, args.get())?)?,
+        ),
         Expr::CallOther(function, args) => {
             Expr::CallOther(copy_boxed(alloc, function)?, copy_exprs(alloc, args)?)
         }
         Expr::Index(a, b) => Expr::Index(copy_boxed(alloc, a)?, copy_boxed(alloc, b)?),
-        Expr::Member(a, name) => Expr::Member(copy_boxed(alloc, a)?, copy_bytes(alloc, name)?),
-        Expr::Arrow(a, name) => Expr::Arrow(copy_boxed(alloc, a)?, copy_bytes(alloc, name)?),
+        Expr::Member(a, name) => Expr::Member(copy_boxed(alloc, a)?, copy_name(name)?),
+        Expr::Arrow(a, name) => Expr::Arrow(copy_boxed(alloc, a)?, copy_name(name)?),
         Expr::Cast(base, stars, a) => {
-            Expr::Cast(copy_base(alloc, base)?, *stars, copy_boxed(alloc, a)?)
+            Expr::Cast(boxed_base(alloc, base)?, *stars, copy_boxed(alloc, a)?)
         }
-        Expr::SizeType(base, stars) => Expr::SizeType(copy_base(alloc, base)?, *stars),
+        Expr::SizeType(base, stars) => Expr::SizeType(boxed_base(alloc, base)?, *stars),
         Expr::SizeExpr(a) => Expr::SizeExpr(copy_boxed(alloc, a)?),
     })
 }
@@ -44,6 +47,13 @@ fn copy_boxed(alloc: Global, expr: &Boxed<Expr>) -> Result<Boxed<Expr>, OutOfMem
     ensures { IfOk result (λ copy. copy ≡ expr.now) }
 {
     Ok(Boxed::new(alloc, copy_expr(alloc, expr.get())?)?)
+}
+
+#[cycle(copies)]
+fn boxed_base(alloc: Global, base: &Boxed<Base>) -> Result<Boxed<Base>, OutOfMemory>
+    ensures { IfOk result (λ copy. copy ≡ base.now) }
+{
+    Ok(Boxed::new(alloc, copy_base(alloc, base.get())?)?)
 }
 
 /// A copy of a list of expressions.
@@ -66,9 +76,12 @@ pub fn copy_base(alloc: Global, base: &Base) -> Result<Base, OutOfMemory>
     Ok(match base {
         Base::Words(words) => Base::Words(copy_words(alloc, words)?),
         Base::Varchar => Base::Varchar,
-        Base::Tag(tag) => Base::Tag(copy_bytes(alloc, tag)?),
+        Base::Tag(tag) => Base::Tag(copy_name(tag)?),
         Base::Struct(tag, members) => {
-            Base::Struct(copy_tag(alloc, tag)?, copy_decls(alloc, members)?)
+            Base::Struct(
+                boxed_tag(alloc, tag)?,
+                Boxed::new(alloc, copy_decls(alloc, members.get())?)?,
+            )
         }
     })
 }
@@ -89,9 +102,10 @@ fn copy_decls(alloc: Global, decls: &List<Decl>) -> Result<List<Decl>, OutOfMemo
 pub fn copy_decl(alloc: Global, decl: &Decl) -> Result<Decl, OutOfMemory>
     ensures { IfOk result (λ copy. copy ≡ decl.now) }
 {
+    let items = copy_declarators(alloc, &decl.items)?;
     Ok(Decl {
         base: copy_base(alloc, &decl.base)?,
-        items: copy_declarators(alloc, &decl.items)?,
+        items,
         section: decl.section,
         line: decl.line,
     })
@@ -117,7 +131,7 @@ fn copy_declarator(alloc: Global, declarator: &Declarator) -> Result<Declarator,
 {
     Ok(Declarator {
         stars: declarator.stars,
-        name: copy_bytes(alloc, &declarator.name)?,
+        name: copy_name(&declarator.name)?,
         dims: copy_dims(alloc, &declarator.dims)?,
         init: match &declarator.init {
             Some(init) => Some(copy_init(alloc, init)?),

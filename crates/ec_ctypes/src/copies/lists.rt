@@ -1,6 +1,6 @@
 ghost use Rattle.std.specs.Prelude.{◌≡◌, IfOk};
 
-use ec_base::{Bytes, List, Name, OutOfMemory};
+use ec_base::{Boxed, Bytes, List, Name, OutOfMemory};
 use std::alloc::Global;
 
 // A copy of a text.
@@ -10,12 +10,32 @@ pub(crate) fn copy_bytes(alloc: Global, bytes: &Bytes) -> Result<Bytes, OutOfMem
     List::from_slice(alloc, bytes.as_slice())
 }
 
+// A copy of a name.
+pub(crate) fn copy_name(name: &Name) -> Result<Name, OutOfMemory>
+    ensures { IfOk result (λ copy. copy ≡ name.now) }
+{
+    Ok(name.clone()?)
+}
+
 // A copy of a name that may be left out.
-pub(crate) fn copy_tag(alloc: Global, tag: &Option<Name>) -> Result<Option<Name>, OutOfMemory>
+pub(crate) fn copy_tag(tag: &Option<Name>) -> Result<Option<Name>, OutOfMemory>
     ensures { IfOk result (λ copy. copy ≡ tag.now) }
 {
     match tag {
-        Some(name) => Ok(Some(copy_bytes(alloc, name)?)),
+        Some(name) => Ok(Some(copy_name(name)?)),
+        None => Ok(None),
+    }
+}
+
+// The same, where the name stands in a box.
+pub(crate) fn boxed_tag(
+    alloc: Global,
+    tag: &Option<Boxed<Name>>,
+) -> Result<Option<Boxed<Name>>, OutOfMemory>
+    ensures { IfOk result (λ copy. copy ≡ tag.now) }
+{
+    match tag {
+        Some(name) => Ok(Some(Boxed::new(alloc, copy_name(name.get())?)?)),
         None => Ok(None),
     }
 }
@@ -26,7 +46,7 @@ pub(crate) fn copy_words(alloc: Global, words: &List<Name>) -> Result<List<Name>
 {
     let mut copy = List::new(alloc);
     for word in words.as_slice() {
-        copy.push(copy_bytes(alloc, word)?)?;
+        copy.push(copy_name(word)?)?;
     }
     Ok(copy)
 }

@@ -10,11 +10,13 @@ use std::alloc::Global;
 pub fn copy_param(alloc: Global, param: &Param) -> Result<Param, OutOfMemory>
     ensures { IfOk result (λ copy. copy ≡ param.now) }
 {
+    let name = copy_tag(&param.name)?;
+    let dims = copy_dims(alloc, &param.dims)?;
     Ok(Param {
         base: copy_base(alloc, &param.base)?,
         stars: param.stars,
-        name: copy_tag(alloc, &param.name)?,
-        dims: copy_dims(alloc, &param.dims)?,
+        name,
+        dims,
         section: param.section,
     })
 }

@@ -1,6 +1,6 @@
 use crate::embedded::{Host, Input, Ins, Outs, Part, TextArg};
 use crate::tree::Expr;
-use ec_base::{Bytes, Line, List, Name};
+use ec_base::{Boxed, Bytes, Line, List, Name};
 
 /// An item of a descriptor (PostgreSQL manual, "Using Descriptor Areas").
 #[derive(Clone, Copy, Debug, PartialEq, Eq)]
@@ -51,7 +51,7 @@ pub struct Emb {
     /// The place of its token.
     pub place: u32,
     /// The connection that AT names.
-    pub at: Option<TextArg>,
+    pub at: Option<Boxed<TextArg>>,
     pub kind: EmbKind,
 }
 
@@ -60,9 +60,9 @@ pub struct Emb {
 pub enum EmbKind {
     Connect {
         target: TextArg,
-        name: Option<TextArg>,
-        user: Option<TextArg>,
-        password: Option<TextArg>,
+        name: Option<Boxed<TextArg>>,
+        user: Option<Boxed<TextArg>>,
+        password: Option<Boxed<TextArg>>,
     },
     SetConnection(TextArg),
     Disconnect(TextArg),
@@ -93,7 +93,7 @@ pub enum EmbKind {
     Execute {
         name: Name,
         ins: Ins,
-        outs: Outs,
+        outs: Boxed<Outs>,
     },
     Deallocate(Name),
     /// ALLOCATE DESCRIPTOR
@@ -101,19 +101,19 @@ pub enum EmbKind {
     /// DEALLOCATE DESCRIPTOR
     Free(TextArg),
     /// GET DESCRIPTOR, of the count
-    GetCount(TextArg, Host),
+    GetCount(TextArg, Boxed<Host>),
     /// GET DESCRIPTOR, of items
     Get {
         area: TextArg,
-        index: Input,
+        index: Boxed<Input>,
         items: List<(Item, Host)>,
     },
     /// SET DESCRIPTOR, of the count
-    SetCount(TextArg, Input),
+    SetCount(TextArg, Boxed<Input>),
     /// SET DESCRIPTOR, of items
     Set {
         area: TextArg,
-        index: Input,
+        index: Boxed<Input>,
         items: List<(Item, Input)>,
     },
     Whenever(Cond, Action),

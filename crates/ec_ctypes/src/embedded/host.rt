@@ -1,20 +1,20 @@
 use crate::tree::Expr;
-use ec_base::{Bytes, List};
+use ec_base::{Boxed, Bytes, List};
 
 /// A reference to a host variable, with its indicator.
 #[derive(Debug, Drop)]
 pub struct Host {
     pub value: Expr,
-    pub indicator: Option<Expr>,
+    pub indicator: Option<Boxed<Expr>>,
 }
 
 /// A name or text that a statement is given: a connection, a descriptor, a target, a statement's text.
 #[derive(Debug, Drop)]
 pub enum TextArg {
     Word(Bytes),
-    Host(Expr),
+    Host(Boxed<Expr>),
     /// A host with an indicator, which is a fault.
-    HostWithIndicator(Expr, Expr),
+    HostWithIndicator(Boxed<Expr>, Boxed<Expr>),
 }
 
 /// A value that a statement sends.
@@ -44,5 +44,5 @@ pub enum Outs {
 #[derive(Debug, Drop)]
 pub enum Part {
     Bytes(Bytes),
-    Host(Host),
+    Host(Boxed<Host>),
 }

@@ -7,7 +7,7 @@ use std::alloc::Global;
 use std::test::Fail;
 
 fn text(alloc: Global, text: &str) -> Result<Name, Fail> {
-    Ok(List::from_slice(alloc, text.as_bytes())?)
+    Ok(Name::from_slice(alloc, text.as_bytes())?)
 }
 
 fn variable(alloc: Global, name: &str) -> Result<Boxed<Expr>, Fail> {
@@ -23,7 +23,7 @@ fn declaration(alloc: Global) -> Result<Decl, Fail> {
     dims.push(None)?;
     let mut inits = List::new(alloc);
     inits.push(Init::One(Expr::Char(97)))?;
-    inits.push(Init::One(Expr::Str(text(alloc, "b")?)))?;
+    inits.push(Init::One(Expr::Str(List::from_slice(alloc, b"b")?)))?;
     let mut items = List::new(alloc);
     items.push(Declarator {
         stars: 1,
@@ -43,10 +43,13 @@ fn declaration(alloc: Global) -> Result<Decl, Fail> {
 fn expression(alloc: Global) -> Result<Expr, Fail> {
     let mut members = List::new(alloc);
     members.push(declaration(alloc)?)?;
-    let base = Base::Struct(Some(text(alloc, "s")?), members);
+    let base = Base::Struct(
+        Some(Boxed::new(alloc, text(alloc, "s")?)?),
+        Boxed::new(alloc, members)?,
+    );
     let mut args = List::new(alloc);
-    args.push(Expr::Cast(base, 1, variable(alloc, "a")?))?;
-    args.push(Expr::SizeType(Base::Tag(text(alloc, "t")?), 2))?;
+    args.push(Expr::Cast(Boxed::new(alloc, base)?, 1, variable(alloc, "a")?))?;
+    args.push(Expr::SizeType(Boxed::new(alloc, Base::Tag(text(alloc, "t")?))?, 2))?;
     args.push(Expr::SizeExpr(variable(alloc, "b")?))?;
     args.push(Expr::Unary(UnOp::Flip, variable(alloc, "c")?))?;
     args.push(Expr::Binary(BinOp::Shl, variable(alloc, "d")?, variable(alloc, "e")?))?;
@@ -64,7 +67,7 @@ fn expression(alloc: Global) -> Result<Expr, Fail> {
     args.push(Expr::Member(variable(alloc, "k")?, text(alloc, "l")?))?;
     args.push(Expr::Arrow(variable(alloc, "m")?, text(alloc, "n")?))?;
     args.push(Expr::CallOther(variable(alloc, "o")?, List::new(alloc)))?;
-    Ok(Expr::Call(text(alloc, "q")?, args))
+    Ok(Expr::Call(text(alloc, "q")?, Boxed::new(alloc, args)?))
 }
 
 // Copies of trees print as the trees do.

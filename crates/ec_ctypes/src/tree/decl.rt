@@ -1,5 +1,5 @@
 use crate::tree::Expr;
-use ec_base::{Line, List, Name};
+use ec_base::{Boxed, Line, List, Name};
 
 /// What a declaration begins with (ISO/IEC 9899:1999, 6.7.2).
 #[cycle(expr)]
@@ -11,7 +11,7 @@ pub enum Base {
     /// A struct by its tag.
     Tag(Name),
     /// A struct with its members, and its tag if it has one.
-    Struct(Option<Name>, List<Decl>),
+    Struct(Option<Boxed<Name>>, Boxed<List<Decl>>),
 }
 
 /// A name that is declared, with its stars, its array lengths and its initializer (ISO/IEC 9899:1999, 6.7.5).

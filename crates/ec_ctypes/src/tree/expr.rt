@@ -84,7 +84,7 @@ pub enum Expr {
         of: Boxed<Expr>,
     },
     /// A call of the function of this name.
-    Call(Name, List<Expr>),
+    Call(Name, Boxed<List<Expr>>),
     /// A call whose function is no name.
     CallOther(Boxed<Expr>, List<Expr>),
     /// `a[b]`
@@ -94,9 +94,9 @@ pub enum Expr {
     /// `a->m`
     Arrow(Boxed<Expr>, Name),
     /// A cast to a type, which is a base and so many stars.
-    Cast(Base, u32, Boxed<Expr>),
+    Cast(Boxed<Base>, u32, Boxed<Expr>),
     /// `sizeof` of a type, which is a base and so many stars.
-    SizeType(Base, u32),
+    SizeType(Boxed<Base>, u32),
     /// `sizeof` of an expression.
     SizeExpr(Boxed<Expr>),
 }

@@ -1,6 +1,6 @@
 use crate::embedded::Emb;
 use crate::tree::{Base, Decl, Expr, Stmt};
-use ec_base::{Bytes, Line, List, Name};
+use ec_base::{Boxed, Bytes, Line, List, Name};
 
 /// A parameter of a function (ISO/IEC 9899:1999, 6.7.5.3).
 #[derive(Debug, Drop)]
@@ -34,7 +34,7 @@ pub enum Top {
     /// A directive, by its number among the embedded statements.
     Directive(u32),
     Decl(Decl),
-    Func(Func),
+    Func(Boxed<Func>),
     /// A mark of a declare section: whether it opens one, and its line.
     Mark(bool, Line),
 }

@@ -11,8 +11,8 @@ ghost use Rattle.ec_declarations.specs.Parts.{each_expr};
 ghost use Rattle.ec_declarations.specs.Primaries.{primary_view};
 
 use crate::expressions::primary::Primary;
-use crate::texts::copy_text;
-use ec_base::{Boxed, List, Name, OutOfMemory};
+use crate::texts::{copy_name, copy_text};
+use ec_base::{Boxed, List, Name, OutOfMemory, beside};
 use ec_ctypes::{Base, BinOp, Expr, Tok, Ty, UnOp, copy_ty};
 use std::alloc::Global;
 
@@ -55,8 +55,8 @@ fn area_member(alloc: Global, member: &[u8]) -> Result<Primary, OutOfMemory>
         is_name = false;
     }) }
 {
-    let member = List::from_slice(alloc, member)?;
-    let area = List::from_slice(alloc, b"sqlca".as_slice())?;
+    let member = Name::from_slice(alloc, member)?;
+    let area = Name::from_slice(alloc, b"sqlca".as_slice())?;
     let area = Boxed::new(alloc, Expr::Name(area))?;
     Ok(Primary::Other(Expr::Member(area, member)))
 }
@@ -66,7 +66,7 @@ fn area_member(alloc: Global, member: &[u8]) -> Result<Primary, OutOfMemory>
 pub fn named(alloc: Global, tok: &Tok) -> Result<Primary, OutOfMemory>
     ensures { IfOk result (λ x. primary_view x ≡ spec.named (bytes_in (tok_view tok.now))) }
 {
-    let word = copy_text(alloc, tok)?;
+    let word = copy_name(alloc, tok)?;
     if word.as_slice() == b"SQLCODE".as_slice() {
         return area_member(alloc, b"sqlcode".as_slice());
     }
@@ -135,7 +135,7 @@ pub fn call(alloc: Global, called: Primary, arguments: List<Expr>) -> Result<Exp
     ensures { IfOk result (λ e. expr_view e ≡ called_by (primary_view called) (each_expr arguments)) }
 {
     match called {
-        Primary::Name(name) => Ok(Expr::Call(name, arguments)),
+        Primary::Name(name) => Ok(Expr::Call(name, Boxed::new(alloc, arguments)?)),
         Primary::Other(other) => Ok(Expr::CallOther(Boxed::new(alloc, other)?, arguments)),
     }
 }
@@ -144,14 +144,15 @@ pub fn call(alloc: Global, called: Primary, arguments: List<Expr>) -> Result<Exp
 pub fn cast(alloc: Global, base: Base, stars: u32, a: Expr) -> Result<Expr, OutOfMemory>
     ensures { IfOk result (λ e. expr_view e ≡ tree.cast (base_view base) stars (expr_view a)) }
 {
+    let (a, base) = beside(a, Boxed::new(alloc, base))?;
     Ok(Expr::Cast(base, stars, Boxed::new(alloc, a)?))
 }
 
 #[tactic(auto, using(ec_ctypes::specs::declared::tree::expr::Expr::the_lemmas))]
-pub fn size_type(base: Base, stars: u32) -> Expr
-    ensures { expr_view result ≡ tree.size_type (base_view base) stars }
+pub fn size_type(alloc: Global, base: Base, stars: u32) -> Result<Expr, OutOfMemory>
+    ensures { IfOk result (λ e. expr_view e ≡ tree.size_type (base_view base) stars) }
 {
-    Expr::SizeType(base, stars)
+    Ok(Expr::SizeType(Boxed::new(alloc, base)?, stars))
 }
 
 #[tactic(auto, using(ec_ctypes::specs::declared::tree::expr::Expr::the_lemmas))]

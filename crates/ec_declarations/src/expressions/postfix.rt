@@ -17,7 +17,7 @@ use crate::expressions::making::{arrow, bump, call, index, member};
 use crate::expressions::primary::Primary;
 use crate::parts::Part;
 use crate::starts::begins_postfix_part;
-use crate::texts::copy_text;
+use crate::texts::copy_name;
 use ec_ctypes::{Base, Expr, Punct};
 use ec_grammar::{Failure, Kind};
 use std::alloc::Global;
@@ -41,7 +41,7 @@ impl<
     {
         cursor.expect_counted(Counted::Operations, Kind::Mark(Punct::Dot))?;
         let token = cursor.expect(Kind::Name)?;
-        let name = copy_text(self.alloc, &token.tok)?;
+        let name = copy_name(self.alloc, &token.tok)?;
         Ok(Primary::Other(member(self.alloc, left.into_expression(), name)?))
     }
 
@@ -51,7 +51,7 @@ impl<
     {
         cursor.expect_counted(Counted::Operations, Kind::Mark(Punct::Arrow))?;
         let token = cursor.expect(Kind::Name)?;
-        let name = copy_text(self.alloc, &token.tok)?;
+        let name = copy_name(self.alloc, &token.tok)?;
         Ok(Primary::Other(arrow(self.alloc, left.into_expression(), name)?))
     }
 

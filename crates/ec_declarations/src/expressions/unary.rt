@@ -134,7 +134,7 @@ impl<
         ensures { Reads expr_view (size_by_type limits (nested limits self.now.levels) (seen cursor.old)) result (seen cursor.new) }
     {
         let (base, stars) = self.nested_type(cursor)?;
-        Ok(size_type(base, stars))
+        Ok(size_type(self.alloc, base, stars)?)
     }
 
     /// The size of an expression (6.5.3.4).
