@@ -80,7 +80,7 @@ target_form = choice (both (one plain_quote) plain_tail) (
     both (one (colon reference)) (choice (both (both name_form indicator_form) plain_tail) (both (both (one target_behind) (many (one target_more))) plain_tail ∷ parted_tail ∷ []))
     ∷ both (both (one target_start) (many (one target_more))) plain_tail
     ∷ []
-)
+    )
 
 abbrev pub target_of : Of target_form → EmbKindData
 unfolding target_form
@@ -103,7 +103,7 @@ connect_of v = target_of v.1.1
 unfoldable pub set_connection_form : Form
 set_connection_form =
     row (word (codes "SET") ∷ word (codes "CONNECTION") ∷ choice (both (word (codes "TO")) (optional text_form)) (
-        both (one (sign (codes "="))) text_form ∷ one (word_but (codes "TO")) ∷ one plain_quote ∷ host_form reference ∷ []
+    both (one (sign (codes "="))) text_form ∷ one (word_but (codes "TO")) ∷ one plain_quote ∷ host_form reference ∷ []
     ) ∷ [])
 
 abbrev pub set_connection_of : Of set_connection_form → EmbKindData

@@ -90,7 +90,7 @@ behind_host_form = choice (both (reference_form reference) (listed setting_form)
     both (word (codes "INDICATOR")) (either (both (reference_form reference) (listed setting_form)) (both assigned_form (further setting_form)))
     ∷ both (both other_item_form assigned_form) (further setting_form)
     ∷ []
-)
+    )
 
 abbrev pub index_host : ExprData → Option ExprData → InputData
 index_host e i = host_input (record { value = e; indicator = i })

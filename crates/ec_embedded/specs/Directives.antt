@@ -52,7 +52,7 @@ arguments_of (p, (inr v, q)) = no_exprs
 unfoldable pub do_form : Form
 do_form = choice (both (word (codes "BREAK")) (optional arguments_form)) (
     both (word (codes "CONTINUE")) (optional arguments_form) ∷ both (one (other_word (codes "BREAK" ∷ codes "CONTINUE" ∷ []))) arguments_form ∷ []
-)
+    )
 
 abbrev pub do_of : Of do_form → ActionData
 unfolding do_form
@@ -71,7 +71,7 @@ action_form = choice (word (codes "CONTINUE")) (
     ∷ row (word (codes "CALL") ∷ one any_word ∷ arguments_form ∷ [])
     ∷ both (word (codes "DO")) do_form
     ∷ []
-)
+    )
 
 abbrev pub action_of : Of action_form → ActionData
 unfolding action_form

@@ -22,7 +22,7 @@ prepare_of (p, (n, (f, v))) = prepare n.bytes (statement_text_of v)
 unfoldable pub lists_form : Form
 lists_form = choice (row (word (codes "INTO") ∷ outs_form ∷ using_form ∷ [])) (
     row (word (codes "USING") ∷ ins_form ∷ optional (both (word (codes "INTO")) outs_form) ∷ []) ∷ nothing ∷ []
-)
+    )
 
 abbrev pub outs_or_none : Of (optional (both (word (codes "INTO")) outs_form)) → OutsData
 outs_or_none (inl v) = outs_of v.1
@@ -52,7 +52,7 @@ execute_of (e, inr v) = executed v.0.bytes v.1
 unfoldable pub deallocate_form : Form
 deallocate_form = both (word (codes "DEALLOCATE")) (choice (both (word (codes "PREPARE")) (optional (one any_word))) (
     both (word (codes "DESCRIPTOR")) (optional text_form) ∷ one (other_word (codes "PREPARE" ∷ codes "DESCRIPTOR" ∷ [])) ∷ []
-))
+    ))
 
 abbrev pub deallocate_of : Of deallocate_form → EmbKindData
 unfolding deallocate_form

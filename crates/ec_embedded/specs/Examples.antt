@@ -1,34 +1,24 @@
--- Tokens of examples.
-use Rattle.std.specs.Prelude.{ℕ, zero, suc, true, false, List, [], ◌∷◌, codes, None}
+-- Statements and parts of trees, as examples write them.
+use Rattle.std.specs.Prelude.{ℕ, ◌+◌, List, codes, Option, Some, None, Result, Ok, Err}
+use Rattle.ec_base.specs.declared.fault.FaultKind.TheVariants.{F8, F9}
+use Rattle.ec_base.specs.declared.stop.Stop.{Stop}
+use Rattle.ec_base.specs.declared.stop.Stop.TheVariants.{Refused}
 use Prim.Native.String.{String}
-use Rattle.ec_ctypes.specs.trees.Embedded.{HostData, PartData, bytes_part, host_part}
+use Rattle.ec_ctypes.specs.trees.Embedded.{HostData, TextArgData, PartData, bytes_part, host_part, EmbKindData}
 use Rattle.ec_ctypes.specs.trees.Exprs.{identifier}
+use Rattle.ec_language.specs.Line.{newlines}
+use Rattle.ec_language.specs.ReadTokens.{statement_units}
 use Rattle.ec_language.specs.SqlTokens.{SqlToken}
-use Rattle.ec_language.specs.SqlTokens as sql
+use Rattle.ec_language.specs.Tokens.{sql_answer}
+use Rattle.ec_embedded.specs.Statements.{answer, Answer}
 
--- on line 1, behind a gap
-abbrev pub w : String → SqlToken
-w t = record { class = sql.word; bytes = codes t; gap = true; line = 1 }
+-- what a statement is whose `EXEC` stands on line 1
+abbrev pub answer_by : ℕ → Result (List SqlToken) Stop → Answer
+answer_by end (Ok tokens) = answer end tokens
+answer_by end (Err stop) = Err stop
 
-abbrev pub m : String → SqlToken
-m t = record { class = sql.mark; bytes = codes t; gap = true; line = 1 }
-
-abbrev pub n : String → SqlToken
-n t = record { class = sql.number; bytes = codes t; gap = true; line = 1 }
-
-abbrev pub q : String → SqlToken
-q t = record { class = sql.quoted; bytes = codes t; gap = true; line = 1 }
-
--- without the gap, or on another line
-abbrev pub g : SqlToken → SqlToken
-g t = record t { gap = false }
-
-abbrev pub on : ℕ → SqlToken → SqlToken
-on k t = record t { line = k }
-
--- `:x`
-abbrev pub h : String → List SqlToken
-h t = m ":" ∷ g (w t) ∷ []
+abbrev pub answer_to : String → Answer
+answer_to text = answer_by (1 + newlines (codes text)) (sql_answer 1 (statement_units (codes text)))
 
 abbrev pub plain : String → HostData
 plain t = record { value = identifier (codes t); indicator = None }
@@ -39,7 +29,20 @@ b t = bytes_part (codes t)
 abbrev pub p : String → PartData
 p t = host_part (plain t)
 
--- `.y`, so many times
-abbrev pub members : ℕ → List SqlToken
-members zero = []
-members (suc k) = g (m ".") ∷ g (w "y") ∷ members k
+abbrev pub with_indicator : String → String → HostData
+with_indicator t i = record { value = identifier (codes t); indicator = Some (identifier (codes i)) }
+
+-- ---- answers
+
+abbrev pub gives : EmbKindData → Answer
+gives k = Ok (record { at = None; kind = k })
+
+abbrev pub at : TextArgData → EmbKindData → Answer
+at a k = Ok (record { at = Some a; kind = k })
+
+-- no form goes on with a token on this line
+abbrev pub dead_on : ℕ → Answer
+dead_on line = Err (Refused F8 (record { 0 = line }))
+
+abbrev pub left_out_on : ℕ → Answer
+left_out_on line = Err (Refused F9 (record { 0 = line }))

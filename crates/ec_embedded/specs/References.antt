@@ -70,7 +70,7 @@ suffix_form = choice (row (one (suffix_sign (codes ".")) ∷ one glued_word ∷ 
     row (one (suffix_sign (codes "->")) ∷ one glued_word ∷ [])
     ∷ row (one (suffix_sign (codes "[")) ∷ either (one glued_word) (one glued_number) ∷ one (glued_sign (codes "]")) ∷ [])
     ∷ []
-)
+    )
 
 abbrev pub index_of : SqlToken ⊎ SqlToken → ExprData
 index_of (inl t) = identifier t.bytes

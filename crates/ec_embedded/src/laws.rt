@@ -25,6 +25,6 @@ pub fn forms_are_exact()
     ensures execute { IsReadExactly execute_form }
     ensures deallocate { IsReadExactly deallocate_form }
     ensures deallocate_at { IsReadExactly deallocate_at_form }
-    ensures open { IsReadExactly open_form }
+    ensures open_cursor { IsReadExactly open_form }
     ensures at { IsReadExactly at_form }
 {}

@@ -33,6 +33,6 @@ returns c = record {
   execute = by_choices execute_form execute_chosen;
   deallocate = by_choices deallocate_form deallocate_chosen;
   deallocate_at = by_choices deallocate_at_form deallocate_at_chosen;
-  open = by_choices open_form open_chosen;
+  open_cursor = by_choices open_form open_chosen;
   at = by_choices at_form at_chosen;
 }
