@@ -1,0 +1,2 @@
+mod Deterministic
+mod Sound

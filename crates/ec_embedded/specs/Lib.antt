@@ -1,0 +1,12 @@
+pub mod Connections
+pub mod Descriptors
+pub mod Directives
+pub mod Dynamic
+pub mod Examples
+pub mod Laws
+pub mod LeftOut
+pub mod References
+pub mod SentText
+pub mod ServerText
+pub mod Statements
+pub mod Terminals

@@ -1,0 +1,9 @@
+use Rattle.ec_shapes.proofs.Exact.{exact}
+use Rattle.ec_shapes.proofs.Single.{single}
+use Rattle.ec_shapes.proofs.laws.readings_are_exact.Goals as goal
+
+pub returns : goal.returns
+returns c = record {
+  exact = λ l s h n w. exact l h.sound s h.deterministic n w;
+  single = λ l s h n w a b. single l h.sound s h.deterministic n w a b;
+}

@@ -1,0 +1,3 @@
+pub mod Laws
+pub mod ReadShapes
+pub mod Shapes
