@@ -20,13 +20,15 @@ ghost use Rattle.ec_language.specs.Syntax.{EndsOnce, TreeOrStop};
 /// that is passed. And there is no other answer, so that tokens have one tree at most.
 pub fn readings_are_exact()
     ensures answered { (ts : List TokenData) → EndsOnce ts → TreeOrStop ts (answer ts) }
-    ensures one_answer { (ts : List TokenData) (a : Result UnitData Stop) → EndsOnce ts → TreeOrStop ts a → a ≡ answer ts }
+    ensures one_answer { (ts : List TokenData) (a : Result UnitData Stop) → EndsOnce ts
+        → TreeOrStop ts a → a ≡ answer ts }
 {}
 
 /// A text has one reading at most, as a source and as written C: its tree, or what refuses it. (That it has one is the law
 /// `each_text_is_read` of `ec_language`.)
 pub fn readings_are_single()
-    ensures { (written : Bool) (text : Text) (a other : Result UnitData Stop) → Reads written text a → Reads written text other → a ≡ other }
+    ensures { (written : Bool) (text : Text) (a other : Result UnitData Stop) → Reads written text a
+        → Reads written text other → a ≡ other }
 {}
 
 /// Limits aside tokens have one tree at most, and where they have one, they are read as that tree, or the limit L3 is
@@ -46,8 +48,8 @@ pub fn trees_are_read()
         → HasTree written text u → HasTree written text v → u ≡ v }
     ensures read { (written : Bool) (text : Text) (u : UnitData) (a : Result UnitData Stop)
         → (h : HasTree written text u) → Reads written text a → IsReadAs h a }
-    ensures no_fault { (written : Bool) (text : Text) (u : UnitData) (kind : FaultKind) (line : Line)
-        → HasTree written text u → Reads written text (Err (Refused kind line)) → ⊥ }
+    ensures no_fault { (written : Bool) (text : Text) (u : UnitData) (kind : FaultKind)
+        (line : Line) → HasTree written text u → Reads written text (Err (Refused kind line)) → ⊥ }
     ensures agree { (written : Bool) (text : Text) (u : UnitData) (h : HasTree written text u)
         → Reads written text (Ok u) ↔ ((kind : LimitKind) → PassesLimit h kind → ⊥) }
     ensures aside { (written : Bool) (text : Text) (u : UnitData)

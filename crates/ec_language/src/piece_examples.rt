@@ -29,22 +29,48 @@ pub fn letter_examples()
 
 /// What the pieces of a text are.
 pub fn text_examples()
-    ensures four { Pieces (codes "EXEC SQL int x;\nint main(void) {\nEXEC SQL SELECT a FROM t INTO :x;\nprintf(\"%d\\n\", x);\nreturn 0;\n}\n") (piece_of InPlace (codes "EXEC SQL int x;") 1 ∷ piece_of C (codes "\nint main(void) {\n") 1 ∷ piece_of Emb (codes "EXEC SQL SELECT a FROM t INTO :x;") 3 ∷ piece_of C (codes "\nprintf(\"%d\\n\", x);\nreturn 0;\n}\n") 3 ∷ []) }
-    ensures comment_between { Pieces (codes "EXEC /* c */ SQL a;") (piece_of C (codes "EXEC /* c */ SQL a;") 1 ∷ []) }
-    ensures newline_between { Pieces (codes "exec\nSQL COMMIT;\n") (piece_of Emb (codes "exec\nSQL COMMIT;") 1 ∷ piece_of C (codes "\n") 2 ∷ []) }
-    ensures in_words { Pieces (codes "xEXEC SQL a; EXEC SQLx; EXECSQL a;") (piece_of C (codes "xEXEC SQL a; EXEC SQLx; EXECSQL a;") 1 ∷ []) }
-    ensures in_comments { Pieces (codes "/* EXEC SQL a; */ // EXEC SQL a;\n") (piece_of C (codes "/* EXEC SQL a; */ // EXEC SQL a;\n") 1 ∷ []) }
-    ensures in_quotes { Pieces (codes "\"\\\"EXEC SQL a;\" 'EXEC SQL b;'") (piece_of C (codes "\"\\\"EXEC SQL a;\" 'EXEC SQL b;'") 1 ∷ []) }
-    ensures sql_quotes { Pieces (codes "EXEC SQL SELECT ';', \"a;\"\";\", 'it''s;';x") (piece_of Emb (codes "EXEC SQL SELECT ';', \"a;\"\";\", 'it''s;';") 1 ∷ piece_of C (codes "x") 1 ∷ []) }
-    ensures escape { Pieces (codes "EXEC SQL SELECT E'\\';';x") (piece_of Emb (codes "EXEC SQL SELECT E'\\';';") 1 ∷ piece_of C (codes "x") 1 ∷ []) }
-    ensures no_escape { Pieces (codes "EXEC SQL SELECT xE'\\';x") (piece_of Emb (codes "EXEC SQL SELECT xE'\\';") 1 ∷ piece_of C (codes "x") 1 ∷ []) }
-    ensures sql_comments { Pieces (codes "EXEC SQL a -- ;\n /* ; /* ; */ ; */;x") (piece_of Emb (codes "EXEC SQL a -- ;\n /* ; /* ; */ ; */;") 1 ∷ piece_of C (codes "x") 2 ∷ []) }
-    ensures braces { Pieces (codes "EXEC SQL struct { int a; } s;x") (piece_of InPlace (codes "EXEC SQL struct { int a; } s;") 1 ∷ piece_of C (codes "x") 1 ∷ []) }
-    ensures lone_brace { Pieces (codes "EXEC SQL int } x; y;") (piece_of InPlace (codes "EXEC SQL int } x;") 1 ∷ piece_of C (codes " y;") 1 ∷ []) }
-    ensures c_inside { Pieces (codes "EXEC SQL char /* ; */ c = ';', d = \"\\\";\" // ; EXEC SQL\n ;x") (piece_of InPlace (codes "EXEC SQL char /* ; */ c = ';', d = \"\\\";\" // ; EXEC SQL\n ;") 1 ∷ piece_of C (codes "x") 2 ∷ []) }
-    ensures comment_first { Pieces (codes "EXEC SQL /* c */ int x;") (piece_of InPlace (codes "EXEC SQL /* c */ int x;") 1 ∷ []) }
-    ensures no_type_first { Pieces (codes "EXEC SQL (int x;") (piece_of Emb (codes "EXEC SQL (int x;") 1 ∷ []) }
-    ensures section { Pieces (codes "EXEC SQL Begin /* c */ declare SECTION;EXEC SQL END DECLARE SECTION ;") (piece_of SectionStart (codes "EXEC SQL Begin /* c */ declare SECTION;") 1 ∷ piece_of SectionEnd (codes "EXEC SQL END DECLARE SECTION ;") 1 ∷ []) }
+    ensures four { Pieces
+        (codes
+        "EXEC SQL int x;\nint main(void) {\nEXEC SQL SELECT a FROM t INTO :x;\nprintf(\"%d\\n\", x);\nreturn 0;\n}\n")
+        (piece_of InPlace (codes "EXEC SQL int x;") 1 ∷ piece_of C (codes "\nint main(void) {\n") 1
+        ∷ piece_of Emb (codes "EXEC SQL SELECT a FROM t INTO :x;") 3
+        ∷ piece_of C (codes "\nprintf(\"%d\\n\", x);\nreturn 0;\n}\n") 3 ∷ []) }
+    ensures comment_between { Pieces (codes "EXEC /* c */ SQL a;")
+        (piece_of C (codes "EXEC /* c */ SQL a;") 1 ∷ []) }
+    ensures newline_between { Pieces (codes "exec\nSQL COMMIT;\n")
+        (piece_of Emb (codes "exec\nSQL COMMIT;") 1 ∷ piece_of C (codes "\n") 2 ∷ []) }
+    ensures in_words { Pieces (codes "xEXEC SQL a; EXEC SQLx; EXECSQL a;")
+        (piece_of C (codes "xEXEC SQL a; EXEC SQLx; EXECSQL a;") 1 ∷ []) }
+    ensures in_comments { Pieces (codes "/* EXEC SQL a; */ // EXEC SQL a;\n")
+        (piece_of C (codes "/* EXEC SQL a; */ // EXEC SQL a;\n") 1 ∷ []) }
+    ensures in_quotes { Pieces (codes "\"\\\"EXEC SQL a;\" 'EXEC SQL b;'")
+        (piece_of C (codes "\"\\\"EXEC SQL a;\" 'EXEC SQL b;'") 1 ∷ []) }
+    ensures sql_quotes { Pieces (codes "EXEC SQL SELECT ';', \"a;\"\";\", 'it''s;';x")
+        (piece_of Emb (codes "EXEC SQL SELECT ';', \"a;\"\";\", 'it''s;';") 1
+        ∷ piece_of C (codes "x") 1 ∷ []) }
+    ensures escape { Pieces (codes "EXEC SQL SELECT E'\\';';x")
+        (piece_of Emb (codes "EXEC SQL SELECT E'\\';';") 1 ∷ piece_of C (codes "x") 1 ∷ []) }
+    ensures no_escape { Pieces (codes "EXEC SQL SELECT xE'\\';x")
+        (piece_of Emb (codes "EXEC SQL SELECT xE'\\';") 1 ∷ piece_of C (codes "x") 1 ∷ []) }
+    ensures sql_comments { Pieces (codes "EXEC SQL a -- ;\n /* ; /* ; */ ; */;x")
+        (piece_of Emb (codes "EXEC SQL a -- ;\n /* ; /* ; */ ; */;") 1 ∷ piece_of C (codes "x") 2
+        ∷ []) }
+    ensures braces { Pieces (codes "EXEC SQL struct { int a; } s;x")
+        (piece_of InPlace (codes "EXEC SQL struct { int a; } s;") 1 ∷ piece_of C (codes "x") 1 ∷ []) }
+    ensures lone_brace { Pieces (codes "EXEC SQL int } x; y;")
+        (piece_of InPlace (codes "EXEC SQL int } x;") 1 ∷ piece_of C (codes " y;") 1 ∷ []) }
+    ensures c_inside { Pieces
+        (codes "EXEC SQL char /* ; */ c = ';', d = \"\\\";\" // ; EXEC SQL\n ;x")
+        (piece_of InPlace (codes "EXEC SQL char /* ; */ c = ';', d = \"\\\";\" // ; EXEC SQL\n ;") 1
+        ∷ piece_of C (codes "x") 2 ∷ []) }
+    ensures comment_first { Pieces (codes "EXEC SQL /* c */ int x;")
+        (piece_of InPlace (codes "EXEC SQL /* c */ int x;") 1 ∷ []) }
+    ensures no_type_first { Pieces (codes "EXEC SQL (int x;")
+        (piece_of Emb (codes "EXEC SQL (int x;") 1 ∷ []) }
+    ensures section { Pieces
+        (codes "EXEC SQL Begin /* c */ declare SECTION;EXEC SQL END DECLARE SECTION ;")
+        (piece_of SectionStart (codes "EXEC SQL Begin /* c */ declare SECTION;") 1
+        ∷ piece_of SectionEnd (codes "EXEC SQL END DECLARE SECTION ;") 1 ∷ []) }
 {}
 
 /// Which fault a text has.

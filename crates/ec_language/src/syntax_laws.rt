@@ -15,18 +15,25 @@ ghost use Rattle.ec_language.specs.Unlimited.{UnlimitedMakes, OneOf, DerivesUnli
 /// within limits and without. A derivation without levels and counts is one within limits that are high enough, and is
 /// made by one of the productions of elements that are derived.
 pub fn grammar_laws()
-    ensures derived { (limits : Limits) (s : Sym) (w : Tokens) (v : Value s) → DerivesWithin limits s w v ↔ IsAmong v (trees limits s w) }
-    ensures front { (limits : Limits) (s : Sym) (u : Tokens) → FrontWithin limits s u ↔ (fits limits s u ≡ true) }
-    ensures unlimited { (s : Sym) (w : Tokens) (v : Value s) → Derives s w v ↔ DerivesUnlimited s w v }
+    ensures derived { (limits : Limits) (s : Sym) (w : Tokens) (v : Value s)
+        → DerivesWithin limits s w v ↔ IsAmong v (trees limits s w) }
+    ensures front { (limits : Limits) (s : Sym) (u : Tokens)
+        → FrontWithin limits s u ↔ (fits limits s u ≡ true) }
+    ensures unlimited { (s : Sym) (w : Tokens) (v : Value s)
+        → Derives s w v ↔ DerivesUnlimited s w v }
     ensures made { (s : Sym) (w : Tokens) (v : Value s)
         → DerivesUnlimited s w v ↔ OneOf (UnlimitedMakes DerivesUnlimited w v) (productions s) }
-    ensures front_of_any_limits { (s : Sym) (u : Tokens) → Front s u ↔ (fits (unreached u) s u ≡ true) }
+    ensures front_of_any_limits { (s : Sym) (u : Tokens) → Front s u
+        ↔ (fits (unreached u) s u ≡ true) }
 {}
 
 /// Tokens have a tree or a stop and never both, and both are computed.
 pub fn answer_laws()
-    ensures tree { (ts : List TokenData) (u : UnitData) → TreeOrStop ts (Ok u) ↔ IsAmong u (trees_of ts) }
-    ensures stop { (ts : List TokenData) (s : Stop) → TreeOrStop ts (Err s) ↔ (stop_of ts ≡ Some s) }
-    ensures one_of_both { (ts : List TokenData) (u : UnitData) (s : Stop) → TreeOrStop ts (Ok u) → TreeOrStop ts (Err s) → ⊥ }
+    ensures tree { (ts : List TokenData) (u : UnitData)
+        → TreeOrStop ts (Ok u) ↔ IsAmong u (trees_of ts) }
+    ensures stop { (ts : List TokenData) (s : Stop) → TreeOrStop ts (Err s)
+        ↔ (stop_of ts ≡ Some s) }
+    ensures one_of_both { (ts : List TokenData) (u : UnitData) (s : Stop) → TreeOrStop ts (Ok u)
+        → TreeOrStop ts (Err s) → ⊥ }
     ensures answered { (ts : List TokenData) → EndsOnce ts → TreeOrStop ts (read_syntax ts) }
 {}

@@ -16,38 +16,59 @@ ghost use Rattle.ec_language.specs.ReadTokens.{lexeme, ReadItem, read_item, c_pa
 
 /// What stands at the beginning of a text has one longest match at most, and a plain reading finds it.
 pub fn matches_are_read()
-    ensures found { (text u rest : Text) (class : Class) → lexeme text ≡ Some (class, u, rest) → (text ≡ u ++ rest) × Longest u rest class }
-    ensures there { (u rest : Text) (class : Class) → Longest u rest class → lexeme (u ++ rest) ≡ Some (class, u, rest) }
-    ensures none { (text u rest : Text) → lexeme text ≡ None → text ≡ u ++ rest → class_of u ≡ None }
-    ensures one { (u rest v behind : Text) (class other : Class) → u ++ rest ≡ v ++ behind → Longest u rest class → Longest v behind other → (u ≡ v) × (rest ≡ behind) × (class ≡ other) }
+    ensures found { (text u rest : Text) (class : Class) → lexeme text ≡ Some (class, u, rest)
+        → (text ≡ u ++ rest) × Longest u rest class }
+    ensures there { (u rest : Text) (class : Class) → Longest u rest class
+        → lexeme (u ++ rest) ≡ Some (class, u, rest) }
+    ensures none { (text u rest : Text) → lexeme text ≡ None → text ≡ u ++ rest
+        → class_of u ≡ None }
+    ensures one { (u rest v behind : Text) (class other : Class) → u ++ rest ≡ v ++ behind
+        → Longest u rest class → Longest v behind other
+        → (u ≡ v) × (rest ≡ behind) × (class ≡ other) }
 {}
 
 /// What stands at the beginning of C text is one thing at most, and a plain reading finds it.
 pub fn items_are_read()
-    ensures found { (written fresh : Bool) (text : Text) (it : ReadItem) → read_item written fresh text ≡ Some it → (text ≡ it.bytes ++ it.rest) × Item written fresh it.bytes it.rest it.tok it.step }
-    ensures there { (written fresh : Bool) (u rest : Text) (tok : Option (Result TokData FaultKind)) (step : Step) → Item written fresh u rest tok step
-        → read_item written fresh (u ++ rest) ≡ Some (record { bytes = u; tok = tok; step = step; rest = rest }) }
-    ensures one { (written fresh : Bool) (u rest v behind : Text) (tok other : Option (Result TokData FaultKind)) (step next : Step) → u ++ rest ≡ v ++ behind
-        → Item written fresh u rest tok step → Item written fresh v behind other next → (u ≡ v) × (rest ≡ behind) × (tok ≡ other) × (step ≡ next) }
-    ensures none { (written fresh : Bool) (text : Text) → read_item written fresh text ≡ None → NoItem written fresh text }
+    ensures found { (written fresh : Bool) (text : Text) (it : ReadItem)
+        → read_item written fresh text ≡ Some it → (text ≡ it.bytes ++ it.rest)
+        × Item written fresh it.bytes it.rest it.tok it.step }
+    ensures there { (written fresh : Bool) (u rest : Text) (tok : Option (Result TokData FaultKind))
+        (step : Step) → Item written fresh u rest tok step
+        → read_item written fresh (u ++ rest) ≡ Some
+        (record { bytes = u; tok = tok; step = step; rest = rest }) }
+    ensures one { (written fresh : Bool) (u rest v behind : Text)
+        (tok other : Option (Result TokData FaultKind)) (step next : Step) → u ++ rest ≡ v ++ behind
+        → Item written fresh u rest tok step → Item written fresh v behind other next
+        → (u ≡ v) × (rest ≡ behind) × (tok ≡ other) × (step ≡ next) }
+    ensures none { (written fresh : Bool) (text : Text) → read_item written fresh text ≡ None
+        → NoItem written fresh text }
 {}
 
 /// C text, whatever it is, has one list of parts, which ends on one line.
 pub fn parts_are_read()
-    ensures there { (written : Bool) (line : ℕ) (fresh : Bool) (text : Text) → CParts written line fresh text (c_parts written line fresh text).parts (c_parts written line fresh text).last }
-    ensures only { (written : Bool) (line : ℕ) (fresh : Bool) (text : Text) (parts : List Part) (last : ℕ) → CParts written line fresh text parts last
+    ensures there { (written : Bool) (line : ℕ) (fresh : Bool) (text : Text)
+        → CParts written line fresh text (c_parts written line fresh text).parts
+        (c_parts written line fresh text).last }
+    ensures only { (written : Bool) (line : ℕ) (fresh : Bool) (text : Text) (parts : List Part)
+        (last : ℕ) → CParts written line fresh text parts last
         → c_parts written line fresh text ≡ record { parts = parts; last = last } }
 {}
 
 /// The pieces of a text have their tokens or one stop: what a plain reading gives. With and without a limit it is the same,
 /// unless the limit is passed. Of the tokens the last is the end, and no other.
 pub fn tokens_are_read()
-    ensures there { (text : Text) (pieces : List Piece) (written : Bool) → Pieces text pieces → TokensOrStop written pieces (read_tokens written pieces) }
-    ensures there_in_written { (pieces : List Piece) → TokensOrStop true pieces (read_tokens true pieces) }
-    ensures only { (pieces : List Piece) (written : Bool) (answer : Result (List TokenData) Stop) → TokensOrStop written pieces answer → answer ≡ read_tokens written pieces }
-    ensures one { (pieces : List Piece) (written : Bool) (answer other : Result (List TokenData) Stop) → TokensOrStop written pieces answer → TokensOrStop written pieces other → answer ≡ other }
-    ensures limits_aside { (pieces : List Piece) (written : Bool) (answer other : Result (List TokenData) Stop)
-        → TokensWithin None written pieces answer → TokensOrStop written pieces other
-        → (other ≡ answer) ⊎ (other ≡ Err (Limit L2)) }
-    ensures end { (pieces : List Piece) (written : Bool) (tokens : List TokenData) → Tokens written pieces tokens → EndsOnce tokens }
+    ensures there { (text : Text) (pieces : List Piece) (written : Bool) → Pieces text pieces
+        → TokensOrStop written pieces (read_tokens written pieces) }
+    ensures there_in_written { (pieces : List Piece) → TokensOrStop true pieces
+        (read_tokens true pieces) }
+    ensures only { (pieces : List Piece) (written : Bool) (answer : Result (List TokenData) Stop)
+        → TokensOrStop written pieces answer → answer ≡ read_tokens written pieces }
+    ensures one { (pieces : List Piece) (written : Bool)
+        (answer other : Result (List TokenData) Stop) → TokensOrStop written pieces answer
+        → TokensOrStop written pieces other → answer ≡ other }
+    ensures limits_aside { (pieces : List Piece) (written : Bool)
+        (answer other : Result (List TokenData) Stop) → TokensWithin None written pieces answer
+        → TokensOrStop written pieces other → (other ≡ answer) ⊎ (other ≡ Err (Limit L2)) }
+    ensures end { (pieces : List Piece) (written : Bool) (tokens : List TokenData)
+        → Tokens written pieces tokens → EndsOnce tokens }
 {}
