@@ -30,6 +30,7 @@ pub mod ReadSteps
 pub mod SqlUnits
 pub mod SqlWalks
 pub mod Starts
+pub mod StatementTokens
 pub mod SyntaxAnswers
 pub mod TableTests
 pub mod TextReads

@@ -1,5 +1,5 @@
 -- The tokens of a source, or of written C. C text is cut into the longest matches of the classes of tokens; an embedded piece is one token, or stands for marks.
-use Rattle.std.specs.Prelude.{◌≡◌, ℕ, suc, ◌+◌, ◌-◌, ◌^◌, Bool, true, false, ◌&&◌, ◌==◌, ℤ, List, [], ◌∷◌, ◌++◌, length, codes, Option, Some, None, Result, Ok, Err, if◌then◌else◌}
+use Rattle.std.specs.Prelude.{◌≡◌, ℕ, suc, ◌+◌, ◌-◌, ◌^◌, Bool, true, false, ◌&&◌, ◌==◌, ℤ, List, [], ◌∷◌, ◌++◌, length, codes, Option, Some, None, Result, Ok, Err, if◌then◌else◌, ⊤}
 use Rattle.std.specs.List.{concat}
 use Rattle.ec_base.specs.declared.fault.FaultKind.{FaultKind}
 use Rattle.ec_base.specs.declared.fault.FaultKind.TheVariants.{F4, F5, F6, F9}
@@ -236,3 +236,8 @@ SqlTokens line bytes tokens = SqlTokensOrStop line bytes (Ok tokens)
 -- The bytes are a statement in which each byte stands in a token or a gap.
 abbrev pub HasSqlTokens : Text → Type 0
 HasSqlTokens bytes = (units : List Text) × StatementUnits bytes units × (first_bad_line 0 units ≡ None)
+
+-- Each statement among the pieces has tokens.
+abbrev pub HaveSqlTokens : List Piece → Type 0
+HaveSqlTokens [] = ⊤
+HaveSqlTokens (p ∷ pieces) = (p.kind ≡ Emb → HasSqlTokens p.bytes) × HaveSqlTokens pieces

@@ -26,4 +26,6 @@ pub use token_examples::{
     character_examples, embedded_examples, integer_examples, left_out_examples, limit_examples,
     line_examples, mark_examples, source_examples, sql_examples, string_examples, written_examples,
 };
-pub use token_laws::{items_are_read, matches_are_read, parts_are_read, tokens_are_read};
+pub use token_laws::{
+    items_are_read, matches_are_read, parts_are_read, statement_tokens_are_read, tokens_are_read,
+};

@@ -1,6 +1,6 @@
 //! What holds of every text and its tokens, as the contracts of functions that do nothing.
 
-ghost use Rattle.std.specs.Prelude.{◌≡◌, ℕ, ◌++◌, Bool, true, List, Option, Some, None, Result, Err, ◌⊎◌};
+ghost use Rattle.std.specs.Prelude.{◌≡◌, ℕ, ◌++◌, Bool, true, false, List, Option, Some, None, Result, Err, ◌⊎◌};
 ghost use Rattle.ec_base.specs.declared.fault.FaultKind.{FaultKind};
 ghost use Rattle.ec_base.specs.declared.fault.LimitKind.TheVariants.{L2};
 ghost use Rattle.ec_base.specs.declared.stop.Stop.{Stop};
@@ -11,7 +11,8 @@ ghost use Rattle.ec_language.specs.Letters.{Text};
 ghost use Rattle.ec_language.specs.Lexemes.{Class, class_of, Longest};
 ghost use Rattle.ec_language.specs.Pieces.{Pieces};
 ghost use Rattle.ec_language.specs.Syntax.{EndsOnce};
-ghost use Rattle.ec_language.specs.Tokens.{Part, Step, Item, NoItem, CParts, TokensWithin, Tokens, TokensOrStop};
+ghost use Rattle.ec_language.specs.Tokens.{Part, Step, Item, NoItem, CParts, TokensWithin, Tokens, TokensOrStop, SqlTokensOrStop, SqlTokens, HasSqlTokens, HaveSqlTokens};
+ghost use Rattle.ec_language.specs.SqlTokens.{SqlToken};
 ghost use Rattle.ec_language.specs.ReadTokens.{lexeme, ReadItem, read_item, c_parts, read_tokens};
 
 /// What stands at the beginning of a text has one longest match at most, and a plain reading finds it.
@@ -71,4 +72,14 @@ pub fn tokens_are_read()
         → TokensOrStop written pieces other → (other ≡ answer) ⊎ (other ≡ Err (Limit L2)) }
     ensures end { (pieces : List Piece) (written : Bool) (tokens : List TokenData)
         → Tokens written pieces tokens → EndsOnce tokens }
+{}
+
+/// An embedded statement has its tokens or one fault. Where the pieces of a source have tokens, each of its statements has.
+pub fn statement_tokens_are_read()
+    ensures one { (line : ℕ) (bytes : Text) (answer other : Result (List SqlToken) Stop)
+        → SqlTokensOrStop line bytes answer → SqlTokensOrStop line bytes other → answer ≡ other }
+    ensures there { (line : ℕ) (bytes : Text)
+        → HasSqlTokens bytes → (tokens : List SqlToken) × SqlTokens line bytes tokens }
+    ensures of_pieces { (pieces : List Piece) (tokens : List TokenData)
+        → Tokens false pieces tokens → HaveSqlTokens pieces }
 {}
