@@ -1,5 +1,6 @@
 //! Parameters as SQLite takes them, and its values as fields of a reply.
-ghost use Rattle.std.specs.Prelude.{◌≡◌, Some, None, map, IfOk, IfErr};
+ghost use Rattle.std.specs.Prelude.{◌≡◌, map, IfOk};
+ghost use Rattle.std.specs.Fmt.{signed_decimal};
 ghost use Rattle.sqlite_value.specs.Value.{owned};
 ghost use Rattle.ec_sqlitelink.specs.Bound.{as_text, field_of};
 
@@ -35,7 +36,7 @@ pub fn bound<'a>(
 
 // The decimal text of a whole number.
 fn decimal(alloc: Global, number: i64) -> Result<Bytes, OutOfMemory>
-    ensures { IfOk result (λ text. field_of (Int number) ≡ Some (Some text)) }
+    ensures { IfOk result (λ text. text ≡ signed_decimal number) }
 {
     let mut buffer = Buffer::new();
     Bytes::from_slice(alloc, buffer.format(number).as_bytes())

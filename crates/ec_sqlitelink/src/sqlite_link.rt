@@ -1,7 +1,8 @@
 //! The link.
-ghost use Rattle.std.specs.Prelude.{◌≡◌, ◌≤◌, None, IfOk, OnErr, if◌then◌else◌};
+ghost use Rattle.std.specs.Prelude.{◌≡◌, ◌≤◌, false, None, IfOk, OnErr, if◌then◌else◌};
 ghost use Rattle.ec_base.specs.Causes.{Rose, one_more};
 ghost use Rattle.ec_link.specs.Link.{talk_after};
+ghost use Rattle.ec_link.specs.Logged.{Talk};
 ghost use Rattle.ec_link.specs.Reply.{is_broken};
 
 use crate::refusal::Stop;
@@ -92,7 +93,7 @@ impl Link for SqliteLink {
 
     fn ask(&mut self, req: &Request) -> Result<Reply, OutOfMemory>
         ensures told { IfOk result (λ reply. None ≡ talk_after None req.now reply) }
-        ensures err { OnErr result (None ≡ None) }
+        ensures err { OnErr result (None {A = Talk} ≡ None) }
         ensures later { self.old ≤ self.new }
         ensures broken { IfOk result (λ reply. reply ≡ Reply.Broken → Rose self.old self.new) }
         ensures counted { IfOk result (λ reply. self.new ≡ (if is_broken reply then one_more self.old else self.old)) }
