@@ -5,7 +5,7 @@ use Rattle.std.proofs.lemmas.Grind.{flat_map-append}
 use Rattle.std.specs.List.{flat_map}
 use Rattle.std.specs.Io.KnownBytes.{Consumes, IsAtEnd}
 use Rattle.std.proofs.KnownBytes.{Appends-nil, Appends-trans, Consumes-nil, Consumes-trans}
-use Rattle.ec_base.specs.declared.stop.ReadStop.TheVariants.{TooLong}
+use Rattle.ec_base.specs.declared.stop.InputStop.TheVariants.{TooLong}
 use Rattle.ec_base.specs.Causes.{Rose}
 use Rattle.ec_base.specs.Reading.{Reads, ReadsAll, ReadsPart}
 use Rattle.ec_base.specs.Putting.{Puts, PutsPart}

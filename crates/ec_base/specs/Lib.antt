@@ -1,4 +1,5 @@
 pub mod Causes
+pub mod Lending
 pub mod MemSink
 pub mod MemSource
 pub mod Putting

@@ -1,6 +1,7 @@
 ghost use Rattle.std.specs.Prelude.{◌≡◌, IfOk};
 
-use std::alloc::{AllocError, Global};
+use crate::stop::OutOfMemory;
+use std::alloc::Global;
 use std::marker::Model;
 
 /// A `Box` that contracts see as its value, so that two trees with equal parts are equal.
@@ -36,7 +37,7 @@ impl<T> Boxed<T> {
 
 impl<T: Drop> Boxed<T> {
     /// A box that holds `value`.
-    pub fn new(alloc: Global, value: T) -> Result<Boxed<T>, AllocError>
+    pub fn new(alloc: Global, value: T) -> Result<Boxed<T>, OutOfMemory>
         ensures { IfOk result (λ b. b ≡ value) }
     {
         Ok(Boxed {

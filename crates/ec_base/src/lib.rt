@@ -5,6 +5,7 @@
 mod boxed;
 mod calls;
 mod fault;
+mod keeping;
 mod line;
 mod list;
 mod mem_sink;
@@ -20,6 +21,7 @@ mod texts;
 
 pub use boxed::Boxed;
 pub use fault::{FaultKind, LimitKind};
+pub use keeping::beside;
 pub use line::Line;
 pub use list::{Bytes, List, Name};
 pub use mem_sink::MemSink;
@@ -30,7 +32,7 @@ pub use sink::Sink;
 pub use source::Source;
 pub use std_sink::StdSink;
 pub use std_source::StdSource;
-pub use stop::{Failed, OutOfMemory, ReadStop, Stop, Trap};
+pub use stop::{Failed, InputStop, OutOfMemory, Stop, Trap};
 
 #[cfg(test)]
 mod tests;

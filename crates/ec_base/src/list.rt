@@ -1,12 +1,14 @@
-ghost use Rattle.std.specs.Prelude.{◌≡◌, [], ◌∷◌, ◌++◌, ◌-◌, ◌<◌, length, slice_get, slice_set, ◌↔◌, IsTrue, IfOk, MatchOption, OnOk, OnErr};
+ghost use Rattle.std.specs.Prelude.{◌≡◌, [], ◌∷◌, ◌++◌, ◌-◌, ◌<◌, ◌^◌, length, take, slice_get, slice_set, ◌↔◌, IsTrue, IfOk, MatchOption, OnOk, OnErr};
 ghost use Rattle.std.specs.Option.{option_copied};
-ghost use Rattle.std.specs.List.{AllZip};
+ghost use Rattle.std.specs.List.{AllZip, IsItemAtMut, ItemMut};
+ghost use Rattle.std.specs.Borrow.{sem};
 ghost use Rattle.std.specs.Cmp.Lexicographic.{pointwise, lists_per, lists_equiv};
 
 use crate::stop::OutOfMemory;
 use std::alloc::{AllocError, Global};
 use std::marker::Model;
 use std::mem;
+use std::vec::IntoIter;
 
 /// A `Vec` that contracts see as the list of its elements, so that a copy equals what it copies.
 #[derive(Debug, Drop)]
@@ -32,6 +34,8 @@ impl<T> Model for List<T> {
 }
 
 impl<T> List<T> {
+    ghost use Rattle.ec_base.specs.Lending.{lends_item, lends_last};
+
     /// The empty list. It takes no memory.
     pub fn new(alloc: Global) -> List<T>
         ensures { result ≡ [] }
@@ -46,6 +50,23 @@ impl<T> List<T> {
         ensures { result ≡ items.items }
     {
         List { items }
+    }
+
+    /// The empty list, with room for `count` elements.
+    pub fn with_capacity(alloc: Global, count: usize) -> Result<List<T>, OutOfMemory>
+        ensures { IfOk result (λ list. list ≡ []) }
+    {
+        Ok(List {
+            items: Vec::with_capacity(alloc, count)?,
+        })
+    }
+
+    /// The elements, in order, as a `Vec`. It takes no memory.
+    pub fn into_vec(self) -> Vec<T>
+        ensures { result.items ≡ self }
+    {
+        let List { items } = self;
+        items
     }
 
     /// The elements, as a slice.
@@ -81,6 +102,22 @@ impl<T> List<T> {
         ensures { option_copied result ≡ slice_get self.now (length self.now - 1) }
     {
         self.items.last()
+    }
+
+    /// The element at `at`, to be changed in its place, or `None` past the end.
+    pub fn get_mut(&mut self, at: usize) -> Option<&mut T>
+        ensures* writes_back { sem 𝓛 (lends_item T.row self.entry at result) }
+        ensures item { IsItemAtMut self.old at result }
+    {
+        self.items.get_mut(at)
+    }
+
+    /// The last element, to be changed in its place, or `None` of the empty list.
+    pub fn last_mut(&mut self) -> Option<&mut T>
+        ensures* writes_back { sem 𝓛 (lends_last T.row self.entry result) }
+        ensures item { ItemMut self.old 0 (length self.old - 1) result }
+    {
+        self.items.last_mut()
     }
 
     /// Takes the last element out.
@@ -143,11 +180,34 @@ impl<T: Drop> List<T> {
         self.items[at] = item;
     }
 
+    /// Takes every element out but the first `count`.
+    pub fn truncate(&mut self, count: usize)
+        ensures { self.new ≡ take count self.old }
+    {
+        self.items.truncate(count);
+    }
+
     /// Takes every element out.
     pub fn clear(&mut self)
         ensures { self.new ≡ [] }
     {
         self.items.clear();
+    }
+}
+
+impl<T: Drop> IntoIterator for List<T> {
+    ghost use Rattle.std.specs.declared.alloc.Global.{Global as Heap};
+    ghost use Rattle.std.specs.Iterator.Runs.{EveryRun, ItemsAre};
+    ghost use Rattle.std.specs.Vec.Iter.{into_iter_items, into_iter_len, into_iter_steps};
+
+    type Item = T;
+
+    type IntoIter = IntoIter<T, Global>;
+
+    ghost into_iter_gives = { λ list it. (into_iter_items it ≡ list) × (into_iter_len it ≡ length list) × (into_iter_len it < 2 ^ 64) × EveryRun (into_iter_steps {X = T} {Z = Heap}) (λ p. ItemsAre p (into_iter_items p.from)) };
+
+    fn into_iter(self) -> IntoIter<T, Global> {
+        self.into_vec().into_iter()
     }
 }
 

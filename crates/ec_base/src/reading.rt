@@ -3,7 +3,7 @@ ghost use Rattle.ec_base.specs.Reading.{ReadsAll, ReadsPart};
 
 use crate::list::{Bytes, List};
 use crate::source::Source;
-use crate::stop::ReadStop;
+use crate::stop::InputStop;
 use std::alloc::Global;
 
 /// How many bytes are asked for at a time.
@@ -12,7 +12,7 @@ const BLOCK: usize = 8192;
 /// Reads `source` to its end.
 ///
 /// It stops as soon as more than `limit` bytes have come. What was read by then is gone from the source.
-pub fn read_all<S: Source>(alloc: Global, source: &mut S, limit: usize) -> Result<Bytes, ReadStop>
+pub fn read_all<S: Source>(alloc: Global, source: &mut S, limit: usize) -> Result<Bytes, InputStop>
     ensures ok { IfOk result (ReadsAll S.left S.faults source.old source.new limit) }
     ensures err { IfErr result (ReadsPart S.left S.faults source.old source.new limit) }
 {
@@ -25,5 +25,5 @@ pub fn read_all<S: Source>(alloc: Global, source: &mut S, limit: usize) -> Resul
         }
         bytes.extend_from_slice(&block[..count])?;
     }
-    Err(ReadStop::TooLong)
+    Err(InputStop::TooLong)
 }

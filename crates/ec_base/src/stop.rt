@@ -26,7 +26,7 @@ pub struct Failed;
 
 /// Why a source was not read to its end.
 #[derive(Clone, Copy, Debug, PartialEq, Eq)]
-pub enum ReadStop {
+pub enum InputStop {
     /// The source failed.
     Fault,
     /// The source gave more bytes than are allowed.
@@ -35,23 +35,23 @@ pub enum ReadStop {
     OutOfMemory,
 }
 
-impl From<Failed> for ReadStop {
-    ghost use Rattle.ec_base.specs.declared.stop.ReadStop.TheVariants as reads;
+impl From<Failed> for InputStop {
+    ghost use Rattle.ec_base.specs.declared.stop.InputStop.TheVariants as reads;
 
     ghost from_gives = { λ _ stop. stop ≡ reads.Fault };
 
-    fn from(_refused: Failed) -> ReadStop {
-        ReadStop::Fault
+    fn from(_refused: Failed) -> InputStop {
+        InputStop::Fault
     }
 }
 
-impl From<OutOfMemory> for ReadStop {
-    ghost use Rattle.ec_base.specs.declared.stop.ReadStop.TheVariants as reads;
+impl From<OutOfMemory> for InputStop {
+    ghost use Rattle.ec_base.specs.declared.stop.InputStop.TheVariants as reads;
 
     ghost from_gives = { λ _ stop. stop ≡ reads.OutOfMemory };
 
-    fn from(_refused: OutOfMemory) -> ReadStop {
-        ReadStop::OutOfMemory
+    fn from(_refused: OutOfMemory) -> InputStop {
+        InputStop::OutOfMemory
     }
 }
 

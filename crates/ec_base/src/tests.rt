@@ -52,6 +52,35 @@ fn lists(rt: HostRuntime) -> Result<(), Fail> {
     assert!(rt; list == List::from_vec(vec![in list.allocator(); 1u8, 2, 7, 8]?));
     list.clear();
     assert!(rt; list.is_empty() && list.last().is_none() && list == List::new(alloc));
+    Ok(())
+}
+
+#[test]
+fn lists_are_changed_in_place(rt: HostRuntime) -> Result<(), Fail> {
+    let alloc = rt.alloc();
+    let mut list = List::with_capacity(alloc, 3)?;
+    list.extend_from_slice(&[5u8, 6, 7])?;
+    if let Some(second) = list.get_mut(1) {
+        *second = 2;
+    }
+    if let Some(last) = list.last_mut() {
+        *last = 3;
+    }
+    assert!(rt; list.get_mut(3).is_none());
+    assert_eq!(rt; list.as_slice(), [5, 2, 3].as_slice());
+    list.truncate(2);
+    let mut sum = 0u32;
+    for item in list.clone()? {
+        sum = sum.wrapping_mul(10).wrapping_add(u32::from(item));
+    }
+    assert_eq!(rt; sum, 52);
+    assert_eq!(rt; list.into_vec().as_slice(), [5, 2].as_slice());
+    Ok(())
+}
+
+#[test]
+fn boxes(rt: HostRuntime) -> Result<(), Fail> {
+    let alloc = rt.alloc();
     assert_eq!(rt; *Boxed::new(alloc, 4u8)?.get(), 4);
     assert_eq!(rt; Boxed::new(alloc, 4u8)?.into_inner(), 4);
     Ok(())
@@ -74,14 +103,14 @@ fn copies_are_equal(rt: HostRuntime) -> Result<(), Fail> {
 #[test]
 fn reads_to_the_end_or_stops(rt: HostRuntime) -> Result<(), Fail> {
     let alloc = rt.alloc();
-    let table: [(&[u8], usize, &[u64], usize, Result<&[u8], ReadStop>, &[u8]); 7] = [
+    let table: [(&[u8], usize, &[u64], usize, Result<&[u8], InputStop>, &[u8]); 7] = [
         (b"", 1, &[], 0, Ok(b""), b""),
         (b"hello", 2, &[], 5, Ok(b"hello"), b""),
         (b"hello", 9, &[4], 9, Ok(b"hello"), b""),
-        (b"hello", 2, &[], 4, Err(ReadStop::TooLong), b""),
-        (b"hello", 2, &[], 3, Err(ReadStop::TooLong), b"o"),
-        (b"hello", 2, &[0], 5, Err(ReadStop::Fault), b"hello"),
-        (b"hello", 2, &[7, 1], 5, Err(ReadStop::Fault), b"llo"),
+        (b"hello", 2, &[], 4, Err(InputStop::TooLong), b""),
+        (b"hello", 2, &[], 3, Err(InputStop::TooLong), b"o"),
+        (b"hello", 2, &[0], 5, Err(InputStop::Fault), b"hello"),
+        (b"hello", 2, &[7, 1], 5, Err(InputStop::Fault), b"llo"),
     ];
     for (text, chunk, failing, limit, want, rest) in table {
         assert!(rt; 1 <= chunk);
@@ -131,7 +160,7 @@ fn adapts_readers_and_writers(rt: HostRuntime) -> Result<(), Fail> {
     let mut broken = StdSource::new(Broken);
     assert_eq!(rt;
         read_all(alloc, &mut broken, 5).err(),
-        Some(ReadStop::Fault)
+        Some(InputStop::Fault)
     );
     let mut held = Vec::new(alloc);
     assert_eq!(rt; put_all(&mut StdSink::new(&mut held), text), Ok(()));

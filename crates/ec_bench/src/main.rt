@@ -5,7 +5,7 @@
 mod count;
 
 use crate::count::{count_pieces, count_tokens, count_tops};
-use ec_base::{OutOfMemory, ReadStop, StdSource, Stop, read_all};
+use ec_base::{InputStop, OutOfMemory, StdSource, Stop, read_all};
 use std::alloc::Global;
 use std::env;
 use std::process::ExitCode;
@@ -27,11 +27,11 @@ impl From<OutOfMemory> for Failure {
     }
 }
 
-impl From<ReadStop> for Failure {
-    fn from(stop: ReadStop) -> Failure {
+impl From<InputStop> for Failure {
+    fn from(stop: InputStop) -> Failure {
         match stop {
-            ReadStop::OutOfMemory => Failure::OutOfMemory,
-            ReadStop::Fault | ReadStop::TooLong => Failure::Read,
+            InputStop::OutOfMemory => Failure::OutOfMemory,
+            InputStop::Fault | InputStop::TooLong => Failure::Read,
         }
     }
 }

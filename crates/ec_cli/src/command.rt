@@ -11,7 +11,7 @@ use crate::machine::{RunEnd, run};
 use crate::source::read_source;
 use crate::written::read::read_written;
 use crate::written::write::write;
-use ec_base::{Bytes, LimitKind, OutOfMemory, ReadStop, Sink, Source as Input, Stop, read_all};
+use ec_base::{Bytes, InputStop, LimitKind, OutOfMemory, Sink, Source as Input, Stop, read_all};
 use ec_link::{Link, Rack};
 use ec_model::{Source, Written};
 use std::alloc::Global;
@@ -120,8 +120,8 @@ pub fn command<I: Input, O: Sink>(
     }
     match read_all(alloc, input, INPUT_LIMIT) {
         Ok(text) => run_text(alloc, text, out, rack),
-        Err(ReadStop::Fault) => Ending::ReadFault,
-        Err(ReadStop::TooLong) => Ending::Limit(LimitKind::L6),
-        Err(ReadStop::OutOfMemory) => Ending::OutOfMemory,
+        Err(InputStop::Fault) => Ending::ReadFault,
+        Err(InputStop::TooLong) => Ending::Limit(LimitKind::L6),
+        Err(InputStop::OutOfMemory) => Ending::OutOfMemory,
     }
 }

@@ -8,8 +8,7 @@ ghost use Rattle.ec_ctypes.specs.views.Tokens.{tokens_view};
 ghost use Rattle.ec_ctypes.specs.views.Units.{unit_view};
 ghost use Rattle.ec_grammar.specs.ReadUnit as spec;
 ghost use Rattle.ec_language.specs.Productions.{placed};
-ghost use Rattle.ec_language.specs.Syntax.{TreeOrStop};
-ghost use Rattle.ec_language.specs.SyntaxAnswer.{EndsOnce};
+ghost use Rattle.ec_language.specs.Syntax.{EndsOnce, TreeOrStop};
 ghost use Rattle.ec_csyntax.specs.Answers.{GivesUnlessNoMemory};
 
 use crate::units::unit;

@@ -11,8 +11,7 @@ use Rattle.ec_ctypes.specs.trees.Tokens.{TokData, end_token, TokenData}
 use Rattle.ec_ctypes.specs.trees.Units.{UnitData}
 use Rattle.ec_language.specs.Productions.{Placed, is, end_of_text, placed, placed_from, section_behind, unit, sym as ofs}
 use Rattle.ec_language.specs.Grammar.{Tokens, Limits, no_counts, DerivesBelow, DerivesWithin, FrontBelow, FrontWithin}
-use Rattle.ec_language.specs.Syntax.{limits, AllFit, TreeOrStop, tree, dead, too_deep}
-use Rattle.ec_language.specs.SyntaxAnswer.{EndsOnce}
+use Rattle.ec_language.specs.Syntax.{AllFit, EndsOnce, TreeOrStop, dead, limits, too_deep, tree}
 use Rattle.ec_language.proofs.TokenEnds.{whole_front}
 use Rattle.ec_language.proofs.SyntaxAnswers.{stop_exact, tree_or_else}
 use Rattle.ec_grammar.specs.declared.failure.Failure.TheVariants.{OutOfMemory, Dead, TooDeep}

@@ -19,6 +19,5 @@ mod Operators
 mod Postfixes
 mod Sound
 mod Statements
-pub mod TokensEnd
 mod Types
 mod Units

@@ -14,7 +14,7 @@ use Rattle.ec_language.specs.Tokens.{Tokens, TokensOrStop}
 use Rattle.ec_language.proofs.PieceParts.{one_answer}
 use Rattle.ec_language.proofs.ReadLaws.{one_list, one_fault, pieces_or_fault}
 use Rattle.ec_exact.proofs.Answered.{only_answer}
-use Rattle.ec_exact.proofs.TokensEnd.{ends_of}
+use Rattle.ec_language.proofs.LastToken.{ends_of}
 
 abbrev Answer : Type 0
 Answer = Result UnitData Stop

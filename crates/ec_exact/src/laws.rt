@@ -7,8 +7,7 @@ ghost use Rattle.ec_ctypes.specs.trees.Units.{UnitData};
 ghost use Rattle.ec_grammar.specs.ReadUnit.{answer};
 ghost use Rattle.ec_language.specs.First.{Reads};
 ghost use Rattle.ec_language.specs.Letters.{Text};
-ghost use Rattle.ec_language.specs.Syntax.{TreeOrStop};
-ghost use Rattle.ec_language.specs.SyntaxAnswer.{EndsOnce};
+ghost use Rattle.ec_language.specs.Syntax.{EndsOnce, TreeOrStop};
 
 /// What the plain reading answers of tokens is what the grammar has of them: the tree, the dead token's line, or the limit
 /// that is passed. And there is no other answer, so that tokens have one tree at most.

@@ -5,9 +5,9 @@ use Rattle.ec_ctypes.specs.declared.tree.expr.UnOp.{UnOp}
 use Rattle.ec_ctypes.specs.declared.tree.expr.UnOp.TheVariants as un
 use Rattle.ec_ctypes.specs.declared.tree.expr.BinOp.{BinOp}
 use Rattle.ec_ctypes.specs.declared.tree.expr.BinOp.TheVariants as bin
-use Rattle.ec_ctypes.specs.trees.Exprs.{ExprData, integer, character, string, unary, binary, assign, bump, call, call_other, index, member, arrow, cast, size_type, size_expr, identifier}
+use Rattle.ec_ctypes.specs.trees.Exprs.{ExprData, integer, character, string, unary, binary, assign, bump, call, call_other, index, member, arrow, cast, size_type, size_expr}
 use Rattle.ec_ctypes.specs.views.Exprs.{exprs_of}
-use Rattle.ec_language.specs.Productions.{operations, Primary, bare_name, text_of, number_of, type_in, character_in, Rank, or_rank, and_rank, bit_or_rank, bit_xor_rank, bit_and_rank, equal_rank, relation_rank, shift_rank, add_rank, multiply_rank}
+use Rattle.ec_language.specs.Productions.{operations, Primary, named, bare_name, text_of, number_of, type_in, character_in, Rank, or_rank, and_rank, bit_or_rank, bit_xor_rank, bit_and_rank, equal_rank, relation_rank, shift_rank, add_rank, multiply_rank}
 use Rattle.ec_language.specs.Grammar.{Limits}
 use Rattle.ec_grammar.specs.declared.kind.Kind.{Kind}
 use Rattle.ec_grammar.specs.declared.kind.Kind.TheVariants as k
@@ -74,7 +74,7 @@ module _ (most : Limits) (inner : Nested) where
   -- ---- primary expressions and what stands behind them
 
   abbrev pub primary_by : Kind → Parser Primary
-  primary_by k.Name = do t ← expect k.Name; pure (record { expression = identifier (text_of t); is_name = true })
+  primary_by k.Name = do t ← expect k.Name; pure (named (text_of t))
   primary_by k.Integer = do t ← expect k.Integer; pure (primary_of (integer (number_of t) (type_in t.token.tok)))
   primary_by k.Character = do t ← expect k.Character; pure (primary_of (character (character_in t.token.tok)))
   primary_by k.Text = do t ← expect k.Text; pure (primary_of (string (text_of t)))

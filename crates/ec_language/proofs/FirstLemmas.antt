@@ -107,7 +107,7 @@ earlier_wins v (Some w) behind = chosen v w (comes_before w v) (later w.place (r
     chosen v w true is = cc
     chosen v w false is = refl
 
-fault_is_small : (kind : FaultKind) → fault_number kind < 32
+fault_is_small : (kind : FaultKind) → fault_number kind < 102
 fault_is_small fault.F1 = omega arith
 fault_is_small fault.F2 = omega arith
 fault_is_small fault.F3 = omega arith
@@ -172,7 +172,7 @@ fault_wins place line kind false vs behind = earlier_wins (refusal place line ki
 fault_wins place line kind true vs behind =
     subst (λ o. earlier (refusal place line kind) o ≡ Some (refusal place line kind)) (sym (earlier_wins (record { place = place; stop = Limit L2 }) (first_of vs) behind))
     (kept (refusal place line kind) (record { place = place; stop = Limit L2 }) (comes_before (record { place = place; stop = Limit L2 }) (refusal place line kind))
-    (later place 32 (fault_number kind) (fault_is_small kind)))
+    (later place 102 (fault_number kind) (fault_is_small kind)))
   where
     later : (a r s : ℕ) → s < r → less a r a s ≡ false
     later a r s small = grind (arith, nat_tests)

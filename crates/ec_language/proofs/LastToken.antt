@@ -1,5 +1,5 @@
 -- The tokens of pieces end with the end, and no other token is one.
-use Rattle.std.proofs.Common.{◌≡◌, ◌≢◌, ℕ, zero, suc, Bool, true, false, List, [], ◌∷◌, ◌++◌, Option, Some, None, Result, Ok, Err, ℤ, ◌==◌, length, option_map, codes, if◌then◌else◌, refl, sym, ap, ◌∙◌}
+use Rattle.std.proofs.Common.{◌≡◌, ◌≢◌, ℕ, zero, suc, Bool, true, false, List, [], ◌∷◌, ◌++◌, Option, Some, None, Result, Ok, Err, ℤ, ◌==◌, length, option_map, codes, if◌then◌else◌, refl, sym, ap, ◌∙◌, subst}
 use Rattle.std.proofs.lemmas.Bool.{false≢true}
 use Rattle.ec_base.specs.declared.fault.FaultKind.{FaultKind}
 use Rattle.ec_base.specs.declared.fault.FaultKind.TheVariants.{F9}
@@ -12,11 +12,12 @@ use Rattle.ec_ctypes.specs.trees.Tokens.{TokData, word_token, string_token, end_
 use Rattle.ec_language.specs.Letters.{Text, is_blank, is_not_newline, begins_with}
 use Rattle.ec_language.specs.Lexemes.{Class, word, number, character, string, punct, left_out, comment, is_line_directive, is_fresh_after}
 use Rattle.ec_language.specs.Constants.{integer_constant, character_value, string_value}
-use Rattle.ec_language.specs.Tokens.{Part, token_of, is_left_out_word, integer_tok, character_tok, string_tok, join_two, join_first, join_strings, without_head, numbered, numbered_part, with_token, token, fault_at, part_at, line_behind, bad_byte, statements_behind}
+use Rattle.ec_language.specs.Tokens.{Tokens, Part, token_of, is_left_out_word, integer_tok, character_tok, string_tok, join_two, join_first, join_strings, without_head, numbered, numbered_part, with_token, token, fault_at, part_at, line_behind, bad_byte, statements_behind}
 use Rattle.ec_language.specs.ReadTokens as r
 use Rattle.ec_language.specs.ReadPieces.{behind_all, front}
 use Rattle.ec_language.specs.ReadTokens.{ReadItem, include_item, include_behind, directive_item, read_directive, read_hash, lexeme, lexeme_item, read_item, ReadParts, with_parts, c_parts_within, c_parts, embedded_parts, other_parts, is_c, piece_parts, all_parts, tokens_of, read_tokens, statement_units, declaration_text}
-use Rattle.ec_language.specs.SyntaxAnswer.{EndsOnce}
+use Rattle.ec_language.specs.Syntax.{EndsOnce}
+use Rattle.ec_language.proofs.PieceParts.{tokens_complete}
 
 -- what stands in a place is not the end
 abbrev pub is_no_end : Result TokData FaultKind → Bool
@@ -197,3 +198,7 @@ numbered_ends_once place last (p ∷ parts) h = part_ends_once place p.line p.to
 
 pub tokens_end_once : (written : Bool) (pieces : List Piece) → OkEndsOnce (read_tokens written pieces)
 tokens_end_once written pieces = numbered_ends_once 0 _ _ (headless_no_end written _ (joined_no_end _ (all_no_end written 1 true 0 pieces)))
+
+-- The tokens of pieces end once.
+pub ends_of : (written : Bool) (pieces : List Piece) (ts : List TokenData) → Tokens written pieces ts → EndsOnce ts
+ends_of written pieces ts are = subst OkEndsOnce (sym (tokens_complete written pieces (Ok ts) are)) (tokens_end_once written pieces)

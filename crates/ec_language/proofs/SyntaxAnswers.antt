@@ -12,9 +12,9 @@ use Rattle.ec_ctypes.specs.trees.Tokens.{TokenData}
 use Rattle.ec_ctypes.specs.trees.Units.{UnitData}
 use Rattle.ec_language.specs.Productions.{Placed, placed, unit}
 use Rattle.ec_language.specs.Grammar.{Tokens, DerivesWithin, FrontWithin}
-use Rattle.ec_language.specs.Syntax.{limits, AllFit, IsDead, IsTooDeep, TreeOrStop, tree, dead, too_deep}
+use Rattle.ec_language.specs.Syntax.{EndsOnce, limits, AllFit, IsDead, IsTooDeep, TreeOrStop, tree, dead, too_deep}
 use Rattle.ec_language.specs.ReadSyntax.{IsAmong, fits, unreached, stop_at, first_stop}
-use Rattle.ec_language.specs.SyntaxAnswer.{trees_of, stop_of, tree_or_stop, read_syntax, EndsOnce}
+use Rattle.ec_language.specs.SyntaxAnswer.{trees_of, stop_of, tree_or_stop, read_syntax}
 use Rattle.ec_language.proofs.Decided.{tree_derived, derived_tree, fits_front, front_fits, goes_on_front, front_goes_on}
 use Rattle.ec_language.proofs.Prefixes.{front_of_whole}
 use Rattle.ec_language.proofs.TokenEnds.{whole_front}

@@ -6,7 +6,7 @@ use Rattle.ec_ctypes.specs.trees.Units.{UnitData}
 use Rattle.ec_language.specs.Productions.{Placed, placed_from, section_behind, placed, Terminal, is, mark, keyword, type_word, varchar_word, name, integer_constant, character_constant, string_literal, include_line, executable, directive, opening_mark, closing_mark, end_of_text, Sym, items, Value, Element, tok, count, sym as ofs, nest, whole, own, Row, Node, Nodes, Follows, Production, productions, operators, more_operands, more_operand, or_rank}
 use Rattle.ec_language.specs.Productions as g
 use Rattle.ec_language.specs.Grammar.{Tokens, Limits, Counts, no_counts, DerivesElement, DerivesRow, AnyOf, Makes, DerivesBelow, DerivesWithin, FrontElement, FrontRow, FrontBelow, FrontWithin}
-use Rattle.ec_language.specs.SyntaxAnswer.{EndsOnce}
+use Rattle.ec_language.specs.Syntax.{EndsOnce}
 use Rattle.ec_language.proofs.TableTests.{every_row, every_true}
 
 -- ---- tokens

@@ -17,7 +17,7 @@ use Rattle.ec_language.specs.Syntax.{TreeOrStop}
 
 -- ---- the order
 
--- a fault or a limit, with the number of the byte or token where it comes
+-- A fault or a limit, with its place: the number of the byte or token where it comes. Behind the syntax, places are those of declarations, statements and functions, and the place determines the line: all that is found at one place stands on one line.
 pub record Violation : Type 0 where
   pub place : ℕ
   pub stop : Stop
@@ -64,11 +64,11 @@ limit_number L6 = 6
 limit_number L7 = 7
 limit_number L8 = 8
 
--- at one place: faults by their numbers, and then limits. Want of memory is no violation
+-- At one place: faults by their numbers, and then limits. Numbers below 100 are left for faults. Want of memory is no violation.
 abbrev pub rank : Stop → ℕ
 rank (Refused kind line) = fault_number kind
-rank (Limit kind) = 30 + limit_number kind
-rank OutOfMemory = 39
+rank (Limit kind) = 100 + limit_number kind
+rank OutOfMemory = 200
 
 abbrev pub comes_before : Violation → Violation → Bool
 comes_before a b = nat_lt a.place b.place || (a.place == b.place && nat_lt (rank a.stop) (rank b.stop))

@@ -446,6 +446,17 @@ with_postfix e (at_arrow m) = arrow e m
 with_postfix e (bumped up) = bump false up e
 with_postfix e (called es) = call_other e es
 
+-- this member of the communication area
+abbrev pub area_member : String → Primary
+area_member member' = record { expression = member (identifier (codes "sqlca")) (codes member'); is_name = false }
+
+-- a name, or one of the two words that stand for members of the communication area (PostgreSQL manual, 34.8.3, SQLSTATE vs. SQLCODE)
+abbrev pub named : Text → Primary
+named w = elim (same_text w (codes "SQLCODE")) [
+  | true ↦ area_member "sqlcode"
+  | false ↦ elim (same_text w (codes "SQLSTATE")) [ true ↦ area_member "sqlstate" | false ↦ record { expression = identifier w; is_name = true } ]
+]
+
 abbrev pub name_in : ExprData → Text
 name_in (identifier x) = x
 name_in _ = []
@@ -659,7 +670,7 @@ productions argument_part = rule (count operations (mark p.LeftParen) ∷ sym ar
 productions arguments = rule [] (λ start x. no_exprs) ∷ rule (whole assignment ∷ sym more_arguments ∷ []) (λ start x. exprs x.0 x.1.0) ∷ []
 productions more_arguments = rule [] (λ start x. no_exprs) ∷ rule (sign p.Comma ∷ whole assignment ∷ sym more_arguments ∷ []) (λ start x. exprs x.1.0 x.1.1.0) ∷ []
 productions primary =
-    rule (tok name ∷ []) (λ start x. record { expression = identifier (text_of x.0); is_name = true })
+    rule (tok name ∷ []) (λ start x. named (text_of x.0))
     ∷ rule (tok integer_constant ∷ []) (λ start x. record { expression = integer (number_of x.0) (type_in x.0.token.tok); is_name = false })
     ∷ rule (tok character_constant ∷ []) (λ start x. record { expression = character (character_in x.0.token.tok); is_name = false })
     ∷ rule (tok string_literal ∷ []) (λ start x. record { expression = string (text_of x.0); is_name = false })

@@ -1,13 +1,19 @@
 -- The tree of a list of tokens, or why there is none: a token with which no program goes on, or a limit.
-use Rattle.std.specs.Prelude.{◌≡◌, ◌≤◌, ℕ, List, [], ◌∷◌, ◌++◌, length, take, Result, Ok, Err}
+use Rattle.std.specs.Prelude.{◌≡◌, ◌≢◌, ◌≤◌, ℕ, List, [], ◌∷◌, ◌++◌, length, take, Result, Ok, Err}
 use Rattle.ec_base.specs.declared.fault.FaultKind.TheVariants.{F7}
 use Rattle.ec_base.specs.declared.fault.LimitKind.TheVariants.{L3}
 use Rattle.ec_base.specs.declared.stop.Stop.{Stop}
 use Rattle.ec_base.specs.declared.stop.Stop.TheVariants.{Refused, Limit}
-use Rattle.ec_ctypes.specs.trees.Tokens.{TokenData}
+use Rattle.ec_ctypes.specs.trees.Tokens.{TokenData, end_token}
 use Rattle.ec_ctypes.specs.trees.Units.{UnitData}
 use Rattle.ec_language.specs.Productions.{Placed, placed, unit}
 use Rattle.ec_language.specs.Grammar.{Tokens, Limits, DerivesWithin, FrontWithin, Front}
+
+-- The last token is the end, and no other is: so are the tokens of a text.
+abbrev pub EndsOnce : List TokenData → Type 0
+EndsOnce [] = ⊥
+EndsOnce (t ∷ []) = t.tok ≡ end_token
+EndsOnce (t ∷ u ∷ ts) = (t.tok ≢ end_token) × EndsOnce (u ∷ ts)
 
 -- the limits of a program: 64 levels of nesting round a token, 4096 binary operators and postfix parts, 64 stars and array lengths
 abbrev pub limits : Limits

@@ -1,9 +1,9 @@
 -- The tree or the stop of a list of tokens, computed.
-use Rattle.std.specs.Prelude.{◌≡◌, ◌≢◌, List, [], ◌∷◌, Option, Some, None, Result, Ok, Err}
+use Rattle.std.specs.Prelude.{List, [], ◌∷◌, Option, Some, None, Result, Ok, Err}
 use Rattle.ec_base.specs.declared.fault.LimitKind.TheVariants.{L3}
 use Rattle.ec_base.specs.declared.stop.Stop.{Stop}
 use Rattle.ec_base.specs.declared.stop.Stop.TheVariants.{Limit}
-use Rattle.ec_ctypes.specs.trees.Tokens.{TokenData, end_token}
+use Rattle.ec_ctypes.specs.trees.Tokens.{TokenData}
 use Rattle.ec_ctypes.specs.trees.Units.{UnitData}
 use Rattle.ec_language.specs.Productions.{placed, unit}
 use Rattle.ec_language.specs.ReadSyntax.{trees, first_stop}
@@ -23,9 +23,3 @@ tree_or_stop [] None = Err (Limit L3)
 
 abbrev pub read_syntax : List TokenData → Result UnitData Stop
 read_syntax ts = tree_or_stop (trees_of ts) (stop_of ts)
-
--- The last token is the end, and no other is.
-abbrev pub EndsOnce : List TokenData → Type 0
-EndsOnce [] = ⊥
-EndsOnce (t ∷ []) = t.tok ≡ end_token
-EndsOnce (t ∷ u ∷ ts) = (t.tok ≢ end_token) × EndsOnce (u ∷ ts)

@@ -7,7 +7,7 @@ use Rattle.ec_ctypes.specs.declared.text.token.Punct.{Punct}
 use Rattle.ec_ctypes.specs.declared.text.token.Punct.TheVariants.{LeftBrace, LeftParen, RightParen}
 use Rattle.ec_ctypes.specs.declared.types.arith.Arith.{Arith}
 use Rattle.ec_ctypes.specs.declared.types.arith.Arith.TheVariants.{Int}
-use Rattle.ec_ctypes.specs.trees.Exprs.{ExprData, integer, identifier, BaseData, words, DimList, InitOption, declarator, declarators, no_declarators, DeclData, decl}
+use Rattle.ec_ctypes.specs.trees.Exprs.{ExprData, integer, identifier, member, BaseData, words, DimList, InitOption, declarator, declarators, no_declarators, DeclData, decl}
 use Rattle.ec_ctypes.specs.trees.Stmts.{StmtData, stmt, StmtKindData, empty_stmt, expr_stmt, StmtList, no_stmts, stmts}
 use Rattle.ec_ctypes.specs.trees.Types.{arithmetic}
 use Rattle.ec_ctypes.specs.trees.Units.{TopData, func_top, UnitData}
@@ -83,6 +83,10 @@ int_base = words (codes "int" ∷ [])
 
 abbrev pub id : String → ExprData
 id name = identifier (codes name)
+
+-- a member of `sqlca`
+abbrev pub area : String → ExprData
+area name = member (id "sqlca") (codes name)
 
 abbrev pub int_value : ℕ → ExprData
 int_value n = integer n (arithmetic Int)

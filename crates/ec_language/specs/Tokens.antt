@@ -17,7 +17,7 @@ use Rattle.ec_language.specs.Line.{newlines}
 use Rattle.ec_language.specs.CText.{CUnits}
 use Rattle.ec_language.specs.Constants.{integer_constant, character_value, string_value}
 use Rattle.ec_language.specs.Lexemes.{Class, word, number, character, string, punct, left_out, comment, Longest, IncludeLine, is_fresh_after, is_line_directive, directive_number}
-use Rattle.ec_language.specs.SqlTokens.{StatementUnits, first_bad_line, is_executable}
+use Rattle.ec_language.specs.SqlTokens.{SqlToken, StatementUnits, sql_tokens_from, first_bad_line, is_executable}
 use Rattle.ec_language.specs.Pieces.{Declared}
 
 -- ---- what stands in a text, one after the other
@@ -88,7 +88,7 @@ NoItem written fresh text = (u rest : Text) (tok : Option (Result TokData FaultK
 abbrev pub bad_byte : Bool → Text → FaultKind
 bad_byte fresh text = if fresh && begins_with (codes "#") text then F9 else F4
 
--- The parts of C text that begins on a line, with the line at its end. `fresh`: nothing but blanks stands before it on its line. The first fault ends them.
+-- The parts of C text that begins on a line, with the line at its end. `fresh`: nothing but blanks stands before it on its line. A fault is a part, and others follow it; but a byte that begins nothing ends them.
 pub data CParts (written : Bool) : ℕ → Bool → Text → List Part → ℕ → Type 0 where
   end : (line : ℕ) (fresh : Bool) → CParts written line fresh [] [] line
   item : (line : ℕ) (fresh : Bool) (text u rest : Text) (tok : Option (Result TokData FaultKind)) (step : Step) (parts others : List Part) (last : ℕ)
@@ -194,3 +194,26 @@ TokensOrStop written pieces answer =
 -- These are the tokens of the pieces.
 abbrev pub Tokens : Bool → List Piece → List TokenData → Type 0
 Tokens written pieces tokens = TokensOrStop written pieces (Ok tokens)
+
+-- ---- the tokens of a statement
+
+abbrev pub refused_at : Option ℕ → List SqlToken → Result (List SqlToken) Stop
+refused_at None tokens = Ok tokens
+refused_at (Some line) tokens = Err (Refused F4 (record { 0 = line }))
+
+-- the tokens of units, the first of which stands on this line, or the fault of the first byte that begins none
+abbrev pub sql_answer : ℕ → List Text → Result (List SqlToken) Stop
+sql_answer line units = refused_at (first_bad_line line units) (sql_tokens_from false line units)
+
+-- What the tokens of an embedded statement are that begins on this line, or why there are none.
+abbrev pub SqlTokensOrStop : ℕ → Text → Result (List SqlToken) Stop → Type 0
+SqlTokensOrStop line bytes answer =
+    (units : List Text) × StatementUnits bytes units × (answer ≡ sql_answer (line + lines_before bytes (concat units)) units)
+
+-- These are the tokens of the statement.
+abbrev pub SqlTokens : ℕ → Text → List SqlToken → Type 0
+SqlTokens line bytes tokens = SqlTokensOrStop line bytes (Ok tokens)
+
+-- The bytes are a statement in which each byte stands in a token or a gap.
+abbrev pub HasSqlTokens : Text → Type 0
+HasSqlTokens bytes = (units : List Text) × StatementUnits bytes units × (first_bad_line 0 units ≡ None)

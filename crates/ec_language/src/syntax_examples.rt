@@ -6,14 +6,14 @@ ghost use Rattle.ec_base.specs.declared.fault.FaultKind.TheVariants.{F7};
 ghost use Rattle.ec_base.specs.declared.fault.LimitKind.TheVariants.{L3};
 ghost use Rattle.ec_base.specs.declared.stop.Stop.TheVariants.{Refused, Limit};
 ghost use Rattle.ec_ctypes.specs.declared.tree.expr.BinOp.TheVariants as bin;
-ghost use Rattle.ec_ctypes.specs.trees.Exprs.{binary, assign, bump, call, call_other, cast, size_type, size_expr, no_exprs, exprs, open_dim, no_dims, dims, one, many, no_inits, inits, no_init, some_init, decl, no_declarators};
+ghost use Rattle.ec_ctypes.specs.trees.Exprs.{binary, assign, bump, call, call_other, index, member, cast, size_type, size_expr, no_exprs, exprs, open_dim, no_dims, dims, one, many, no_inits, inits, no_init, some_init, decl, no_declarators};
 ghost use Rattle.ec_ctypes.specs.trees.Stmts.{block_stmt, if_stmt, for_stmt, decl_stmt, no_stmts, stmts, no_stmt, some_stmt};
 ghost use Rattle.ec_ctypes.specs.trees.Units.{decl_top, mark_top};
 ghost use Rattle.ec_language.specs.Productions.{unit};
 ghost use Rattle.ec_language.specs.ReadSyntax.{fits, unreached};
 ghost use Rattle.ec_language.specs.Syntax.{limits};
 ghost use Rattle.ec_language.specs.SyntaxAnswer.{trees_of, stop_of};
-ghost use Rattle.ec_language.specs.SyntaxExamples.{tokens_in, body_in, opened, first_line, int_base, id, int_value, on_first, empty, unit_of, doing, computing, declaring, nesting_of, operations_of, derivations_of, stop_within};
+ghost use Rattle.ec_language.specs.SyntaxExamples.{tokens_in, body_in, opened, first_line, int_base, id, area, int_value, on_first, empty, unit_of, doing, computing, declaring, nesting_of, operations_of, derivations_of, stop_within};
 
 /// `else` belongs to the nearest `if`, and a loop with a declaration is a block.
 pub fn statement_examples()
@@ -24,7 +24,7 @@ pub fn statement_examples()
     ensures no_closing_brace { stop_of (tokens_in "int main ( void ) {\n ;\n") ≡ Some (Refused F7 (record { 0 = 3 })) }
 {}
 
-/// Casts, parentheses and `sizeof`; to the left and to the right; calls.
+/// Casts, parentheses and `sizeof`; to the left and to the right; calls; `SQLCODE` and `SQLSTATE`.
 pub fn expression_examples()
     ensures a_cast { trees_of (body_in "( int ) x ;") ≡ computing (cast int_base 0 (id "x")) ∷ [] }
     ensures parentheses { trees_of (body_in "( x ) ;") ≡ computing (id "x") ∷ [] }
@@ -35,6 +35,10 @@ pub fn expression_examples()
     ensures to_the_right { trees_of (body_in "a = b = c ;") ≡ computing (assign None (id "a") (assign None (id "b") (id "c"))) ∷ [] }
     ensures ranks { trees_of (body_in "a + b * c ;") ≡ computing (binary bin.Add (id "a") (binary bin.Mul (id "b") (id "c"))) ∷ [] }
     ensures call_by_name { trees_of (body_in "f ( x ) ;") ≡ computing (call (codes "f") (exprs (id "x") no_exprs)) ∷ [] }
+    ensures code { trees_of (body_in "SQLCODE + SQLSTATE [ 0 ] ;") ≡ computing (binary bin.Add (area "sqlcode") (index (area "sqlstate") (int_value 0))) ∷ [] }
+    ensures code_called { trees_of (body_in "SQLCODE ( ) ;") ≡ computing (call_other (area "sqlcode") no_exprs) ∷ [] }
+    ensures other_case { trees_of (body_in "sqlcode ;") ≡ computing (id "sqlcode") ∷ [] }
+    ensures member_of_that_name { trees_of (body_in "x . SQLCODE ;") ≡ computing (member (id "x") (codes "SQLCODE")) ∷ [] }
     ensures other_call { trees_of (body_in "( f ) ( x ) ;") ≡ computing (call_other (id "f") (exprs (id "x") no_exprs)) ∷ [] }
 {}
 

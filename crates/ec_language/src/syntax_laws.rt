@@ -7,8 +7,8 @@ ghost use Rattle.ec_ctypes.specs.trees.Units.{UnitData};
 ghost use Rattle.ec_language.specs.Grammar.{Tokens, Limits, DerivesWithin, FrontWithin, Front};
 ghost use Rattle.ec_language.specs.Productions.{Sym, Value};
 ghost use Rattle.ec_language.specs.ReadSyntax.{trees, fits, unreached, IsAmong};
-ghost use Rattle.ec_language.specs.Syntax.{TreeOrStop};
-ghost use Rattle.ec_language.specs.SyntaxAnswer.{trees_of, stop_of, read_syntax, EndsOnce};
+ghost use Rattle.ec_language.specs.Syntax.{EndsOnce, TreeOrStop};
+ghost use Rattle.ec_language.specs.SyntaxAnswer.{trees_of, stop_of, read_syntax};
 
 /// The trees of a list are exactly those that are derived, and the lists that pass the test are exactly the fronts,
 /// within limits and without.

@@ -4,7 +4,7 @@ ghost use Rattle.std.specs.Prelude.{◌≡◌, ℕ, ◌^◌, ◌-◌, ◌++◌, 
 ghost use Rattle.ec_base.specs.declared.fault.FaultKind.{FaultKind};
 ghost use Rattle.ec_base.specs.declared.fault.FaultKind.TheVariants.{F4, F5, F6, F9};
 ghost use Rattle.ec_base.specs.declared.fault.LimitKind.TheVariants.{L2};
-ghost use Rattle.ec_base.specs.declared.stop.Stop.TheVariants.{Limit};
+ghost use Rattle.ec_base.specs.declared.stop.Stop.TheVariants.{Refused, Limit};
 ghost use Rattle.ec_ctypes.specs.declared.text.piece.PieceKind.TheVariants.{C, Emb, InPlace};
 ghost use Rattle.ec_ctypes.specs.declared.types.arith.Arith.TheVariants.{Int, UInt, Long, ULong, ULLong};
 ghost use Rattle.ec_ctypes.specs.declared.text.token.Punct.TheVariants as mark;
@@ -13,7 +13,7 @@ ghost use Rattle.ec_language.specs.Constants.{integer_constant, character_value,
 ghost use Rattle.ec_language.specs.Lexemes.{class_of, word, punct};
 ghost use Rattle.ec_language.specs.SqlTokens.{sql_tokens_from};
 ghost use Rattle.ec_language.specs.SqlTokens as sql;
-ghost use Rattle.ec_language.specs.Tokens.{Part, token, numbered};
+ghost use Rattle.ec_language.specs.Tokens.{Part, token, numbered, sql_answer};
 ghost use Rattle.ec_language.specs.ReadTokens.{sql_units};
 ghost use Rattle.ec_language.specs.TokenRows.{c_alone, statement_alone, on_line, tokens_are, refused, int_token, sql_token, Gives, SourceGives};
 
@@ -134,6 +134,8 @@ pub fn sql_examples()
     ensures escaped { sql_tokens_from false 1 (sql_units (codes "E'\\';';")) ≡ sql_token sql.word (codes "E") false ∷ sql_token sql.quoted (codes "'\\';'") false ∷ [] }
     ensures gap { sql_tokens_from false 1 (sql_units (codes "a /* c */ b;")) ≡ sql_token sql.word (codes "a") false ∷ sql_token sql.word (codes "b") true ∷ [] }
     ensures number { sql_tokens_from false 1 (sql_units (codes "1E'x';")) ≡ sql_token sql.number (codes "1E") false ∷ sql_token sql.quoted (codes "'x'") false ∷ [] }
+    ensures bad_byte { sql_answer 3 (sql_units (codes "a\n= $1;")) ≡ Err (Refused F4 (record { 0 = 4 })) }
+    ensures good_dollar { sql_answer 3 (sql_units (codes "a$1;")) ≡ Ok (record { class = sql.word; bytes = codes "a$1"; gap = false; line = 3 } ∷ []) }
 {}
 
 /// There are at most 2^22 tokens, the end not counted.

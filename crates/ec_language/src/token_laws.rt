@@ -8,7 +8,8 @@ ghost use Rattle.ec_ctypes.specs.trees.Tokens.{TokData, TokenData};
 ghost use Rattle.ec_language.specs.Letters.{Text};
 ghost use Rattle.ec_language.specs.Lexemes.{Class, class_of, Longest};
 ghost use Rattle.ec_language.specs.Pieces.{Pieces};
-ghost use Rattle.ec_language.specs.Tokens.{Part, Step, Item, NoItem, CParts, TokensOrStop};
+ghost use Rattle.ec_language.specs.Syntax.{EndsOnce};
+ghost use Rattle.ec_language.specs.Tokens.{Part, Step, Item, NoItem, CParts, Tokens, TokensOrStop};
 ghost use Rattle.ec_language.specs.ReadTokens.{lexeme, ReadItem, read_item, c_parts, read_tokens};
 
 /// What stands at the beginning of a text has one longest match at most, and a plain reading finds it.
@@ -36,10 +37,12 @@ pub fn parts_are_read()
         → c_parts written line fresh text ≡ record { parts = parts; last = last } }
 {}
 
-/// The pieces of a text have their tokens or one stop: what a plain reading gives.
+/// The pieces of a text have their tokens or one stop: what a plain reading gives. Of the tokens the last is the end, and no
+/// other.
 pub fn tokens_are_read()
     ensures there { (text : Text) (pieces : List Piece) (written : Bool) → Pieces text pieces → TokensOrStop written pieces (read_tokens written pieces) }
     ensures there_in_written { (pieces : List Piece) → TokensOrStop true pieces (read_tokens true pieces) }
     ensures only { (pieces : List Piece) (written : Bool) (answer : Result (List TokenData) Stop) → TokensOrStop written pieces answer → answer ≡ read_tokens written pieces }
     ensures one { (pieces : List Piece) (written : Bool) (answer other : Result (List TokenData) Stop) → TokensOrStop written pieces answer → TokensOrStop written pieces other → answer ≡ other }
+    ensures end { (pieces : List Piece) (written : Bool) (tokens : List TokenData) → Tokens written pieces tokens → EndsOnce tokens }
 {}

@@ -1,6 +1,6 @@
 //! Calls of the tool over objects in memory, and what they leave.
 
-use ec_base::{Bytes, List, MemSink, MemSource, ReadStop, read_all};
+use ec_base::{Bytes, InputStop, List, MemSink, MemSource, read_all};
 use ec_cli::{Ending, ec_main};
 use ec_link::{Link, Logged, Rack, Reply, Request, Slot};
 use std::alloc::Global;
@@ -154,9 +154,9 @@ fn log(alloc: Global, rack: &Rack) -> Result<Bytes, Fail> {
 }
 
 // What a source still gives, behind a read that may fail.
-fn left(alloc: Global, input: &mut MemSource) -> Result<Bytes, ReadStop> {
+fn left(alloc: Global, input: &mut MemSource) -> Result<Bytes, InputStop> {
     match read_all(alloc, input, 1 << 25) {
-        Err(ReadStop::Fault) => read_all(alloc, input, 1 << 25),
+        Err(InputStop::Fault) => read_all(alloc, input, 1 << 25),
         read => read,
     }
 }

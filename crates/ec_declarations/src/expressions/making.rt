@@ -1,9 +1,10 @@
 //! Makes expressions of their parts.
 
-ghost use Rattle.std.specs.Prelude.{◌≡◌, true, false, IfOk};
+ghost use Rattle.std.specs.Prelude.{◌≡◌, true, false, codes, IfOk};
 ghost use Rattle.ec_ctypes.specs.trees.Exprs as tree;
 ghost use Rattle.ec_ctypes.specs.views.Exprs.{expr_view, base_view};
 ghost use Rattle.ec_ctypes.specs.views.Tokens.{tok_view};
+ghost use Rattle.ec_language.specs.Productions as spec;
 ghost use Rattle.ec_language.specs.Productions.{bytes_in, number_in, type_in, character_in};
 ghost use Rattle.ec_grammar.specs.ReadExpressions.{called_by};
 ghost use Rattle.ec_declarations.specs.Parts.{each_expr};
@@ -13,7 +14,7 @@ use crate::expressions::primary::Primary;
 use crate::texts::copy_text;
 use ec_base::{Boxed, List, Name, OutOfMemory};
 use ec_ctypes::{Base, BinOp, Expr, Tok, Ty, UnOp, copy_ty};
-use std::alloc::{AllocError, Global};
+use std::alloc::Global;
 
 /// The integer constant that a token is.
 #[tactic(auto, using(ec_ctypes::specs::declared::tree::expr::Expr::the_lemmas))]
@@ -46,29 +47,58 @@ pub fn string(alloc: Global, tok: &Tok) -> Result<Expr, OutOfMemory>
     Ok(Expr::Str(copy_text(alloc, tok)?))
 }
 
+/// A member of the communication area.
 #[tactic(auto, using(ec_ctypes::specs::declared::tree::expr::Expr::the_lemmas))]
-pub fn unary(alloc: Global, op: UnOp, a: Expr) -> Result<Expr, AllocError>
+fn area_member(alloc: Global, member: &[u8]) -> Result<Primary, OutOfMemory>
+    ensures { IfOk result (λ x. primary_view x ≡ record {
+        expression = tree.member (tree.identifier (codes "sqlca")) member.now;
+        is_name = false;
+    }) }
+{
+    let member = List::from_slice(alloc, member)?;
+    let area = List::from_slice(alloc, b"sqlca".as_slice())?;
+    let area = Boxed::new(alloc, Expr::Name(area))?;
+    Ok(Primary::Other(Expr::Member(area, member)))
+}
+
+/// The name that a token is, or the member of the communication area that `SQLCODE` or `SQLSTATE` stands for (PostgreSQL
+/// manual, 34.8.3).
+pub fn named(alloc: Global, tok: &Tok) -> Result<Primary, OutOfMemory>
+    ensures { IfOk result (λ x. primary_view x ≡ spec.named (bytes_in (tok_view tok.now))) }
+{
+    let word = copy_text(alloc, tok)?;
+    if word.as_slice() == b"SQLCODE".as_slice() {
+        return area_member(alloc, b"sqlcode".as_slice());
+    }
+    if word.as_slice() == b"SQLSTATE".as_slice() {
+        return area_member(alloc, b"sqlstate".as_slice());
+    }
+    Ok(Primary::Name(word))
+}
+
+#[tactic(auto, using(ec_ctypes::specs::declared::tree::expr::Expr::the_lemmas))]
+pub fn unary(alloc: Global, op: UnOp, a: Expr) -> Result<Expr, OutOfMemory>
     ensures { IfOk result (λ e. expr_view e ≡ tree.unary op (expr_view a)) }
 {
     Ok(Expr::Unary(op, Boxed::new(alloc, a)?))
 }
 
 #[tactic(auto, using(ec_ctypes::specs::declared::tree::expr::Expr::the_lemmas))]
-pub fn binary(alloc: Global, op: BinOp, a: Expr, b: Expr) -> Result<Expr, AllocError>
+pub fn binary(alloc: Global, op: BinOp, a: Expr, b: Expr) -> Result<Expr, OutOfMemory>
     ensures { IfOk result (λ e. expr_view e ≡ tree.binary op (expr_view a) (expr_view b)) }
 {
     Ok(Expr::Binary(op, Boxed::new(alloc, a)?, Boxed::new(alloc, b)?))
 }
 
 #[tactic(auto, using(ec_ctypes::specs::declared::tree::expr::Expr::the_lemmas))]
-pub fn assign(alloc: Global, op: Option<BinOp>, a: Expr, b: Expr) -> Result<Expr, AllocError>
+pub fn assign(alloc: Global, op: Option<BinOp>, a: Expr, b: Expr) -> Result<Expr, OutOfMemory>
     ensures { IfOk result (λ e. expr_view e ≡ tree.assign op (expr_view a) (expr_view b)) }
 {
     Ok(Expr::Assign(op, Boxed::new(alloc, a)?, Boxed::new(alloc, b)?))
 }
 
 #[tactic(auto, using(ec_ctypes::specs::declared::tree::expr::Expr::the_lemmas))]
-pub fn bump(alloc: Global, before: bool, up: bool, a: Expr) -> Result<Expr, AllocError>
+pub fn bump(alloc: Global, before: bool, up: bool, a: Expr) -> Result<Expr, OutOfMemory>
     ensures { IfOk result (λ e. expr_view e ≡ tree.bump before up (expr_view a)) }
 {
     Ok(Expr::Bump {
@@ -79,21 +109,21 @@ pub fn bump(alloc: Global, before: bool, up: bool, a: Expr) -> Result<Expr, Allo
 }
 
 #[tactic(auto, using(ec_ctypes::specs::declared::tree::expr::Expr::the_lemmas))]
-pub fn index(alloc: Global, a: Expr, b: Expr) -> Result<Expr, AllocError>
+pub fn index(alloc: Global, a: Expr, b: Expr) -> Result<Expr, OutOfMemory>
     ensures { IfOk result (λ e. expr_view e ≡ tree.index (expr_view a) (expr_view b)) }
 {
     Ok(Expr::Index(Boxed::new(alloc, a)?, Boxed::new(alloc, b)?))
 }
 
 #[tactic(auto, using(ec_ctypes::specs::declared::tree::expr::Expr::the_lemmas))]
-pub fn member(alloc: Global, a: Expr, name: Name) -> Result<Expr, AllocError>
+pub fn member(alloc: Global, a: Expr, name: Name) -> Result<Expr, OutOfMemory>
     ensures { IfOk result (λ e. expr_view e ≡ tree.member (expr_view a) name) }
 {
     Ok(Expr::Member(Boxed::new(alloc, a)?, name))
 }
 
 #[tactic(auto, using(ec_ctypes::specs::declared::tree::expr::Expr::the_lemmas))]
-pub fn arrow(alloc: Global, a: Expr, name: Name) -> Result<Expr, AllocError>
+pub fn arrow(alloc: Global, a: Expr, name: Name) -> Result<Expr, OutOfMemory>
     ensures { IfOk result (λ e. expr_view e ≡ tree.arrow (expr_view a) name) }
 {
     Ok(Expr::Arrow(Boxed::new(alloc, a)?, name))
@@ -101,7 +131,7 @@ pub fn arrow(alloc: Global, a: Expr, name: Name) -> Result<Expr, AllocError>
 
 /// A call, by its name where what is called is a bare name.
 #[tactic(auto, using(ec_ctypes::specs::declared::tree::expr::Expr::the_lemmas))]
-pub fn call(alloc: Global, called: Primary, arguments: List<Expr>) -> Result<Expr, AllocError>
+pub fn call(alloc: Global, called: Primary, arguments: List<Expr>) -> Result<Expr, OutOfMemory>
     ensures { IfOk result (λ e. expr_view e ≡ called_by (primary_view called) (each_expr arguments)) }
 {
     match called {
@@ -111,7 +141,7 @@ pub fn call(alloc: Global, called: Primary, arguments: List<Expr>) -> Result<Exp
 }
 
 #[tactic(auto, using(ec_ctypes::specs::declared::tree::expr::Expr::the_lemmas))]
-pub fn cast(alloc: Global, base: Base, stars: u32, a: Expr) -> Result<Expr, AllocError>
+pub fn cast(alloc: Global, base: Base, stars: u32, a: Expr) -> Result<Expr, OutOfMemory>
     ensures { IfOk result (λ e. expr_view e ≡ tree.cast (base_view base) stars (expr_view a)) }
 {
     Ok(Expr::Cast(base, stars, Boxed::new(alloc, a)?))
@@ -125,7 +155,7 @@ pub fn size_type(base: Base, stars: u32) -> Expr
 }
 
 #[tactic(auto, using(ec_ctypes::specs::declared::tree::expr::Expr::the_lemmas))]
-pub fn size_expr(alloc: Global, a: Expr) -> Result<Expr, AllocError>
+pub fn size_expr(alloc: Global, a: Expr) -> Result<Expr, OutOfMemory>
     ensures { IfOk result (λ e. expr_view e ≡ tree.size_expr (expr_view a)) }
 {
     Ok(Expr::SizeExpr(Boxed::new(alloc, a)?))

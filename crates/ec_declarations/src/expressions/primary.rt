@@ -12,9 +12,8 @@ ghost use Rattle.ec_declarations.specs.States.{seen};
 
 use crate::cursor::Cursor;
 use crate::expressions::Expressions;
-use crate::expressions::making::{character, integer, string};
+use crate::expressions::making::{character, integer, named, string};
 use crate::parts::Part;
-use crate::texts::copy_text;
 use ec_base::Name;
 use ec_ctypes::{Base, Expr, Punct};
 use ec_grammar::{Failure, Kind};
@@ -54,7 +53,7 @@ impl<
         match cursor.peek() {
             Kind::Name => {
                 let token = cursor.expect(Kind::Name)?;
-                Ok(Primary::Name(copy_text(self.alloc, &token.tok)?))
+                Ok(named(self.alloc, &token.tok)?)
             }
             Kind::Integer => {
                 let token = cursor.expect(Kind::Integer)?;

@@ -1,4 +1,4 @@
-use Rattle.ec_exact.proofs.TokensEnd.{ends_of}
+use Rattle.ec_language.proofs.LastToken.{ends_of}
 use Rattle.ec_csyntax.proofs.tests.read.Goals as goal
 
 pub parse-requires : goal.parse-requires
