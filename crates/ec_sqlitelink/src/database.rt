@@ -84,9 +84,5 @@ fn run<S: Alter>(
         return Ok(Outcome::Changed(statement.execute(conn, params)?));
     }
     let rows = statement.query_all(conn, params)?;
-    Ok(Outcome::Shown(Sheet::new(
-        alloc,
-        statement.column_names(),
-        rows.as_slice(),
-    )?))
+    Ok(Outcome::Shown(Sheet::new(alloc, statement.column_names(), rows.as_slice())?))
 }

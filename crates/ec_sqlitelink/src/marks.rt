@@ -125,5 +125,4 @@ pub fn mark_examples()
     ensures line { with_marks (codes "--$1\n$1-$2") ≡ codes "--$1\n?1-?2" }
     ensures block { with_marks (codes "/*/$1*/$1/$2") ≡ codes "/*/$1*/?1/?2" }
     ensures unclosed { with_marks (codes "$1'$1") ≡ codes "?1'$1" }
-{
-}
+{}

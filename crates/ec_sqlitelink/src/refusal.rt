@@ -3,8 +3,8 @@ ghost use Rattle.std.specs.Prelude.{◌≡◌, IfOk};
 
 use ec_base::{Bytes, OutOfMemory};
 use ec_link::SqlState;
-use sqlite_resolve::CompileError;
 use sqlite::{Constraint, Error, ErrorCode};
+use sqlite_resolve::CompileError;
 use std::alloc::{AllocError, AllocFailed, Global};
 use std::fmt;
 
@@ -41,9 +41,11 @@ impl Refusal {
     /// The state that is told.
     pub fn state(&self) -> SqlState {
         match self {
-            Refusal::Sqlite(Error::SqliteFailure(ErrorCode::ConstraintViolation(
-                Constraint::PrimaryKey | Constraint::Unique,
-            ))) => REPEATED_KEY,
+            Refusal::Sqlite(
+                Error::SqliteFailure(
+                    ErrorCode::ConstraintViolation(Constraint::PrimaryKey | Constraint::Unique),
+                ),
+            ) => REPEATED_KEY,
             _ => REFUSED,
         }
     }

@@ -22,11 +22,7 @@ pub struct Sheet {
 
 impl Sheet {
     /// The columns of these names, and the rows with their fields.
-    pub fn new(
-        alloc: Global,
-        names: &[types::Bytes],
-        rows: &[sqlite::Row],
-    ) -> Result<Sheet, Stop> {
+    pub fn new(alloc: Global, names: &[types::Bytes], rows: &[sqlite::Row]) -> Result<Sheet, Stop> {
         let mut cols = List::new(alloc);
         for (at, name) in names.iter().enumerate() {
             cols.push(Col {

@@ -1,8 +1,8 @@
 //! The link.
-ghost use Rattle.std.specs.Prelude.{◌≡◌, ◌≤◌, false, None, IfOk, OnErr, if◌then◌else◌};
+ghost use Rattle.std.specs.Prelude.{◌≡◌, ◌≤◌, false, IfOk, OnErr, if◌then◌else◌};
 ghost use Rattle.ec_base.specs.Causes.{Rose, one_more};
 ghost use Rattle.ec_link.specs.Link.{talk_after};
-ghost use Rattle.ec_link.specs.Logged.{Talk};
+ghost use Rattle.ec_sqlitelink.specs.Untold.{untold};
 ghost use Rattle.ec_link.specs.Reply.{is_broken};
 
 use crate::refusal::Stop;
@@ -85,15 +85,15 @@ fn reply(answer: Answer, tx: Tx) -> Reply
 }
 
 impl Link for SqliteLink {
-    ghost use Rattle.std.specs.Prelude.{None};
+    ghost use Rattle.ec_sqlitelink.specs.Untold.{untold};
 
-    ghost talk = { λ _. None };
+    ghost talk = { λ _. untold };
 
     ghost faults = { λ it. it };
 
     fn ask(&mut self, req: &Request) -> Result<Reply, OutOfMemory>
-        ensures told { IfOk result (λ reply. None ≡ talk_after None req.now reply) }
-        ensures err { OnErr result (None {A = Talk} ≡ None) }
+        ensures told { IfOk result (λ reply. untold ≡ talk_after untold req.now reply) }
+        ensures err { OnErr result (untold ≡ untold) }
         ensures later { self.old ≤ self.new }
         ensures broken { IfOk result (λ reply. reply ≡ Reply.Broken → Rose self.old self.new) }
         ensures counted { IfOk result (λ reply. self.new ≡ (if is_broken reply then one_more self.old else self.old)) }

@@ -5,8 +5,8 @@
 use Rattle.std.specs.Prelude.{ℕ, ◌+◌, ◌-◌, ◌*◌, ◌^◌, ◌==◌, nat_le, nat_eq, Bool, true, false, ◌&&◌, if◌then◌else◌, cond, List, [], ◌∷◌, codes, take, drop, Option, Some, None, option_map, option_and_then, position}
 use Rattle.std.specs.Char.{is_ascii_digit}
 use Rattle.std.specs.Cmp.Lexicographic.{pointwise}
-use Rattle.ec_cli.specs.declared.links_named.LinkSpec.{LinkSpec}
-use Rattle.ec_cli.specs.declared.links_named.LinkSpec.TheVariants.{Memory, File}
+use Rattle.ec_words.specs.declared.links.LinkSpec.{LinkSpec}
+use Rattle.ec_words.specs.declared.links.LinkSpec.TheVariants.{Memory, File}
 
 abbrev pub Word : Type 0
 Word = List ℕ
@@ -157,3 +157,12 @@ run_words words = run_with (is_right (sayings anything words)) (turns_in (saying
 abbrev pub words_of : List Word → Option RunWords
 words_of [] = None
 words_of (first ∷ words) = if is_word first (codes "run") then run_words words else None
+
+-- the links of a run, and none where the words name no command
+abbrev pub links_of : Option RunWords → List LinkSpec
+links_of None = []
+links_of (Some run) = run.links
+
+-- a run with so many turns and these links
+abbrev pub run_of : ℕ → List LinkSpec → Option RunWords
+run_of n links = Some (record { turns = n; links = links })

@@ -1,7 +1,7 @@
 //! What the words behind the program's name ask for.
-ghost use Rattle.std.specs.Prelude.{◌≡◌, codes, map, option_map, position, string_bytes};
-ghost use Rattle.ec_cli.specs.Words.{text_behind, turns_of, is_word, link_of, unmarked_link, named_link, file_of, said_turns, said_link, joined_or_link, reads, at_end, run_words, words_of};
-ghost use Rattle.ec_cli.specs.Reading.{spec_of, said_of, expected_of, tally_with, tallied_over};
+ghost use Rattle.std.specs.Prelude.{◌≡◌, ◌==◌, codes, map, option_map, position, string_bytes};
+ghost use Rattle.ec_words.specs.Words.{text_behind, number_from, turns_of, is_word, link_of, unmarked_link, named_link, file_of, said_turns, said_link, joined_or_link, reads, at_end, run_words, words_of};
+ghost use Rattle.ec_words.specs.Reading.{spec_of, said_of, expected_of, tally_with, tallied_over};
 
 /// The most turns that can be given.
 const MOST_TURNS: u64 = 1_000_000_000;
@@ -48,10 +48,13 @@ fn text_behind<'a>(front: &[u8], text: &'a [u8]) -> Option<&'a [u8]>
 {
     let mut rest = text;
     for byte in front {
-        match rest {
-            [first, more @ ..] if *byte == *first => rest = more,
-            _ => return None,
+        let [first, more @ ..] = rest else {
+            return None;
+        };
+        if *byte != *first {
+            return None;
         }
+        rest = more;
     }
     Some(rest)
 }
@@ -63,13 +66,10 @@ fn is_word(word: &[u8], it: &[u8]) -> bool
     word == it
 }
 
-// The number of turns that a text gives.
-fn turns_of(text: &[u8]) -> Option<u64>
-    ensures { result ≡ turns_of text.now }
+// The number of a text of digits, if it is not too large.
+fn number_of(text: &[u8]) -> Option<u64>
+    ensures { result ≡ number_from 0 text.now }
 {
-    if text.is_empty() {
-        return None;
-    }
     let mut number = 0;
     for digit in text {
         if !digit.is_ascii_digit() {
@@ -83,12 +83,18 @@ fn turns_of(text: &[u8]) -> Option<u64>
     Some(number)
 }
 
+// The number of turns that a text gives.
+fn turns_of(text: &[u8]) -> Option<u64>
+    ensures { result ≡ turns_of text.now }
+{
+    match text {
+        [] => None,
+        _ => number_of(text),
+    }
+}
+
 // The file behind the name and the `=` of a link.
-fn file_of<'a>(
-    is_ready: bool,
-    target: &'a [u8],
-    path: Option<&'a [u8]>,
-) -> Option<LinkWord<'a>>
+fn file_of<'a>(is_ready: bool, target: &'a [u8], path: Option<&'a [u8]>) -> Option<LinkWord<'a>>
     ensures { option_map spec_of result ≡ file_of is_ready target.now (option_map (λ it. it.now) path.entry) }
 {
     match path {
@@ -225,6 +231,7 @@ fn turns_in(tally: Tally, expecting: Expecting) -> Option<u64>
 }
 
 // The turns of a run by the words behind the command's, or none where they don't fit it.
+#[tactic(auto, using(crate::proofs::WordLemmas::tally_step, crate::proofs::WordLemmas::tallied_is))]
 fn run_turns(words: &[String]) -> Option<u64>
     ensures { result ≡ option_map (λ it. it.turns) (run_words (map string_bytes words.now)) }
 {

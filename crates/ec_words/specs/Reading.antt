@@ -1,14 +1,14 @@
 -- What the code keeps of the words, and what it stands for.
 use Rattle.std.specs.Prelude.{ℕ, Bool, true, false, if◌then◌else◌, List, [], ◌∷◌, Option, Some, None, unwrap_or}
-use Rattle.ec_cli.specs.declared.links_named.LinkSpec.{LinkSpec}
-use Rattle.ec_cli.specs.declared.links_named.LinkSpec.TheVariants.{Memory, File}
-use Rattle.ec_cli.specs.declared.words.LinkWord.{LinkWord}
-use Rattle.ec_cli.specs.declared.words.Saying.{Saying}
-use Rattle.ec_cli.specs.declared.words.Saying.TheVariants.{Wrong, Turns, Link}
-use Rattle.ec_cli.specs.declared.words.Expecting.{Expecting}
-use Rattle.ec_cli.specs.declared.words.Expecting.TheVariants.{Anything, Value, NoOption}
-use Rattle.ec_cli.specs.declared.words.Tally.{Tally}
-use Rattle.ec_cli.specs.Words.{Said, wrong, turns, link, Expected, anything, value, no_option, usual_turns}
+use Rattle.ec_words.specs.declared.links.LinkSpec.{LinkSpec}
+use Rattle.ec_words.specs.declared.links.LinkSpec.TheVariants.{Memory, File}
+use Rattle.ec_words.specs.declared.words.LinkWord.{LinkWord}
+use Rattle.ec_words.specs.declared.words.Saying.{Saying}
+use Rattle.ec_words.specs.declared.words.Saying.TheVariants.{Wrong, Turns, Link}
+use Rattle.ec_words.specs.declared.words.Expecting.{Expecting}
+use Rattle.ec_words.specs.declared.words.Expecting.TheVariants.{Anything, Value, NoOption}
+use Rattle.ec_words.specs.declared.words.Tally.{Tally}
+use Rattle.ec_words.specs.Words.{Said, wrong, turns, link, Expected, anything, value, no_option, usual_turns}
 
 -- the link of a word
 abbrev pub spec_by : Bool → List ℕ → Option (List ℕ) → LinkSpec
