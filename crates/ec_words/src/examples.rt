@@ -1,0 +1,27 @@
+//! Worked examples of what words name.
+ghost use Rattle.std.specs.Prelude.{◌≡◌, codes, true, false, [], ◌∷◌, None, Some};
+ghost use Rattle.ec_words.specs.Words.{words_of, run_of};
+ghost use Rattle.ec_words.specs.declared.links.LinkSpec.TheVariants.{Memory, File};
+
+/// What lists of words name, computed: a run with its turns and links, or nothing.
+pub fn word_examples()
+    ensures plain { words_of (codes "run" ∷ []) ≡ run_of 1000000 [] }
+    ensures none { words_of [] ≡ None }
+    ensures other { words_of (codes "runs" ∷ []) ≡ None }
+    ensures help { words_of (codes "--help" ∷ []) ≡ None }
+    ensures next { words_of (codes "run" ∷ codes "--turns" ∷ codes "5" ∷ []) ≡ run_of 5 [] }
+    ensures joined { words_of (codes "run" ∷ codes "--turns=0007" ∷ []) ≡ run_of 7 [] }
+    ensures most { words_of (codes "run" ∷ codes "--turns=1000000000" ∷ []) ≡ run_of 1000000000 [] }
+    ensures too_many { words_of (codes "run" ∷ codes "--turns=1000000001" ∷ []) ≡ None }
+    ensures twice { words_of (codes "run" ∷ codes "--turns=1" ∷ codes "--turns=1" ∷ []) ≡ None }
+    ensures no_value { words_of (codes "run" ∷ codes "--turns" ∷ []) ≡ None }
+    ensures ready { words_of (codes "run" ∷ codes "+db=memory" ∷ codes "a=file:b=c" ∷ []) ≡ run_of 1000000 (Memory true (codes "db") ∷ File false (codes "a") (codes "b=c") ∷ []) }
+    ensures marks { words_of (codes "run" ∷ codes "++a=memory" ∷ []) ≡ run_of 1000000 (Memory true (codes "+a") ∷ []) }
+    ensures no_name { words_of (codes "run" ∷ codes "+=memory" ∷ []) ≡ None }
+    ensures no_path { words_of (codes "run" ∷ codes "a=file:" ∷ []) ≡ None }
+    ensures dash { words_of (codes "run" ∷ codes "-x=memory" ∷ []) ≡ None }
+    ensures passed_over { words_of (codes "run" ∷ codes "--turns=2" ∷ codes "--" ∷ codes "a=memory" ∷ []) ≡ run_of 2 (Memory false (codes "a") ∷ []) }
+    ensures no_option { words_of (codes "run" ∷ codes "--" ∷ codes "--turns=2" ∷ []) ≡ None }
+    ensures once { words_of (codes "run" ∷ codes "--" ∷ codes "--" ∷ []) ≡ None }
+    ensures value { words_of (codes "run" ∷ codes "--turns" ∷ codes "--" ∷ []) ≡ None }
+{}
