@@ -3,7 +3,7 @@ use Rattle.std.proofs.Common.{◌≡◌, ℕ, Bool, true, false, List, [], ◌�
 use Rattle.ec_words.specs.declared.links.LinkSpec.{LinkSpec}
 use Rattle.ec_words.specs.declared.words.Tally.{Tally}
 use Rattle.ec_words.specs.Words.{Said, wrong, turns, link, Expected, anything, value, no_option, RunWords, with_said, at_end, is_right, turns_in, links_in, run_with}
-use Rattle.ec_words.specs.Reading.{tally_one, tally_with, tallied_over}
+use Rattle.ec_words.specs.Reading.{tally_with, tallied_over}
 
 pub tally_step : (t : Tally) (s : Option Said) (more : List Said) → tallied_over (tally_with s t) more ≡ tallied_over t (with_said s more)
 tally_step t None more = refl

@@ -1,5 +1,5 @@
 -- What the code keeps of the words, and what it stands for.
-use Rattle.std.specs.Prelude.{ℕ, Bool, true, false, if◌then◌else◌, List, [], ◌∷◌, Option, Some, None, unwrap_or}
+use Rattle.std.specs.Prelude.{ℕ, Bool, false, if◌then◌else◌, List, [], ◌∷◌, Option, Some, None, unwrap_or}
 use Rattle.ec_words.specs.declared.links.LinkSpec.{LinkSpec}
 use Rattle.ec_words.specs.declared.links.LinkSpec.TheVariants.{Memory, File}
 use Rattle.ec_words.specs.declared.words.LinkWord.{LinkWord}

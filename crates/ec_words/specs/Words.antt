@@ -2,7 +2,7 @@
 --
 -- The first word is the command's. Behind it stand options and other words, in any order. An option's value is the next
 -- word, or joined to it by `=`. The first `--` is passed over, and no word behind it is an option.
-use Rattle.std.specs.Prelude.{ℕ, ◌+◌, ◌-◌, ◌*◌, ◌^◌, ◌==◌, nat_le, nat_eq, Bool, true, false, ◌&&◌, if◌then◌else◌, cond, List, [], ◌∷◌, codes, take, drop, Option, Some, None, option_map, option_and_then, position}
+use Rattle.std.specs.Prelude.{ℕ, ◌+◌, ◌-◌, ◌*◌, ◌==◌, nat_le, nat_eq, Bool, true, false, ◌&&◌, if◌then◌else◌, List, [], ◌∷◌, codes, take, drop, Option, Some, None, option_and_then, position}
 use Rattle.std.specs.Char.{is_ascii_digit}
 use Rattle.std.specs.Cmp.Lexicographic.{pointwise}
 use Rattle.ec_words.specs.declared.links.LinkSpec.{LinkSpec}

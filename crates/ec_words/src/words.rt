@@ -46,15 +46,15 @@ pub enum Expecting {
 fn text_behind<'a>(front: &[u8], text: &'a [u8]) -> Option<&'a [u8]>
     ensures { option_map (λ rest. rest.now) result ≡ text_behind front.now text.now }
 {
+    let mut wanted = front;
     let mut rest = text;
-    for byte in front {
-        let [first, more @ ..] = rest else {
-            return None;
-        };
-        if *byte != *first {
-            return None;
+    while let [byte, later @ ..] = wanted {
+        match rest {
+            [] => return None,
+            [first, ..] if *byte != *first => return None,
+            [_, more @ ..] => rest = more,
         }
-        rest = more;
+        wanted = later;
     }
     Some(rest)
 }
