@@ -15,7 +15,7 @@ use Rattle.ec_grammar.specs.declared.failure.Failure.{Failure}
 use Rattle.ec_grammar.specs.declared.failure.Failure.TheVariants.{OutOfMemory}
 use Rattle.ec_grammar.specs.Input.{State, state}
 use Rattle.ec_grammar.specs.ReadStatements.{unit}
-use Rattle.ec_grammar.specs.ReadUnit.{reading, answered, answer, stop_of}
+use Rattle.ec_grammar.specs.ReadUnit.{reading, answered, answer, failure_stop}
 use Rattle.ec_csyntax.specs.Answers.{GivesUnlessNoMemory}
 use Rattle.ec_csyntax.specs.Tops.{top_inner, top_deeper}
 
@@ -24,10 +24,10 @@ unfolding reading
 answered_tree ts i j u at read = ap (answered (placed ts)) (ap (unit limits top_inner top_deeper) (sym at) ∙ read)
 
 pub answered_stop : (ts : List TokenData) (i : State) (e : Failure) (s : Stop) → i ≡ state (placed ts) no_counts → (e ≢ OutOfMemory → unit limits top_inner top_deeper i ≡ Err e)
-    → s ≡ stop_of (placed ts) e → s ≢ stop.OutOfMemory → answer ts ≡ Err s
+    → s ≡ failure_stop (placed ts) e → s ≢ stop.OutOfMemory → answer ts ≡ Err s
 unfolding reading
 answered_stop ts i e s at read is some =
-    let other : e ≢ OutOfMemory = λ h. some (is ∙ ap (stop_of (placed ts)) h) in
+    let other : e ≢ OutOfMemory = λ h. some (is ∙ ap (failure_stop (placed ts)) h) in
     ap (answered (placed ts)) (ap (unit limits top_inner top_deeper) (sym at) ∙ read other) ∙ (λ n. Err (sym is n))
 
 -- what follows for code that answers so, where the answer is the tree or the stop

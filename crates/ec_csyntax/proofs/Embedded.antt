@@ -3,7 +3,7 @@ use Rattle.std.proofs.Common.{◌≡◌, ℕ, Bool, true, false, List, [], ◌�
 use Rattle.std.specs.Prelude.{Ok, Err, if◌then◌else◌}
 use Rattle.std.proofs.lemmas.Bool.{false≢true}
 use Rattle.ec_ctypes.specs.trees.Tokens.{TokData, word_token, emb_token}
-use Rattle.ec_language.specs.Grammar.{Tokens, Counts}
+use Rattle.ec_language.specs.Grammar.{PlacedTokens, Counts}
 use Rattle.ec_language.specs.Letters.{Text, same_text, is_among}
 use Rattle.ec_language.specs.Keywords.{type_words, varchar_words}
 use Rattle.ec_language.specs.Productions.{Placed}
@@ -15,7 +15,7 @@ use Rattle.ec_grammar.specs.Kinds.{Keyword, keywords, kind_among, word_kind, kin
 use Rattle.ec_csyntax.specs.Texts.{IsEmbedded}
 
 -- a token that is read is of the kind that it is read as
-abbrev read_by : Bool → Placed → State → Tokens → Outcome Placed
+abbrev read_by : Bool → Placed → State → PlacedTokens → Outcome Placed
 read_by b u i w = if b then Ok (u, i) else Err (Dead (length w))
 
 -- what a test of a token gives
@@ -33,11 +33,11 @@ same_read u t i j e = ap (token_in u) e
 none_read : (t : Placed) (j : State) (n : ℕ) → Err (Dead n) ≡ ok_read t j → ⊥
 none_read t j n e = cc
 
-by_test : (kind : Kind) (b : Bool) (u t : Placed) (i j : State) (w : Tokens) → b ≡ same_kind (kind_of u.token.tok) kind → read_by b u i w ≡ Ok (t, j) → same_kind (kind_of t.token.tok) kind ≡ true
+by_test : (kind : Kind) (b : Bool) (u t : Placed) (i j : State) (w : PlacedTokens) → b ≡ same_kind (kind_of u.token.tok) kind → read_by b u i w ≡ Ok (t, j) → same_kind (kind_of t.token.tok) kind ≡ true
 by_test kind true u t i j w is same = subst (λ (x : Placed). same_kind (kind_of x.token.tok) kind ≡ true) (same_read u t i j same) (sym is)
 by_test kind false u t i j w is same = absurd (none_read t j (length w) same)
 
-is_read : (kind : Kind) (w : Tokens) (c : Counts) (t : Placed) (j : State) → expect kind (state w c) ≡ Ok (t, j) → same_kind (kind_of t.token.tok) kind ≡ true
+is_read : (kind : Kind) (w : PlacedTokens) (c : Counts) (t : Placed) (j : State) → expect kind (state w c) ≡ Ok (t, j) → same_kind (kind_of t.token.tok) kind ≡ true
 unfolding expect
 is_read kind [] c t j e = absurd (none_read t j 0 e)
 is_read kind (u ∷ w) c t j e = by_test kind (same_kind (kind_of u.token.tok) kind) u t (state w c) j (u ∷ w) refl e

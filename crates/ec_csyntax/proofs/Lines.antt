@@ -5,16 +5,16 @@ use Rattle.std.proofs.lemmas.Bool.Decides.{nat_tests}
 use Rattle.ec_base.specs.declared.line.Line.{Line}
 use Rattle.ec_ctypes.specs.declared.text.token.Token.{Token}
 use Rattle.ec_ctypes.specs.views.Tokens.{tok_view, tokens_view}
-use Rattle.ec_language.specs.Grammar.{Tokens}
+use Rattle.ec_language.specs.Grammar.{PlacedTokens}
 use Rattle.ec_language.specs.Productions.{placed_from, section_behind}
 use Rattle.ec_grammar.specs.ReadUnit.{line_at}
 use Rattle.ec_declarations.proofs.SeenTokens.{placed_length}
 
-pub line_at_none : (w : Tokens) → line_at w 0 ≡ record { 0 = 0 }
+pub line_at_none : (w : PlacedTokens) → line_at w 0 ≡ record { 0 = 0 }
 line_at_none [] = refl
 line_at_none (t ∷ w) = let e = line_at_none w in grind (arith, nat_tests)
 
-pub line_at_many : (w : Tokens) (n : ℕ) → length w < n → line_at w n ≡ record { 0 = 0 }
+pub line_at_many : (w : PlacedTokens) (n : ℕ) → length w < n → line_at w n ≡ record { 0 = 0 }
 line_at_many [] n many = refl
 line_at_many (t ∷ w) n many = let e = line_at_many w n (omega arith) in grind (arith, nat_tests)
 

@@ -31,7 +31,7 @@ fn line_at(tokens: &[Token], left: usize) -> Line
 
 /// The stop of a failure.
 fn stop_of(tokens: &[Token], failure: Failure) -> Stop
-    ensures { result ≡ spec.stop_of (placed (tokens_view tokens.now)) failure }
+    ensures { result ≡ spec.failure_stop (placed (tokens_view tokens.now)) failure }
 {
     match failure {
         Failure::OutOfMemory => Stop::OutOfMemory,

@@ -2,7 +2,7 @@
 use Rattle.std.proofs.Common.{◌≡◌, ℕ, zero, suc, ◌≤◌, Bool, true, false, nat_le, [], ◌∷◌, length, Ok, Err, refl, subst, ap, arith, if◌then◌else◌}
 use Rattle.std.proofs.lemmas.Bool.Decides.{nat_tests}
 use Rattle.ec_language.specs.Productions.{Placed, derivations}
-use Rattle.ec_language.specs.Grammar.{Tokens, Counts, counted}
+use Rattle.ec_language.specs.Grammar.{PlacedTokens, Counts, behind_counted}
 use Rattle.ec_language.specs.Syntax.{limits}
 use Rattle.ec_grammar.specs.declared.failure.Failure.TheVariants.{Dead, TooDeep}
 use Rattle.ec_grammar.specs.declared.kind.Kind.{Kind}
@@ -18,18 +18,18 @@ abbrev Keeps : {A : Type 0} → Counts → Outcome A → Type 0
 Keeps c (Ok p) = p.1.counts ≡ c
 Keeps c (Err e) = Unit {0}
 
-by_token : (d : Bool) (m : ℕ) (t : Placed) (w : Tokens) (c : Counts) → Keeps c (constants_from m (state w c))
+by_token : (d : Bool) (m : ℕ) (t : Placed) (w : PlacedTokens) (c : Counts) → Keeps c (constants_from m (state w c))
     → Keeps c (and_then (if d then Ok (t, state w c) else Err (Dead (length (t ∷ w)))) (λ _. constants_from m))
 by_token true m t w c rest = rest
 by_token false m t w c rest = tt
 
-by_const : (b : Bool) (m : ℕ) (t : Placed) (w : Tokens) (c : Counts) → Keeps c (constants_from m (state w c))
+by_const : (b : Bool) (m : ℕ) (t : Placed) (w : PlacedTokens) (c : Counts) → Keeps c (constants_from m (state w c))
     → Keeps c ((if b then (expect k.Const >> constants_from m) else pure tt) (state (t ∷ w) c))
 unfolding expect
 by_const true m t w c rest = by_token (same_kind (kind_of t.token.tok) k.Const) m t w c rest
 by_const false m t w c rest = refl
 
-keeps_from : (m : ℕ) (w : Tokens) (c : Counts) → Keeps c (constants_from m (state w c))
+keeps_from : (m : ℕ) (w : PlacedTokens) (c : Counts) → Keeps c (constants_from m (state w c))
 unfolding constants_from
 keeps_from zero w c = refl
 keeps_from (suc m) [] c = refl
@@ -48,16 +48,16 @@ abbrev OneMore : {A : Type 0} → ℕ → Outcome A → Type 0
 OneMore n (Ok p) = (p.1.counts.derivations ≡ suc n) × (p.1.counts.derivations ≤ 64)
 OneMore n (Err e) = Unit {0}
 
-by_limit : (n : ℕ) (c : Counts) (b : Bool) → nat_le (suc c.derivations) 64 ≡ b → c.derivations ≡ n → (t : Placed) (v w : Tokens)
-    → OneMore n (if b then Ok (t, state w (counted derivations c)) else Err (TooDeep (length v)))
+by_limit : (n : ℕ) (c : Counts) (b : Bool) → nat_le (suc c.derivations) 64 ≡ b → c.derivations ≡ n → (t : Placed) (v w : PlacedTokens)
+    → OneMore n (if b then Ok (t, state w (behind_counted derivations c)) else Err (TooDeep (length v)))
 by_limit n c true le is t v w = (ap suc is, grind (arith, nat_tests))
 by_limit n c false le is t v w = tt
 
-expect_keeps : (d : Bool) (t : Placed) (w : Tokens) (c : Counts) → Keeps c (if d then Ok (t, state w c) else Err (Dead (length (t ∷ w))))
+expect_keeps : (d : Bool) (t : Placed) (w : PlacedTokens) (c : Counts) → Keeps c (if d then Ok (t, state w c) else Err (Dead (length (t ∷ w))))
 expect_keeps true t w c = refl
 expect_keeps false t w c = tt
 
-token_keeps : (k : Kind) (w : Tokens) (c : Counts) → Keeps c (expect k (state w c))
+token_keeps : (k : Kind) (w : PlacedTokens) (c : Counts) → Keeps c (expect k (state w c))
 unfolding expect
 token_keeps k [] c = tt
 token_keeps k (t ∷ w) c = expect_keeps (same_kind (kind_of t.token.tok) k) t w c

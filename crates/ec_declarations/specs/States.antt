@@ -35,4 +35,4 @@ IsNextKind section tokens kind = kind ≡ kind_at (placed_from section (tokens_v
 
 -- one more of what is counted, or none beyond the limit
 abbrev pub counted_within : p.Counted → g.Counts → Option g.Counts
-counted_within n c = if g.is_within limits n (g.counted n c) then Some (g.counted n c) else None
+counted_within n c = if g.is_within limits n (g.behind_counted n c) then Some (g.behind_counted n c) else None

@@ -10,7 +10,7 @@ use Rattle.ec_base.specs.declared.stop.Stop.TheVariants.{Refused, Limit}
 use Rattle.ec_ctypes.specs.trees.Tokens.{TokData, end_token, TokenData}
 use Rattle.ec_ctypes.specs.trees.Units.{UnitData}
 use Rattle.ec_language.specs.Productions.{Placed, is, end_of_text, placed, placed_from, section_behind, unit, sym as ofs}
-use Rattle.ec_language.specs.Grammar.{Tokens, Limits, no_counts, DerivesBelow, DerivesWithin, Derives, FrontBelow, FrontWithin}
+use Rattle.ec_language.specs.Grammar.{PlacedTokens, Limits, no_counts, DerivesBelow, DerivesWithin, Derives, FrontBelow, FrontWithin}
 use Rattle.ec_language.specs.Syntax.{AllFit, EndsOnce, TreeOrStop, dead, limits, too_deep, tree}
 use Rattle.ec_language.proofs.TokenEnds.{whole_front}
 use Rattle.ec_language.proofs.SyntaxAnswers.{stop_exact, tree_or_else}
@@ -24,14 +24,14 @@ use Rattle.ec_exact.proofs.Levels.{inner_reads, deeper_reads}
 use Rattle.ec_exact.proofs.Units.{unit_reads}
 use Rattle.ec_exact.proofs.Fronts.{shorter_front}
 
-reading_out : (w : Tokens) → ElementOut limits limits.nesting no_counts (ofs unit) (λ v. v) w (reading w)
+reading_out : (w : PlacedTokens) → ElementOut limits limits.nesting no_counts (ofs unit) (λ v. v) w (reading w)
 unfolding reading
 reading_out w = (unit_reads limits limits.nesting (nested limits limits.nesting) (nested_statements limits limits.nesting) (inner_reads limits limits.nesting) (deeper_reads limits limits.nesting) (state w no_counts)).out
 
 -- ---- the end
 
 -- The last token is the end, and no other is.
-abbrev Ends : Tokens → Type 0
+abbrev Ends : PlacedTokens → Type 0
 Ends [] = ⊥
 Ends (t ∷ []) = t.token.tok ≡ end_token
 Ends (t ∷ z ∷ w) = (t.token.tok ≢ end_token) × Ends (z ∷ w)
@@ -41,7 +41,7 @@ placed_ends section [] e = e
 placed_ends section (t ∷ []) e = e
 placed_ends section (t ∷ z ∷ ts) e = (e.0, placed_ends (section_behind section t.tok) (z ∷ ts) e.1)
 
-ends_here : (part : Tokens) (t : Placed) (rest : Tokens) → Ends (part ++ t ∷ rest) → t.token.tok ≡ end_token → rest ≡ []
+ends_here : (part : PlacedTokens) (t : Placed) (rest : PlacedTokens) → Ends (part ++ t ∷ rest) → t.token.tok ≡ end_token → rest ≡ []
 ends_here [] t [] e h = refl
 ends_here [] t (z ∷ rest) e h = absurd (e.0 h)
 ends_here (y ∷ []) t rest e h = ends_here [] t rest e.1 h
@@ -52,7 +52,7 @@ is_end end_token e = refl
 is_end _ e = absurd (false≢true e)
 
 -- A list of a program is one of items, and the end.
-unit_list : (n levels : ℕ) (w : Tokens) (v : UnitData) (b : _) → DerivesBelow limits n levels no_counts unit w v b → (part : Tokens) × (t : Placed) × (w ≡ part ++ t ∷ []) × (t.token.tok ≡ end_token)
+unit_list : (n levels : ℕ) (w : PlacedTokens) (v : UnitData) (b : _) → DerivesBelow limits n levels no_counts unit w v b → (part : PlacedTokens) × (t : Placed) × (w ≡ part ++ t ∷ []) × (t.token.tok ≡ end_token)
 unit_list zero levels w v b d = absurd d
 unit_list (suc n) levels w v b (inl m) =
     let h = m.2 in
@@ -62,18 +62,18 @@ unit_list (suc n) levels w v b (inr m) = absurd m
 
 -- ---- the tree
 
-no_more : (w : Tokens) (v : UnitData) (left : State) → Ends w → Parses limits limits.nesting no_counts (ofs unit) w v left → left.tokens ≡ []
+no_more : (w : PlacedTokens) (v : UnitData) (left : State) → Ends w → Parses limits limits.nesting no_counts (ofs unit) w v left → left.tokens ≡ []
 no_more w v left e a =
     let l = unit_list a.derives.0 limits.nesting a.part v left.counts a.derives.1 in
     let s : w ≡ l.0 ++ l.1 ∷ left.tokens = a.split ∙ ap (λ q. q ++ left.tokens) l.2 ∙ append_assoc l.0 (l.1 ∷ []) left.tokens in
     ends_here l.0 l.1 left.tokens (subst Ends s e) l.3
 
-whole_tree : (w : Tokens) (v : UnitData) (left : State) → Ends w → Parses limits limits.nesting no_counts (ofs unit) w v left → DerivesWithin limits unit w v
+whole_tree : (w : PlacedTokens) (v : UnitData) (left : State) → Ends w → Parses limits limits.nesting no_counts (ofs unit) w v left → DerivesWithin limits unit w v
 whole_tree w v left e a =
     let s : w ≡ a.part = a.split ∙ ap (λ q. a.part ++ q) (no_more w v left e a) ∙ append-nil a.part in
     (a.derives.0, left.counts, subst (λ q. DerivesBelow limits a.derives.0 limits.nesting no_counts unit q v left.counts) (sym s) a.derives.1)
 
-one_tree : (w : Tokens) (v z : UnitData) (left : State) → Parses limits limits.nesting no_counts (ofs unit) w v left → DerivesWithin limits unit w z → z ≡ v
+one_tree : (w : PlacedTokens) (v z : UnitData) (left : State) → Parses limits limits.nesting no_counts (ofs unit) w v left → DerivesWithin limits unit w z → z ≡ v
 one_tree w v z left a d = go (a.only limits d.0 limits.nesting w [] z d.1 (sym (append-nil w)) d.2)
   where
     go : (([] ≡ left.tokens) × (z ≡ v) × (d.1 ≡ left.counts)) ⊎ (false ≡ true) → z ≡ v
@@ -82,13 +82,13 @@ one_tree w v z left a d = go (a.only limits d.0 limits.nesting w [] z d.1 (sym (
 
 -- ---- the stops
 
-abbrev Begun : ℕ → Tokens → Type 0
+abbrev Begun : ℕ → PlacedTokens → Type 0
 Begun n u = FrontBelow limits n limits.nesting no_counts unit u
 
-all_fit : (part : Tokens) → FrontWithin limits unit part → AllFit part
+all_fit : (part : PlacedTokens) → FrontWithin limits unit part → AllFit part
 all_fit part h n le = shorter_front limits h.0 limits.nesting no_counts unit (take n part) (drop n part) (subst (Begun h.0) (sym (take-append-drop n part)) h.1)
 
-line_found : (part : Tokens) (t : Placed) (rest : Tokens) → line_at (part ++ t ∷ rest) (length (t ∷ rest)) ≡ t.token.line
+line_found : (part : PlacedTokens) (t : Placed) (rest : PlacedTokens) → line_at (part ++ t ∷ rest) (length (t ∷ rest)) ≡ t.token.line
 line_found [] t rest = ap (λ b. if b then t.token.line else line_at rest (length (t ∷ rest))) (eq-eqb (length (t ∷ rest)) (length (t ∷ rest)) refl)
 line_found (z ∷ part) t rest =
     ap (λ b. if b then z.token.line else line_at (part ++ t ∷ rest) (length (t ∷ rest))) (ne_eqb (length (z ∷ (part ++ t ∷ rest))) (length (t ∷ rest)) (λ e. omega (arith, e, length-append part (t ∷ rest))))
@@ -100,16 +100,16 @@ nothing_dies ts n e a h =
     let x : false ≡ true = a.only limits d.1.0 limits.nesting tt (placed ts) [] d.0 d.1.1 (sym (append-nil (placed ts))) d.1.2 in
     false≢true x
 
-reach : (t : Placed) (part rest : Tokens) (w : Tokens) → w ≡ part ++ t ∷ rest → w ≡ (part ++ t ∷ []) ++ rest
+reach : (t : Placed) (part rest : PlacedTokens) (w : PlacedTokens) → w ≡ part ++ t ∷ rest → w ≡ (part ++ t ∷ []) ++ rest
 reach t part rest w e = e ∙ sym (append_assoc part (t ∷ []) rest)
 
 dead_stop : (ts : List TokenData) (n : ℕ) → EndsOnce ts → Stops true limits limits.nesting no_counts (ofs unit) (placed ts) n → TreeOrStop ts (Err (Refused F7 (line_at (placed ts) n)))
 dead_stop ts n e a = go a.rest a.split a.left
   where
-    w : Tokens
+    w : PlacedTokens
     w = placed ts
 
-    go : (rest : Tokens) → w ≡ a.part ++ rest → length rest ≡ n → TreeOrStop ts (Err (Refused F7 (line_at w n)))
+    go : (rest : PlacedTokens) → w ≡ a.part ++ rest → length rest ≡ n → TreeOrStop ts (Err (Refused F7 (line_at w n)))
     go [] s l = absurd (nothing_dies ts n e a (a.front.0, subst (Begun a.front.0) (sym (s ∙ append-nil a.part)) a.front.1))
     go (t ∷ rest) s l =
         subst (λ y. TreeOrStop ts (Err (Refused F7 y))) (sym (ap (λ m. line_at w m) (sym l) ∙ ap (λ q. line_at q (length (t ∷ rest))) s ∙ line_found a.part t rest))
@@ -125,9 +125,9 @@ deep_stop : (ts : List TokenData) (n : ℕ) → Stops false limits limits.nestin
 deep_stop ts n a =
     let w = placed ts in
     let t : Placed = a.goes.0 in
-    let rest : Tokens = a.goes.1 in
+    let rest : PlacedTokens = a.goes.1 in
     let s : w ≡ a.part ++ t ∷ rest = a.split ∙ ap (λ q. a.part ++ q) a.goes.2 in
-    let u : Tokens = a.part ++ t ∷ [] in
+    let u : PlacedTokens = a.part ++ t ∷ [] in
     let m : ℕ = a.goes.3.0 in
     let to : Limits = record { nesting = m; operations = length u; derivations = length u } in
     let o = a.goes.3.1 to m (omega arith) (omega arith, omega arith) in
@@ -171,7 +171,7 @@ only_answer ts a e x = go a x (reading (placed ts)) (reading_out (placed ts)) (e
 pub derived_answer : (ts : List TokenData) (u : UnitData) → Derives unit (placed ts) u → (answer ts ≡ Ok u) ⊎ (answer ts ≡ Err (Limit L3))
 derived_answer ts u d = go (reading (placed ts)) (reading_out (placed ts))
   where
-    w : Tokens
+    w : PlacedTokens
     w = placed ts
 
     here : w ≡ w ++ []

@@ -8,7 +8,7 @@ use Rattle.ec_ctypes.specs.declared.tree.expr.BinOp.TheVariants as bin
 use Rattle.ec_ctypes.specs.trees.Exprs.{ExprData, assign}
 use Rattle.ec_language.specs.Productions.{Production, operations, sym as ofs, nest, whole, or_rank, set_by, assignment_rule, productions}
 use Rattle.ec_language.specs.Productions as g
-use Rattle.ec_language.specs.Grammar.{Tokens, Limits, Counts, in_expression}
+use Rattle.ec_language.specs.Grammar.{PlacedTokens, Limits, Counts, in_expression}
 use Rattle.ec_grammar.specs.declared.kind.Kind.{Kind}
 use Rattle.ec_grammar.specs.declared.kind.Kind.TheVariants as k
 use Rattle.ec_grammar.specs.Input.{State, state, ◌>>=◌, pure, and_then, kind_at, kind_next, expect}
@@ -87,7 +87,7 @@ module _ (most : Limits) (levels : ℕ) (inner : Nested) (f : ReadsInner most le
         (λ e mid _. then_row (side refl (λ _. refl)) _ (expect_reads (k.Mark p.RightBracket) mid) (λ t mid _. end_row refl))),
   )
 
-  more_read : (m : ℕ) (found : List ExprData) (w : Tokens) (c : Counts) → length w ≤ m → Reads most levels c (ofs g.more_arguments) (List ExprData) (λ v. found ++ exprs_in v) w (read.more_arguments_from most inner m found (state w c))
+  more_read : (m : ℕ) (found : List ExprData) (w : PlacedTokens) (c : Counts) → length w ≤ m → Reads most levels c (ofs g.more_arguments) (List ExprData) (λ v. found ++ exprs_in v) w (read.more_arguments_from most inner m found (state w c))
   unfolding read.more_arguments_from
   more_read zero found [] c le = choose g.more_arguments 0 (λ v. found ++ exprs_in v) [] _ k.End k.End refl refl refl ((λ x y. refl), end_row (sym (append-nil found)))
   more_read zero found (t ∷ w) c le = absurd (omega arith)

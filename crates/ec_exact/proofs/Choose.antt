@@ -4,7 +4,7 @@ use Rattle.std.specs.Prelude.{if◌then◌else◌}
 use Rattle.std.proofs.lemmas.Bool.{false≢true}
 use Rattle.ec_language.specs.Productions.{Placed, Start, start_of, Sym, Value, Element, tok, count, sym as ofs, nest, whole, own, Row, Node, Nodes, Follows, Production, productions}
 use Rattle.ec_language.specs.Productions as g
-use Rattle.ec_language.specs.Grammar.{Tokens, Limits, Counts, AnyOf, Makes, DerivesBelow, FrontBelow}
+use Rattle.ec_language.specs.Grammar.{PlacedTokens, Limits, Counts, AnyOf, Makes, DerivesBelow, FrontBelow}
 use Rattle.ec_ctypes.specs.declared.text.token.Punct.TheVariants as p
 use Rattle.ec_grammar.specs.declared.kind.Kind.{Kind}
 use Rattle.ec_grammar.specs.declared.kind.Kind.TheVariants as k
@@ -175,7 +175,7 @@ module _ (s : Sym) (c : Row) (b : Production (Value s)) (lim : Limits) (n levels
   abbrev Lost : Kind → Kind → Type 0
   Lost j l = lost s c j l b ≡ true
 
-  lost_list : (p x : Tokens) (zs : Nodes b.row) (e : Counts) → Lost (kind_at (p ++ x)) (kind_next (p ++ x)) → GivesRow lim n levels c0 b.follows b.row p zs e → ext (ofs s) (b.make (start_of p) zs) (kind_at x) ≡ true
+  lost_list : (p x : PlacedTokens) (zs : Nodes b.row) (e : Counts) → Lost (kind_at (p ++ x)) (kind_next (p ++ x)) → GivesRow lim n levels c0 b.follows b.row p zs e → ext (ofs s) (b.make (start_of p) zs) (kind_at x) ≡ true
   lost_list [] x zs e h d =
       let j = kind_at x in let l = kind_next x in
       nil_ext lim n levels c0 e b.follows b.row (b.make (start_of [])) (λ v. ext (ofs s) v j)
@@ -199,7 +199,7 @@ module _ (s : Sym) (c : Row) (b : Production (Value s)) (lim : Limits) (n levels
       go false e true f h = absurd (false≢true h)
       go false e false f h = lead_list lim deep t true levels (level_left lim deep n levels c0 b.follows b.row t [] f o) c0 fc c h
 
-  lost_front : (fc : Follows) (u x : Tokens) → Lost (kind_at (u ++ x)) (kind_next (u ++ x)) → OpensRow lim n levels c0 b.follows b.row u → (u ≡ []) ⊎ OpensRow lim deep levels c0 fc c u
+  lost_front : (fc : Follows) (u x : PlacedTokens) → Lost (kind_at (u ++ x)) (kind_next (u ++ x)) → OpensRow lim n levels c0 b.follows b.row u → (u ≡ []) ⊎ OpensRow lim deep levels c0 fc c u
   lost_front fc [] x h o = inl refl
   lost_front fc (t ∷ []) x h o =
       let j = kind t in let l = kind_at x in
@@ -237,16 +237,16 @@ abbrev pub Fixed : {A : Type 0} (r : Row) → (Start → Nodes r → A) → Type
 Fixed [] make = (x y : Start) → make x tt ≡ make y tt
 Fixed (i ∷ r) make = null_row (i ∷ r) ≡ false
 
-alike : {A : Type 0} (lim : Limits) (n levels : ℕ) (c e : Counts) (follows : Follows) (r : Row) (make : Start → Nodes r → A) → Fixed r make → (p x w : Tokens) (zs : Nodes r) → w ≡ p ++ x → GivesRow lim n levels c follows r p zs e → make (start_of p) zs ≡ make (start_of w) zs
+alike : {A : Type 0} (lim : Limits) (n levels : ℕ) (c e : Counts) (follows : Follows) (r : Row) (make : Start → Nodes r → A) → Fixed r make → (p x w : PlacedTokens) (zs : Nodes r) → w ≡ p ++ x → GivesRow lim n levels c follows r p zs e → make (start_of p) zs ≡ make (start_of w) zs
 alike lim n levels c e follows [] make f [] x w zs h d = f (start_of []) (start_of w)
 alike lim n levels c e follows (i ∷ r) make f [] x w zs h d = absurd (false≢true (sym f ∙ null_list lim n levels c follows (i ∷ r) zs e d))
 alike lim n levels c e follows r make f (t ∷ p) x w zs h d = ap (λ y. make (start_of y) zs) (sym h)
 
 record Chosen {A : Type 0} (f : Production A → Bool) (l : List (Production A)) (a : Production A) : Type 0 where
-  makes : (lim : Limits) (n levels : ℕ) (c : Counts) (p : Tokens) (v : A) (e : Counts) → Makes lim (DerivesBelow lim n) levels c p v e a → AnyOf lim (Makes lim (DerivesBelow lim n) levels c p v e) l
-  fronts : (lim : Limits) (n levels : ℕ) (c : Counts) (u : Tokens) → OpensRow lim n levels c a.follows a.row u → AnyOf lim (λ b. OpensRow lim n levels c b.follows b.row u) l
-  made : (lim : Limits) (n levels : ℕ) (c : Counts) (p : Tokens) (v : A) (e : Counts) → AnyOf lim (Makes lim (DerivesBelow lim n) levels c p v e) l → Makes lim (DerivesBelow lim n) levels c p v e a ⊎ ((b : Production A) × (f b ≡ true) × Makes lim (DerivesBelow lim n) levels c p v e b)
-  fronted : (lim : Limits) (n levels : ℕ) (c : Counts) (u : Tokens) → AnyOf lim (λ b. OpensRow lim n levels c b.follows b.row u) l → OpensRow lim n levels c a.follows a.row u ⊎ ((b : Production A) × (f b ≡ true) × OpensRow lim n levels c b.follows b.row u)
+  makes : (lim : Limits) (n levels : ℕ) (c : Counts) (p : PlacedTokens) (v : A) (e : Counts) → Makes lim (DerivesBelow lim n) levels c p v e a → AnyOf lim (Makes lim (DerivesBelow lim n) levels c p v e) l
+  fronts : (lim : Limits) (n levels : ℕ) (c : Counts) (u : PlacedTokens) → OpensRow lim n levels c a.follows a.row u → AnyOf lim (λ b. OpensRow lim n levels c b.follows b.row u) l
+  made : (lim : Limits) (n levels : ℕ) (c : Counts) (p : PlacedTokens) (v : A) (e : Counts) → AnyOf lim (Makes lim (DerivesBelow lim n) levels c p v e) l → Makes lim (DerivesBelow lim n) levels c p v e a ⊎ ((b : Production A) × (f b ≡ true) × Makes lim (DerivesBelow lim n) levels c p v e b)
+  fronted : (lim : Limits) (n levels : ℕ) (c : Counts) (u : PlacedTokens) → AnyOf lim (λ b. OpensRow lim n levels c b.follows b.row u) l → OpensRow lim n levels c a.follows a.row u ⊎ ((b : Production A) × (f b ≡ true) × OpensRow lim n levels c b.follows b.row u)
 
 one_lost : {A : Type 0} (lim : Limits) (f : Production A → Bool) (X : Production A → Type 0) (l : List (Production A)) → all_lost f l ≡ true → AnyOf lim X l → (b : Production A) × (f b ≡ true) × X b
 one_lost lim f X [] e h = absurd h
@@ -281,22 +281,22 @@ locate f H (a ∷ rest) (suc m) e h =
       },
     )
 
-pub open_gives : (lim : Limits) (n levels : ℕ) (c : Counts) (s : Sym) (p : Tokens) (z : Value s) (e : Counts) → DerivesBelow lim n levels c s p z e → (m : ℕ) × AnyOf lim (Makes lim (DerivesBelow lim m) levels c p z e) (productions s)
+pub open_gives : (lim : Limits) (n levels : ℕ) (c : Counts) (s : Sym) (p : PlacedTokens) (z : Value s) (e : Counts) → DerivesBelow lim n levels c s p z e → (m : ℕ) × AnyOf lim (Makes lim (DerivesBelow lim m) levels c p z e) (productions s)
 open_gives lim zero levels c s p z e d = absurd d
 open_gives lim (suc n) levels c s p z e d = (n, d)
 
-pub open_front : (lim : Limits) (n levels : ℕ) (c : Counts) (s : Sym) (u : Tokens) → FrontBelow lim n levels c s u → (m : ℕ) × AnyOf lim (λ b. OpensRow lim m levels c b.follows b.row u) (productions s)
+pub open_front : (lim : Limits) (n levels : ℕ) (c : Counts) (s : Sym) (u : PlacedTokens) → FrontBelow lim n levels c s u → (m : ℕ) × AnyOf lim (λ b. OpensRow lim m levels c b.follows b.row u) (productions s)
 open_front lim zero levels c s u d = absurd d
 open_front lim (suc n) levels c s u d = (n, d)
 
 -- what is known of the productions that are not chosen
-abbrev LostLists : (s : Sym) → (Production (Value s) → Bool) → Counts → Tokens → Type 0
-LostLists s f c w = (b : Production (Value s)) (lim : Limits) (n levels : ℕ) (p x : Tokens) (zs : Nodes b.row) (e : Counts) → f b ≡ true → w ≡ p ++ x → GivesRow lim n levels c b.follows b.row p zs e → ext (ofs s) (b.make (start_of p) zs) (kind_at x) ≡ true
+abbrev LostLists : (s : Sym) → (Production (Value s) → Bool) → Counts → PlacedTokens → Type 0
+LostLists s f c w = (b : Production (Value s)) (lim : Limits) (n levels : ℕ) (p x : PlacedTokens) (zs : Nodes b.row) (e : Counts) → f b ≡ true → w ≡ p ++ x → GivesRow lim n levels c b.follows b.row p zs e → ext (ofs s) (b.make (start_of p) zs) (kind_at x) ≡ true
 
-abbrev LostFronts : (s : Sym) → (Production (Value s) → Bool) → Counts → Tokens → Follows → Row → Type 0
-LostFronts s f c w fc r = (b : Production (Value s)) (lim : Limits) (n levels : ℕ) (u x : Tokens) → f b ≡ true → w ≡ u ++ x → OpensRow lim n levels c b.follows b.row u → (u ≡ []) ⊎ OpensRow lim deep levels c fc r u
+abbrev LostFronts : (s : Sym) → (Production (Value s) → Bool) → Counts → PlacedTokens → Follows → Row → Type 0
+LostFronts s f c w fc r = (b : Production (Value s)) (lim : Limits) (n levels : ℕ) (u x : PlacedTokens) → f b ≡ true → w ≡ u ++ x → OpensRow lim n levels c b.follows b.row u → (u ≡ []) ⊎ OpensRow lim deep levels c fc r u
 
-module _ (s : Sym) (f : Production (Value s) → Bool) (a : Production (Value s)) (most : Limits) (levels : ℕ) (c : Counts) (w : Tokens) (ch : Chosen f (productions s) a) (fixed : Fixed a.row a.make) (l1 : LostLists s f c w) (l2 : LostFronts s f c w a.follows a.row) where
+module _ (s : Sym) (f : Production (Value s) → Bool) (a : Production (Value s)) (most : Limits) (levels : ℕ) (c : Counts) (w : PlacedTokens) (ch : Chosen f (productions s) a) (fixed : Fixed a.row a.make) (l1 : LostLists s f c w) (l2 : LostFronts s f c w a.follows a.row) where
   sort_ok : {vs : Nodes a.row} {left : State} → ParsesRow most levels c s a.follows a.row (a.make (start_of w)) w vs left → Parses most levels c (ofs s) w ((a.make (start_of w)) vs) left
   sort_ok {vs} {left} r = record {
     part = r.part;
@@ -306,7 +306,7 @@ module _ (s : Sym) (f : Production (Value s) → Bool) (a : Production (Value s)
     bound = λ lim n deeper u x h d. let o = open_front lim n deeper c s u d in bound lim o.0 deeper u x h (ch.fronted lim o.0 deeper c u o.1);
   }
     where
-      only : (lim : Limits) (n deeper : ℕ) (p x : Tokens) (z : Value s) (e : Counts) → w ≡ p ++ x → Makes lim (DerivesBelow lim n) deeper c p z e a ⊎ ((b : Production (Value s)) × (f b ≡ true) × Makes lim (DerivesBelow lim n) deeper c p z e b)
+      only : (lim : Limits) (n deeper : ℕ) (p x : PlacedTokens) (z : Value s) (e : Counts) → w ≡ p ++ x → Makes lim (DerivesBelow lim n) deeper c p z e a ⊎ ((b : Production (Value s)) × (f b ≡ true) × Makes lim (DerivesBelow lim n) deeper c p z e b)
           → ((x ≡ left.tokens) × (z ≡ (a.make (start_of w)) vs) × (e ≡ left.counts)) ⊎ (ext (ofs s) z (kind_at x) ≡ true)
       only lim n deeper p x z e h (inl m) = cases (r.only lim n deeper p x m.0 e h m.2)
         where
@@ -318,7 +318,7 @@ module _ (s : Sym) (f : Production (Value s) → Bool) (a : Production (Value s)
           cases (inr y) = inr (subst (λ v. ext (ofs s) v (kind_at x) ≡ true) (sym same) y)
       only lim n deeper p x z e h (inr m) = inr (subst (λ v. ext (ofs s) v (kind_at x) ≡ true) (sym m.2.1) (l1 m.0 lim n deeper p x m.2.0 e m.1 h m.2.2))
 
-      bound : (lim : Limits) (n deeper : ℕ) (u x : Tokens) → w ≡ u ++ x → OpensRow lim n deeper c a.follows a.row u ⊎ ((b : Production (Value s)) × (f b ≡ true) × OpensRow lim n deeper c b.follows b.row u) → length left.tokens ≤ length x
+      bound : (lim : Limits) (n deeper : ℕ) (u x : PlacedTokens) → w ≡ u ++ x → OpensRow lim n deeper c a.follows a.row u ⊎ ((b : Production (Value s)) × (f b ≡ true) × OpensRow lim n deeper c b.follows b.row u) → length left.tokens ≤ length x
       bound lim n deeper u x h (inl m) = r.bound lim n deeper u x h m
       bound lim n deeper u x h (inr m) = cases (l2 m.0 lim n deeper u x m.1 h m.2)
         where
@@ -326,7 +326,7 @@ module _ (s : Sym) (f : Production (Value s) → Bool) (a : Production (Value s)
           cases (inl y) = let z : w ≡ x = h ∙ ap (λ q. q ++ x) y in omega (arith, ap length r.split, length-append r.part left.tokens, ap length z)
           cases (inr y) = r.bound lim deep deeper u x h y
 
-  sort_goes : (b : Bool) (part rest : Tokens) → GoesRow b c a.follows a.row part rest → Goes b c (ofs s) part rest
+  sort_goes : (b : Bool) (part rest : PlacedTokens) → GoesRow b c a.follows a.row part rest → Goes b c (ofs s) part rest
   sort_goes true part rest h = tt
   sort_goes false part rest h = (h.0, h.1, h.2, (h.3.0, λ to deeper le room. let o = h.3.1 to deeper le room in (suc o.0, ch.fronts to o.0 deeper c (part ++ h.0 ∷ []) o.1)))
 
@@ -342,13 +342,13 @@ module _ (s : Sym) (f : Production (Value s) → Bool) (a : Production (Value s)
     bound = λ lim n deeper y u x h d. let o = open_front lim n deeper c s u d in bound lim o.0 deeper y u x h (ch.fronted lim o.0 deeper c u o.1);
   }
     where
-      only : (lim : Limits) (n deeper : ℕ) → Speaks b most levels lim deeper → (p x : Tokens) (z : Value s) (e : Counts) → w ≡ p ++ x → Makes lim (DerivesBelow lim n) deeper c p z e a ⊎ ((k : Production (Value s)) × (f k ≡ true) × Makes lim (DerivesBelow lim n) deeper c p z e k) → ext (ofs s) z (kind_at x) ≡ true
+      only : (lim : Limits) (n deeper : ℕ) → Speaks b most levels lim deeper → (p x : PlacedTokens) (z : Value s) (e : Counts) → w ≡ p ++ x → Makes lim (DerivesBelow lim n) deeper c p z e a ⊎ ((k : Production (Value s)) × (f k ≡ true) × Makes lim (DerivesBelow lim n) deeper c p z e k) → ext (ofs s) z (kind_at x) ≡ true
       only lim n deeper y p x z e h (inl m) =
           let same : z ≡ (a.make (start_of w)) m.0 = m.1 ∙ alike lim n deeper c e a.follows a.row a.make fixed p x w m.0 h m.2 in
           subst (λ v. ext (ofs s) v (kind_at x) ≡ true) (sym same) (r.only lim n deeper y p x m.0 e h m.2)
       only lim n deeper y p x z e h (inr m) = subst (λ v. ext (ofs s) v (kind_at x) ≡ true) (sym m.2.1) (l1 m.0 lim n deeper p x m.2.0 e m.1 h m.2.2)
 
-      bound : (lim : Limits) (n deeper : ℕ) → Speaks b most levels lim deeper → (u x : Tokens) → w ≡ u ++ x → OpensRow lim n deeper c a.follows a.row u ⊎ ((k : Production (Value s)) × (f k ≡ true) × OpensRow lim n deeper c k.follows k.row u) → size ≤ length x
+      bound : (lim : Limits) (n deeper : ℕ) → Speaks b most levels lim deeper → (u x : PlacedTokens) → w ≡ u ++ x → OpensRow lim n deeper c a.follows a.row u ⊎ ((k : Production (Value s)) × (f k ≡ true) × OpensRow lim n deeper c k.follows k.row u) → size ≤ length x
       bound lim n deeper y u x h (inl m) = r.bound lim n deeper y u x h m
       bound lim n deeper y u x h (inr m) = cases (l2 m.0 lim n deeper u x m.1 h m.2)
         where
@@ -363,12 +363,12 @@ module _ (s : Sym) (f : Production (Value s) → Bool) (a : Production (Value s)
   decide h (Err OutOfMemory) x = absurd x
 
 -- what the chosen production has to show
-abbrev pub Row_at : Limits → ℕ → Counts → (s : Sym) → {B : Type 0} → (Value s → B) → Tokens → Outcome B → Production (Value s) → Type 0
+abbrev pub Row_at : Limits → ℕ → Counts → (s : Sym) → {B : Type 0} → (Value s → B) → PlacedTokens → Outcome B → Production (Value s) → Type 0
 Row_at most levels c s {B} h w o a = Fixed a.row a.make × ReadsRow most levels c s a.follows a.row (a.make (start_of w)) B (λ vs. h (a.make (start_of w) vs)) w o
 
 module _ (most : Limits) (levels : ℕ) (c : Counts) (s : Sym) where
   -- The production at n is the one, by the next two tokens.
-  choose_at : (n : ℕ) {B : Type 0} (h : Value s → B) (w : Tokens) (o : Outcome B)
+  choose_at : (n : ℕ) {B : Type 0} (h : Value s → B) (w : PlacedTokens) (o : Outcome B)
       → others (lost s (row_at (productions s) n) (kind_at w) (kind_next w)) (productions s) n ≡ true
       → At (productions s) n (Row_at most levels c s h w o) → ElementOut most levels c (ofs s) h w o
   choose_at n {B} h w o e x =
@@ -381,7 +381,7 @@ module _ (most : Limits) (levels : ℕ) (c : Counts) (s : Sym) where
       h o y.1.1.out
 
   -- No production begins so.
-  none_at : (w : Tokens) → all_lost (lost s [] (kind_at w) (kind_next w)) (productions s) ≡ true → ground deep s ≡ true → Stops true most levels c (ofs s) w (length w)
+  none_at : (w : PlacedTokens) → all_lost (lost s [] (kind_at w) (kind_next w)) (productions s) ≡ true → ground deep s ≡ true → Stops true most levels c (ofs s) w (length w)
   none_at w e g = record {
     part = [];
     rest = w;
@@ -396,10 +396,10 @@ module _ (most : Limits) (levels : ℕ) (c : Counts) (s : Sym) where
       f : Production (Value s) → Bool
       f = lost s [] (kind_at w) (kind_next w)
 
-      only : (lim : Limits) (n deeper : ℕ) (p x : Tokens) (z : Value s) (v : Counts) → w ≡ p ++ x → (b : Production (Value s)) × (f b ≡ true) × Makes lim (DerivesBelow lim n) deeper c p z v b → ext (ofs s) z (kind_at x) ≡ true
+      only : (lim : Limits) (n deeper : ℕ) (p x : PlacedTokens) (z : Value s) (v : Counts) → w ≡ p ++ x → (b : Production (Value s)) × (f b ≡ true) × Makes lim (DerivesBelow lim n) deeper c p z v b → ext (ofs s) z (kind_at x) ≡ true
       only lim n deeper p x z v m y = subst (λ q. ext (ofs s) q (kind_at x) ≡ true) (sym y.2.1) (lost_list s [] y.0 lim n deeper c p x y.2.0 v (subst (λ q. lost s [] (kind_at q) (kind_next q) y.0 ≡ true) m y.1) y.2.2)
 
-      bound : (lim : Limits) (n deeper : ℕ) (u x : Tokens) → w ≡ u ++ x → (b : Production (Value s)) × (f b ≡ true) × OpensRow lim n deeper c b.follows b.row u → length w ≤ length x
+      bound : (lim : Limits) (n deeper : ℕ) (u x : PlacedTokens) → w ≡ u ++ x → (b : Production (Value s)) × (f b ≡ true) × OpensRow lim n deeper c b.follows b.row u → length w ≤ length x
       bound lim n deeper u x m y = cases (lost_front s [] y.0 lim n deeper c (λ i v. true) u x (subst (λ q. lost s [] (kind_at q) (kind_next q) y.0 ≡ true) m y.1) y.2)
         where
           cases : (u ≡ []) ⊎ (u ≡ []) → length w ≤ length x
@@ -407,7 +407,7 @@ module _ (most : Limits) (levels : ℕ) (c : Counts) (s : Sym) where
           cases (inr h) = let g : w ≡ x = m ∙ ap (λ q. q ++ x) h in omega (arith, ap length g)
 
 module _ {most : Limits} {levels : ℕ} {c : Counts} (s : Sym) where
-  pub choose : (n : ℕ) {B : Type 0} (h : Value s → B) (w : Tokens) (o : Outcome B) (j l : Kind)
+  pub choose : (n : ℕ) {B : Type 0} (h : Value s → B) (w : PlacedTokens) (o : Outcome B) (j l : Kind)
       → kind_at w ≡ j → kind_next w ≡ l → others (lost s (row_at (productions s) n) j l) (productions s) n ≡ true
       → At (productions s) n (Row_at most levels c s h w o) → Reads most levels c (ofs s) B h w o
   choose n h w o j l e1 e2 t x = record {
@@ -429,13 +429,13 @@ abbrev pub chooses : Sym → ℕ → Kind → (Kind → Bool) → Bool → Kind 
 chooses s n l f true j = elim (f j) [ true ↦ others (lost s (row_at (productions s) n) j l) (productions s) n | false ↦ true ]
 chooses s n l f false j = elim (f j) [ false ↦ others (lost s (row_at (productions s) n) j l) (productions s) n | true ↦ true ]
 
-pub when : {most : Limits} {levels : ℕ} {c : Counts} {i : Element} {B : Type 0} {h : Node i → B} {w : Tokens} {st : State} (b : Bool) (p q : Parser B)
+pub when : {most : Limits} {levels : ℕ} {c : Counts} {i : Element} {B : Type 0} {h : Node i → B} {w : PlacedTokens} {st : State} (b : Bool) (p q : Parser B)
     → (b ≡ true → Reads most levels c i B h w (p st)) → (b ≡ false → Reads most levels c i B h w (q st)) → Reads most levels c i B h w ((if b then p else q) st)
 when true p q f g = f refl
 when false p q f g = g refl
 
 module _ {most : Limits} {levels : ℕ} {c : Counts} (s : Sym) where
-  pub choose_if : (n : ℕ) {B : Type 0} (h : Value s → B) (w : Tokens) {o : Outcome B} (f : Kind → Bool) (b : Bool)
+  pub choose_if : (n : ℕ) {B : Type 0} (h : Value s → B) (w : PlacedTokens) {o : Outcome B} (f : Kind → Bool) (b : Bool)
       → f (kind_at w) ≡ b → each (chooses s n (kind_next w) f b) kinds ≡ true
       → At (productions s) n (Row_at most levels c s h w o) → Reads most levels c (ofs s) B h w o
   choose_if n h w {o} f true e t x = choose s n h w o (kind_at w) (kind_next w) refl refl

@@ -8,7 +8,7 @@ use Rattle.ec_ctypes.specs.trees.Exprs.{ExprData, InitData, many, DeclaratorData
 use Rattle.ec_ctypes.specs.trees.Units.{ParamData}
 use Rattle.ec_language.specs.Productions.{start_of, derivations, tok, sym as ofs, nest, whole, own, or_rank, text_of, mark, declared, for_expression, for_declaration, productions}
 use Rattle.ec_language.specs.Productions as g
-use Rattle.ec_language.specs.Grammar.{Tokens, Limits, Counts, in_declarator, in_expression}
+use Rattle.ec_language.specs.Grammar.{PlacedTokens, Limits, Counts, in_declarator, in_expression}
 use Rattle.ec_grammar.specs.declared.kind.Kind.{Kind}
 use Rattle.ec_grammar.specs.declared.kind.Kind.TheVariants as k
 use Rattle.ec_grammar.specs.Input.{State, state, Parser, ◌>>=◌, ◌>>◌, pure, kind_at, kind_next, expect}
@@ -60,7 +60,7 @@ module _ (most : Limits) (levels : ℕ) (inner : Nested) (f : ReadsInner most le
         (λ d mid _. then_row (side refl (λ _. refl)) _ (expect_reads (k.Mark p.RightBracket) mid) (λ u mid _. end_row refl))),
   )
 
-  lengths_read : (m : ℕ) (found : List (Option ExprData)) (w : Tokens) (c : Counts) → length w ≤ m → Reads most levels c (ofs g.lengths) (List (Option ExprData)) (λ v. found ++ dims_in v) w (read.lengths_from most inner m found (state w c))
+  lengths_read : (m : ℕ) (found : List (Option ExprData)) (w : PlacedTokens) (c : Counts) → length w ≤ m → Reads most levels c (ofs g.lengths) (List (Option ExprData)) (λ v. found ++ dims_in v) w (read.lengths_from most inner m found (state w c))
   unfolding read.lengths_from
   lengths_read zero found [] c le = choose g.lengths 0 (λ v. found ++ dims_in v) [] _ k.End k.End refl refl refl ((λ x y. refl), end_row (sym (append-nil found)))
   lengths_read zero found (t ∷ w) c le = absurd (omega arith)
@@ -101,7 +101,7 @@ module _ (most : Limits) (levels : ℕ) (inner : Nested) (f : ReadsInner most le
   one_more_reads more found st comma again false e = choose g.more_initializers 1 (λ v. found ++ inits_in v) st.tokens _ (k.Mark p.Comma) (kind_next st.tokens) (comma_is (kind_at st.tokens) comma) refl (without_more (kind_next st.tokens) e)
       (refl, then_row (side refl (λ _. refl)) _ (expect_reads (k.Mark p.Comma) st) (λ t mid a. end_row (sym (append-nil found))))
 
-  more_initializers_read : (m : ℕ) (found : List InitData) (w : Tokens) (c : Counts) → length w ≤ m → Reads most levels c (ofs g.more_initializers) (List InitData) (λ v. found ++ inits_in v) w (read.more_initializers_from most inner m found (state w c))
+  more_initializers_read : (m : ℕ) (found : List InitData) (w : PlacedTokens) (c : Counts) → length w ≤ m → Reads most levels c (ofs g.more_initializers) (List InitData) (λ v. found ++ inits_in v) w (read.more_initializers_from most inner m found (state w c))
   unfolding read.more_initializers_from
   more_initializers_read zero found [] c le = choose g.more_initializers 0 (λ v. found ++ inits_in v) [] _ k.End k.End refl refl refl ((λ x y. refl), end_row (sym (append-nil found)))
   more_initializers_read zero found (t ∷ w) c le = absurd (omega arith)
@@ -139,7 +139,7 @@ module _ (most : Limits) (levels : ℕ) (inner : Nested) (f : ReadsInner most le
   own_declarator_reads : (st : State) → Reads most levels st.counts (own g.declarator_part) DeclaratorData (λ v. v) st.tokens (taken.own (read.declarator_part most inner) st)
   own_declarator_reads st = own_reads (read.declarator_part most inner) st (declarator_reads (state st.tokens (in_declarator st.counts)))
 
-  more_declarators_read : (m : ℕ) (found : List DeclaratorData) (w : Tokens) (c : Counts) → length w ≤ m → Reads most levels c (ofs g.more_declarators) (List DeclaratorData) (λ v. found ++ declarators_in v) w (read.more_declarators_from most inner m found (state w c))
+  more_declarators_read : (m : ℕ) (found : List DeclaratorData) (w : PlacedTokens) (c : Counts) → length w ≤ m → Reads most levels c (ofs g.more_declarators) (List DeclaratorData) (λ v. found ++ declarators_in v) w (read.more_declarators_from most inner m found (state w c))
   unfolding read.more_declarators_from
   more_declarators_read zero found [] c le = choose g.more_declarators 0 (λ v. found ++ declarators_in v) [] _ k.End k.End refl refl refl ((λ x y. refl), end_row (sym (append-nil found)))
   more_declarators_read zero found (t ∷ w) c le = absurd (omega arith)
@@ -184,7 +184,7 @@ module _ (most : Limits) (levels : ℕ) (inner : Nested) (f : ReadsInner most le
   member_reads : Reading most levels (ofs g.member_declaration) (λ v. v) (read.member_declaration most inner)
   member_reads st = choose g.member_declaration 0 (λ v. v) st.tokens _ (kind_at st.tokens) (kind_next st.tokens) refl refl refl (refl, member_row st)
 
-  more_members_read : (m : ℕ) (found : List DeclData) (w : Tokens) (c : Counts) → length w ≤ m → Reads most levels c (ofs g.more_members) (List DeclData) (λ v. found ++ decls_in v) w (read.more_members_from most inner m found (state w c))
+  more_members_read : (m : ℕ) (found : List DeclData) (w : PlacedTokens) (c : Counts) → length w ≤ m → Reads most levels c (ofs g.more_members) (List DeclData) (λ v. found ++ decls_in v) w (read.more_members_from most inner m found (state w c))
   unfolding read.more_members_from
   more_members_read zero found [] c le = choose g.more_members 0 (λ v. found ++ decls_in v) [] _ k.End k.End refl refl refl ((λ x y. refl), end_row (sym (append-nil found)))
   more_members_read zero found (t ∷ w) c le = absurd (omega arith)
@@ -225,7 +225,7 @@ module _ (most : Limits) (levels : ℕ) (inner : Nested) (f : ReadsInner most le
   own_parameter_reads : (st : State) → Reads most levels st.counts (own g.parameter) ParamData (λ v. v) st.tokens (taken.own (read.parameter most inner) st)
   own_parameter_reads st = own_reads (read.parameter most inner) st (parameter_reads (state st.tokens (in_declarator st.counts)))
 
-  more_parameters_read : (m : ℕ) (found : List ParamData) (w : Tokens) (c : Counts) → length w ≤ m → Reads most levels c (ofs g.more_parameters) (List ParamData) (λ v. found ++ v) w (read.more_parameters_from most inner m found (state w c))
+  more_parameters_read : (m : ℕ) (found : List ParamData) (w : PlacedTokens) (c : Counts) → length w ≤ m → Reads most levels c (ofs g.more_parameters) (List ParamData) (λ v. found ++ v) w (read.more_parameters_from most inner m found (state w c))
   unfolding read.more_parameters_from
   more_parameters_read zero found [] c le = choose g.more_parameters 0 (λ v. found ++ v) [] _ k.End k.End refl refl refl ((λ x y. refl), end_row (sym (append-nil found)))
   more_parameters_read zero found (t ∷ w) c le = absurd (omega arith)

@@ -6,7 +6,7 @@ use Rattle.ec_ctypes.specs.declared.text.token.Punct.TheVariants as p
 use Rattle.ec_ctypes.specs.trees.Exprs.{ExprData}
 use Rattle.ec_language.specs.Productions.{Placed, Start, start_of, is, Sym, Value, Element, tok, count, sym as ofs, nest, whole, Row, Node, Nodes, Follows, OpenStatement, at, closed, ending, with_else, behind_closed, ForStart, for_expression, for_declaration, ForHead, text_of, number_of, productions}
 use Rattle.ec_language.specs.Productions as g
-use Rattle.ec_language.specs.Grammar.{Tokens, Limits, Counts, AnyOf, Makes, DerivesBelow, FrontBelow}
+use Rattle.ec_language.specs.Grammar.{PlacedTokens, Limits, Counts, AnyOf, Makes, DerivesBelow, FrontBelow}
 use Rattle.ec_grammar.specs.declared.kind.Kind.{Kind}
 use Rattle.ec_grammar.specs.declared.kind.Kind.TheVariants as k
 use Rattle.ec_grammar.specs.Input.{State, kind_at}
@@ -31,16 +31,16 @@ for_open x (for_declaration a) c s z = refl
 
 module _ (most : Limits) (t : Placed) (e : is (g.keyword (codes "else")) t.token.tok ≡ true) where
   abbrev AbsorbStatement : ℕ → Type 0
-  AbsorbStatement n = (levels : ℕ) (c : Counts) (w : Tokens) (z : OpenStatement) (b : Counts) → DerivesBelow most n levels c g.statement w z b → z.is_open ≡ true → (m : ℕ) × FrontBelow most m levels c g.statement (w ++ t ∷ [])
+  AbsorbStatement n = (levels : ℕ) (c : Counts) (w : PlacedTokens) (z : OpenStatement) (b : Counts) → DerivesBelow most n levels c g.statement w z b → z.is_open ≡ true → (m : ℕ) × FrontBelow most m levels c g.statement (w ++ t ∷ [])
 
   abbrev AbsorbOther : ℕ → Type 0
-  AbsorbOther n = (levels : ℕ) (c : Counts) (w : Tokens) (o : Option OpenStatement) (b : Counts) → DerivesBelow most n levels c g.else_option w o b → open_other o ≡ true → (m : ℕ) × FrontBelow most m levels c g.else_option (w ++ t ∷ [])
+  AbsorbOther n = (levels : ℕ) (c : Counts) (w : PlacedTokens) (o : Option OpenStatement) (b : Counts) → DerivesBelow most n levels c g.else_option w o b → open_other o ≡ true → (m : ℕ) × FrontBelow most m levels c g.else_option (w ++ t ∷ [])
 
   -- a row of two elements and a statement
-  after_two : (n : ℕ) → AbsorbStatement n → (levels : ℕ) (c : Counts) (i j : Element) (w : Tokens) (vs : Nodes (i ∷ j ∷ nest g.statement ∷ [])) (b : Counts)
+  after_two : (n : ℕ) → AbsorbStatement n → (levels : ℕ) (c : Counts) (i j : Element) (w : PlacedTokens) (vs : Nodes (i ∷ j ∷ nest g.statement ∷ [])) (b : Counts)
       → GivesRow most n levels c (λ i v. true) (i ∷ j ∷ nest g.statement ∷ []) w vs b → vs.1.1.0.is_open ≡ true → (m : ℕ) × OpensRow most m levels c (λ i v. true) (i ∷ j ∷ nest g.statement ∷ []) (w ++ t ∷ [])
   after_two n f levels c i j w vs b h o =
-      let u : Tokens = t ∷ [] in
+      let u : PlacedTokens = t ∷ [] in
       let h2 = h.5 in
       let h3 = h2.5 in
       let x = f h3.4.0 h2.3 h3.0 vs.1.1.0 h3.3 h3.4.2 o in
@@ -72,15 +72,15 @@ module _ (most : Limits) (t : Placed) (e : is (g.keyword (codes "else")) t.token
   abbrev if_row : Row
   if_row = tok (g.keyword (codes "if")) ∷ nest g.parenthesized ∷ nest g.statement ∷ ofs g.else_option ∷ []
 
-  in_if : (n : ℕ) → AbsorbStatement n → AbsorbOther n → (levels : ℕ) (c : Counts) (w : Tokens) (vs : Nodes if_row) (b : Counts) → GivesRow most n levels c behind_closed if_row w vs b → open_other vs.1.1.1.0 ≡ true
+  in_if : (n : ℕ) → AbsorbStatement n → AbsorbOther n → (levels : ℕ) (c : Counts) (w : PlacedTokens) (vs : Nodes if_row) (b : Counts) → GivesRow most n levels c behind_closed if_row w vs b → open_other vs.1.1.1.0 ≡ true
       → (m : ℕ) × OpensRow most m levels c behind_closed if_row (w ++ t ∷ [])
   in_if n f1 f2 levels c w vs b h o = go vs.1.1.0.is_open refl
     where
-      u : Tokens
+      u : PlacedTokens
       u = t ∷ []
 
       -- the first two elements, before a front of the rest
-      behind : (m : ℕ) (q : Tokens) → h.5.1 ≡ q → OpensRow most m levels h.5.3 behind_closed (nest g.statement ∷ ofs g.else_option ∷ []) (q ++ u) → OpensRow most m levels c behind_closed if_row (w ++ u)
+      behind : (m : ℕ) (q : PlacedTokens) → h.5.1 ≡ q → OpensRow most m levels h.5.3 behind_closed (nest g.statement ∷ ofs g.else_option ∷ []) (q ++ u) → OpensRow most m levels c behind_closed if_row (w ++ u)
       behind m q same x = inr (
         h.0,
         h.1 ++ u,
@@ -110,7 +110,7 @@ module _ (most : Limits) (t : Placed) (e : is (g.keyword (codes "else")) t.token
               (x.0, behind x.0 d.0 (d.2 ∙ ap (λ q. d.0 ++ q) y ∙ append-nil d.0) (inl (inr (d.4.0, d.4.1, x.1))))
           cases (inr y) = absurd (false≢true (ap not (sym s) ∙ y))
 
-  in_statement : (n : ℕ) → AbsorbStatement n → AbsorbOther n → (levels : ℕ) (c : Counts) (w : Tokens) (z : OpenStatement) (b : Counts) → AnyOf most (Makes most (DerivesBelow most n) levels c w z b) (productions g.statement) → z.is_open ≡ true
+  in_statement : (n : ℕ) → AbsorbStatement n → AbsorbOther n → (levels : ℕ) (c : Counts) (w : PlacedTokens) (z : OpenStatement) (b : Counts) → AnyOf most (Makes most (DerivesBelow most n) levels c w z b) (productions g.statement) → z.is_open ≡ true
       → (m : ℕ) × FrontBelow most m levels c g.statement (w ++ t ∷ [])
   in_statement n f1 f2 levels c w z b (inl x) o = absurd (false≢true (sym (ap (λ (y : OpenStatement). y.is_open) x.1) ∙ o))
   in_statement n f1 f2 levels c w z b (inr (inl x)) o = absurd (false≢true (sym (ap (λ (y : OpenStatement). y.is_open) x.1) ∙ o))
@@ -133,11 +133,11 @@ module _ (most : Limits) (t : Placed) (e : is (g.keyword (codes "else")) t.token
   in_statement n f1 f2 levels c w z b (inr (inr (inr (inr (inr (inr (inr (inr (inr (inr (inr (inr (inr (inl x)))))))))))))) o = absurd (false≢true (sym (ap (λ (y : OpenStatement). y.is_open) x.1) ∙ o))
   in_statement n f1 f2 levels c w z b (inr (inr (inr (inr (inr (inr (inr (inr (inr (inr (inr (inr (inr (inr x)))))))))))))) o = absurd x
 
-  in_other : (n : ℕ) → AbsorbStatement n → (levels : ℕ) (c : Counts) (w : Tokens) (o : Option OpenStatement) (b : Counts) → AnyOf most (Makes most (DerivesBelow most n) levels c w o b) (productions g.else_option) → open_other o ≡ true
+  in_other : (n : ℕ) → AbsorbStatement n → (levels : ℕ) (c : Counts) (w : PlacedTokens) (o : Option OpenStatement) (b : Counts) → AnyOf most (Makes most (DerivesBelow most n) levels c w o b) (productions g.else_option) → open_other o ≡ true
       → (m : ℕ) × FrontBelow most m levels c g.else_option (w ++ t ∷ [])
   in_other n f levels c w o b (inl x) h = (1, subst (λ q. FrontBelow most 1 levels c g.else_option (q ++ t ∷ [])) (sym x.2.0) (inr (inl (inl (inr (t, refl, e))))))
   in_other n f levels c w o b (inr (inl x)) h =
-      let u : Tokens = t ∷ [] in
+      let u : PlacedTokens = t ∷ [] in
       let d = x.2 in
       let l = d.5 in
       let y = f l.4.0 d.3 l.0 x.0.1.0 l.3 l.4.2 (sym (ap open_other x.1) ∙ h) in
@@ -155,7 +155,7 @@ module _ (most : Limits) (t : Placed) (e : is (g.keyword (codes "else")) t.token
 -- ---- what may stand behind a statement
 
 -- an `else` part of no token
-nothing_else : (lim : Limits) (n levels : ℕ) (c e : Counts) (w : Tokens) (o : Option OpenStatement) → w ≡ [] → DerivesBelow lim n levels c g.else_option w o e → open_other o ≡ true
+nothing_else : (lim : Limits) (n levels : ℕ) (c e : Counts) (w : PlacedTokens) (o : Option OpenStatement) → w ≡ [] → DerivesBelow lim n levels c g.else_option w o e → open_other o ≡ true
 nothing_else lim zero levels c e w o f d = absurd d
 nothing_else lim (suc n) levels c e w o f (inl x) = ap open_other x.1
 nothing_else lim (suc n) levels c e w o f (inr (inl x)) = absurd (let h : x.2.0 ≡ x.0.0 ∷ [] = x.2.4.0 in let z = at_nil x.2.0 x.2.1 (sym f ∙ x.2.2) in let y : x.2.0 ≡ [] = z.0 in cc)
@@ -195,7 +195,7 @@ if_side {most} {levels} {c} x e = record {
     same z None h = h
     same z (Some o) h = h
 
-    stands : (w : Tokens) (v : OpenStatement) (left : State) → Parses most levels c (nest g.statement) w v left → (lim : Limits) (n deeper : ℕ) (q y : Tokens) → left.tokens ≡ q ++ y → OpensRow lim n deeper left.counts behind_closed (ofs g.else_option ∷ []) q → (q ≡ []) ⊎ (not v.is_open ≡ true)
+    stands : (w : PlacedTokens) (v : OpenStatement) (left : State) → Parses most levels c (nest g.statement) w v left → (lim : Limits) (n deeper : ℕ) (q y : PlacedTokens) → left.tokens ≡ q ++ y → OpensRow lim n deeper left.counts behind_closed (ofs g.else_option ∷ []) q → (q ≡ []) ⊎ (not v.is_open ≡ true)
     stands w v left a lim n deeper [] y h o = inl refl
     stands w v left a lim n deeper (t ∷ q) y h o = inr (go v.is_open refl)
       where

@@ -1,7 +1,7 @@
 -- What is read by parts that are joined otherwise, or seen otherwise.
 use Rattle.std.proofs.Common.{◌≡◌, ℕ, true, refl, ◌⊎◌, inl, inr, ap, ◌∙◌, subst, Ok, Err}
 use Rattle.ec_language.specs.Productions.{Sym, Value, Element, sym as ofs, Row, Node, Nodes, Follows}
-use Rattle.ec_language.specs.Grammar.{Tokens, Limits, Counts}
+use Rattle.ec_language.specs.Grammar.{PlacedTokens, Limits, Counts}
 use Rattle.ec_grammar.specs.declared.kind.Kind.{Kind}
 use Rattle.ec_grammar.specs.declared.failure.Failure.TheVariants.{OutOfMemory, Dead, TooDeep}
 use Rattle.ec_grammar.specs.Input.{State, Outcome, Parser, and_then, pure, kind_at}
@@ -13,22 +13,22 @@ pub rejoined : {A B C : Type 0} (o : Outcome A) (f : A → Parser B) (h : B → 
 rejoined (Ok p) f h = refl
 rejoined (Err e) f h = refl
 
-pub along_row : {most : Limits} {levels : ℕ} {c : Counts} {s : Sym} {follows : Follows} {r : Row} {act : Nodes r → Value s} {B : Type 0} {h : Nodes r → B} {w : Tokens} {o p : Outcome B}
+pub along_row : {most : Limits} {levels : ℕ} {c : Counts} {s : Sym} {follows : Follows} {r : Row} {act : Nodes r → Value s} {B : Type 0} {h : Nodes r → B} {w : PlacedTokens} {o p : Outcome B}
     → o ≡ p → ReadsRow most levels c s follows r act B h w o → ReadsRow most levels c s follows r act B h w p
 along_row {most} {levels} {c} {s} {follows} {r} {act} {B} {h} {w} e x = subst (λ o. ReadsRow most levels c s follows r act B h w o) e x
 
-also_out : (most : Limits) (levels : ℕ) (c : Counts) (i : Element) {B : Type 0} (g h : Node i → B) (w : Tokens) (o : Outcome B) → ((v : Node i) → g v ≡ h v) → ElementOut most levels c i g w o → ElementOut most levels c i h w o
+also_out : (most : Limits) (levels : ℕ) (c : Counts) (i : Element) {B : Type 0} (g h : Node i → B) (w : PlacedTokens) (o : Outcome B) → ((v : Node i) → g v ≡ h v) → ElementOut most levels c i g w o → ElementOut most levels c i h w o
 also_out most levels c i g h w (Ok p) e x = (x.0, x.1 ∙ e x.0, x.2)
 also_out most levels c i g h w (Err (Dead n)) e x = x
 also_out most levels c i g h w (Err (TooDeep n)) e x = x
 also_out most levels c i g h w (Err OutOfMemory) e x = absurd x
 
-pub also : {most : Limits} {levels : ℕ} {c : Counts} {i : Element} {B : Type 0} {g h : Node i → B} {w : Tokens} {o : Outcome B} → ((v : Node i) → g v ≡ h v) → Reads most levels c i B g w o → Reads most levels c i B h w o
+pub also : {most : Limits} {levels : ℕ} {c : Counts} {i : Element} {B : Type 0} {g h : Node i → B} {w : PlacedTokens} {o : Outcome B} → ((v : Node i) → g v ≡ h v) → Reads most levels c i B g w o → Reads most levels c i B h w o
 also {most} {levels} {c} {i} {B} {g} {h} {w} {o} e x = record { out = also_out most levels c i g h w o e x.out }
 
 -- ---- a row of one symbol, as a row of another
 
-module _ (most : Limits) (levels : ℕ) (c : Counts) (s z : Sym) (follows : Follows) (r : Row) (act : Nodes r → Value s) (make : Nodes r → Value z) (w : Tokens)
+module _ (most : Limits) (levels : ℕ) (c : Counts) (s z : Sym) (follows : Follows) (r : Row) (act : Nodes r → Value s) (make : Nodes r → Value z) (w : PlacedTokens)
     (f : (vs : Nodes r) (j : Kind) → ext (ofs s) (act vs) j ≡ true → ext (ofs z) (make vs) j ≡ true) where
   row_parses : (vs : Nodes r) (left : State) → ParsesRow most levels c s follows r act w vs left → ParsesRow most levels c z follows r make w vs left
   row_parses vs left a = record {
@@ -39,7 +39,7 @@ module _ (most : Limits) (levels : ℕ) (c : Counts) (s z : Sym) (follows : Foll
     bound = a.bound;
   }
     where
-      only : (x : Tokens) (zs : Nodes r) (e : Counts) → ((x ≡ left.tokens) × (zs ≡ vs) × (e ≡ left.counts)) ⊎ (ext (ofs s) (act zs) (kind_at x) ≡ true) → ((x ≡ left.tokens) × (zs ≡ vs) × (e ≡ left.counts)) ⊎ (ext (ofs z) (make zs) (kind_at x) ≡ true)
+      only : (x : PlacedTokens) (zs : Nodes r) (e : Counts) → ((x ≡ left.tokens) × (zs ≡ vs) × (e ≡ left.counts)) ⊎ (ext (ofs s) (act zs) (kind_at x) ≡ true) → ((x ≡ left.tokens) × (zs ≡ vs) × (e ≡ left.counts)) ⊎ (ext (ofs z) (make zs) (kind_at x) ≡ true)
       only x zs e (inl h) = inl h
       only x zs e (inr h) = inr (f zs (kind_at x) h)
 
@@ -61,7 +61,7 @@ module _ (most : Limits) (levels : ℕ) (c : Counts) (s z : Sym) (follows : Foll
   row_out h k (Err (TooDeep n)) x = row_stops x
   row_out h k (Err OutOfMemory) x = absurd x
 
-pub row_seen : {most : Limits} {levels : ℕ} {c : Counts} {s z : Sym} {follows : Follows} {r : Row} {act : Nodes r → Value s} {make : Nodes r → Value z} {w : Tokens}
+pub row_seen : {most : Limits} {levels : ℕ} {c : Counts} {s z : Sym} {follows : Follows} {r : Row} {act : Nodes r → Value s} {make : Nodes r → Value z} {w : PlacedTokens}
     → ((vs : Nodes r) (j : Kind) → ext (ofs s) (act vs) j ≡ true → ext (ofs z) (make vs) j ≡ true)
     → {A B : Type 0} {h : Nodes r → A} (k : A → B) {o : Outcome A} → ReadsRow most levels c s follows r act A h w o → ReadsRow most levels c z follows r make B (λ vs. k (h vs)) w (and_then o (λ a. pure (k a)))
 row_seen {most} {levels} {c} {s} {z} {follows} {r} {act} {make} {w} f {A} {B} {h} k {o} x = record { out = row_out most levels c s z follows r act make w f h k o x.out }

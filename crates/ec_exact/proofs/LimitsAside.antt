@@ -12,7 +12,7 @@ use Rattle.ec_ctypes.specs.declared.text.piece.Piece.{Piece}
 use Rattle.ec_ctypes.specs.trees.Tokens.{TokenData}
 use Rattle.ec_ctypes.specs.trees.Units.{UnitData}
 use Rattle.ec_language.specs.First.{Reads, too_long, unclosed, no_tokens, tokens, max_text, HasTree, PassesLimit, IsReadAs}
-use Rattle.ec_language.specs.Grammar.{Tokens, Limits, no_counts, DerivesWithin, Derives}
+use Rattle.ec_language.specs.Grammar.{PlacedTokens, Limits, no_counts, DerivesWithin, Derives}
 use Rattle.ec_language.specs.Letters.{Text}
 use Rattle.ec_language.specs.Pieces.{Pieces}
 use Rattle.ec_language.specs.Productions.{placed, unit, sym as ofs}
@@ -37,15 +37,15 @@ use Rattle.ec_exact.proofs.Units.{unit_reads}
 -- ---- tokens have one tree at most, within any limits
 
 module _ (most : Limits) where
-  reading_within : Tokens → Outcome UnitData
+  reading_within : PlacedTokens → Outcome UnitData
   reading_within w = read.unit most (nested most most.nesting) (nested_statements most most.nesting) (state w no_counts)
 
-  reading_is : (w : Tokens) → ElementOut most most.nesting no_counts (ofs unit) (λ v. v) w (reading_within w)
+  reading_is : (w : PlacedTokens) → ElementOut most most.nesting no_counts (ofs unit) (λ v. v) w (reading_within w)
   unfolding reading_within
   reading_is w = (unit_reads most most.nesting (nested most most.nesting) (nested_statements most most.nesting) (inner_reads most most.nesting) (deeper_reads most most.nesting) (state w no_counts)).out
 
 -- The reading within the limits of one derivation finds its tree, and that of each other.
-pub one_derived : (w : Tokens) (u v : UnitData) → Derives unit w u → Derives unit w v → u ≡ v
+pub one_derived : (w : PlacedTokens) (u v : UnitData) → Derives unit w u → Derives unit w v → u ≡ v
 one_derived w u v d e = go (reading_within d.0 w) (reading_is d.0 w)
   where
     here : w ≡ w ++ []

@@ -3,7 +3,7 @@ use Rattle.std.proofs.Common.{◌≡◌, ℕ, zero, suc, ◌≤◌, Bool, true, 
 use Rattle.std.specs.Prelude.{if◌then◌else◌}
 use Rattle.std.proofs.lemmas.Bool.{false≢true}
 use Rattle.ec_language.specs.Productions.{Placed, Terminal, is, Counted, Sym, Value, tok, count, sym as ofs, nest, whole, own}
-use Rattle.ec_language.specs.Grammar.{Tokens, Limits, Counts, counted, is_within, in_expression, behind_expression, in_declarator, behind_declarator}
+use Rattle.ec_language.specs.Grammar.{PlacedTokens, Limits, Counts, behind_counted, is_within, in_expression, behind_expression, in_declarator, behind_declarator}
 use Rattle.ec_language.proofs.Limits.{Room, room_counted, room_expression, room_declarator}
 use Rattle.ec_grammar.specs.declared.kind.Kind.{Kind}
 use Rattle.ec_grammar.specs.declared.kind.Kind.TheVariants as k
@@ -19,7 +19,7 @@ use Rattle.ec_exact.proofs.Exact.{Speaks, Goes, Parses, Stops, ElementOut, Reads
 use Rattle.ec_exact.proofs.Choose.{kinds, each, at_each}
 
 -- a front of nothing leaves all
-none_read : (w part rest u x : Tokens) (size : ℕ) → w ≡ part ++ rest → length rest ≡ size → w ≡ u ++ x → u ≡ [] → size ≤ length x
+none_read : (w part rest u x : PlacedTokens) (size : ℕ) → w ≡ part ++ rest → length rest ≡ size → w ≡ u ++ x → u ≡ [] → size ≤ length x
 none_read w part rest u x size e l f g = let h : w ≡ x = f ∙ ap (λ q. q ++ x) g in omega (arith, ap length e, length-append part rest, l, ap length h)
 
 -- ---- one level deeper
@@ -28,7 +28,7 @@ speaks : (b : Bool) (most lim : Limits) (fewer deeper f : ℕ) → Speaks b most
 speaks true most lim fewer deeper f h e = tt
 speaks false most lim fewer deeper f h e = (h.0, (let a = h.1 in omega (arith, a, e)))
 
-nest_goes : (b : Bool) (c : Counts) (s : Sym) (part rest : Tokens) → Goes b c (ofs s) part rest → Goes b c (nest s) part rest
+nest_goes : (b : Bool) (c : Counts) (s : Sym) (part rest : PlacedTokens) → Goes b c (ofs s) part rest → Goes b c (nest s) part rest
 nest_goes true c s part rest h = tt
 nest_goes false c s part rest (t, q, e, h) = (t, q, e, (suc h.0, front))
   where
@@ -36,7 +36,7 @@ nest_goes false c s part rest (t, q, e, h) = (t, q, e, (suc h.0, front))
     front to zero le room = absurd (omega arith)
     front to (suc levels) le room = let o = h.1 to levels (omega arith) room in (o.0, inr (levels, refl, o.1))
 
-module _ (most : Limits) (fewer : ℕ) (c : Counts) (s : Sym) (w : Tokens) where
+module _ (most : Limits) (fewer : ℕ) (c : Counts) (s : Sym) (w : PlacedTokens) where
   nest_parses : {v : Value s} {left : State} → Parses most fewer c (ofs s) w v left → Parses most (suc fewer) c (nest s) w v left
   nest_parses {v} {left} a = record {
     part = a.part;
@@ -46,7 +46,7 @@ module _ (most : Limits) (fewer : ℕ) (c : Counts) (s : Sym) (w : Tokens) where
     bound = bound;
   }
     where
-      bound : (lim : Limits) (n deeper : ℕ) (u x : Tokens) → w ≡ u ++ x → Opens lim n deeper c (nest s) u → length left.tokens ≤ length x
+      bound : (lim : Limits) (n deeper : ℕ) (u x : PlacedTokens) → w ≡ u ++ x → Opens lim n deeper c (nest s) u → length left.tokens ≤ length x
       bound lim n deeper u x h (inl e) = none_read w a.part left.tokens u x (length left.tokens) a.split refl h e
       bound lim n deeper u x h (inr o) = a.bound lim n o.0 u x h o.2
 
@@ -62,7 +62,7 @@ module _ (most : Limits) (fewer : ℕ) (c : Counts) (s : Sym) (w : Tokens) where
     bound = bound;
   }
     where
-      bound : (lim : Limits) (n deeper : ℕ) → Speaks b most (suc fewer) lim deeper → (u x : Tokens) → w ≡ u ++ x → Opens lim n deeper c (nest s) u → size ≤ length x
+      bound : (lim : Limits) (n deeper : ℕ) → Speaks b most (suc fewer) lim deeper → (u x : PlacedTokens) → w ≡ u ++ x → Opens lim n deeper c (nest s) u → size ≤ length x
       bound lim n deeper y u x h (inl e) = none_read w a.part a.rest u x size a.split a.left h e
       bound lim n deeper y u x h (inr o) = a.bound lim n o.0 (speaks b most lim fewer deeper o.0 y o.1) u x h o.2
 
@@ -72,20 +72,20 @@ module _ (most : Limits) (fewer : ℕ) (c : Counts) (s : Sym) (w : Tokens) where
   nest_out g (Err (TooDeep n)) x = nest_stops x
   nest_out g (Err OutOfMemory) x = absurd x
 
-pub nest_reads : {most : Limits} {fewer : ℕ} {c : Counts} {s : Sym} {w : Tokens} {B : Type 0} {g : Value s → B} {o : Outcome B} → Reads most fewer c (ofs s) B g w o → Reads most (suc fewer) c (nest s) B g w o
+pub nest_reads : {most : Limits} {fewer : ℕ} {c : Counts} {s : Sym} {w : PlacedTokens} {B : Type 0} {g : Value s → B} {o : Outcome B} → Reads most fewer c (ofs s) B g w o → Reads most (suc fewer) c (nest s) B g w o
 nest_reads {most} {fewer} {c} {s} {w} {B} {g} {o} x = record { out = nest_out most fewer c s w g o x.out }
 
 -- ---- whole expressions, and what has stars and lengths of its own
 
-whole_goes : (b : Bool) (c : Counts) (s : Sym) (part rest : Tokens) → Goes b (in_expression c) (ofs s) part rest → Goes b c (whole s) part rest
+whole_goes : (b : Bool) (c : Counts) (s : Sym) (part rest : PlacedTokens) → Goes b (in_expression c) (ofs s) part rest → Goes b c (whole s) part rest
 whole_goes true c s part rest h = tt
 whole_goes false c s part rest h = (h.0, h.1, h.2, (h.3.0, λ to levels le room. h.3.1 to levels le (room_expression to (length (part ++ h.0 ∷ [])) c room)))
 
-own_goes : (b : Bool) (c : Counts) (s : Sym) (part rest : Tokens) → Goes b (in_declarator c) (ofs s) part rest → Goes b c (own s) part rest
+own_goes : (b : Bool) (c : Counts) (s : Sym) (part rest : PlacedTokens) → Goes b (in_declarator c) (ofs s) part rest → Goes b c (own s) part rest
 own_goes true c s part rest h = tt
 own_goes false c s part rest h = (h.0, h.1, h.2, (h.3.0, λ to levels le room. h.3.1 to levels le (room_declarator to (length (part ++ h.0 ∷ [])) c room)))
 
-module _ (most : Limits) (levels : ℕ) (c : Counts) (s : Sym) (w : Tokens) where
+module _ (most : Limits) (levels : ℕ) (c : Counts) (s : Sym) (w : PlacedTokens) where
   whole_parses : {v : Value s} {left : State} → Parses most levels (in_expression c) (ofs s) w v left → Parses most levels c (whole s) w v (state left.tokens (behind_expression c left.counts))
   whole_parses {v} {left} a = record {
     part = a.part;
@@ -95,7 +95,7 @@ module _ (most : Limits) (levels : ℕ) (c : Counts) (s : Sym) (w : Tokens) wher
     bound = a.bound;
   }
     where
-      only : (p x : Tokens) (z : Value s) (e i : Counts) → e ≡ behind_expression c i → ((x ≡ left.tokens) × (z ≡ v) × (i ≡ left.counts)) ⊎ (ext (ofs s) z (kind_at x) ≡ true)
+      only : (p x : PlacedTokens) (z : Value s) (e i : Counts) → e ≡ behind_expression c i → ((x ≡ left.tokens) × (z ≡ v) × (i ≡ left.counts)) ⊎ (ext (ofs s) z (kind_at x) ≡ true)
           → ((x ≡ left.tokens) × (z ≡ v) × (e ≡ behind_expression c left.counts)) ⊎ (ext (ofs s) z (kind_at x) ≡ true)
       only p x z e i f (inl h) = inl (h.0, h.1, f ∙ ap (behind_expression c) h.2)
       only p x z e i f (inr h) = inr h
@@ -128,7 +128,7 @@ module _ (most : Limits) (levels : ℕ) (c : Counts) (s : Sym) (w : Tokens) wher
     bound = a.bound;
   }
     where
-      only : (p x : Tokens) (z : Value s) (e i : Counts) → e ≡ behind_declarator c i → ((x ≡ left.tokens) × (z ≡ v) × (i ≡ left.counts)) ⊎ (ext (ofs s) z (kind_at x) ≡ true)
+      only : (p x : PlacedTokens) (z : Value s) (e i : Counts) → e ≡ behind_declarator c i → ((x ≡ left.tokens) × (z ≡ v) × (i ≡ left.counts)) ⊎ (ext (ofs s) z (kind_at x) ≡ true)
           → ((x ≡ left.tokens) × (z ≡ v) × (e ≡ behind_declarator c left.counts)) ⊎ (ext (ofs s) z (kind_at x) ≡ true)
       only p x z e i f (inl h) = inl (h.0, h.1, f ∙ ap (behind_declarator c) h.2)
       only p x z e i f (inr h) = inr h
@@ -163,7 +163,7 @@ own_reads {most} {levels} {s} {B} {g} p st x = record { out = own_out most level
 -- ---- tokens
 
 module _ (most : Limits) (levels : ℕ) (c : Counts) where
-  tok_parses : (x : Terminal) (t : Placed) (w : Tokens) → is x t.token.tok ≡ true → Parses most levels c (tok x) (t ∷ w) t (state w c)
+  tok_parses : (x : Terminal) (t : Placed) (w : PlacedTokens) → is x t.token.tok ≡ true → Parses most levels c (tok x) (t ∷ w) t (state w c)
   tok_parses x t w e = record {
     part = t ∷ [];
     split = refl;
@@ -172,11 +172,11 @@ module _ (most : Limits) (levels : ℕ) (c : Counts) where
     bound = bound;
   }
     where
-      bound : (lim : Limits) (n deeper : ℕ) (u y : Tokens) → t ∷ w ≡ u ++ y → Opens lim n deeper c (tok x) u → length w ≤ length y
+      bound : (lim : Limits) (n deeper : ℕ) (u y : PlacedTokens) → t ∷ w ≡ u ++ y → Opens lim n deeper c (tok x) u → length w ≤ length y
       bound lim n deeper u y f (inl g) = let h : t ∷ w ≡ y = f ∙ ap (λ q. q ++ y) g in omega (arith, ap length h)
       bound lim n deeper u y f (inr g) = let h : t ∷ w ≡ g.0 ∷ y = f ∙ ap (λ q. q ++ y) g.1 in omega (arith, ap length h)
 
-  count_parses : (n : Counted) (x : Terminal) (t : Placed) (w : Tokens) → is x t.token.tok ≡ true → is_within most n (counted n c) ≡ true → Parses most levels c (count n x) (t ∷ w) t (state w (counted n c))
+  count_parses : (n : Counted) (x : Terminal) (t : Placed) (w : PlacedTokens) → is x t.token.tok ≡ true → is_within most n (behind_counted n c) ≡ true → Parses most levels c (count n x) (t ∷ w) t (state w (behind_counted n c))
   count_parses n x t w e i = record {
     part = t ∷ [];
     split = refl;
@@ -185,11 +185,11 @@ module _ (most : Limits) (levels : ℕ) (c : Counts) where
     bound = bound;
   }
     where
-      bound : (lim : Limits) (m deeper : ℕ) (u y : Tokens) → t ∷ w ≡ u ++ y → Opens lim m deeper c (count n x) u → length w ≤ length y
+      bound : (lim : Limits) (m deeper : ℕ) (u y : PlacedTokens) → t ∷ w ≡ u ++ y → Opens lim m deeper c (count n x) u → length w ≤ length y
       bound lim m deeper u y f (inl g) = let h : t ∷ w ≡ y = f ∙ ap (λ q. q ++ y) g in omega (arith, ap length h)
       bound lim m deeper u y f (inr g) = let h : t ∷ w ≡ g.0 ∷ y = f ∙ ap (λ q. q ++ y) g.1 in omega (arith, ap length h)
 
-  tok_dies : (x : Terminal) (w : Tokens) → ((t : Placed) (q : Tokens) → w ≡ t ∷ q → is x t.token.tok ≡ true → ⊥) → Stops true most levels c (tok x) w (length w)
+  tok_dies : (x : Terminal) (w : PlacedTokens) → ((t : Placed) (q : PlacedTokens) → w ≡ t ∷ q → is x t.token.tok ≡ true → ⊥) → Stops true most levels c (tok x) w (length w)
   tok_dies x w never = record {
     part = [];
     rest = w;
@@ -201,11 +201,11 @@ module _ (most : Limits) (levels : ℕ) (c : Counts) where
     bound = bound;
   }
     where
-      bound : (lim : Limits) (n deeper : ℕ) → Unit {0} → (u y : Tokens) → w ≡ u ++ y → Opens lim n deeper c (tok x) u → length w ≤ length y
+      bound : (lim : Limits) (n deeper : ℕ) → Unit {0} → (u y : PlacedTokens) → w ≡ u ++ y → Opens lim n deeper c (tok x) u → length w ≤ length y
       bound lim n deeper _ u y f (inl g) = none_read w [] w u y (length w) refl refl f g
       bound lim n deeper _ u y f (inr g) = absurd (never g.0 y (f ∙ ap (λ q. q ++ y) g.1) g.2)
 
-  count_dies : (n : Counted) (x : Terminal) (w : Tokens) → ((t : Placed) (q : Tokens) → w ≡ t ∷ q → is x t.token.tok ≡ true → ⊥) → Stops true most levels c (count n x) w (length w)
+  count_dies : (n : Counted) (x : Terminal) (w : PlacedTokens) → ((t : Placed) (q : PlacedTokens) → w ≡ t ∷ q → is x t.token.tok ≡ true → ⊥) → Stops true most levels c (count n x) w (length w)
   count_dies n x w never = record {
     part = [];
     rest = w;
@@ -217,11 +217,11 @@ module _ (most : Limits) (levels : ℕ) (c : Counts) where
     bound = bound;
   }
     where
-      bound : (lim : Limits) (m deeper : ℕ) → Unit {0} → (u y : Tokens) → w ≡ u ++ y → Opens lim m deeper c (count n x) u → length w ≤ length y
+      bound : (lim : Limits) (m deeper : ℕ) → Unit {0} → (u y : PlacedTokens) → w ≡ u ++ y → Opens lim m deeper c (count n x) u → length w ≤ length y
       bound lim m deeper _ u y f (inl g) = none_read w [] w u y (length w) refl refl f g
       bound lim m deeper _ u y f (inr g) = absurd (never g.0 y (f ∙ ap (λ q. q ++ y) g.1) g.2)
 
-  count_passes : (n : Counted) (x : Terminal) (t : Placed) (w : Tokens) → is x t.token.tok ≡ true → is_within most n (counted n c) ≡ false → Stops false most levels c (count n x) (t ∷ w) (length (t ∷ w))
+  count_passes : (n : Counted) (x : Terminal) (t : Placed) (w : PlacedTokens) → is x t.token.tok ≡ true → is_within most n (behind_counted n c) ≡ false → Stops false most levels c (count n x) (t ∷ w) (length (t ∷ w))
   count_passes n x t w e i = record {
     part = [];
     rest = t ∷ w;
@@ -233,17 +233,17 @@ module _ (most : Limits) (levels : ℕ) (c : Counts) where
     bound = bound;
   }
     where
-      out : (lim : Limits) → lim ≡ most → is_within lim n (counted n c) ≡ true → ⊥
-      out lim y h = false≢true (sym i ∙ subst (λ l. is_within l n (counted n c) ≡ true) y h)
+      out : (lim : Limits) → lim ≡ most → is_within lim n (behind_counted n c) ≡ true → ⊥
+      out lim y h = false≢true (sym i ∙ subst (λ l. is_within l n (behind_counted n c) ≡ true) y h)
 
-      bound : (lim : Limits) (m deeper : ℕ) → (lim ≡ most) × (deeper ≡ levels) → (u y : Tokens) → t ∷ w ≡ u ++ y → Opens lim m deeper c (count n x) u → length (t ∷ w) ≤ length y
+      bound : (lim : Limits) (m deeper : ℕ) → (lim ≡ most) × (deeper ≡ levels) → (u y : PlacedTokens) → t ∷ w ≡ u ++ y → Opens lim m deeper c (count n x) u → length (t ∷ w) ≤ length y
       bound lim m deeper z u y f (inl g) = none_read (t ∷ w) [] (t ∷ w) u y (length (t ∷ w)) refl refl f g
       bound lim m deeper z u y f (inr g) = absurd (out lim z.0 g.3)
 
-  never_other : (j : Kind) (t : Placed) (w : Tokens) → same_kind (kind t) j ≡ false → (z : Placed) (q : Tokens) → t ∷ w ≡ z ∷ q → is (terminal j) z.token.tok ≡ true → ⊥
+  never_other : (j : Kind) (t : Placed) (w : PlacedTokens) → same_kind (kind t) j ≡ false → (z : Placed) (q : PlacedTokens) → t ∷ w ≡ z ∷ q → is (terminal j) z.token.tok ≡ true → ⊥
   never_other j t w e z q f h = let g : z ≡ t = cc in false≢true (sym e ∙ is_kind (kind t) j (ap kind (sym g) ∙ terminal_own j z.token.tok h))
 
-  expect_out : (j : Kind) (w : Tokens) → ElementOut most levels c (tok (terminal j)) (λ t. t) w (expect j (state w c))
+  expect_out : (j : Kind) (w : PlacedTokens) → ElementOut most levels c (tok (terminal j)) (λ t. t) w (expect j (state w c))
   unfolding expect
   expect_out j [] = tok_dies (terminal j) [] (λ t q e _. absurd (cc))
   expect_out j (t ∷ w) = go (same_kind (kind t) j) refl
@@ -252,12 +252,12 @@ module _ (most : Limits) (levels : ℕ) (c : Counts) where
       go true e = (t, refl, tok_parses (terminal j) t w (kind_terminal t.token.tok j (kind_is (kind t) j e)))
       go false e = tok_dies (terminal j) (t ∷ w) (never_other j t w e)
 
-  counted_out : (n : Counted) (j : Kind) (w : Tokens) → ElementOut most levels c (count n (terminal j)) (λ t. t) w (expect_counted most n j (state w c))
+  counted_out : (n : Counted) (j : Kind) (w : PlacedTokens) → ElementOut most levels c (count n (terminal j)) (λ t. t) w (expect_counted most n j (state w c))
   unfolding expect expect_counted
   counted_out n j [] = count_dies n (terminal j) [] (λ t q e _. absurd (cc))
-  counted_out n j (t ∷ w) = go (same_kind (kind t) j) refl (is_within most n (counted n c)) refl
+  counted_out n j (t ∷ w) = go (same_kind (kind t) j) refl (is_within most n (behind_counted n c)) refl
     where
-      go : (b : Bool) → same_kind (kind t) j ≡ b → (i : Bool) → is_within most n (counted n c) ≡ i → ElementOut most levels c (count n (terminal j)) (λ t. t) (t ∷ w) (expect_counted most n j (state (t ∷ w) c))
+      go : (b : Bool) → same_kind (kind t) j ≡ b → (i : Bool) → is_within most n (behind_counted n c) ≡ i → ElementOut most levels c (count n (terminal j)) (λ t. t) (t ∷ w) (expect_counted most n j (state (t ∷ w) c))
       go true e true f = rw e (rw f (t, refl, count_parses n (terminal j) t w (kind_terminal t.token.tok j (kind_is (kind t) j e)) f))
       go true e false f = rw e (rw f (count_passes n (terminal j) t w (kind_terminal t.token.tok j (kind_is (kind t) j e)) f))
       go false e i f = rw e (count_dies n (terminal j) (t ∷ w) (never_other j t w e))
@@ -275,11 +275,11 @@ abbrev pub begins_test : Sym → (Kind → Bool) → Kind → Bool
 begins_test s begins j = elim (begins j) [ true ↦ ahead deep s j | false ↦ not (first deep s j) ]
 
 module _ (most : Limits) (c : Counts) (s : Sym) (begins : Kind → Bool) (test : each (begins_test s begins) kinds ≡ true) (some : null (nest s) ≡ false) (end : begins k.End ≡ false) where
-  no_list : (lim : Limits) (n deeper : ℕ) (p x : Tokens) (z : Value s) (e : Counts) → begins (kind_at (p ++ x)) ≡ false → Gives lim n deeper c (nest s) p z e → ⊥
+  no_list : (lim : Limits) (n deeper : ℕ) (p x : PlacedTokens) (z : Value s) (e : Counts) → begins (kind_at (p ++ x)) ≡ false → Gives lim n deeper c (nest s) p z e → ⊥
   no_list lim n deeper [] x z e f d = false≢true (sym some ∙ null_sound lim n deeper c (nest s) z e d)
   no_list lim n deeper (t ∷ p) x z e f d = no_first lim n deeper t p f (whole_element lim n deeper c (nest s) (t ∷ p) z e d)
     where
-      no_first : (lim : Limits) (n deeper : ℕ) (t : Placed) (p : Tokens) → begins (kind t) ≡ false → Opens lim n deeper c (nest s) (t ∷ p) → ⊥
+      no_first : (lim : Limits) (n deeper : ℕ) (t : Placed) (p : PlacedTokens) → begins (kind t) ≡ false → Opens lim n deeper c (nest s) (t ∷ p) → ⊥
       no_first lim n deeper t p f o = go (begins (kind t)) f (first deep s (kind t)) (first_sound lim deep n deeper c (nest s) t p o) (at_each (begins_test s begins) test (kind t))
         where
           go : (b : Bool) → b ≡ false → (i : Bool) → i ≡ true → elim b [ true ↦ ahead deep s (kind t) | false ↦ not i ] ≡ true → ⊥
@@ -287,7 +287,7 @@ module _ (most : Limits) (c : Counts) (s : Sym) (begins : Kind → Bool) (test :
           go false g true h y = false≢true y
           go false g false h y = false≢true h
 
-  no_front : (lim : Limits) (n deeper : ℕ) (u x : Tokens) → begins (kind_at (u ++ x)) ≡ false → Opens lim n deeper c (nest s) u → u ≡ []
+  no_front : (lim : Limits) (n deeper : ℕ) (u x : PlacedTokens) → begins (kind_at (u ++ x)) ≡ false → Opens lim n deeper c (nest s) u → u ≡ []
   no_front lim n deeper [] x f o = refl
   no_front lim n deeper (t ∷ p) x f o = absurd (go (begins (kind t)) f (first deep s (kind t)) (first_sound lim deep n deeper c (nest s) t p o) (at_each (begins_test s begins) test (kind t)))
     where
@@ -296,7 +296,7 @@ module _ (most : Limits) (c : Counts) (s : Sym) (begins : Kind → Bool) (test :
       go false g true h y = false≢true y
       go false g false h y = false≢true h
 
-  level_dies : (w : Tokens) → begins (kind_at w) ≡ false → Stops true most zero c (nest s) w (length w)
+  level_dies : (w : PlacedTokens) → begins (kind_at w) ≡ false → Stops true most zero c (nest s) w (length w)
   level_dies w f = record {
     part = [];
     rest = w;
@@ -308,7 +308,7 @@ module _ (most : Limits) (c : Counts) (s : Sym) (begins : Kind → Bool) (test :
     bound = λ lim n deeper y u x h o. none_read w [] w u x (length w) refl refl h (no_front lim n deeper u x (subst (λ q. begins (kind_at q) ≡ false) h f) o);
   }
 
-  level_passes : (t : Placed) (w : Tokens) → begins (kind t) ≡ true → Stops false most zero c (nest s) (t ∷ w) (length (t ∷ w))
+  level_passes : (t : Placed) (w : PlacedTokens) → begins (kind t) ≡ true → Stops false most zero c (nest s) (t ∷ w) (length (t ∷ w))
   level_passes t w f = record {
     part = [];
     rest = t ∷ w;
@@ -323,7 +323,7 @@ module _ (most : Limits) (c : Counts) (s : Sym) (begins : Kind → Bool) (test :
       none_left : (deeper fewer : ℕ) → deeper ≡ zero → deeper ≡ suc fewer → ⊥
       none_left deeper fewer e g = omega (arith, e, g)
 
-      bound : (lim : Limits) (n deeper : ℕ) → (lim ≡ most) × (deeper ≡ zero) → (u x : Tokens) → t ∷ w ≡ u ++ x → Opens lim n deeper c (nest s) u → length (t ∷ w) ≤ length x
+      bound : (lim : Limits) (n deeper : ℕ) → (lim ≡ most) × (deeper ≡ zero) → (u x : PlacedTokens) → t ∷ w ≡ u ++ x → Opens lim n deeper c (nest s) u → length (t ∷ w) ≤ length x
       bound lim n deeper y u x h (inl g) = none_read (t ∷ w) [] (t ∷ w) u x (length (t ∷ w)) refl refl h g
       bound lim n deeper y u x h (inr g) = absurd (none_left deeper g.0 y.1 g.1)
 
@@ -335,7 +335,7 @@ module _ (most : Limits) (c : Counts) (s : Sym) (begins : Kind → Bool) (test :
       front to zero le room = absurd (omega arith)
       front to (suc levels) le room = (deep, inr (levels, refl, ahead_sound to deep t levels (omega arith) c room s (leads_it (begins (kind t)) refl f (at_each (begins_test s begins) test (kind t)))))
 
-  level_out : {B : Type 0} (g : Value s → B) (w : Tokens) (b : Bool) → begins (kind_at w) ≡ b → ElementOut most zero c (nest s) g w (no_level begins (state w c))
+  level_out : {B : Type 0} (g : Value s → B) (w : PlacedTokens) (b : Bool) → begins (kind_at w) ≡ b → ElementOut most zero c (nest s) g w (no_level begins (state w c))
   level_out g [] true e = absurd (false≢true (sym end ∙ e))
   level_out g (t ∷ w) true e = rw e (level_passes t w e)
   level_out g w false e = rw e (level_dies w e)

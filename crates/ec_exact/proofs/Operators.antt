@@ -7,7 +7,7 @@ use Rattle.ec_ctypes.specs.declared.tree.expr.BinOp.TheVariants as bin
 use Rattle.ec_ctypes.specs.trees.Exprs.{ExprData, binary}
 use Rattle.ec_language.specs.Productions.{Production, operations, sym as ofs, Rank, or_rank, and_rank, bit_or_rank, bit_xor_rank, bit_and_rank, equal_rank, relation_rank, shift_rank, add_rank, multiply_rank, operand, operand_value, operand_rule, with_operand, productions}
 use Rattle.ec_language.specs.Productions as g
-use Rattle.ec_language.specs.Grammar.{Tokens, Limits, Counts}
+use Rattle.ec_language.specs.Grammar.{PlacedTokens, Limits, Counts}
 use Rattle.ec_grammar.specs.declared.kind.Kind.{Kind}
 use Rattle.ec_grammar.specs.declared.kind.Kind.TheVariants as k
 use Rattle.ec_grammar.specs.Input.{State, state, Parser, ◌>>=◌, pure, and_then, kind_at, kind_next, expect_counted}
@@ -91,7 +91,7 @@ module _ (most : Limits) (levels : ℕ) (inner : Nested) where
   operated_by multiply_rank q a more left (k.Mark p.Percent) st at h = one multiply_rank q a more left (p.Percent, bin.Rem) 2 (λ l. refl) (λ l. refl) (λ H x. x) st at h
   operated_by r q a more left j st at h = none_follows r q a more left st (ap (read.binary_operator r) at)
 
-  operands_read : (r : Rank) (reader : Parser ExprData) → Reading most levels (ofs (operand r)) (operand_value r) reader → (m : ℕ) (left : ExprData) (w : Tokens) (c : Counts) → length w ≤ m
+  operands_read : (r : Rank) (reader : Parser ExprData) → Reading most levels (ofs (operand r)) (operand_value r) reader → (m : ℕ) (left : ExprData) (w : PlacedTokens) (c : Counts) → length w ≤ m
       → Reads most levels c (ofs (g.more_operands r)) ExprData (λ v. fold with_operand left v) w (read.operands_from most inner r reader m left (state w c))
   unfolding read.operands_from
   operands_read r q a zero left [] c le = none_follows r q a (λ e. pure e) left (state [] c) (no_end r)

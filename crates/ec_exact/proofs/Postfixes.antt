@@ -5,7 +5,7 @@ use Rattle.ec_ctypes.specs.declared.text.token.Punct.TheVariants as p
 use Rattle.ec_ctypes.specs.trees.Exprs.{ExprData, call, call_other, index, member, arrow, bump}
 use Rattle.ec_language.specs.Productions.{Sym, operations, Value, sym as ofs, nest, Primary, bare_name, Postfix, at_index, at_member, at_arrow, bumped, called, with_postfix, with_postfixes}
 use Rattle.ec_language.specs.Productions as g
-use Rattle.ec_language.specs.Grammar.{Tokens, Limits, Counts}
+use Rattle.ec_language.specs.Grammar.{PlacedTokens, Limits, Counts}
 use Rattle.ec_grammar.specs.declared.kind.Kind.{Kind}
 use Rattle.ec_grammar.specs.declared.kind.Kind.TheVariants as k
 use Rattle.ec_grammar.specs.Input.{State, state, kind_at, kind_next}
@@ -75,7 +75,7 @@ module _ (most : Limits) (levels : ℕ) (inner : Nested) (f : ReadsInner most le
   unfolding read.postfix_part
   part_reads left st = part_by left (kind_at st.tokens) st refl
 
-  parts_reads : (m : ℕ) (left : Primary) (w : Tokens) (c : Counts) → length w ≤ m → Reads most levels c (ofs g.postfix_parts) Primary (λ v. fold step left v) w (read.postfix_parts_from most inner m left (state w c))
+  parts_reads : (m : ℕ) (left : Primary) (w : PlacedTokens) (c : Counts) → length w ≤ m → Reads most levels c (ofs g.postfix_parts) Primary (λ v. fold step left v) w (read.postfix_parts_from most inner m left (state w c))
   unfolding read.postfix_parts_from
   parts_reads zero left [] c le = choose g.postfix_parts 0 (λ v. fold step left v) [] _ k.End k.End refl refl refl ((λ x y. refl), end_row refl)
   parts_reads zero left (t ∷ w) c le = absurd (omega arith)

@@ -3,7 +3,7 @@ use Rattle.std.proofs.Common.{◌≡◌, ℕ, zero, suc, ◌≤◌, Bool, true, 
 use Rattle.std.proofs.lemmas.List.{append-nil}
 use Rattle.std.proofs.lemmas.Bool.{false≢true}
 use Rattle.ec_language.specs.Productions.{Terminal, Placed, is, Sym, Value, Element, tok, count, sym as ofs, nest, whole, own, Row, Node, Nodes, Follows, Production, productions}
-use Rattle.ec_language.specs.Grammar.{Tokens, Limits, Counts, in_expression, in_declarator, DerivesElement, DerivesRow, AnyOf, Makes, DerivesBelow, FrontElement, FrontRow, FrontBelow}
+use Rattle.ec_language.specs.Grammar.{PlacedTokens, Limits, Counts, in_expression, in_declarator, DerivesElement, DerivesRow, AnyOf, Makes, DerivesBelow, FrontElement, FrontRow, FrontBelow}
 use Rattle.ec_language.proofs.TableTests.{any_row}
 use Rattle.ec_language.proofs.Heights.{takes_token}
 use Rattle.ec_language.proofs.Prefixes as prefix
@@ -22,10 +22,10 @@ pub at_nil : {A : Type 0} (p q : List A) → [] ≡ p ++ q → (p ≡ []) × (q 
 at_nil [] q e = (refl, sym e)
 at_nil (x ∷ p) q e = absurd (cc)
 
-abbrev pub Split : Placed → Tokens → Tokens → Tokens → Type 0
-Split t u p q = ((p ≡ []) × (q ≡ t ∷ u)) ⊎ ((z : Tokens) × (p ≡ t ∷ z) × (u ≡ z ++ q))
+abbrev pub Split : Placed → PlacedTokens → PlacedTokens → PlacedTokens → Type 0
+Split t u p q = ((p ≡ []) × (q ≡ t ∷ u)) ⊎ ((z : PlacedTokens) × (p ≡ t ∷ z) × (u ≡ z ++ q))
 
-pub at_cons : (t : Placed) (u p q : Tokens) → t ∷ u ≡ p ++ q → Split t u p q
+pub at_cons : (t : Placed) (u p q : PlacedTokens) → t ∷ u ≡ p ++ q → Split t u p q
 at_cons t u [] q e = inl (refl, sym e)
 at_cons t u (z ∷ p) q e = let h : z ≡ t = cc in inr (p, ap (λ c. c ∷ p) h, (let f : u ≡ p ++ q = cc in f))
 
@@ -62,16 +62,16 @@ later a b c = elim a [ true ↦ elim b [ true ↦ true | false ↦ c ] | false �
 
 module _ (lim : Limits) where
   -- a derivation, and a front, lower than n
-  abbrev pub Gives : ℕ → ℕ → Counts → (i : Element) → Tokens → Node i → Counts → Type 0
+  abbrev pub Gives : ℕ → ℕ → Counts → (i : Element) → PlacedTokens → Node i → Counts → Type 0
   Gives n levels c i w v e = DerivesElement lim (DerivesBelow lim n) levels c i w v e
 
-  abbrev pub GivesRow : ℕ → ℕ → Counts → Follows → (r : Row) → Tokens → Nodes r → Counts → Type 0
+  abbrev pub GivesRow : ℕ → ℕ → Counts → Follows → (r : Row) → PlacedTokens → Nodes r → Counts → Type 0
   GivesRow n levels c follows r w vs e = DerivesRow lim (DerivesBelow lim n) levels c follows r w vs e
 
-  abbrev pub Opens : ℕ → ℕ → Counts → Element → Tokens → Type 0
+  abbrev pub Opens : ℕ → ℕ → Counts → Element → PlacedTokens → Type 0
   Opens n levels c i u = FrontElement lim (FrontBelow lim n) levels c i u
 
-  abbrev pub OpensRow : ℕ → ℕ → Counts → Follows → Row → Tokens → Type 0
+  abbrev pub OpensRow : ℕ → ℕ → Counts → Follows → Row → PlacedTokens → Type 0
   OpensRow n levels c follows r u = FrontRow lim (FrontBelow lim n) levels c follows r u
 
   pub any_true : {A : Type 0} (f : Row → Bool) (X : Production A → Type 0) → ((a : Production A) → X a → f a.row ≡ true) → (l : List (Production A)) → AnyOf lim X l → any_row f l ≡ true
@@ -81,10 +81,10 @@ module _ (lim : Limits) where
 
   -- ---- a whole list is a front
 
-  pub whole_element : (n levels : ℕ) (c : Counts) (i : Element) (w : Tokens) (v : Node i) (e : Counts) → Gives n levels c i w v e → Opens n levels c i w
+  pub whole_element : (n levels : ℕ) (c : Counts) (i : Element) (w : PlacedTokens) (v : Node i) (e : Counts) → Gives n levels c i w v e → Opens n levels c i w
   whole_element n levels c i w v e h = prefix.front_element lim n (prefix.front_below lim n) levels c i w [] v e (subst (λ q. Gives n levels c i q v e) (sym (append-nil w)) h)
 
-  pub whole_row : (n levels : ℕ) (c : Counts) (follows : Follows) (r : Row) (w : Tokens) (vs : Nodes r) (e : Counts) → GivesRow n levels c follows r w vs e → OpensRow n levels c follows r w
+  pub whole_row : (n levels : ℕ) (c : Counts) (follows : Follows) (r : Row) (w : PlacedTokens) (vs : Nodes r) (e : Counts) → GivesRow n levels c follows r w vs e → OpensRow n levels c follows r w
   whole_row n levels c follows r w vs e h = prefix.front_row lim n (prefix.front_below lim n) levels c follows r w [] vs e (subst (λ q. GivesRow n levels c follows r q vs e) (sym (append-nil w)) h)
 
   -- ---- nothing
@@ -106,9 +106,9 @@ module _ (lim : Limits) where
   -- ---- the first token of a front
 
   abbrev pub IsFirst : (Element → Kind → Bool) → ℕ → Type 0
-  IsFirst F n = (levels : ℕ) (c : Counts) (i : Element) (t : Placed) (u : Tokens) → Opens n levels c i (t ∷ u) → F i (kind t) ≡ true
+  IsFirst F n = (levels : ℕ) (c : Counts) (i : Element) (t : Placed) (u : PlacedTokens) → Opens n levels c i (t ∷ u) → F i (kind t) ≡ true
 
-  first_row_sound : (F : Element → Kind → Bool) → (levels : ℕ) → ((n : ℕ) (c : Counts) (i : Element) (t : Placed) (u : Tokens) → Opens n levels c i (t ∷ u) → F i (kind t) ≡ true) → (n : ℕ) (c : Counts) (follows : Follows) (r : Row) (t : Placed) (u : Tokens) → OpensRow n levels c follows r (t ∷ u) → first_row F r (kind t) ≡ true
+  first_row_sound : (F : Element → Kind → Bool) → (levels : ℕ) → ((n : ℕ) (c : Counts) (i : Element) (t : Placed) (u : PlacedTokens) → Opens n levels c i (t ∷ u) → F i (kind t) ≡ true) → (n : ℕ) (c : Counts) (follows : Follows) (r : Row) (t : Placed) (u : PlacedTokens) → OpensRow n levels c follows r (t ∷ u) → first_row F r (kind t) ≡ true
   first_row_sound F levels f n c follows [] t u h = absurd (cc)
   first_row_sound F levels f n c follows (i ∷ r) t u (inl x) = yes_here (F i (kind t)) _ (f n c i t u x)
   first_row_sound F levels f n c follows (i ∷ r) t u (inr x) = go (first_row_sound F levels f n x.4 follows r t u) (at_cons t u x.0 x.1 x.2)
@@ -119,10 +119,10 @@ module _ (lim : Limits) where
           (again (subst (λ q. OpensRow n levels x.4 follows r q) y.1 x.7)))
       go again (inr y) = yes_here (F i (kind t)) _ (f x.5 c i t y.0 (subst (λ p. Opens x.5 levels c i p) y.1 (whole_element x.5 levels c i x.0 x.3 x.4 x.6)))
 
-  token_first : (x : Terminal) (t : Placed) (u : Tokens) (v : Placed) → t ∷ u ≡ v ∷ [] → is x v.token.tok ≡ true → fits x (kind t) ≡ true
+  token_first : (x : Terminal) (t : Placed) (u : PlacedTokens) (v : Placed) → t ∷ u ≡ v ∷ [] → is x v.token.tok ≡ true → fits x (kind t) ≡ true
   token_first x t u v e h = let a : t ≡ v = cc in subst (λ (z : Placed). fits x (kind z) ≡ true) (sym a) (fitting x v.token.tok h)
 
-  first_element : (F : Sym → Kind → Bool) (n : ℕ) → ((levels : ℕ) (c : Counts) (s : Sym) (t : Placed) (u : Tokens) → FrontBelow lim n levels c s (t ∷ u) → F s (kind t) ≡ true) → IsFirst (on_first F) n
+  first_element : (F : Sym → Kind → Bool) (n : ℕ) → ((levels : ℕ) (c : Counts) (s : Sym) (t : Placed) (u : PlacedTokens) → FrontBelow lim n levels c s (t ∷ u) → F s (kind t) ≡ true) → IsFirst (on_first F) n
   first_element F n f levels c (tok x) t u (inl e) = absurd (cc)
   first_element F n f levels c (tok x) t u (inr h) = token_first x t u h.0 h.1 h.2
   first_element F n f levels c (count k x) t u (inl e) = absurd (cc)
@@ -133,7 +133,7 @@ module _ (lim : Limits) where
   first_element F n f levels c (whole s) t u h = f levels (in_expression c) s t u h
   first_element F n f levels c (own s) t u h = f levels (in_declarator c) s t u h
 
-  first_sym : (m n levels : ℕ) (c : Counts) (s : Sym) (t : Placed) (u : Tokens) → FrontBelow lim n levels c s (t ∷ u) → first m s (kind t) ≡ true
+  first_sym : (m n levels : ℕ) (c : Counts) (s : Sym) (t : Placed) (u : PlacedTokens) → FrontBelow lim n levels c s (t ∷ u) → first m s (kind t) ≡ true
   first_sym zero n levels c s t u h = refl
   first_sym (suc m) zero levels c s t u h = absurd h
   first_sym (suc m) (suc n) levels c s t u h =
@@ -143,7 +143,7 @@ module _ (lim : Limits) where
   pub first_sound : (m n : ℕ) → IsFirst (on_first (first m)) n
   first_sound m n = first_element (first m) n (first_sym m n)
 
-  pub first_list : (m n levels : ℕ) (c : Counts) (follows : Follows) (r : Row) (t : Placed) (u : Tokens) → OpensRow n levels c follows r (t ∷ u) → first_row (on_first (first m)) r (kind t) ≡ true
+  pub first_list : (m n levels : ℕ) (c : Counts) (follows : Follows) (r : Row) (t : Placed) (u : PlacedTokens) → OpensRow n levels c follows r (t ∷ u) → first_row (on_first (first m)) r (kind t) ≡ true
   first_list m n levels = first_row_sound (on_first (first m)) levels (λ k. first_sound m k levels) n
 
   -- ---- a list of one token
@@ -188,11 +188,11 @@ module _ (lim : Limits) where
   -- ---- the first two tokens of a front
 
   abbrev pub IsPair : (Element → Kind → Kind → Bool) → ℕ → Type 0
-  IsPair P n = (levels : ℕ) (c : Counts) (i : Element) (t z : Placed) (u : Tokens) → Opens n levels c i (t ∷ z ∷ u) → P i (kind t) (kind z) ≡ true
+  IsPair P n = (levels : ℕ) (c : Counts) (i : Element) (t z : Placed) (u : PlacedTokens) → Opens n levels c i (t ∷ z ∷ u) → P i (kind t) (kind z) ≡ true
 
   pair_row_sound : (P : Element → Kind → Kind → Bool) (S F : Element → Kind → Bool) → ((n : ℕ) → IsPair P n) → ((n : ℕ) → IsSingle S n)
-      → ((n levels : ℕ) (c : Counts) (follows : Follows) (r : Row) (t : Placed) (u : Tokens) → OpensRow n levels c follows r (t ∷ u) → first_row F r (kind t) ≡ true)
-      → (n levels : ℕ) (c : Counts) (follows : Follows) (r : Row) (t z : Placed) (u : Tokens) → OpensRow n levels c follows r (t ∷ z ∷ u) → pair_row P S F r (kind t) (kind z) ≡ true
+      → ((n levels : ℕ) (c : Counts) (follows : Follows) (r : Row) (t : Placed) (u : PlacedTokens) → OpensRow n levels c follows r (t ∷ u) → first_row F r (kind t) ≡ true)
+      → (n levels : ℕ) (c : Counts) (follows : Follows) (r : Row) (t z : Placed) (u : PlacedTokens) → OpensRow n levels c follows r (t ∷ z ∷ u) → pair_row P S F r (kind t) (kind z) ≡ true
   pair_row_sound P S F f1 f2 f3 n levels c follows [] t z u h = absurd (cc)
   pair_row_sound P S F f1 f2 f3 n levels c follows (i ∷ r) t z u (inl x) = yes_here (P i (kind t) (kind z)) _ (f1 n levels c i t z u x)
   pair_row_sound P S F f1 f2 f3 n levels c follows (i ∷ r) t z u (inr x) = go (pair_row_sound P S F f1 f2 f3 n levels x.4 follows r t z u) (at_cons t (z ∷ u) x.0 x.1 x.2)
@@ -200,7 +200,7 @@ module _ (lim : Limits) where
       skip : Bool
       skip = both (null i) (pair_row P S F r (kind t) (kind z))
 
-      one : (y : Tokens) → x.0 ≡ t ∷ y → Split z u y x.1 → pair_row P S F (i ∷ r) (kind t) (kind z) ≡ true
+      one : (y : PlacedTokens) → x.0 ≡ t ∷ y → Split z u y x.1 → pair_row P S F (i ∷ r) (kind t) (kind z) ≡ true
       one y e (inl m) = yes_there (P i (kind t) (kind z)) (later (S i (kind t)) (first_row F r (kind z)) skip) (pick_here (S i (kind t)) (first_row F r (kind z)) skip
           (f2 x.5 levels c i t x.3 x.4 (subst (λ p. Gives x.5 levels c i p x.3 x.4) (e ∙ ap (λ p. t ∷ p) m.0) x.6))
           (f3 n levels x.4 follows r z u (subst (λ q. OpensRow n levels x.4 follows r q) m.1 x.7)))
@@ -213,7 +213,7 @@ module _ (lim : Limits) where
           (again (subst (λ q. OpensRow n levels x.4 follows r q) y.1 x.7))))
       go again (inr y) = one y.0 y.1 (at_cons z u y.0 x.1 y.2)
 
-  pair_element : (P : Sym → Kind → Kind → Bool) (n : ℕ) → ((levels : ℕ) (c : Counts) (s : Sym) (t z : Placed) (u : Tokens) → FrontBelow lim n levels c s (t ∷ z ∷ u) → P s (kind t) (kind z) ≡ true) → IsPair (on_pair P) n
+  pair_element : (P : Sym → Kind → Kind → Bool) (n : ℕ) → ((levels : ℕ) (c : Counts) (s : Sym) (t z : Placed) (u : PlacedTokens) → FrontBelow lim n levels c s (t ∷ z ∷ u) → P s (kind t) (kind z) ≡ true) → IsPair (on_pair P) n
   pair_element P n f levels c (tok x) t z u (inl e) = absurd (cc)
   pair_element P n f levels c (tok x) t z u (inr h) = absurd (let e : t ∷ z ∷ u ≡ h.0 ∷ [] = h.1 in cc)
   pair_element P n f levels c (count k x) t z u (inl e) = absurd (cc)
@@ -224,14 +224,14 @@ module _ (lim : Limits) where
   pair_element P n f levels c (whole s) t z u h = f levels (in_expression c) s t z u h
   pair_element P n f levels c (own s) t z u h = f levels (in_declarator c) s t z u h
 
-  pair_sym : (m n levels : ℕ) (c : Counts) (s : Sym) (t z : Placed) (u : Tokens) → FrontBelow lim n levels c s (t ∷ z ∷ u) → pair m s (kind t) (kind z) ≡ true
+  pair_sym : (m n levels : ℕ) (c : Counts) (s : Sym) (t z : Placed) (u : PlacedTokens) → FrontBelow lim n levels c s (t ∷ z ∷ u) → pair m s (kind t) (kind z) ≡ true
   pair_sym zero n levels c s t z u h = refl
   pair_sym (suc m) zero levels c s t z u h = absurd h
   pair_sym (suc m) (suc n) levels c s t z u h =
       any_true (λ r. pair_row (on_pair (pair m)) (on_first (single m)) (on_first (first m)) r (kind t) (kind z)) (λ a. OpensRow n levels c a.follows a.row (t ∷ z ∷ u))
       (λ a x. pair_row_sound (on_pair (pair m)) (on_first (single m)) (on_first (first m)) (λ k. pair_element (pair m) k (pair_sym m k)) (single_sound m) (first_list m) n levels c a.follows a.row t z u x) (productions s) h
 
-  pub pair_list : (m n levels : ℕ) (c : Counts) (follows : Follows) (r : Row) (t z : Placed) (u : Tokens) → OpensRow n levels c follows r (t ∷ z ∷ u) → pair_row (on_pair (pair m)) (on_first (single m)) (on_first (first m)) r (kind t) (kind z) ≡ true
+  pub pair_list : (m n levels : ℕ) (c : Counts) (follows : Follows) (r : Row) (t z : Placed) (u : PlacedTokens) → OpensRow n levels c follows r (t ∷ z ∷ u) → pair_row (on_pair (pair m)) (on_first (single m)) (on_first (first m)) r (kind t) (kind z) ≡ true
   pair_list m = pair_row_sound (on_pair (pair m)) (on_first (single m)) (on_first (first m)) (λ k. pair_element (pair m) k (pair_sym m k)) (single_sound m) (first_list m)
 
   -- ---- what is a front for sure
@@ -311,7 +311,7 @@ module _ (lim : Limits) where
 
   -- ---- no first token stands at this level: one is left
 
-  flat_element : (F : Sym → Kind → Bool) (n : ℕ) → ((c : Counts) (s : Sym) (t : Placed) (u : Tokens) → FrontBelow lim n zero c s (t ∷ u) → F s (kind t) ≡ true) → (c : Counts) (i : Element) (t : Placed) (u : Tokens) → Opens n zero c i (t ∷ u) → on_flat F i (kind t) ≡ true
+  flat_element : (F : Sym → Kind → Bool) (n : ℕ) → ((c : Counts) (s : Sym) (t : Placed) (u : PlacedTokens) → FrontBelow lim n zero c s (t ∷ u) → F s (kind t) ≡ true) → (c : Counts) (i : Element) (t : Placed) (u : PlacedTokens) → Opens n zero c i (t ∷ u) → on_flat F i (kind t) ≡ true
   flat_element F n f c (tok x) t u (inl e) = absurd (cc)
   flat_element F n f c (tok x) t u (inr h) = token_first x t u h.0 h.1 h.2
   flat_element F n f c (count k x) t u (inl e) = absurd (cc)
@@ -322,13 +322,13 @@ module _ (lim : Limits) where
   flat_element F n f c (whole s) t u h = f (in_expression c) s t u h
   flat_element F n f c (own s) t u h = f (in_declarator c) s t u h
 
-  flat_sym : (m n : ℕ) (c : Counts) (s : Sym) (t : Placed) (u : Tokens) → FrontBelow lim n zero c s (t ∷ u) → flat m s (kind t) ≡ true
+  flat_sym : (m n : ℕ) (c : Counts) (s : Sym) (t : Placed) (u : PlacedTokens) → FrontBelow lim n zero c s (t ∷ u) → flat m s (kind t) ≡ true
   flat_sym zero n c s t u h = refl
   flat_sym (suc m) zero c s t u h = absurd h
   flat_sym (suc m) (suc n) c s t u h =
       any_true (λ r. first_row (on_flat (flat m)) r (kind t)) (λ a. OpensRow n zero c a.follows a.row (t ∷ u))
       (λ a x. first_row_sound (on_flat (flat m)) zero (λ k. flat_element (flat m) k (flat_sym m k)) n c a.follows a.row t u x) (productions s) h
 
-  pub level_left : (m n levels : ℕ) (c : Counts) (follows : Follows) (r : Row) (t : Placed) (u : Tokens) → first_row (on_flat (flat m)) r (kind t) ≡ false → OpensRow n levels c follows r (t ∷ u) → (fewer : ℕ) × (levels ≡ suc fewer)
+  pub level_left : (m n levels : ℕ) (c : Counts) (follows : Follows) (r : Row) (t : Placed) (u : PlacedTokens) → first_row (on_flat (flat m)) r (kind t) ≡ false → OpensRow n levels c follows r (t ∷ u) → (fewer : ℕ) × (levels ≡ suc fewer)
   level_left m n zero c follows r t u e h = absurd (false≢true (sym e ∙ first_row_sound (on_flat (flat m)) zero (λ k. flat_element (flat m) k (flat_sym m k)) n c follows r t u h))
   level_left m n (suc levels) c follows r t u e h = (levels, refl)

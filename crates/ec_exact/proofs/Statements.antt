@@ -7,7 +7,7 @@ use Rattle.ec_ctypes.specs.trees.Stmts.{StmtData, block_stmt, if_stmt}
 use Rattle.ec_ctypes.specs.views.Stmts.{stmt_of}
 use Rattle.ec_language.specs.Productions.{Start, start_of, sym as ofs, nest, OpenStatement, at, ending, with_else, ForStart, for_expression, for_declaration, text_of}
 use Rattle.ec_language.specs.Productions as g
-use Rattle.ec_language.specs.Grammar.{Tokens, Limits, Counts}
+use Rattle.ec_language.specs.Grammar.{PlacedTokens, Limits, Counts}
 use Rattle.ec_grammar.specs.declared.kind.Kind.{Kind}
 use Rattle.ec_grammar.specs.declared.kind.Kind.TheVariants as k
 use Rattle.ec_grammar.specs.Input.{State, state, Parser, kind_at, kind_next}
@@ -131,7 +131,7 @@ module _ (most : Limits) (levels : ℕ) (inner : Nested) (deeper : NestedStateme
   unfolding read.block_item
   block_item_reads st = item_by (kind_at st.tokens) st refl
 
-  items_read : (m : ℕ) (found : List StmtData) (w : Tokens) (c : Counts) → length w ≤ m → Reads most levels c (ofs g.block_items) (List StmtData) (λ v. found ++ stmts_in v) w (read.block_items_from most inner deeper m found (state w c))
+  items_read : (m : ℕ) (found : List StmtData) (w : PlacedTokens) (c : Counts) → length w ≤ m → Reads most levels c (ofs g.block_items) (List StmtData) (λ v. found ++ stmts_in v) w (read.block_items_from most inner deeper m found (state w c))
   unfolding read.block_items_from
   items_read zero found [] c le = choose g.block_items 0 (λ v. found ++ stmts_in v) [] _ k.End k.End refl refl refl ((λ x y. refl), end_row (sym (append-nil found)))
   items_read zero found (t ∷ w) c le = absurd (omega arith)

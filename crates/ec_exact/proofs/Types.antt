@@ -6,7 +6,7 @@ use Rattle.ec_ctypes.specs.trees.Exprs.{BaseData, struct_base, DeclData, DeclLis
 use Rattle.ec_language.specs.Letters.{Text}
 use Rattle.ec_language.specs.Productions.{derivations, sym as ofs, nest, own, text_of}
 use Rattle.ec_language.specs.Productions as g
-use Rattle.ec_language.specs.Grammar.{Tokens, Limits, Counts, in_declarator}
+use Rattle.ec_language.specs.Grammar.{PlacedTokens, Limits, Counts, in_declarator}
 use Rattle.ec_grammar.specs.declared.kind.Kind.{Kind}
 use Rattle.ec_grammar.specs.declared.kind.Kind.TheVariants as k
 use Rattle.ec_grammar.specs.Input.{State, state, Parser, kind_at, kind_next}
@@ -31,7 +31,7 @@ same_base tag (Some ms) = ap (struct_base (Some tag)) (decls_back ms)
 module _ (most : Limits) (levels : ℕ) where
   -- ---- words and stars
 
-  constants_read : (m : ℕ) (w : Tokens) (c : Counts) → length w ≤ m → Reads most levels c (ofs g.constants) (Unit {0}) (λ v. v) w (read.constants_from m (state w c))
+  constants_read : (m : ℕ) (w : PlacedTokens) (c : Counts) → length w ≤ m → Reads most levels c (ofs g.constants) (Unit {0}) (λ v. v) w (read.constants_from m (state w c))
   unfolding read.constants_from
   constants_read zero [] c le = choose g.constants 0 (λ v. v) [] _ k.End k.End refl refl refl ((λ x y. refl), end_row refl)
   constants_read zero (t ∷ w) c le = absurd (omega arith)
@@ -56,13 +56,13 @@ module _ (most : Limits) (levels : ℕ) where
       (refl, then_row (side refl (λ _. refl)) _ (expect_reads k.TypeWord st) (λ t mid a. last_row (side refl (λ _. refl)) (λ v. append_assoc found (text_of t ∷ []) v) (again (found ++ text_of t ∷ []) mid (shorter refl a))))
   words_by more found _ st at again = choose g.more_words 0 (λ v. found ++ v) st.tokens _ _ (kind_next st.tokens) at refl refl ((λ x y. refl), end_row (sym (append-nil found)))
 
-  words_read : (m : ℕ) (found : List Text) (w : Tokens) (c : Counts) → length w ≤ m → Reads most levels c (ofs g.more_words) (List Text) (λ v. found ++ v) w (read.more_words_from m found (state w c))
+  words_read : (m : ℕ) (found : List Text) (w : PlacedTokens) (c : Counts) → length w ≤ m → Reads most levels c (ofs g.more_words) (List Text) (λ v. found ++ v) w (read.more_words_from m found (state w c))
   unfolding read.more_words_from
   words_read zero found [] c le = choose g.more_words 0 (λ v. found ++ v) [] _ k.End k.End refl refl refl ((λ x y. refl), end_row (sym (append-nil found)))
   words_read zero found (t ∷ w) c le = absurd (omega arith)
   words_read (suc m) found w c le = words_by (read.more_words_from m) found (kind_at w) (state w c) refl (λ found mid lt. words_read m found mid.tokens mid.counts (omega arith))
 
-  stars_read : (m n : ℕ) (w : Tokens) (c : Counts) → length w ≤ m → Reads most levels c (ofs g.stars) ℕ (λ v. n + v) w (read.stars_from most m n (state w c))
+  stars_read : (m n : ℕ) (w : PlacedTokens) (c : Counts) → length w ≤ m → Reads most levels c (ofs g.stars) ℕ (λ v. n + v) w (read.stars_from most m n (state w c))
   unfolding read.stars_from
   stars_read zero n [] c le = choose g.stars 0 (λ v. n + v) [] _ k.End k.End refl refl refl ((λ x y. refl), end_row (omega arith))
   stars_read zero n (t ∷ w) c le = absurd (omega arith)

@@ -7,7 +7,7 @@ use Rattle.ec_ctypes.specs.trees.Units.{TopData}
 use Rattle.ec_language.specs.Letters.{Text}
 use Rattle.ec_language.specs.Productions.{Start, start_of, sym as ofs, nest, own, BehindName, function, object, external_top, text_of}
 use Rattle.ec_language.specs.Productions as g
-use Rattle.ec_language.specs.Grammar.{Tokens, Limits, Counts, in_declarator}
+use Rattle.ec_language.specs.Grammar.{PlacedTokens, Limits, Counts, in_declarator}
 use Rattle.ec_grammar.specs.declared.kind.Kind.{Kind}
 use Rattle.ec_grammar.specs.declared.kind.Kind.TheVariants as k
 use Rattle.ec_grammar.specs.Input.{State, state, kind_at, kind_next}
@@ -84,7 +84,7 @@ module _ (most : Limits) (levels : ℕ) (inner : Nested) (deeper : NestedStateme
   unfolding read.item
   item_reads st = item_by (kind_at st.tokens) st refl
 
-  items_read : (m : ℕ) (found : List TopData) (w : Tokens) (c : Counts) → length w ≤ m → Reads most levels c (ofs g.items) (List TopData) (λ v. found ++ v) w (read.items_from most inner deeper m found (state w c))
+  items_read : (m : ℕ) (found : List TopData) (w : PlacedTokens) (c : Counts) → length w ≤ m → Reads most levels c (ofs g.items) (List TopData) (λ v. found ++ v) w (read.items_from most inner deeper m found (state w c))
   unfolding read.items_from
   items_read zero found [] c le = choose g.items 0 (λ v. found ++ v) [] _ k.End k.End refl refl refl ((λ x y. refl), end_row (sym (append-nil found)))
   items_read zero found (t ∷ w) c le = absurd (omega arith)

@@ -1,7 +1,7 @@
 -- Functions that read a front of the tokens, and the steps that they are made of.
 use Rattle.std.specs.Prelude.{◌≡◌, ◌≢◌, ℕ, Bool, true, false, [], ◌∷◌, length, Result, Ok, Err, if◌then◌else◌}
 use Rattle.ec_language.specs.Productions.{Placed, Start, start_of, Counted}
-use Rattle.ec_language.specs.Grammar.{Tokens, Limits, Counts, counted, is_within, in_expression, behind_expression, in_declarator, behind_declarator}
+use Rattle.ec_language.specs.Grammar.{PlacedTokens, Limits, Counts, behind_counted, is_within, in_expression, behind_expression, in_declarator, behind_declarator}
 use Rattle.ec_grammar.specs.declared.failure.Failure.{Failure}
 use Rattle.ec_grammar.specs.declared.failure.Failure.TheVariants.{OutOfMemory, Dead, TooDeep}
 use Rattle.ec_grammar.specs.declared.kind.Kind.{Kind}
@@ -10,23 +10,23 @@ use Rattle.ec_grammar.specs.Kinds.{kind_of, same_kind}
 
 -- the tokens that are left, and what is counted so far
 pub record State : Type 0 where
-  pub tokens : Tokens
+  pub tokens : PlacedTokens
   pub counts : Counts
 
-abbrev pub state : Tokens → Counts → State
+abbrev pub state : PlacedTokens → Counts → State
 state tokens counts = record { tokens = tokens; counts = counts }
 
 -- ---- looks at the tokens
 
-abbrev pub kind_at : Tokens → Kind
+abbrev pub kind_at : PlacedTokens → Kind
 kind_at [] = k.End
 kind_at (t ∷ w) = kind_of t.token.tok
 
-abbrev pub rest_of : Tokens → Tokens
+abbrev pub rest_of : PlacedTokens → PlacedTokens
 rest_of [] = []
 rest_of (t ∷ w) = w
 
-abbrev pub kind_next : Tokens → Kind
+abbrev pub kind_next : PlacedTokens → Kind
 kind_next w = kind_at (rest_of w)
 
 -- ---- functions that read
@@ -73,7 +73,7 @@ peek_next = λ i. Ok (kind_next i.tokens, i)
 abbrev pub start : Parser Start
 start = λ i. Ok (start_of i.tokens, i)
 
-abbrev expect_at : Kind → Tokens → Counts → Outcome Placed
+abbrev expect_at : Kind → PlacedTokens → Counts → Outcome Placed
 expect_at k [] c = Err (Dead 0)
 expect_at k (t ∷ w) c = if same_kind (kind_of t.token.tok) k then Ok (t, state w c) else Err (Dead (length (t ∷ w)))
 
@@ -81,11 +81,11 @@ expect_at k (t ∷ w) c = if same_kind (kind_of t.token.tok) k then Ok (t, state
 unfoldable pub expect : Kind → Parser Placed
 expect k = λ i. expect_at k i.tokens i.counts
 
-abbrev within_at : Limits → Counted → Tokens → Placed → State → Outcome Placed
+abbrev within_at : Limits → Counted → PlacedTokens → Placed → State → Outcome Placed
 within_at limits n w t i = if is_within limits n i.counts then Ok (t, i) else Err (TooDeep (length w))
 
-abbrev count_at : Limits → Counted → Tokens → Outcome Placed → Outcome Placed
-count_at limits n w (Ok p) = within_at limits n w p.0 (state p.1.tokens (counted n p.1.counts))
+abbrev count_at : Limits → Counted → PlacedTokens → Outcome Placed → Outcome Placed
+count_at limits n w (Ok p) = within_at limits n w p.0 (state p.1.tokens (behind_counted n p.1.counts))
 count_at limits n w (Err e) = Err e
 
 -- a token of this kind that is counted

@@ -8,7 +8,7 @@ use Rattle.ec_base.specs.declared.stop.Stop.TheVariants as stop
 use Rattle.ec_ctypes.specs.trees.Tokens.{TokenData}
 use Rattle.ec_ctypes.specs.trees.Units.{UnitData}
 use Rattle.ec_language.specs.Productions.{placed}
-use Rattle.ec_language.specs.Grammar.{Tokens, no_counts}
+use Rattle.ec_language.specs.Grammar.{PlacedTokens, no_counts}
 use Rattle.ec_language.specs.Syntax.{limits}
 use Rattle.ec_grammar.specs.declared.failure.Failure.{Failure}
 use Rattle.ec_grammar.specs.declared.failure.Failure.TheVariants.{OutOfMemory, Dead, TooDeep}
@@ -16,22 +16,22 @@ use Rattle.ec_grammar.specs.Input.{state, Outcome}
 use Rattle.ec_grammar.specs.ReadDeclarations.{nested}
 use Rattle.ec_grammar.specs.ReadStatements.{nested_statements, unit}
 
-unfoldable pub reading : Tokens → Outcome UnitData
+unfoldable pub reading : PlacedTokens → Outcome UnitData
 reading w = unit limits (nested limits limits.nesting) (nested_statements limits limits.nesting) (state w no_counts)
 
 -- the line of the token at which so many are left, itself among them
-abbrev pub line_at : Tokens → ℕ → Line
+abbrev pub line_at : PlacedTokens → ℕ → Line
 line_at [] n = record { 0 = 0 }
 line_at (t ∷ w) n = if length (t ∷ w) == n then t.token.line else line_at w n
 
-abbrev pub stop_of : Tokens → Failure → Stop
-stop_of w OutOfMemory = stop.OutOfMemory
-stop_of w (Dead n) = stop.Refused F7 (line_at w n)
-stop_of w (TooDeep n) = stop.Limit L3
+abbrev pub failure_stop : PlacedTokens → Failure → Stop
+failure_stop w OutOfMemory = stop.OutOfMemory
+failure_stop w (Dead n) = stop.Refused F7 (line_at w n)
+failure_stop w (TooDeep n) = stop.Limit L3
 
-abbrev pub answered : Tokens → Outcome UnitData → Result UnitData Stop
+abbrev pub answered : PlacedTokens → Outcome UnitData → Result UnitData Stop
 answered w (Ok p) = Ok p.0
-answered w (Err e) = Err (stop_of w e)
+answered w (Err e) = Err (failure_stop w e)
 
 abbrev pub answer : List TokenData → Result UnitData Stop
 answer ts = answered (placed ts) (reading (placed ts))

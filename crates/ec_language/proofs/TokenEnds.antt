@@ -5,7 +5,7 @@ use Rattle.ec_ctypes.specs.trees.Tokens.{TokData, word_token, end_token, TokenDa
 use Rattle.ec_ctypes.specs.trees.Units.{UnitData}
 use Rattle.ec_language.specs.Productions.{Placed, placed_from, section_behind, placed, Terminal, is, mark, keyword, type_word, varchar_word, name, integer_constant, character_constant, string_literal, include_line, executable, directive, opening_mark, closing_mark, end_of_text, Sym, items, Value, Element, tok, count, sym as ofs, nest, whole, own, Row, Node, Nodes, Follows, Production, productions, operators, more_operands, more_operand, or_rank}
 use Rattle.ec_language.specs.Productions as g
-use Rattle.ec_language.specs.Grammar.{Tokens, Limits, Counts, no_counts, DerivesElement, DerivesRow, AnyOf, Makes, DerivesBelow, DerivesWithin, FrontElement, FrontRow, FrontBelow, FrontWithin}
+use Rattle.ec_language.specs.Grammar.{PlacedTokens, Limits, Counts, no_counts, DerivesElement, DerivesRow, AnyOf, Makes, DerivesBelow, DerivesWithin, FrontElement, FrontRow, FrontBelow, FrontWithin}
 use Rattle.ec_language.specs.Syntax.{EndsOnce}
 use Rattle.ec_language.proofs.TableTests.{every_row, every_true}
 
@@ -14,11 +14,11 @@ use Rattle.ec_language.proofs.TableTests.{every_row, every_true}
 abbrev pub is_end : TokData → Bool
 is_end t = is end_of_text t
 
-abbrev pub HasNoEnd : Tokens → Type 0
+abbrev pub HasNoEnd : PlacedTokens → Type 0
 HasNoEnd [] = Unit {0}
 HasNoEnd (t ∷ w) = (is_end t.token.tok ≡ false) × HasNoEnd w
 
-no_end_append : (u w : Tokens) → HasNoEnd u → HasNoEnd w → HasNoEnd (u ++ w)
+no_end_append : (u w : PlacedTokens) → HasNoEnd u → HasNoEnd w → HasNoEnd (u ++ w)
 no_end_append [] w a b = b
 no_end_append (t ∷ u) w a b = (a.0, no_end_append u w a.1 b)
 
@@ -69,9 +69,9 @@ module _ (limits : Limits) where
   -- ---- whole lists
 
   abbrev Inner : ℕ → Type 0
-  Inner n = (levels : ℕ) (c : Counts) (s : Sym) → inner_symbol s ≡ true → (w : Tokens) (v : Value s) (behind : Counts) → DerivesBelow limits n levels c s w v behind → HasNoEnd w
+  Inner n = (levels : ℕ) (c : Counts) (s : Sym) → inner_symbol s ≡ true → (w : PlacedTokens) (v : Value s) (behind : Counts) → DerivesBelow limits n levels c s w v behind → HasNoEnd w
 
-  inner_of : (n : ℕ) → Inner n → (levels : ℕ) (c : Counts) (i : Element) → inner_element i ≡ true → (w : Tokens) (v : Node i) (behind : Counts) → DerivesElement limits (DerivesBelow limits n) levels c i w v behind → HasNoEnd w
+  inner_of : (n : ℕ) → Inner n → (levels : ℕ) (c : Counts) (i : Element) → inner_element i ≡ true → (w : PlacedTokens) (v : Node i) (behind : Counts) → DerivesElement limits (DerivesBelow limits n) levels c i w v behind → HasNoEnd w
   inner_of n f levels c (tok t) e w v behind h = subst HasNoEnd (sym h.0) (inner_token t v.token.tok e h.1, tt)
   inner_of n f levels c (count k t) e w v behind h = subst HasNoEnd (sym h.0) (inner_token t v.token.tok e h.1, tt)
   inner_of n f levels c (ofs s) e w v behind h = f levels c s e w v behind h
@@ -79,13 +79,13 @@ module _ (limits : Limits) where
   inner_of n f levels c (whole s) e w v behind h = f levels _ s e w v h.0 h.2
   inner_of n f levels c (own s) e w v behind h = f levels _ s e w v h.0 h.2
 
-  inner_rows : (n : ℕ) → Inner n → (levels : ℕ) (c : Counts) (follows : Follows) (r : Row) → inner_row r ≡ true → (w : Tokens) (vs : Nodes r) (behind : Counts) → DerivesRow limits (DerivesBelow limits n) levels c follows r w vs behind → HasNoEnd w
+  inner_rows : (n : ℕ) → Inner n → (levels : ℕ) (c : Counts) (follows : Follows) (r : Row) → inner_row r ≡ true → (w : PlacedTokens) (vs : Nodes r) (behind : Counts) → DerivesRow limits (DerivesBelow limits n) levels c follows r w vs behind → HasNoEnd w
   inner_rows n f levels c follows [] e w vs behind h = subst HasNoEnd (sym h.0) tt
   inner_rows n f levels c follows (i ∷ r) e w vs behind h =
       let t = row_true (inner_element i) (inner_row r) e in
       subst HasNoEnd (sym h.2) (no_end_append h.0 h.1 (inner_of n f levels c i t.0 h.0 vs.0 h.3 h.4) (inner_rows n f levels h.3 follows r t.1 h.1 vs.1 behind h.5))
 
-  inner_any : (n : ℕ) → Inner n → (levels : ℕ) (c : Counts) {A : Type 0} (ps : List (Production A)) → every_row inner_row ps ≡ true → (w : Tokens) (v : A) (behind : Counts) → AnyOf limits (Makes limits (DerivesBelow limits n) levels c w v behind) ps → HasNoEnd w
+  inner_any : (n : ℕ) → Inner n → (levels : ℕ) (c : Counts) {A : Type 0} (ps : List (Production A)) → every_row inner_row ps ≡ true → (w : PlacedTokens) (v : A) (behind : Counts) → AnyOf limits (Makes limits (DerivesBelow limits n) levels c w v behind) ps → HasNoEnd w
   inner_any n f levels c [] e w v behind h = absurd h
   inner_any n f levels c (a ∷ rest) e w v behind (inl h) = inner_rows n f levels c a.follows a.row (every_true inner_row a rest e).0 w h.0 behind h.2
   inner_any n f levels c (a ∷ rest) e w v behind (inr h) = inner_any n f levels c rest (every_true inner_row a rest e).1 w v behind h
@@ -97,9 +97,9 @@ module _ (limits : Limits) where
   -- ---- fronts
 
   abbrev InnerFront : ℕ → Type 0
-  InnerFront n = (levels : ℕ) (c : Counts) (s : Sym) → inner_symbol s ≡ true → (u : Tokens) → FrontBelow limits n levels c s u → HasNoEnd u
+  InnerFront n = (levels : ℕ) (c : Counts) (s : Sym) → inner_symbol s ≡ true → (u : PlacedTokens) → FrontBelow limits n levels c s u → HasNoEnd u
 
-  begin_of : (n : ℕ) → InnerFront n → (levels : ℕ) (c : Counts) (i : Element) → inner_element i ≡ true → (u : Tokens) → FrontElement limits (FrontBelow limits n) levels c i u → HasNoEnd u
+  begin_of : (n : ℕ) → InnerFront n → (levels : ℕ) (c : Counts) (i : Element) → inner_element i ≡ true → (u : PlacedTokens) → FrontElement limits (FrontBelow limits n) levels c i u → HasNoEnd u
   begin_of n f levels c (tok t) e u (inl h) = subst HasNoEnd (sym h) tt
   begin_of n f levels c (tok t) e u (inr h) = subst HasNoEnd (sym h.1) (inner_token t h.0.token.tok e h.2, tt)
   begin_of n f levels c (count k t) e u (inl h) = subst HasNoEnd (sym h) tt
@@ -110,14 +110,14 @@ module _ (limits : Limits) where
   begin_of n f levels c (whole s) e u h = f levels _ s e u h
   begin_of n f levels c (own s) e u h = f levels _ s e u h
 
-  begin_rows : (n : ℕ) → InnerFront n → (levels : ℕ) (c : Counts) (follows : Follows) (r : Row) → inner_row r ≡ true → (u : Tokens) → FrontRow limits (FrontBelow limits n) levels c follows r u → HasNoEnd u
+  begin_rows : (n : ℕ) → InnerFront n → (levels : ℕ) (c : Counts) (follows : Follows) (r : Row) → inner_row r ≡ true → (u : PlacedTokens) → FrontRow limits (FrontBelow limits n) levels c follows r u → HasNoEnd u
   begin_rows n f levels c follows [] e u h = subst HasNoEnd (sym h) tt
   begin_rows n f levels c follows (i ∷ r) e u (inl h) = begin_of n f levels c i (row_true (inner_element i) (inner_row r) e).0 u h
   begin_rows n f levels c follows (i ∷ r) e u (inr h) =
       let t = row_true (inner_element i) (inner_row r) e in
       subst HasNoEnd (sym h.2) (no_end_append h.0 h.1 (inner_of h.5 (inner h.5) levels c i t.0 h.0 h.3 h.4 h.6) (begin_rows n f levels h.4 follows r t.1 h.1 h.7))
 
-  begin_any : (n : ℕ) → InnerFront n → (levels : ℕ) (c : Counts) {A : Type 0} (ps : List (Production A)) → every_row inner_row ps ≡ true → (u : Tokens) → AnyOf limits (λ a. FrontRow limits (FrontBelow limits n) levels c a.follows a.row u) ps → HasNoEnd u
+  begin_any : (n : ℕ) → InnerFront n → (levels : ℕ) (c : Counts) {A : Type 0} (ps : List (Production A)) → every_row inner_row ps ≡ true → (u : PlacedTokens) → AnyOf limits (λ a. FrontRow limits (FrontBelow limits n) levels c a.follows a.row u) ps → HasNoEnd u
   begin_any n f levels c [] e u h = absurd h
   begin_any n f levels c (a ∷ rest) e u (inl h) = begin_rows n f levels c a.follows a.row (every_true inner_row a rest e).0 u h
   begin_any n f levels c (a ∷ rest) e u (inr h) = begin_any n f levels c rest (every_true inner_row a rest e).1 u h
@@ -128,11 +128,11 @@ module _ (limits : Limits) where
 
   -- ---- up to the end
 
-  abbrev Closed : Tokens → Type 0
+  abbrev Closed : PlacedTokens → Type 0
   Closed w = (HasNoEnd w) ⊎ ((v : UnitData) × DerivesWithin limits g.unit w v)
 
   -- a front of a program has no end, or is whole
-  closed : (w : Tokens) → FrontWithin limits g.unit w → Closed w
+  closed : (w : PlacedTokens) → FrontWithin limits g.unit w → Closed w
   closed w (zero, h) = absurd h
   closed w (suc n, inr h) = absurd h
   closed w (suc n, inl (inl h)) = inl (begin n limits.nesting no_counts items refl w h)

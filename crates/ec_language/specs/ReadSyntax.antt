@@ -5,13 +5,13 @@ use Rattle.ec_base.specs.declared.fault.LimitKind.TheVariants.{L3}
 use Rattle.ec_base.specs.declared.stop.Stop.{Stop}
 use Rattle.ec_base.specs.declared.stop.Stop.TheVariants.{Refused, Limit}
 use Rattle.ec_language.specs.Productions.{Placed, start_of, is, Sym, unit, Value, Element, tok, count, sym, nest, whole, own, Row, Node, Nodes, Follows, Production, productions}
-use Rattle.ec_language.specs.Grammar.{Tokens, Limits, Counts, no_counts, counted, is_within, in_expression, behind_expression, in_declarator, behind_declarator}
+use Rattle.ec_language.specs.Grammar.{PlacedTokens, Limits, Counts, no_counts, behind_counted, is_within, in_expression, behind_expression, in_declarator, behind_declarator}
 
 -- a tree, the tokens that it is made of, those left behind it, and the counts there
 pub record Reading (A : Type 0) : Type 0 where
   pub tree : A
-  pub taken : Tokens
-  pub left : Tokens
+  pub taken : PlacedTokens
+  pub left : PlacedTokens
   pub behind : Counts
 
 -- ---- lists that stop early: `&&`, `||` and `if` compute both sides
@@ -40,7 +40,7 @@ IsAmong x (y ∷ ys) = (y ≡ x) ⊎ IsAmong x ys
 -- ---- parts of readings
 
 -- a token of which the test holds
-abbrev pub read_token : (Placed → Bool) → Counts → Tokens → List (Reading Placed)
+abbrev pub read_token : (Placed → Bool) → Counts → PlacedTokens → List (Reading Placed)
 read_token f behind [] = []
 read_token f behind (v ∷ w) = alone_where (f v) (record { tree = v; taken = v ∷ []; left = w; behind = behind })
 
@@ -58,7 +58,7 @@ abbrev pub joined : {A B : Type 0} → Reading A → Reading B → Reading (A ×
 joined x y = record { tree = (x.tree, y.tree); taken = x.taken ++ y.taken; left = y.left; behind = y.behind }
 
 -- where tokens may stand behind an element, and else only no tokens
-abbrev pub may_follow : Bool → Tokens → Bool
+abbrev pub may_follow : Bool → PlacedTokens → Bool
 may_follow b [] = true
 may_follow b (v ∷ w) = b
 
@@ -71,12 +71,12 @@ made a x = record { tree = a.make (start_of x.taken) x.tree; taken = x.taken; le
 
 -- ---- parts of fronts
 
-abbrev pub is_empty : Tokens → Bool
+abbrev pub is_empty : PlacedTokens → Bool
 is_empty [] = true
 is_empty (v ∷ w) = false
 
 -- no token, or one of which the test holds
-abbrev pub front_token : (Placed → Bool) → Tokens → Bool
+abbrev pub front_token : (Placed → Bool) → PlacedTokens → Bool
 front_token f [] = true
 front_token f (v ∷ []) = f v
 front_token f (v ∷ _ ∷ w) = false
@@ -86,16 +86,16 @@ abbrev pub front_deeper : (ℕ → Bool) → ℕ → Bool
 front_deeper f zero = false
 front_deeper f (suc fewer) = f fewer
 
-abbrev pub front_nest : (ℕ → Bool) → ℕ → Tokens → Bool
+abbrev pub front_nest : (ℕ → Bool) → ℕ → PlacedTokens → Bool
 front_nest f levels [] = true
 front_nest f levels (v ∷ w) = front_deeper f levels
 
 -- which readings a symbol has, with so many levels left and these counts before it; and whether a list is a front of it
 abbrev pub Reader : Type 0
-Reader = ℕ → Counts → (s : Sym) → Tokens → List (Reading (Value s))
+Reader = ℕ → Counts → (s : Sym) → PlacedTokens → List (Reading (Value s))
 
 abbrev pub Fronter : Type 0
-Fronter = ℕ → Counts → Sym → Tokens → Bool
+Fronter = ℕ → Counts → Sym → PlacedTokens → Bool
 
 -- the second, where the first is true
 abbrev pub only_where : Bool → Bool → Bool
@@ -104,20 +104,20 @@ only_where a b = elim a [ true ↦ b | false ↦ false ]
 module _ (limits : Limits) where
   -- ---- readings
 
-  abbrev pub read_element : Reader → ℕ → Counts → (i : Element) → Tokens → List (Reading (Node i))
+  abbrev pub read_element : Reader → ℕ → Counts → (i : Element) → PlacedTokens → List (Reading (Node i))
   read_element R levels c (tok t) w = read_token (λ v. is t v.token.tok) c w
-  read_element R levels c (count k t) w = read_token (λ v. is t v.token.tok && is_within limits k (counted k c)) (counted k c) w
+  read_element R levels c (count k t) w = read_token (λ v. is t v.token.tok && is_within limits k (behind_counted k c)) (behind_counted k c) w
   read_element R levels c (sym s) w = R levels c s w
   read_element R levels c (nest s) w = read_deeper (λ fewer. R fewer c s w) levels
   read_element R levels c (whole s) w = each_of (leaving (behind_expression c)) (R levels (in_expression c) s w)
   read_element R levels c (own s) w = each_of (leaving (behind_declarator c)) (R levels (in_declarator c) s w)
 
-  abbrev pub read_row : Reader → ℕ → Counts → Follows → (r : Row) → Tokens → List (Reading (Nodes r))
+  abbrev pub read_row : Reader → ℕ → Counts → Follows → (r : Row) → PlacedTokens → List (Reading (Nodes r))
   read_row R levels c follows [] w = record { tree = tt; taken = []; left = w; behind = c } ∷ []
   read_row R levels c follows (i ∷ r) w =
       all_of (λ x. all_of (joined_where (follows i x.tree) x) (read_row R levels x.behind follows r x.left)) (read_element R levels c i w)
 
-  abbrev pub read_productions : Reader → ℕ → Counts → {A : Type 0} → List (Production A) → Tokens → List (Reading A)
+  abbrev pub read_productions : Reader → ℕ → Counts → {A : Type 0} → List (Production A) → PlacedTokens → List (Reading A)
   read_productions R levels c [] w = []
   read_productions R levels c (a ∷ rest) w = each_of (made a) (read_row R levels c a.follows a.row w) ++ read_productions R levels c rest w
 
@@ -128,16 +128,16 @@ module _ (limits : Limits) where
 
   -- ---- fronts
 
-  abbrev pub front_element : Fronter → ℕ → Counts → Element → Tokens → Bool
+  abbrev pub front_element : Fronter → ℕ → Counts → Element → PlacedTokens → Bool
   front_element F levels c (tok t) u = front_token (λ v. is t v.token.tok) u
-  front_element F levels c (count k t) u = front_token (λ v. is t v.token.tok && is_within limits k (counted k c)) u
+  front_element F levels c (count k t) u = front_token (λ v. is t v.token.tok && is_within limits k (behind_counted k c)) u
   front_element F levels c (sym s) u = F levels c s u
   front_element F levels c (nest s) u = front_nest (λ fewer. F fewer c s u) levels u
   front_element F levels c (whole s) u = F levels (in_expression c) s u
   front_element F levels c (own s) u = F levels (in_declarator c) s u
 
   -- R reads the whole elements before the place where the list ends
-  abbrev pub front_row : Reader → Fronter → ℕ → Counts → Follows → Row → Tokens → Bool
+  abbrev pub front_row : Reader → Fronter → ℕ → Counts → Follows → Row → PlacedTokens → Bool
   front_row R F levels c follows [] u = is_empty u
   front_row R F levels c follows (i ∷ r) u = elim (front_element F levels c i u) [
     | true ↦ true
@@ -168,7 +168,7 @@ or_front b e = found e.readings (either b e.front)
 abbrev pub both : {A : Type 0} → Found A → Found A → Found A
 both d e = found (d.readings ++ e.readings) (either d.front e.front)
 
-abbrev pub found_deeper : {A : Type 0} → (ℕ → Found A) → ℕ → Tokens → Found A
+abbrev pub found_deeper : {A : Type 0} → (ℕ → Found A) → ℕ → PlacedTokens → Found A
 found_deeper f zero w = found [] (is_empty w)
 found_deeper f (suc fewer) w = or_front (is_empty w) (f fewer)
 
@@ -189,23 +189,23 @@ abbrev pub found_made : {A : Type 0} (a : Production A) → Found (Nodes a.row) 
 found_made a e = found (each_of (made a) e.readings) e.front
 
 abbrev pub Finder : Type 0
-Finder = ℕ → Counts → (s : Sym) → Tokens → Found (Value s)
+Finder = ℕ → Counts → (s : Sym) → PlacedTokens → Found (Value s)
 
 module _ (limits : Limits) where
-  abbrev pub find_element : Finder → ℕ → Counts → (i : Element) → Tokens → Found (Node i)
+  abbrev pub find_element : Finder → ℕ → Counts → (i : Element) → PlacedTokens → Found (Node i)
   find_element X levels c (tok t) w = found (read_token (λ v. is t v.token.tok) c w) (front_token (λ v. is t v.token.tok) w)
   find_element X levels c (count k t) w =
-      found (read_token (λ v. is t v.token.tok && is_within limits k (counted k c)) (counted k c) w) (front_token (λ v. is t v.token.tok && is_within limits k (counted k c)) w)
+      found (read_token (λ v. is t v.token.tok && is_within limits k (behind_counted k c)) (behind_counted k c) w) (front_token (λ v. is t v.token.tok && is_within limits k (behind_counted k c)) w)
   find_element X levels c (sym s) w = X levels c s w
   find_element X levels c (nest s) w = found_deeper (λ fewer. X fewer c s w) levels w
   find_element X levels c (whole s) w = found_leaving (behind_expression c) (X levels (in_expression c) s w)
   find_element X levels c (own s) w = found_leaving (behind_declarator c) (X levels (in_declarator c) s w)
 
-  abbrev pub find_row : Finder → ℕ → Counts → Follows → (r : Row) → Tokens → Found (Nodes r)
+  abbrev pub find_row : Finder → ℕ → Counts → Follows → (r : Row) → PlacedTokens → Found (Nodes r)
   find_row X levels c follows [] w = found (record { tree = tt; taken = []; left = w; behind = c } ∷ []) (is_empty w)
   find_row X levels c follows (i ∷ r) w = found_rest (follows i) (λ x. find_row X levels x.behind follows r x.left) (find_element X levels c i w)
 
-  abbrev pub find_productions : Finder → ℕ → Counts → {A : Type 0} → List (Production A) → Tokens → Found A
+  abbrev pub find_productions : Finder → ℕ → Counts → {A : Type 0} → List (Production A) → PlacedTokens → Found A
   find_productions X levels c [] w = found [] false
   find_productions X levels c (a ∷ rest) w = both (found_made a (find_row X levels c a.follows a.row w)) (find_productions X levels c rest w)
 
@@ -221,7 +221,7 @@ abbrev pub chain : ℕ
 chain = 32
 
 -- no derivation of a part of the list has to be higher
-abbrev pub height : Tokens → ℕ
+abbrev pub height : PlacedTokens → ℕ
 height w = chain * suc (length w)
 
 -- the tree, where nothing is left
@@ -229,25 +229,25 @@ abbrev pub whole_tree : {A : Type 0} → Reading A → List A
 whole_tree x = alone_where (is_empty x.left) x.tree
 
 -- the trees of the list within the limits
-abbrev pub trees : Limits → (s : Sym) → Tokens → List (Value s)
+abbrev pub trees : Limits → (s : Sym) → PlacedTokens → List (Value s)
 trees limits s w = all_of whole_tree (read limits (height w) limits.nesting no_counts s w)
 
-abbrev pub fits : Limits → Sym → Tokens → Bool
+abbrev pub fits : Limits → Sym → PlacedTokens → Bool
 fits limits s u = (find limits (height u) limits.nesting no_counts s u).front
 
 -- limits that the list can't reach
-abbrev pub unreached : Tokens → Limits
+abbrev pub unreached : PlacedTokens → Limits
 unreached u = record { nesting = height u; operations = length u; derivations = length u }
 
 -- ---- the answer
 
 -- the stop at the first token after which the tokens are no front within the limits
-abbrev pub stop_at : Limits → Tokens → Placed → Option Stop
+abbrev pub stop_at : Limits → PlacedTokens → Placed → Option Stop
 stop_at limits u t = elim (fits limits unit u) [
   | true ↦ None
   | false ↦ elim (fits (unreached u) unit u) [ true ↦ Some (Limit L3) | false ↦ Some (Refused F7 t.token.line) ]
 ]
 
-abbrev pub first_stop : Limits → Tokens → Tokens → Option Stop
+abbrev pub first_stop : Limits → PlacedTokens → PlacedTokens → Option Stop
 first_stop limits before [] = None
 first_stop limits before (t ∷ after) = elim (stop_at limits (before ++ t ∷ []) t) [ Some stop ↦ Some stop | None ↦ first_stop limits (before ++ t ∷ []) after ]

@@ -7,7 +7,7 @@ use Rattle.ec_base.specs.declared.stop.Stop.TheVariants.{Refused, Limit}
 use Rattle.ec_ctypes.specs.trees.Tokens.{TokenData, end_token}
 use Rattle.ec_ctypes.specs.trees.Units.{UnitData}
 use Rattle.ec_language.specs.Productions.{Placed, placed, unit}
-use Rattle.ec_language.specs.Grammar.{Tokens, Limits, DerivesWithin, FrontWithin, Front}
+use Rattle.ec_language.specs.Grammar.{PlacedTokens, Limits, DerivesWithin, FrontWithin, Front}
 
 -- The last token is the end, and no other is: so are the tokens of a text.
 abbrev pub EndsOnce : List TokenData → Type 0
@@ -20,21 +20,21 @@ abbrev pub limits : Limits
 limits = record { nesting = 64; operations = 4096; derivations = 64 }
 
 -- each front of these tokens is a front of a program within the limits
-abbrev pub AllFit : Tokens → Type 0
+abbrev pub AllFit : PlacedTokens → Type 0
 AllFit before = (n : ℕ) → n ≤ length before → FrontWithin limits unit (take n before)
 
 -- The token is dead: some program begins with the tokens before it, and none with these and the token. The end counts as a token.
-pub record IsDead (w : Tokens) (t : Placed) : Type 0 where
-  pub before : Tokens
-  pub after : Tokens
+pub record IsDead (w : PlacedTokens) (t : Placed) : Type 0 where
+  pub before : PlacedTokens
+  pub after : PlacedTokens
   pub whole : w ≡ before ++ t ∷ after
   pub fit : AllFit before
   pub dead : Front unit (before ++ t ∷ []) → ⊥
 
 -- At the token a limit is passed: some program begins with the tokens up to and with it, but none within the limits.
-pub record IsTooDeep (w : Tokens) (t : Placed) : Type 0 where
-  pub before : Tokens
-  pub after : Tokens
+pub record IsTooDeep (w : PlacedTokens) (t : Placed) : Type 0 where
+  pub before : PlacedTokens
+  pub after : PlacedTokens
   pub whole : w ≡ before ++ t ∷ after
   pub fit : AllFit before
   pub goes_on : Front unit (before ++ t ∷ [])

@@ -12,8 +12,8 @@ use Rattle.ec_language.specs.Syntax.{limits}
 abbrev pub trees_of : List TokenData → List UnitData
 trees_of ts = trees limits unit (placed ts)
 
-abbrev pub stop_of : List TokenData → Option Stop
-stop_of ts = first_stop limits [] (placed ts)
+abbrev pub syntax_stop : List TokenData → Option Stop
+syntax_stop ts = first_stop limits [] (placed ts)
 
 -- The tree, or else the stop. Where there is neither, the end is missing.
 abbrev pub tree_or_stop : List UnitData → Option Stop → Result UnitData Stop
@@ -22,4 +22,4 @@ tree_or_stop [] (Some stop) = Err stop
 tree_or_stop [] None = Err (Limit L3)
 
 abbrev pub read_syntax : List TokenData → Result UnitData Stop
-read_syntax ts = tree_or_stop (trees_of ts) (stop_of ts)
+read_syntax ts = tree_or_stop (trees_of ts) (syntax_stop ts)

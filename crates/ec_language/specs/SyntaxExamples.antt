@@ -16,7 +16,7 @@ use Rattle.ec_language.specs.Letters.{Text, same_text}
 use Rattle.ec_language.specs.CText.{is_word, is_number}
 use Rattle.ec_language.specs.Constants.{integer_constant}
 use Rattle.ec_language.specs.Lexemes.{punct_of}
-use Rattle.ec_language.specs.Grammar.{Tokens, Limits}
+use Rattle.ec_language.specs.Grammar.{PlacedTokens, Limits}
 use Rattle.ec_language.specs.Productions.{placed}
 use Rattle.ec_language.specs.ReadSyntax.{first_stop}
 
@@ -70,7 +70,7 @@ abbrev pub braces : ℕ → List TokenData
 braces zero = []
 braces (suc n) = at_line 1 (punct_token LeftBrace) ∷ braces n
 
-abbrev pub opened : ℕ → Tokens
+abbrev pub opened : ℕ → PlacedTokens
 opened n = placed (map (at_line 1) (word_token (codes "int") ∷ word_token (codes "main") ∷ punct_token LeftParen ∷ punct_token RightParen ∷ []) ++ braces n)
 
 -- ---- trees

@@ -12,7 +12,7 @@ ghost use Rattle.ec_ctypes.specs.trees.Units.{decl_top, mark_top};
 ghost use Rattle.ec_language.specs.Productions.{unit};
 ghost use Rattle.ec_language.specs.ReadSyntax.{fits, unreached};
 ghost use Rattle.ec_language.specs.Syntax.{limits};
-ghost use Rattle.ec_language.specs.SyntaxAnswer.{trees_of, stop_of};
+ghost use Rattle.ec_language.specs.SyntaxAnswer.{trees_of, syntax_stop};
 ghost use Rattle.ec_language.specs.SyntaxExamples.{tokens_in, body_in, opened, first_line, int_base, id, area, int_value, on_first, empty, unit_of, doing, computing, declaring, nesting_of, operations_of, derivations_of, stop_within};
 
 /// `else` belongs to the nearest `if`, and a loop with a declaration is a block.
@@ -28,11 +28,11 @@ pub fn statement_examples()
         (on_first
         (for_stmt None (Some (binary bin.Lt (id "i") (int_value 3)))
         (Some (bump false true (id "i"))) empty)) no_stmts))) ∷ [] }
-    ensures label_at_brace { stop_of (tokens_in "int main ( void ) { l :\n }\n")
+    ensures label_at_brace { syntax_stop (tokens_in "int main ( void ) { l :\n }\n")
         ≡ Some (Refused F7 (record { 0 = 2 })) }
-    ensures no_semicolon { stop_of (tokens_in "int main ( void ) { return 0\n }\n")
+    ensures no_semicolon { syntax_stop (tokens_in "int main ( void ) { return 0\n }\n")
         ≡ Some (Refused F7 (record { 0 = 2 })) }
-    ensures no_closing_brace { stop_of (tokens_in "int main ( void ) {\n ;\n")
+    ensures no_closing_brace { syntax_stop (tokens_in "int main ( void ) {\n ;\n")
         ≡ Some (Refused F7 (record { 0 = 3 })) }
 {}
 
@@ -78,9 +78,9 @@ pub fn declaration_examples()
         ≡ unit_of
         (mark_top true first_line ∷ decl_top (declaring "a" no_dims no_init true)
         ∷ mark_top false first_line ∷ decl_top (declaring "b" no_dims no_init false) ∷ []) ∷ [] }
-    ensures function_in_a_list { stop_of (tokens_in "int f ( )\n ,\n g ;")
+    ensures function_in_a_list { syntax_stop (tokens_in "int f ( )\n ,\n g ;")
         ≡ Some (Refused F7 (record { 0 = 2 })) }
-    ensures name_in_parentheses { stop_of (tokens_in "int\n (\n * p ) ;")
+    ensures name_in_parentheses { syntax_stop (tokens_in "int\n (\n * p ) ;")
         ≡ Some (Refused F7 (record { 0 = 2 })) }
 {}
 
