@@ -4,7 +4,7 @@ use Rattle.std.proofs.lemmas.List.{append-nil}
 use Rattle.std.proofs.lemmas.Bool.{false≢true}
 use Rattle.ec_base.specs.declared.fault.FaultKind.{FaultKind}
 use Rattle.ec_base.specs.declared.fault.LimitKind.{LimitKind}
-use Rattle.ec_base.specs.declared.fault.LimitKind.TheVariants.{L1, L2, L3, L4, L5, L6, L7, L8}
+use Rattle.ec_base.specs.declared.fault.LimitKind.TheVariants.{L2, L3, L6}
 use Rattle.ec_base.specs.declared.line.Line.{Line}
 use Rattle.ec_base.specs.declared.stop.Stop.{Stop}
 use Rattle.ec_base.specs.declared.stop.Stop.TheVariants.{Refused, Limit}
@@ -136,11 +136,7 @@ module _ (written : Bool) (text : Text) (u : UnitData) (h : HasTree written text
       let some = pieces_few written h.pieces ts x in
       omega (arith, some, p, ap length same)
   passes_none pieces ts l x same (tree v d) L3 p = p (subst (λ z. DerivesWithin limits unit (placed z) v) same d)
-  passes_none pieces ts l x same (tree v d) L1 p = p
-  passes_none pieces ts l x same (tree v d) L4 p = p
-  passes_none pieces ts l x same (tree v d) L5 p = p
-  passes_none pieces ts l x same (tree v d) L7 p = p
-  passes_none pieces ts l x same (tree v d) L8 p = p
+  passes_none pieces ts l x same (tree v d) _ p = p
 
   pub within_read : Reads written text (Ok u) → (kind : LimitKind) → PassesLimit h kind → ⊥
   within_read (tokens pieces ts a l are x is) = go (tokens_of pieces (Ok ts) are x)

@@ -23,6 +23,7 @@ pub use Rattle.ec_language.specs.Constants
 pub use Rattle.ec_language.specs.CText
 pub use Rattle.ec_language.specs.First
 pub use Rattle.ec_language.specs.Grammar
+pub use Rattle.ec_language.specs.Keywords
 pub use Rattle.ec_language.specs.Letters
 pub use Rattle.ec_language.specs.Lexemes
 pub use Rattle.ec_language.specs.Line
