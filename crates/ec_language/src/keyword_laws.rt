@@ -1,6 +1,6 @@
 //! The table of the words of C that are no names, computed.
 
-ghost use Rattle.std.specs.Prelude.{◌≡◌, ◌∷◌, ◌++◌, [], true, codes};
+ghost use Rattle.std.specs.Prelude.{◌≡◌, ◌∷◌, ◌++◌, ◌||◌, [], true, not, codes};
 ghost use Rattle.std.specs.List.{list_all};
 ghost use Rattle.ec_language.specs.CText.{is_word};
 ghost use Rattle.ec_language.specs.Keywords.{type_words, varchar_words, other_keywords, declaring_words, reserved_words, are_different, is_name};
@@ -12,6 +12,7 @@ ghost use Rattle.ec_language.specs.Tokens.{is_left_out_word};
 pub fn keywords_are_a_table()
     ensures words { list_all is_word reserved_words ≡ true }
     ensures once { are_different reserved_words ≡ true }
+    ensures no_names { list_all (λ w. not (is_name w) || is_left_out_word w) reserved_words ≡ true }
     ensures declaring { list_all (is_among (type_words ++ varchar_words ++ other_keywords))
         declaring_words ≡ true }
     ensures of_c { list_all (is_among reserved_words)
