@@ -1,5 +1,5 @@
 -- What is kept of structs.
-use Rattle.std.proofs.Common.{◌≡◌, ℕ, zero, suc, ◌<◌, ◌≤◌, List, [], ◌∷◌, ◌++◌, map, take, drop, IsSome, Option, Some, None, IfSome, subst, if◌then◌else◌, Bool, true, false, nat_le, nat_eq, option_and_then, slice_get, refl, sym, ap, ◌∙◌, arith}
+use Rattle.std.proofs.Common.{◌≡◌, ℕ, zero, suc, List, [], ◌∷◌, ◌++◌, map, take, drop, IsSome, Option, Some, None, IfSome, subst, if◌then◌else◌, Bool, true, false, nat_le, nat_eq, option_and_then, slice_get, refl, sym, ap, ◌∙◌, arith}
 use Rattle.std.proofs.lemmas.Bool.Decides.{nat_tests}
 use Rattle.std.specs.Cmp.Lexicographic.{pointwise}
 use Rattle.std.proofs.lemmas.List.{map-append, take-append-drop, take-map}

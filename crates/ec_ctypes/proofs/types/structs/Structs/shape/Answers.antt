@@ -1,7 +1,6 @@
-use Rattle.std.proofs.Common.{◌≡◌, IfSome, Option, sym, ap, subst, ◌∙◌, option_and_then, slice_get}
+use Rattle.std.proofs.Common.{IfSome, Option, sym, ap, subst, ◌∙◌, option_and_then, slice_get}
 use Rattle.ec_ctypes.specs.declared.types.sizes.Shape.{Shape}
-use Rattle.ec_ctypes.specs.Layout.{kept_shapes, IsSmall}
-use Rattle.ec_ctypes.specs.views.Types.{structs_view}
+use Rattle.ec_ctypes.specs.Layout.{IsSmall}
 use Rattle.ec_ctypes.proofs.Kept.{kept-shape, small-kept}
 use Rattle.ec_ctypes.proofs.types.structs.Structs.shape.Goals as goal
 
