@@ -2,6 +2,7 @@ pub mod CheckedBack
 pub mod Conversions
 pub mod EmbeddedBack
 pub mod ExprsBack
+pub mod Kept
 pub mod Shapes
 pub mod StmtsBack
 pub mod TokensBack

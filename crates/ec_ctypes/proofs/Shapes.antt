@@ -343,7 +343,7 @@ member-at structs k name d members h e m =
     ∙ ap (λ l. member_behind (shapes_of (structs_view (take k structs))) no_members name (map member_view l)) (sym m)
 
 -- the shapes of structs and of more behind them
-behind-append : (ds es : List StructData) (os : List (Option Shape)) → shapes_behind os (ds ++ es) ≡ shapes_behind (shapes_behind os ds) es
+pub behind-append : (ds es : List StructData) (os : List (Option Shape)) → shapes_behind os (ds ++ es) ≡ shapes_behind (shapes_behind os ds) es
 behind-append [] es os = refl
 behind-append (d ∷ ds) es os = behind-append ds es (os ++ struct_shape os d.members ∷ [])
 

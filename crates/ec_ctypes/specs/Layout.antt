@@ -1,5 +1,5 @@
 -- Size, alignment and the offsets of members (ISO/IEC 9899:1999, 6.2.6, 6.5.3.4 and 6.7.2.1). Sizes and offsets are in bytes and have no upper end. Each scalar is aligned to its size, an array to its elements, and a struct to its widest member.
-use Rattle.std.specs.Prelude.{◌≡◌, ℕ, zero, suc, ◌+◌, ◌*◌, ◌^◌, ◌<◌, ◌≤◌, max, List, [], ◌∷◌, ◌++◌, Option, Some, None, option_map, option_and_then, slice_get, take, if◌then◌else◌, nat_eq, nat_le}
+use Rattle.std.specs.Prelude.{◌≡◌, ℕ, zero, suc, ◌+◌, ◌*◌, ◌^◌, ◌<◌, ◌≤◌, max, List, [], ◌∷◌, ◌++◌, map, Option, Some, None, option_map, option_and_then, slice_get, take, if◌then◌else◌, nat_eq, nat_le}
 use Rattle.std.specs.Int.{next_multiple_of}
 use Rattle.std.specs.Cmp.Lexicographic.{pointwise}
 use Rattle.ec_ctypes.specs.declared.types.arith.Arith.{Arith}
@@ -86,6 +86,10 @@ member_of structs k name = option_and_then (λ d. member_behind (shapes_of (take
 abbrev pub limited : Option Shape → Option Shape
 limited None = None
 limited (Some shape) = if nat_le shape.size 16777216 then Some shape else None
+
+-- what is kept of structs: the shape of each, where it has one within the limit
+abbrev pub kept_shapes : List StructData → List (Option Shape)
+kept_shapes structs = map limited (shapes_of structs)
 
 -- a size that is within the limit, and an alignment that some type has
 pub record IsSmall (shape : Shape) : Type 0 where

@@ -23,10 +23,10 @@ pub use tree::{
     Unit,
 };
 pub use types::{
-    Arith, Shape, StructDef, Ty, conversion_examples, convert, layout, layout_examples, member,
-    one_conversion, promote, usual,
+    Arith, Shape, StructDef, Structs, Ty, conversion_examples, convert, layout, layout_examples,
+    member, one_conversion, promote, usual,
 };
-pub use views_law::{list_views_lose_nothing, views_lose_nothing};
+pub use views_law::{list_views_lose_nothing, views_keep_order, views_lose_nothing};
 
 #[cfg(test)]
 mod tests;

@@ -5,6 +5,7 @@ mod arithmetic;
 mod examples;
 mod laws;
 pub(crate) mod sizes;
+mod structs;
 mod ty;
 
 pub use arith::Arith;
@@ -12,4 +13,5 @@ pub use arithmetic::{convert, promote, usual};
 pub use examples::layout_examples;
 pub use laws::{conversion_examples, one_conversion};
 pub use sizes::{Shape, layout, member};
+pub use structs::Structs;
 pub use ty::{StructDef, Ty};

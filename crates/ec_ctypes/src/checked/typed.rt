@@ -1,6 +1,6 @@
 use crate::embedded::{Action, Cond};
 use crate::tree::Unit;
-use crate::types::{StructDef, Ty};
+use crate::types::{Structs, Ty};
 use ec_base::List;
 
 /// The objects, parameters and functions that are declared in a section, by the numbers of their declarations.
@@ -21,7 +21,7 @@ pub struct Typed {
     pub unit: Unit,
     /// The structs: first that of `sqlerrm`, then that of `sqlca`, then those of the program, in the order of the places
     /// where their members close. A tag whose members never close comes after all these.
-    pub structs: List<StructDef>,
+    pub structs: Structs,
     /// The type of each object and parameter and the result type of each function, by the number of its declaration in
     /// the order of the text, from 0.
     pub names: List<(u32, Ty)>,

@@ -1,12 +1,12 @@
 ghost use Rattle.std.specs.Prelude.{◌≡◌, ◌+◌, ◌<◌, ◌≤◌, ◌^◌, Some, map, option_map, IsSome, IfSome, MatchOption, IfOk, IfErr};
 ghost use Rattle.std.specs.Int.{next_multiple_of};
 ghost use Rattle.ec_base.specs.declared.fault.LimitKind.TheVariants.{L1};
-ghost use Rattle.ec_ctypes.specs.Layout.{with_member, no_members, with_members, shapes_of, shape_of, member_behind, member_of, limited, IsSmall, IsElement, HasElements, IsTooMany};
+ghost use Rattle.ec_ctypes.specs.Layout.{with_member, no_members, with_members, struct_shape, shapes_of, shape_of, member_behind, member_of, limited, IsSmall, IsElement, HasElements, IsTooMany};
 ghost use Rattle.ec_ctypes.specs.trees.Types.{structure};
 ghost use Rattle.ec_ctypes.specs.views.Types.{ty_view, member_view, structs_view};
 
-use crate::types::{StructDef, Ty};
-use ec_base::{LimitKind, List, Name};
+use crate::types::{Structs, Ty};
+use ec_base::{LimitKind, Name};
 
 /// How many bytes a type takes, and to what it is aligned (ISO/IEC 9899:1999, 6.5.3.4).
 #[derive(Clone, Copy, Debug, PartialEq, Eq)]
@@ -23,30 +23,28 @@ const LIMIT: u64 = 16_777_216;
 /// # Errors
 ///
 /// `LimitKind::L1` where the type has more than 2^24 bytes.
-pub fn layout(structs: &List<StructDef>, ty: &Ty) -> Result<Shape, LimitKind>
+pub fn layout(structs: &Structs, ty: &Ty) -> Result<Shape, LimitKind>
     requires complete { IsSome (shape_of (structs_view structs.now) (ty_view ty.now)) }
     ensures shape { IfOk result (λ shape. (shape_of (structs_view structs.now) (ty_view ty.now) ≡ Some shape) × (shape.size ≤ 2 ^ 24)) }
     ensures limit { IfErr result (λ limit. (limit ≡ L1) × IfSome (shape_of (structs_view structs.now) (ty_view ty.now)) (λ shape. 2 ^ 24 < shape.size)) }
 {
-    type_shape(structs.as_slice(), ty).ok_or(LimitKind::L1)
+    type_shape(structs, ty).ok_or(LimitKind::L1)
 }
 
 /// The offset in bytes and the type of a struct's member of this name, or `None` where the struct has no such member
 /// (ISO/IEC 9899:1999, 6.5.2.3 and 6.7.2.1). The struct is complete and has at most 2^24 bytes.
-pub fn member<'a>(structs: &'a List<StructDef>, id: u32, name: &Name) -> Option<(u64, &'a Ty)>
+pub fn member<'a>(structs: &'a Structs, id: u32, name: &Name) -> Option<(u64, &'a Ty)>
     requires complete { IsSome (shape_of (structs_view structs.now) (structure id)) }
     requires small { IfSome (shape_of (structs_view structs.now) (structure id)) (λ shape. shape.size ≤ 2 ^ 24) }
     ensures { option_map (λ m. (m.0, ty_view m.1.now)) result ≡ member_of (structs_view structs.now) id name.now }
 {
-    let structs = structs.as_slice();
-    let at = id as usize;
-    let members = structs.get(at)?.members.as_slice();
-    find_member(&structs[..at], members, name)
+    let members = structs.as_slice().get(id as usize)?.members.as_slice();
+    find_member(structs, members, name)
 }
 
 // The offset and the type of the member of this name, of members that end within the limit.
 fn find_member<'a>(
-    structs: &[StructDef],
+    structs: &Structs,
     members: &'a [(Name, Ty)],
     name: &Name,
 ) -> Option<(u64, &'a Ty)>
@@ -65,8 +63,7 @@ fn find_member<'a>(
 }
 
 // The shape of a type, or `None` where it has none or more bytes than the limit.
-#[cycle(shapes)]
-pub(crate) fn type_shape(structs: &[StructDef], ty: &Ty) -> Option<Shape>
+pub(crate) fn type_shape(structs: &Structs, ty: &Ty) -> Option<Shape>
     ensures shape { result ≡ limited (shape_of (structs_view structs.now) (ty_view ty.now)) }
     ensures small { IfSome result IsSmall }
 {
@@ -95,8 +92,7 @@ fn elements<'a>(ty: &'a Ty) -> Option<(u64, &'a Ty)>
 }
 
 // The shape of a type that is no array.
-#[cycle(shapes)]
-fn element_shape(structs: &[StructDef], ty: &Ty) -> Option<Shape>
+fn element_shape(structs: &Structs, ty: &Ty) -> Option<Shape>
     requires { IsElement (ty_view ty.now) }
     ensures shape { result ≡ limited (shape_of (structs_view structs.now) (ty_view ty.now)) }
     ensures small { IfSome result IsSmall }
@@ -107,28 +103,23 @@ fn element_shape(structs: &[StructDef], ty: &Ty) -> Option<Shape>
         Ty::Short | Ty::UShort => within(2, 2),
         Ty::Int | Ty::UInt => within(4, 4),
         Ty::Long | Ty::ULong | Ty::LLong | Ty::ULLong | Ty::Ptr(_) => within(8, 8),
-        Ty::Struct(id) => struct_shape(structs, *id),
+        Ty::Struct(id) => structs.shape(*id),
     }
 }
 
-// The shape of the struct of this number.
-#[cycle(shapes)]
-fn struct_shape(structs: &[StructDef], id: u32) -> Option<Shape>
-    ensures shape { result ≡ limited (shape_of (structs_view structs.now) (structure id)) }
-    ensures small { IfSome result IsSmall }
+// The shape of a struct with these members, behind these structs.
+pub(crate) fn struct_shape(structs: &Structs, members: &[(Name, Ty)]) -> Option<Shape>
+    ensures { result ≡ limited (struct_shape (shapes_of (structs_view structs.now)) (map member_view members.now)) }
 {
-    let at = id as usize;
-    let members = structs.get(at)?.members.as_slice();
     if members.is_empty() {
         return None;
     }
-    let all = members_shape(&structs[..at], members)?;
+    let all = members_shape(structs, members)?;
     within(start(all.size, all.align), all.align)
 }
 
 // The bytes up to the end of the last member, and the widest alignment of a member.
-#[cycle(shapes)]
-fn members_shape(structs: &[StructDef], members: &[(Name, Ty)]) -> Option<Shape>
+fn members_shape(structs: &Structs, members: &[(Name, Ty)]) -> Option<Shape>
     ensures shape { result ≡ limited (with_members (shapes_of (structs_view structs.now)) no_members (map member_view members.now)) }
     ensures small { IfSome result IsSmall }
 {
