@@ -73,7 +73,8 @@ rank (Limit kind) = 100 + limit_number kind
 rank OutOfMemory = 200
 
 abbrev pub comes_before : Violation → Violation → Bool
-comes_before a b = nat_lt a.place b.place || (a.place == b.place && nat_lt (rank a.stop) (rank b.stop))
+comes_before a b =
+    nat_lt a.place b.place || (a.place == b.place && nat_lt (rank a.stop) (rank b.stop))
 
 -- It is one of the violations, and none comes before it.
 abbrev pub IsFirst : (Violation → Type 0) → Violation → Type 0
@@ -97,7 +98,8 @@ first_of (v ∷ vs) = earlier v (first_of vs)
 
 abbrev pub fault_in : ℕ → ℕ → Result TokData FaultKind → List Violation
 fault_in place line (Ok tok) = []
-fault_in place line (Err kind) = record { place = place; stop = Refused kind (record { 0 = line }) } ∷ []
+fault_in place line (Err kind) =
+    record { place = place; stop = Refused kind (record { 0 = line }) } ∷ []
 
 -- the limit comes at the token with which there are too many
 abbrev pub limit_at : ℕ → List Violation
@@ -106,7 +108,8 @@ limit_at place = if place == max_tokens then record { place = place; stop = Limi
 -- the faults and the limit of parts, the first of which has this place
 abbrev pub violations_of : ℕ → List Part → List Violation
 violations_of place [] = []
-violations_of place (p ∷ parts) = fault_in place p.line p.tok ++ (limit_at place ++ violations_of (suc place) parts)
+violations_of place (p ∷ parts) =
+    fault_in place p.line p.tok ++ (limit_at place ++ violations_of (suc place) parts)
 
 abbrev pub stop_of : {A : Type 0} → Result A Stop → Option Stop
 stop_of (Ok a) = None
@@ -124,9 +127,12 @@ max_text = 2 ^ 24
 -- How a text is read, as a source or as written C: what its tree is, or what the first phase that finds something refuses. The phases are pieces, tokens and syntax.
 pub data Reads (written : Bool) (text : Text) : Result UnitData Stop → Type 0 where
   too_long : max_text < length text → Reads written text (Err (Limit L6))
-  unclosed : (kind : FaultKind) (line : ℕ) → length text ≤ max_text → PieceFault text kind line → Reads written text (Err (Refused kind (record { 0 = line })))
-  no_tokens : (pieces : List Piece) (stop : Stop) → length text ≤ max_text → Pieces text pieces → TokensOrStop written pieces (Err stop) → Reads written text (Err stop)
-  tokens : (pieces : List Piece) (ts : List TokenData) (answer : Result UnitData Stop) → length text ≤ max_text → Pieces text pieces → Tokens written pieces ts
+  unclosed : (kind : FaultKind) (line : ℕ) → length text ≤ max_text → PieceFault text kind line
+      → Reads written text (Err (Refused kind (record { 0 = line })))
+  no_tokens : (pieces : List Piece) (stop : Stop) → length text ≤ max_text → Pieces text pieces
+      → TokensOrStop written pieces (Err stop) → Reads written text (Err stop)
+  tokens : (pieces : List Piece) (ts : List TokenData) (answer : Result UnitData Stop)
+      → length text ≤ max_text → Pieces text pieces → Tokens written pieces ts
       → TreeOrStop ts answer → Reads written text answer
 
 -- ---- limits aside
@@ -140,12 +146,15 @@ pub record HasTree (written : Bool) (text : Text) (u : UnitData) : Type 0 where
   pub derived : Derives unit (placed tokens) u
 
 -- The text passes the limit: it is too long, has too many tokens before its end, or nests too deep or counts too high.
-abbrev pub PassesLimit : {written : Bool} {text : Text} {u : UnitData} → HasTree written text u → LimitKind → Type 0
+abbrev pub PassesLimit : {written : Bool} {text : Text} {u : UnitData} → HasTree written text u
+    → LimitKind → Type 0
 PassesLimit {text = text} h L6 = max_text < length text
 PassesLimit h L2 = suc max_tokens < length h.tokens
 PassesLimit {u = u} h L3 = DerivesWithin limits unit (placed h.tokens) u → ⊥
 PassesLimit h _ = ⊥
 
 -- The text is read as its tree, or passes the limit that it is refused for.
-abbrev pub IsReadAs : {written : Bool} {text : Text} {u : UnitData} → HasTree written text u → Result UnitData Stop → Type 0
-IsReadAs {u = u} h answer = (answer ≡ Ok u) ⊎ ((kind : LimitKind) × (answer ≡ Err (Limit kind)) × PassesLimit h kind)
+abbrev pub IsReadAs : {written : Bool} {text : Text} {u : UnitData} → HasTree written text u
+    → Result UnitData Stop → Type 0
+IsReadAs {u = u} h answer =
+    (answer ≡ Ok u) ⊎ ((kind : LimitKind) × (answer ≡ Err (Limit kind)) × PassesLimit h kind)

@@ -26,7 +26,8 @@ one_more None = None
 one_more (Some n) = Some (suc n)
 
 abbrev pub behind_counted : Counted → Counts → Counts
-behind_counted operations c = record { operations = one_more c.operations; derivations = c.derivations }
+behind_counted operations c =
+    record { operations = one_more c.operations; derivations = c.derivations }
 behind_counted derivations c = record { operations = c.operations; derivations = suc c.derivations }
 
 abbrev pub is_at_most : Option ℕ → ℕ → Bool
@@ -51,7 +52,8 @@ abbrev pub in_expression : Counts → Counts
 in_expression c = record { operations = begun c.operations; derivations = c.derivations }
 
 abbrev pub behind_expression : Counts → Counts → Counts
-behind_expression c inner = record { operations = ended c.operations inner.operations; derivations = c.derivations }
+behind_expression c inner =
+    record { operations = ended c.operations inner.operations; derivations = c.derivations }
 
 abbrev pub in_declarator : Counts → Counts
 in_declarator c = record { operations = c.operations; derivations = 0 }
@@ -66,19 +68,32 @@ module _ (limits : Limits) where
   abbrev pub Derivation : Type 1
   Derivation = ℕ → Counts → (s : Sym) → PlacedTokens → Value s → Counts → Type 0
 
-  abbrev pub DerivesElement : Derivation → ℕ → Counts → (i : Element) → PlacedTokens → Node i → Counts → Type 0
-  DerivesElement D levels c (tok t) w v behind = (w ≡ v ∷ []) × (is t v.token.tok ≡ true) × (behind ≡ c)
-  DerivesElement D levels c (count k t) w v behind = (w ≡ v ∷ []) × (is t v.token.tok ≡ true) × (behind ≡ behind_counted k c) × (is_within limits k behind ≡ true)
+  abbrev pub DerivesElement : Derivation → ℕ → Counts → (i : Element) → PlacedTokens → Node i
+      → Counts → Type 0
+  DerivesElement D levels c (tok t) w v behind =
+      (w ≡ v ∷ []) × (is t v.token.tok ≡ true) × (behind ≡ c)
+  DerivesElement D levels c (count k t) w v behind =
+      (w ≡ v ∷ []) × (is t v.token.tok ≡ true) × (behind ≡ behind_counted k c)
+      × (is_within limits k behind ≡ true)
   DerivesElement D levels c (sym s) w v behind = D levels c s w v behind
-  DerivesElement D levels c (nest s) w v behind = (fewer : ℕ) × (levels ≡ suc fewer) × D fewer c s w v behind
-  DerivesElement D levels c (whole s) w v behind = (inner : Counts) × (behind ≡ behind_expression c inner) × D levels (in_expression c) s w v inner
-  DerivesElement D levels c (own s) w v behind = (inner : Counts) × (behind ≡ behind_declarator c inner) × D levels (in_declarator c) s w v inner
+  DerivesElement D levels c (nest s) w v behind =
+      (fewer : ℕ) × (levels ≡ suc fewer) × D fewer c s w v behind
+  DerivesElement D levels c (whole s) w v behind =
+      (inner : Counts) × (behind ≡ behind_expression c inner)
+      × D levels (in_expression c) s w v inner
+  DerivesElement D levels c (own s) w v behind =
+      (inner : Counts) × (behind ≡ behind_declarator c inner)
+      × D levels (in_declarator c) s w v inner
 
   -- The list is lists of the row's elements, one after the other; behind an element that nothing may follow there is nothing.
-  abbrev pub DerivesRow : Derivation → ℕ → Counts → Follows → (r : Row) → PlacedTokens → Nodes r → Counts → Type 0
+  abbrev pub DerivesRow : Derivation → ℕ → Counts → Follows → (r : Row) → PlacedTokens → Nodes r
+      → Counts → Type 0
   DerivesRow D levels c follows [] w vs behind = (w ≡ []) × (behind ≡ c)
   DerivesRow D levels c follows (i ∷ r) w vs behind =
-      (u : PlacedTokens) × (v : PlacedTokens) × (w ≡ u ++ v) × (between : Counts) × DerivesElement D levels c i u vs.0 between × DerivesRow D levels between follows r v vs.1 behind × ((v ≡ []) ⊎ (follows i vs.0 ≡ true))
+      (u : PlacedTokens) × (v : PlacedTokens) × (w ≡ u ++ v) × (between : Counts)
+      × DerivesElement D levels c i u vs.0 between
+      × DerivesRow D levels between follows r v vs.1 behind
+      × ((v ≡ []) ⊎ (follows i vs.0 ≡ true))
 
   -- one of the productions
   abbrev pub AnyOf : {A : Type 0} → (Production A → Type 0) → List (Production A) → Type 0
@@ -86,13 +101,17 @@ module _ (limits : Limits) where
   AnyOf X (a ∷ rest) = X a ⊎ AnyOf X rest
 
   -- The elements of the production make the list, and their trees this one.
-  abbrev pub Makes : Derivation → ℕ → Counts → {A : Type 0} → PlacedTokens → A → Counts → Production A → Type 0
-  Makes D levels c w v behind a = (vs : Nodes a.row) × (v ≡ a.make (start_of w) vs) × DerivesRow D levels c a.follows a.row w vs behind
+  abbrev pub Makes : Derivation → ℕ → Counts → {A : Type 0} → PlacedTokens → A → Counts
+      → Production A → Type 0
+  Makes D levels c w v behind a =
+      (vs : Nodes a.row) × (v ≡ a.make (start_of w) vs)
+      × DerivesRow D levels c a.follows a.row w vs behind
 
   -- by a derivation lower than n
   abbrev pub DerivesBelow : ℕ → Derivation
   DerivesBelow zero levels c s w v behind = ⊥
-  DerivesBelow (suc n) levels c s w v behind = AnyOf (Makes (DerivesBelow n) levels c w v behind) (productions s)
+  DerivesBelow (suc n) levels c s w v behind =
+      AnyOf (Makes (DerivesBelow n) levels c w v behind) (productions s)
 
   -- ---- fronts
 
@@ -101,10 +120,15 @@ module _ (limits : Limits) where
 
   -- The fronts of a token are the empty list and the token itself.
   abbrev pub FrontElement : Beginning → ℕ → Counts → Element → PlacedTokens → Type 0
-  FrontElement F levels c (tok t) u = (u ≡ []) ⊎ ((v : Placed) × (u ≡ v ∷ []) × (is t v.token.tok ≡ true))
-  FrontElement F levels c (count k t) u = (u ≡ []) ⊎ ((v : Placed) × (u ≡ v ∷ []) × (is t v.token.tok ≡ true) × (is_within limits k (behind_counted k c) ≡ true))
+  FrontElement F levels c (tok t) u =
+      (u ≡ []) ⊎ ((v : Placed) × (u ≡ v ∷ []) × (is t v.token.tok ≡ true))
+  FrontElement F levels c (count k t) u =
+      (u ≡ [])
+      ⊎ ((v : Placed) × (u ≡ v ∷ []) × (is t v.token.tok ≡ true)
+      × (is_within limits k (behind_counted k c) ≡ true))
   FrontElement F levels c (sym s) u = F levels c s u
-  FrontElement F levels c (nest s) u = (u ≡ []) ⊎ ((fewer : ℕ) × (levels ≡ suc fewer) × F fewer c s u)
+  FrontElement F levels c (nest s) u =
+      (u ≡ []) ⊎ ((fewer : ℕ) × (levels ≡ suc fewer) × F fewer c s u)
   FrontElement F levels c (whole s) u = F levels (in_expression c) s u
   FrontElement F levels c (own s) u = F levels (in_declarator c) s u
 
@@ -113,17 +137,21 @@ module _ (limits : Limits) where
   FrontRow F levels c follows [] u = u ≡ []
   FrontRow F levels c follows (i ∷ r) u =
       FrontElement F levels c i u
-      ⊎ ((v : PlacedTokens) × (w : PlacedTokens) × (u ≡ v ++ w) × (node : Node i) × (between : Counts) × (n : ℕ) × DerivesElement (DerivesBelow n) levels c i v node between × FrontRow F levels between follows r w × ((w ≡ []) ⊎ (follows i node ≡ true)))
+      ⊎ ((v : PlacedTokens) × (w : PlacedTokens) × (u ≡ v ++ w) × (node : Node i)
+      × (between : Counts) × (n : ℕ) × DerivesElement (DerivesBelow n) levels c i v node between
+      × FrontRow F levels between follows r w × ((w ≡ []) ⊎ (follows i node ≡ true)))
 
   abbrev pub FrontBelow : ℕ → Beginning
   FrontBelow zero levels c s u = ⊥
-  FrontBelow (suc n) levels c s u = AnyOf (λ a. FrontRow (FrontBelow n) levels c a.follows a.row u) (productions s)
+  FrontBelow (suc n) levels c s u =
+      AnyOf (λ a. FrontRow (FrontBelow n) levels c a.follows a.row u) (productions s)
 
 -- ---- within limits, and without
 
 -- The symbol derives the list, with this tree, within the limits.
 abbrev pub DerivesWithin : Limits → (s : Sym) → PlacedTokens → Value s → Type 0
-DerivesWithin limits s w v = (n : ℕ) × (behind : Counts) × DerivesBelow limits n limits.nesting no_counts s w v behind
+DerivesWithin limits s w v =
+    (n : ℕ) × (behind : Counts) × DerivesBelow limits n limits.nesting no_counts s w v behind
 
 -- The list is a front of the symbol, within the limits.
 abbrev pub FrontWithin : Limits → Sym → PlacedTokens → Type 0

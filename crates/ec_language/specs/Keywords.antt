@@ -3,7 +3,9 @@ use Rattle.std.specs.Prelude.{Bool, true, not, ◌&&◌, ◌||◌, List, [], ◌
 use Rattle.ec_language.specs.Letters.{Text, is_among}
 
 abbrev pub integer_words : List Text
-integer_words = codes "char" ∷ codes "short" ∷ codes "int" ∷ codes "long" ∷ codes "signed" ∷ codes "unsigned" ∷ []
+integer_words =
+    codes "char" ∷ codes "short" ∷ codes "int" ∷ codes "long" ∷ codes "signed" ∷ codes "unsigned"
+    ∷ []
 
 -- the words of types
 abbrev pub type_words : List Text
@@ -15,14 +17,17 @@ varchar_words = codes "VARCHAR" ∷ codes "varchar" ∷ []
 -- all others that the grammar has
 abbrev pub other_keywords : List Text
 other_keywords =
-    codes "static" ∷ codes "const" ∷ codes "struct" ∷ codes "if" ∷ codes "else" ∷ codes "while" ∷ codes "do" ∷ codes "for"
+    codes "static" ∷ codes "const" ∷ codes "struct" ∷ codes "if" ∷ codes "else" ∷ codes "while"
+    ∷ codes "do" ∷ codes "for"
     ∷ codes "break" ∷ codes "continue" ∷ codes "return" ∷ codes "goto" ∷ codes "sizeof" ∷ []
 
 -- words of C that are left out
 abbrev pub left_out_words : List Text
 left_out_words =
-    codes "float" ∷ codes "double" ∷ codes "typedef" ∷ codes "union" ∷ codes "extern" ∷ codes "register" ∷ codes "volatile"
-    ∷ codes "inline" ∷ codes "auto" ∷ codes "restrict" ∷ codes "switch" ∷ codes "case" ∷ codes "default" ∷ codes "enum" ∷ []
+    codes "float" ∷ codes "double" ∷ codes "typedef" ∷ codes "union" ∷ codes "extern"
+    ∷ codes "register" ∷ codes "volatile"
+    ∷ codes "inline" ∷ codes "auto" ∷ codes "restrict" ∷ codes "switch" ∷ codes "case"
+    ∷ codes "default" ∷ codes "enum" ∷ []
 
 -- those with which a declaration after `EXEC SQL` begins
 abbrev pub declaring_words : List Text

@@ -27,7 +27,8 @@ is_cut_quote (b ∷ bs) rest = is_quote b && stays_open b bs && begins_with (new
 -- units of C text, in which the end of a line ends a quote
 abbrev pub LooseUnits : List Text → Text → Type 0
 LooseUnits [] rest = ⊤
-LooseUnits (u ∷ us) rest = (CUnit u (concat us ++ rest) ⊎ (is_cut_quote u (concat us ++ rest) ≡ true)) × LooseUnits us rest
+LooseUnits (u ∷ us) rest =
+    (CUnit u (concat us ++ rest) ⊎ (is_cut_quote u (concat us ++ rest) ≡ true)) × LooseUnits us rest
 
 -- no unit of C text stands at the beginning of this text
 abbrev pub NoUnit : Text → Type 0
@@ -35,7 +36,9 @@ NoUnit text = (u rest : Text) → text ≡ u ++ rest → CUnit u rest → ⊥
 
 -- no embedded piece stands there, even if the ends of lines end its quotes
 abbrev pub NoEmbedded : Text → Type 0
-NoEmbedded text = (u rest : Text) → text ≡ u ++ rest → (((kind : PieceKind) → IsPiece kind u rest → ⊥) × (Declared LooseUnits u rest → ⊥))
+NoEmbedded text =
+    (u rest : Text) → text ≡ u ++ rest
+    → (((kind : PieceKind) → IsPiece kind u rest → ⊥) × (Declared LooseUnits u rest → ⊥))
 
 -- A fault of this kind stands in the text, which begins outside of all pieces, behind so much of it.
 pub data Unclosed : Text → FaultKind → Text → Type 0 where
@@ -44,8 +47,11 @@ pub data Unclosed : Text → FaultKind → Text → Type 0 where
   -- whatever in it has no end
   embedded : (text : Text) → starts_piece text ≡ true → NoEmbedded text → Unclosed text F3 []
   -- a declaration after `EXEC SQL` that has its end, with a quote in it that has none. It is the first of them: units of C text stand before it
-  quote_inside : (text bytes rest before quote : Text) (units more : List Text) (found : Declared LooseUnits bytes rest) → text ≡ bytes ++ rest
-      → found.first ∷ found.others ≡ units ++ quote ∷ more → CUnits units (quote ++ concat more ++ rest) → is_cut_quote quote (concat more ++ rest) ≡ true
+  quote_inside : (text bytes rest before quote : Text) (units more : List Text)
+      (found : Declared LooseUnits bytes rest) → text ≡ bytes ++ rest
+      → found.first ∷ found.others ≡ units ++ quote ∷ more
+      → CUnits units (quote ++ concat more ++ rest)
+      → is_cut_quote quote (concat more ++ rest) ≡ true
       → text ≡ before ++ quote ++ concat more ++ rest → Unclosed text F2 before
 
 -- the bytes of pieces, joined

@@ -16,7 +16,8 @@ use Rattle.ec_language.specs.SqlText.{SqlUnit, SqlUnits, is_sql_gap}
 abbrev pub behind_start : Text → Option Text
 behind_start text =
     if same_word (take 4 text) (codes "EXEC") && begins is_blank (drop 4 text)
-    && same_word (take 3 (skip_blanks (drop 4 text))) (codes "SQL") && not (begins is_word_byte (drop 3 (skip_blanks (drop 4 text))))
+    && same_word (take 3 (skip_blanks (drop 4 text))) (codes "SQL")
+    && not (begins is_word_byte (drop 3 (skip_blanks (drop 4 text))))
     then Some (drop 3 (skip_blanks (drop 4 text))) else None
 
 abbrev pub starts_piece : Text → Bool
@@ -46,8 +47,10 @@ same_words (a ∷ as') (b ∷ bs) = same_word a b && same_words as' bs
 
 abbrev pub kind_of : List Text → PieceKind
 kind_of us =
-    if same_words (solid us) (codes "BEGIN" ∷ codes "DECLARE" ∷ codes "SECTION" ∷ []) then SectionStart
-    else if same_words (solid us) (codes "END" ∷ codes "DECLARE" ∷ codes "SECTION" ∷ []) then SectionEnd
+    if same_words (solid us) (codes "BEGIN" ∷ codes "DECLARE" ∷ codes "SECTION" ∷ [])
+    then SectionStart
+    else if same_words (solid us) (codes "END" ∷ codes "DECLARE" ∷ codes "SECTION" ∷ [])
+    then SectionEnd
     else Emb
 
 -- ---- declarations after `EXEC SQL`
@@ -62,12 +65,18 @@ first_is_type_word (u ∷ us) = is_type_word u
 
 -- how many braces are open behind a unit. One that closes nothing counts for nothing
 abbrev pub braces_after : ℕ → Text → ℕ
-braces_after open_ u = if same_text u (codes "{") then suc open_ else if same_text u (codes "}") then pred open_ else open_
+braces_after open_ u =
+    if same_text u (codes "{") then suc open_ else if same_text u (codes "}") then pred open_
+    else open_
 
 -- the last unit is the first `;` outside braces, so many being open before the units
 abbrev pub ends_declaration : ℕ → List Text → Bool
 ends_declaration open_ [] = false
-ends_declaration open_ (u ∷ us) = elim (is_semicolon u && open_ == 0) [ true ↦ elim us [ [] ↦ true | v ∷ vs ↦ false ] | false ↦ ends_declaration (braces_after open_ u) us ]
+ends_declaration open_ (u ∷ us) =
+    elim (is_semicolon u && open_ == 0) [
+      | true ↦ elim us [ [] ↦ true | v ∷ vs ↦ false ]
+      | false ↦ ends_declaration (braces_after open_ u) us
+    ]
 
 -- The bytes are a declaration after `EXEC SQL`, with the text behind it: blanks and comments of SQL, a type word, and from it on units of C text. Which units these are is left open here.
 pub record Declared (Units : List Text → Text → Type 0) (bytes rest : Text) : Type 0 where
@@ -88,17 +97,21 @@ pub record Declared (Units : List Text → Text → Type 0) (bytes rest : Text) 
 pub data IsPiece : PieceKind → Text → Text → Type 0 where
   -- C text is not empty, and goes on to the next embedded piece or to the end
   c_text : (bytes rest : Text) (units : List Text) → bytes ≡ concat units → is_empty bytes ≡ false
-      → CUnits units rest → NoneStarts units rest → (is_empty rest || starts_piece rest) ≡ true → IsPiece C bytes rest
+      → CUnits units rest → NoneStarts units rest → (is_empty rest || starts_piece rest) ≡ true
+      → IsPiece C bytes rest
   statement : (kind : PieceKind) (bytes rest : Text) (units : List Text)
-      → behind_start (bytes ++ rest) ≡ Some (concat units ++ codes ";" ++ rest) → SqlUnits units (codes ";" ++ rest)
-      → list_any is_semicolon units ≡ false → first_is_type_word (solid units) ≡ false → kind ≡ kind_of units → IsPiece kind bytes rest
+      → behind_start (bytes ++ rest) ≡ Some (concat units ++ codes ";" ++ rest)
+      → SqlUnits units (codes ";" ++ rest)
+      → list_any is_semicolon units ≡ false → first_is_type_word (solid units) ≡ false
+      → kind ≡ kind_of units → IsPiece kind bytes rest
   declaration : (bytes rest : Text) → Declared CUnits bytes rest → IsPiece InPlace bytes rest
 
 -- The text, which begins on this line, begins with these pieces, one after the other, and the rest stands behind them.
 abbrev pub PiecesUpTo : ℕ → Text → List Piece → Text → Type 0
 PiecesUpTo line text [] rest = text ≡ rest
 PiecesUpTo line text (p ∷ ps) rest =
-    (behind : Text) × (text ≡ p.bytes ++ behind) × (p.line.0 ≡ line) × IsPiece p.kind p.bytes behind × PiecesUpTo (line + newlines p.bytes) behind ps rest
+    (behind : Text) × (text ≡ p.bytes ++ behind) × (p.line.0 ≡ line) × IsPiece p.kind p.bytes behind
+    × PiecesUpTo (line + newlines p.bytes) behind ps rest
 
 -- These are the pieces of the text.
 abbrev pub Pieces : Text → List Piece → Type 0

@@ -29,11 +29,15 @@ pub record StatementUnits (bytes : Text) (units : List Text) : Type 0 where
   pub none : list_any is_semicolon units ≡ false
 
 abbrev pub sql_class : Text → SqlClass
-sql_class u = if is_sql_word u then word else if is_sql_number u then number else if is_sql_quoted u then quoted else mark
+sql_class u =
+    if is_sql_word u then word else if is_sql_number u then number
+    else if is_sql_quoted u then quoted else mark
 
 -- two units that are one token
 abbrev pub are_one_mark : Text → Text → Bool
-are_one_mark a b = (same_text a (codes ":") && same_text b (codes ":")) || (same_text a (codes "-") && same_text b (codes ">"))
+are_one_mark a b =
+    (same_text a (codes ":") && same_text b (codes ":"))
+    || (same_text a (codes "-") && same_text b (codes ">"))
 
 -- The tokens of units, the first of which stands on this line: an escaped quote is the word `E` and a quote.
 abbrev pub sql_tokens_from : Bool → ℕ → List Text → List SqlToken
@@ -41,17 +45,22 @@ sql_tokens_from gap line [] = []
 sql_tokens_from gap line (a ∷ []) = elim (is_sql_gap a) [
   | true ↦ []
   | false ↦ elim (is_escaped a) [
-    | true ↦ record { class = word; bytes = take 1 a; gap = gap; line = line } ∷ record { class = quoted; bytes = drop 1 a; gap = false; line = line } ∷ []
+    | true ↦ record { class = word; bytes = take 1 a; gap = gap; line = line }
+        ∷ record { class = quoted; bytes = drop 1 a; gap = false; line = line } ∷ []
     | false ↦ record { class = sql_class a; bytes = a; gap = gap; line = line } ∷ []
   ]
 ]
 sql_tokens_from gap line (a ∷ b ∷ us) = elim (is_sql_gap a) [
   | true ↦ sql_tokens_from true (line + newlines a) (b ∷ us)
   | false ↦ elim (is_escaped a) [
-    | true ↦ record { class = word; bytes = take 1 a; gap = gap; line = line } ∷ record { class = quoted; bytes = drop 1 a; gap = false; line = line } ∷ sql_tokens_from false (line + newlines a) (b ∷ us)
+    | true ↦ record { class = word; bytes = take 1 a; gap = gap; line = line }
+        ∷ record { class = quoted; bytes = drop 1 a; gap = false; line = line }
+        ∷ sql_tokens_from false (line + newlines a) (b ∷ us)
     | false ↦ elim (are_one_mark a b) [
-      | true ↦ record { class = mark; bytes = a ++ b; gap = gap; line = line } ∷ sql_tokens_from false line us
-      | false ↦ record { class = sql_class a; bytes = a; gap = gap; line = line } ∷ sql_tokens_from false (line + newlines a) (b ∷ us)
+      | true ↦ record { class = mark; bytes = a ++ b; gap = gap; line = line }
+          ∷ sql_tokens_from false line us
+      | false ↦ record { class = sql_class a; bytes = a; gap = gap; line = line }
+          ∷ sql_tokens_from false (line + newlines a) (b ∷ us)
     ]
   ]
 ]
@@ -63,12 +72,14 @@ is_bad_unit u = same_text u (0 ∷ []) || same_text u (dollar ∷ [])
 -- the line of the first such byte, if the first unit stands on this line
 abbrev pub first_bad_line : ℕ → List Text → Option ℕ
 first_bad_line line [] = None
-first_bad_line line (u ∷ us) = elim (is_bad_unit u) [ true ↦ Some line | false ↦ first_bad_line (line + newlines u) us ]
+first_bad_line line (u ∷ us) =
+    elim (is_bad_unit u) [ true ↦ Some line | false ↦ first_bad_line (line + newlines u) us ]
 
 -- statements that do nothing where they stand, but say how others are read
 abbrev pub is_directive : List Text → Bool
 is_directive [] = false
-is_directive (u ∷ us) = same_word u (codes "WHENEVER") || same_word u (codes "INCLUDE") || same_word u (codes "DECLARE")
+is_directive (u ∷ us) =
+    same_word u (codes "WHENEVER") || same_word u (codes "INCLUDE") || same_word u (codes "DECLARE")
 
 -- whether the statement of these units is executed
 abbrev pub is_executable : List Text → Bool

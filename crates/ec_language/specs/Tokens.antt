@@ -62,15 +62,22 @@ pub data Step : Type 0 where
   numbered_line : ℕ → Step
 
 -- What stands at the beginning of C text, with the rest behind it: a blank, a longest match, or a line with `#`, which stands first on its line. It is a token or none. `written`: it is written C.
-pub data Item (written : Bool) : Bool → Text → Text → Option (Result TokData FaultKind) → Step → Type 0 where
-  blank : (fresh : Bool) (text rest : Text) → length text ≡ 1 → begins is_blank text ≡ true → Item written fresh text rest None counted
-  match : (fresh : Bool) (text rest : Text) (class : Class) (tok : Option (Result TokData FaultKind)) → Longest text rest class → tok ≡ token_of class text
+pub data Item (written : Bool) : Bool → Text → Text → Option (Result TokData FaultKind) → Step
+    → Type 0 where
+  blank : (fresh : Bool) (text rest : Text) → length text ≡ 1 → begins is_blank text ≡ true
+      → Item written fresh text rest None counted
+  match : (fresh : Bool) (text rest : Text) (class : Class)
+      (tok : Option (Result TokData FaultKind)) → Longest text rest class
+      → tok ≡ token_of class text
       → Item written fresh text rest tok counted
-  include : (fresh : Bool) (text rest : Text) → fresh ≡ true → IncludeLine text rest → Item written fresh text rest (Some (Ok (include_token text))) counted
-  directive : (fresh : Bool) (text line rest : Text) → fresh ≡ true → written ≡ true → text ≡ line ++ newline ∷ [] → is_line_directive line ≡ true
+  include : (fresh : Bool) (text rest : Text) → fresh ≡ true → IncludeLine text rest
+      → Item written fresh text rest (Some (Ok (include_token text))) counted
+  directive : (fresh : Bool) (text line rest : Text) → fresh ≡ true → written ≡ true
+      → text ≡ line ++ newline ∷ [] → is_line_directive line ≡ true
       → Item written fresh text rest None (numbered_line (directive_number line))
   -- no line follows that it could number
-  last_directive : (fresh : Bool) (text rest : Text) → fresh ≡ true → written ≡ true → rest ≡ [] → is_line_directive text ≡ true
+  last_directive : (fresh : Bool) (text rest : Text) → fresh ≡ true → written ≡ true → rest ≡ []
+      → is_line_directive text ≡ true
       → Item written fresh text rest None counted
 
 abbrev pub line_behind : ℕ → Text → Step → ℕ
@@ -83,7 +90,9 @@ part_at line (Some tok) = record { line = line; tok = tok } ∷ []
 
 -- nothing stands at the beginning of this text
 abbrev pub NoItem : Bool → Bool → Text → Type 0
-NoItem written fresh text = (u rest : Text) (tok : Option (Result TokData FaultKind)) (step : Step) → text ≡ u ++ rest → Item written fresh u rest tok step → ⊥
+NoItem written fresh text =
+    (u rest : Text) (tok : Option (Result TokData FaultKind)) (step : Step) → text ≡ u ++ rest
+    → Item written fresh u rest tok step → ⊥
 
 -- the fault of a byte that begins nothing: the first of a line, `#` begins a line that is left out
 abbrev pub bad_byte : Bool → Text → FaultKind
@@ -92,12 +101,15 @@ bad_byte fresh text = if fresh && begins_with (codes "#") text then F9 else F4
 -- The parts of C text that begins on a line, with the line at its end. `fresh`: nothing but blanks stands before it on its line. A fault is a part, and others follow it; but a byte that begins nothing ends them.
 pub data CParts (written : Bool) : ℕ → Bool → Text → List Part → ℕ → Type 0 where
   end : (line : ℕ) (fresh : Bool) → CParts written line fresh [] [] line
-  item : (line : ℕ) (fresh : Bool) (text u rest : Text) (tok : Option (Result TokData FaultKind)) (step : Step) (parts others : List Part) (last : ℕ)
+  item : (line : ℕ) (fresh : Bool) (text u rest : Text) (tok : Option (Result TokData FaultKind))
+      (step : Step) (parts others : List Part) (last : ℕ)
       → text ≡ u ++ rest → Item written fresh u rest tok step
       → CParts written (line_behind line u step) (is_fresh_after fresh u) rest others last
       → parts ≡ part_at line tok ++ others → CParts written line fresh text parts last
-  bad : (line : ℕ) (fresh : Bool) (text : Text) (parts : List Part) → is_empty text ≡ false → NoItem written fresh text
-      → parts ≡ record { line = line; tok = Err (bad_byte fresh text) } ∷ [] → CParts written line fresh text parts line
+  bad : (line : ℕ) (fresh : Bool) (text : Text) (parts : List Part) → is_empty text ≡ false
+      → NoItem written fresh text
+      → parts ≡ record { line = line; tok = Err (bad_byte fresh text) } ∷ []
+      → CParts written line fresh text parts line
 
 -- ---- pieces
 
@@ -110,25 +122,35 @@ abbrev pub lines_before : Text → Text → ℕ
 lines_before bytes ending = newlines bytes - newlines ending
 
 -- The parts of a piece that begins on a line, with the line at its end. So many statements stand before it.
-pub data PieceParts (written : Bool) (line : ℕ) (fresh : Bool) (statements : ℕ) (p : Piece) : List Part → ℕ → Type 0 where
-  c_text : (parts : List Part) (last : ℕ) → p.kind ≡ C → CParts written line fresh p.bytes parts last → PieceParts written line fresh statements p parts last
+pub data PieceParts (written : Bool) (line : ℕ) (fresh : Bool) (statements : ℕ)
+    (p : Piece) : List Part → ℕ → Type 0 where
+  c_text : (parts : List Part) (last : ℕ) → p.kind ≡ C
+      → CParts written line fresh p.bytes parts last
+      → PieceParts written line fresh statements p parts last
   -- one token. A byte in it that begins no token of SQL is a fault behind it
-  statement : (units : List Text) (parts : List Part) (last : ℕ) → p.kind ≡ Emb → written ≡ false → StatementUnits p.bytes units
+  statement : (units : List Text) (parts : List Part) (last : ℕ) → p.kind ≡ Emb → written ≡ false
+      → StatementUnits p.bytes units
       → parts ≡ record { line = line; tok = Ok (emb_token statements (is_executable units)) }
       ∷ fault_at (first_bad_line (line + lines_before p.bytes (concat units)) units) F4
       → last ≡ line + newlines p.bytes → PieceParts written line fresh statements p parts last
   opening : (parts : List Part) (last : ℕ) → p.kind ≡ SectionStart → written ≡ false
-      → parts ≡ record { line = line; tok = Ok section_start } ∷ [] → last ≡ line + newlines p.bytes → PieceParts written line fresh statements p parts last
+      → parts ≡ record { line = line; tok = Ok section_start } ∷ [] → last ≡ line + newlines p.bytes
+      → PieceParts written line fresh statements p parts last
   closing : (parts : List Part) (last : ℕ) → p.kind ≡ SectionEnd → written ≡ false
-      → parts ≡ record { line = line; tok = Ok section_end } ∷ [] → last ≡ line + newlines p.bytes → PieceParts written line fresh statements p parts last
+      → parts ≡ record { line = line; tok = Ok section_end } ∷ [] → last ≡ line + newlines p.bytes
+      → PieceParts written line fresh statements p parts last
   -- C text between two marks
-  declaration : (found : Declared CUnits p.bytes []) (parts inner : List Part) (last : ℕ) → p.kind ≡ InPlace → written ≡ false
-      → CParts written (line + lines_before p.bytes (concat (found.first ∷ found.others))) false (concat (found.first ∷ found.others)) inner last
-      → parts ≡ record { line = line; tok = Ok section_start } ∷ inner ++ record { line = last; tok = Ok section_end } ∷ []
+  declaration : (found : Declared CUnits p.bytes []) (parts inner : List Part) (last : ℕ)
+      → p.kind ≡ InPlace → written ≡ false
+      → CParts written (line + lines_before p.bytes (concat (found.first ∷ found.others))) false
+      (concat (found.first ∷ found.others)) inner last
+      → parts ≡ record { line = line; tok = Ok section_start } ∷ inner
+      ++ record { line = last; tok = Ok section_end } ∷ []
       → PieceParts written line fresh statements p parts last
   -- written C has nothing embedded in it
   embedded : (parts : List Part) (last : ℕ) → (p.kind ≡ C → ⊥) → written ≡ true
-      → parts ≡ record { line = line; tok = Err F9 } ∷ [] → last ≡ line + newlines p.bytes → PieceParts written line fresh statements p parts last
+      → parts ≡ record { line = line; tok = Err F9 } ∷ [] → last ≡ line + newlines p.bytes
+      → PieceParts written line fresh statements p parts last
 
 abbrev pub statements_behind : ℕ → PieceKind → ℕ
 statements_behind n Emb = suc n
@@ -138,14 +160,18 @@ statements_behind n _ = n
 abbrev pub AllParts : Bool → ℕ → Bool → ℕ → List Piece → List Part → ℕ → Type 0
 AllParts written line fresh statements [] parts last = (parts ≡ []) × (last ≡ line)
 AllParts written line fresh statements (p ∷ ps) parts last =
-    (first : List Part) × (others : List Part) × (between : ℕ) × (parts ≡ first ++ others) × PieceParts written line fresh statements p first between
-    × AllParts written between (is_fresh_after fresh p.bytes) (statements_behind statements p.kind) ps others last
+    (first : List Part) × (others : List Part) × (between : ℕ) × (parts ≡ first ++ others)
+    × PieceParts written line fresh statements p first between
+    × AllParts written between (is_fresh_after fresh p.bytes)
+    (statements_behind statements p.kind) ps others last
 
 -- ---- tokens
 
 -- neighbouring strings are one, on the line of the first (5.1.1.2, phase 6)
-abbrev pub join_two : Part → Result TokData FaultKind → Part → Result TokData FaultKind → List Part → List Part
-join_two p (Ok (string_token a)) q (Ok (string_token b)) parts = record { line = p.line; tok = Ok (string_token (a ++ b)) } ∷ parts
+abbrev pub join_two : Part → Result TokData FaultKind → Part → Result TokData FaultKind → List Part
+    → List Part
+join_two p (Ok (string_token a)) q (Ok (string_token b)) parts =
+    record { line = p.line; tok = Ok (string_token (a ++ b)) } ∷ parts
 join_two p a q b parts = p ∷ q ∷ parts
 
 abbrev pub join_first : Part → List Part → List Part
@@ -165,7 +191,8 @@ abbrev pub without_head : Bool → List Part → List Part
 without_head written [] = []
 without_head written (p ∷ []) = p ∷ []
 without_head written (p ∷ q ∷ parts) =
-    if written && is_include_of (codes "#include <ecpglib.h>") p.tok && is_include_of (codes "#include <sqlca.h>") q.tok then parts else p ∷ q ∷ parts
+    if written && is_include_of (codes "#include <ecpglib.h>") p.tok
+    && is_include_of (codes "#include <sqlca.h>") q.tok then parts else p ∷ q ∷ parts
 
 abbrev pub max_tokens : ℕ
 max_tokens = 2 ^ 22
@@ -183,14 +210,17 @@ is_full None tokens = false
 is_full (Some most) tokens = tokens == most
 
 -- a part, and what follows it, with so many tokens at most
-abbrev pub part_within : Option ℕ → ℕ → ℕ → Result TokData FaultKind → Result (List TokenData) Stop → Result (List TokenData) Stop
+abbrev pub part_within : Option ℕ → ℕ → ℕ → Result TokData FaultKind → Result (List TokenData) Stop
+    → Result (List TokenData) Stop
 part_within most place line (Err kind) others = Err (Refused kind (record { 0 = line }))
-part_within most place line (Ok tok) others = if is_full most place then Err (Limit L2) else with_token (token tok line place) others
+part_within most place line (Ok tok) others =
+    if is_full most place then Err (Limit L2) else with_token (token tok line place) others
 
 -- The tokens of the parts, the first of which has this place, and the end; or the first fault, or the limit. The end is not counted.
 abbrev pub numbered_within : Option ℕ → ℕ → ℕ → List Part → Result (List TokenData) Stop
 numbered_within most place last [] = Ok (token end_token last place ∷ [])
-numbered_within most place last (p ∷ parts) = part_within most place p.line p.tok (numbered_within most (suc place) last parts)
+numbered_within most place last (p ∷ parts) =
+    part_within most place p.line p.tok (numbered_within most (suc place) last parts)
 
 -- What the tokens of the pieces are, with so many at most, or why there are none.
 abbrev pub TokensWithin : Option ℕ → Bool → List Piece → Result (List TokenData) Stop → Type 0
@@ -200,7 +230,8 @@ TokensWithin most written pieces answer =
 
 -- ---- tokens within the limit
 
-abbrev pub numbered_part : ℕ → ℕ → Result TokData FaultKind → Result (List TokenData) Stop → Result (List TokenData) Stop
+abbrev pub numbered_part : ℕ → ℕ → Result TokData FaultKind → Result (List TokenData) Stop
+    → Result (List TokenData) Stop
 numbered_part = part_within (Some max_tokens)
 
 abbrev pub numbered : ℕ → ℕ → List Part → Result (List TokenData) Stop
@@ -227,7 +258,8 @@ sql_answer line units = refused_at (first_bad_line line units) (sql_tokens_from 
 -- What the tokens of an embedded statement are that begins on this line, or why there are none.
 abbrev pub SqlTokensOrStop : ℕ → Text → Result (List SqlToken) Stop → Type 0
 SqlTokensOrStop line bytes answer =
-    (units : List Text) × StatementUnits bytes units × (answer ≡ sql_answer (line + lines_before bytes (concat units)) units)
+    (units : List Text) × StatementUnits bytes units
+    × (answer ≡ sql_answer (line + lines_before bytes (concat units)) units)
 
 -- These are the tokens of the statement.
 abbrev pub SqlTokens : ℕ → Text → List SqlToken → Type 0
@@ -235,7 +267,8 @@ SqlTokens line bytes tokens = SqlTokensOrStop line bytes (Ok tokens)
 
 -- The bytes are a statement in which each byte stands in a token or a gap.
 abbrev pub HasSqlTokens : Text → Type 0
-HasSqlTokens bytes = (units : List Text) × StatementUnits bytes units × (first_bad_line 0 units ≡ None)
+HasSqlTokens bytes =
+    (units : List Text) × StatementUnits bytes units × (first_bad_line 0 units ≡ None)
 
 -- Each statement among the pieces has tokens.
 abbrev pub HaveSqlTokens : List Piece → Type 0

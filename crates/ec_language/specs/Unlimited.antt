@@ -18,12 +18,14 @@ UnlimitedElement D (own s) w v = D s w v
 abbrev pub UnlimitedRow : Unlimited → Follows → (r : Row) → PlacedTokens → Nodes r → Type 0
 UnlimitedRow D follows [] w vs = w ≡ []
 UnlimitedRow D follows (i ∷ r) w vs =
-    (u : PlacedTokens) × (v : PlacedTokens) × (w ≡ u ++ v) × UnlimitedElement D i u vs.0 × UnlimitedRow D follows r v vs.1
+    (u : PlacedTokens) × (v : PlacedTokens) × (w ≡ u ++ v) × UnlimitedElement D i u vs.0
+    × UnlimitedRow D follows r v vs.1
     × ((v ≡ []) ⊎ (follows i vs.0 ≡ true))
 
 -- The elements of the production make the list, and their trees this one.
 abbrev pub UnlimitedMakes : Unlimited → {A : Type 0} → PlacedTokens → A → Production A → Type 0
-UnlimitedMakes D w v a = (vs : Nodes a.row) × (v ≡ a.make (start_of w) vs) × UnlimitedRow D a.follows a.row w vs
+UnlimitedMakes D w v a =
+    (vs : Nodes a.row) × (v ≡ a.make (start_of w) vs) × UnlimitedRow D a.follows a.row w vs
 
 -- one of the productions
 abbrev pub OneOf : {A : Type 0} → (Production A → Type 0) → List (Production A) → Type 0
