@@ -17,7 +17,9 @@ is_number (b ∷ bs) = is_digit b && each is_number_byte bs
 abbrev pub closes_comment : Text → Bool
 closes_comment [] = false
 closes_comment (b ∷ []) = false
-closes_comment (b ∷ c ∷ bs) = elim (begins_with (codes "*/") (b ∷ c ∷ [])) [ true ↦ is_empty bs | false ↦ closes_comment (c ∷ bs) ]
+closes_comment (b ∷ c ∷ bs) =
+    elim (begins_with (codes "*/") (b ∷ c ∷ []))
+    [ true ↦ is_empty bs | false ↦ closes_comment (c ∷ bs) ]
 
 -- comments don't nest
 abbrev pub is_block_comment : Text → Bool
@@ -47,7 +49,9 @@ is_quoted (b ∷ bs) = is_quote b && closes_quote b bs
 -- one byte that begins nothing longer
 abbrev pub is_single : Text → Text → Bool
 is_single [] rest = false
-is_single (b ∷ []) rest = not (is_word_start b || is_digit b || is_quote b || begins_with (codes "/*") (b ∷ rest) || begins_with (codes "//") (b ∷ rest))
+is_single (b ∷ []) rest =
+    not (is_word_start b || is_digit b || is_quote b || begins_with (codes "/*") (b ∷ rest)
+    || begins_with (codes "//") (b ∷ rest))
 is_single (b ∷ c ∷ bs) rest = false
 
 -- A unit of C text, and the text that stands behind it. Words, numbers and comments to the end of the line are as long as they can be.
@@ -55,7 +59,8 @@ pub data CUnit : Text → Text → Type 0 where
   word : (u rest : Text) → is_word u ≡ true → begins is_word_byte rest ≡ false → CUnit u rest
   number : (u rest : Text) → is_number u ≡ true → begins is_number_byte rest ≡ false → CUnit u rest
   block_comment : (u rest : Text) → is_block_comment u ≡ true → CUnit u rest
-  line_comment : (u rest : Text) → is_line_comment u ≡ true → begins is_not_newline rest ≡ false → CUnit u rest
+  line_comment : (u rest : Text) → is_line_comment u ≡ true → begins is_not_newline rest ≡ false
+      → CUnit u rest
   quoted : (u rest : Text) → is_quoted u ≡ true → CUnit u rest
   single : (u rest : Text) → is_single u rest ≡ true → CUnit u rest
 

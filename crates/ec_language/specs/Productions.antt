@@ -33,7 +33,8 @@ section_behind section _ = section
 
 abbrev pub placed_from : Bool → List TokenData → List Placed
 placed_from section [] = []
-placed_from section (t ∷ ts) = record { token = t; section = section } ∷ placed_from (section_behind section t.tok) ts
+placed_from section (t ∷ ts) =
+    record { token = t; section = section } ∷ placed_from (section_behind section t.tok) ts
 
 abbrev pub placed : List TokenData → List Placed
 placed ts = placed_from false ts
@@ -380,8 +381,19 @@ without_void (p ∷ []) = if is_void p.base p.stars p.name p.dims then [] else p
 without_void ps = ps
 
 abbrev pub external_named : Start → BaseData → ℕ → Text → BehindName → TopData
-external_named start b n name' (function params body') = func_top (record { base = b; stars = n; name = name'; params = params; body = body'; section = start.section; line = start.line })
-external_named start b n name' (object ds i others) = decl_top (declared start b (declarators (declarator n name' ds i) others))
+external_named start b n name' (function params body') =
+    func_top
+    (record {
+      base = b;
+      stars = n;
+      name = name';
+      params = params;
+      body = body';
+      section = start.section;
+      line = start.line;
+    })
+external_named start b n name' (object ds i others) =
+    decl_top (declared start b (declarators (declarator n name' ds i) others))
 
 abbrev pub external_top : Start → BaseData → Option (ℕ × Text × BehindName) → TopData
 external_top start b None = decl_top (declared start b no_declarators)
@@ -403,8 +415,10 @@ abbrev pub ending : Start → StmtKindData → OpenStatement → OpenStatement
 ending start kind last = record { statement = at start kind; is_open = last.is_open }
 
 abbrev pub with_else : Start → ExprData → OpenStatement → Option OpenStatement → OpenStatement
-with_else start e s None = record { statement = at start (if_stmt e s.statement no_stmt); is_open = true }
-with_else start e s (Some other) = ending start (if_stmt e s.statement (some_stmt other.statement)) other
+with_else start e s None =
+    record { statement = at start (if_stmt e s.statement no_stmt); is_open = true }
+with_else start e s (Some other) =
+    ending start (if_stmt e s.statement (some_stmt other.statement)) other
 
 -- `else` belongs to the nearest `if`: the statement before it doesn't end in one without `else` (6.8.4.1, 3)
 abbrev pub behind_closed : Follows
@@ -415,9 +429,15 @@ abbrev pub line_of : DeclData → Line
 line_of (decl b ds section line) = line
 
 -- a `for` with a declaration is a block that holds the declaration and the loop (6.8.5.3)
-abbrev pub for_loop : Start → ForStart → Option ExprData → Option ExprData → OpenStatement → OpenStatement
-for_loop start (for_expression e) condition step s = ending start (for_stmt e condition step s.statement) s
-for_loop start (for_declaration d) condition step s = ending start (block_stmt (stmts (stmt (line_of d) (decl_stmt d)) (stmts (at start (for_stmt None condition step s.statement)) no_stmts))) s
+abbrev pub for_loop : Start → ForStart → Option ExprData → Option ExprData → OpenStatement
+    → OpenStatement
+for_loop start (for_expression e) condition step s =
+    ending start (for_stmt e condition step s.statement) s
+for_loop start (for_declaration d) condition step s =
+    ending start
+    (block_stmt
+    (stmts (stmt (line_of d) (decl_stmt d))
+    (stmts (at start (for_stmt None condition step s.statement)) no_stmts))) s
 
 abbrev pub set_by : ExprData → Option (Option BinOp × ExprData) → ExprData
 set_by left None = left
@@ -435,13 +455,17 @@ with_postfix e (called es) = call_other e es
 
 -- this member of the communication area
 abbrev pub area_member : String → Primary
-area_member member' = record { expression = member (identifier (codes "sqlca")) (codes member'); is_name = false }
+area_member member' =
+    record { expression = member (identifier (codes "sqlca")) (codes member'); is_name = false }
 
 -- a name, or one of the two words that stand for members of the communication area (PostgreSQL manual, 34.8.3, SQLSTATE vs. SQLCODE)
 abbrev pub named : Text → Primary
 named w = elim (same_text w (codes "SQLCODE")) [
   | true ↦ area_member "sqlcode"
-  | false ↦ elim (same_text w (codes "SQLSTATE")) [ true ↦ area_member "sqlstate" | false ↦ record { expression = identifier w; is_name = true } ]
+  | false ↦ elim (same_text w (codes "SQLSTATE")) [
+    | true ↦ area_member "sqlstate"
+    | false ↦ record { expression = identifier w; is_name = true }
+  ]
 ]
 
 abbrev pub name_in : ExprData → Text
@@ -455,7 +479,8 @@ bare_name x = name_in x.expression
 -- to the left. A call of a bare name is a call by that name
 abbrev pub with_postfixes : Primary → List Postfix → ExprData
 with_postfixes x [] = x.expression
-with_postfixes x (called es ∷ ps) = fold with_postfix (if x.is_name then call (bare_name x) es else call_other x.expression es) ps
+with_postfixes x (called es ∷ ps) =
+    fold with_postfix (if x.is_name then call (bare_name x) es else call_other x.expression es) ps
 with_postfixes x (q ∷ ps) = fold with_postfix (with_postfix x.expression q) ps
 
 -- ---- the operators of a rank, and those of assignments
@@ -467,7 +492,8 @@ rank_operators bit_or_rank = (p.Or, bin.BitOr) ∷ []
 rank_operators bit_xor_rank = (p.Caret, bin.BitXor) ∷ []
 rank_operators bit_and_rank = (p.And, bin.BitAnd) ∷ []
 rank_operators equal_rank = (p.EqualEqual, bin.Eq) ∷ (p.NotEqual, bin.Ne) ∷ []
-rank_operators relation_rank = (p.Less, bin.Lt) ∷ (p.Greater, bin.Gt) ∷ (p.LessEqual, bin.Le) ∷ (p.GreaterEqual, bin.Ge) ∷ []
+rank_operators relation_rank =
+    (p.Less, bin.Lt) ∷ (p.Greater, bin.Gt) ∷ (p.LessEqual, bin.Le) ∷ (p.GreaterEqual, bin.Ge) ∷ []
 rank_operators shift_rank = (p.Shl, bin.Shl) ∷ (p.Shr, bin.Shr) ∷ []
 rank_operators add_rank = (p.Plus, bin.Add) ∷ (p.Minus, bin.Sub) ∷ []
 rank_operators multiply_rank = (p.Star, bin.Mul) ∷ (p.Slash, bin.Div) ∷ (p.Percent, bin.Rem) ∷ []
@@ -487,12 +513,16 @@ operand_value multiply_rank e = e
 
 -- an operator of the rank, counted, and its right operand
 abbrev pub operand_rule : (r : Rank) → Punct × BinOp → Production (BinOp × ExprData)
-operand_rule r x = rule (count operations (mark x.0) ∷ sym (operand r) ∷ []) (λ start y. (x.1, operand_value r y.1.0))
+operand_rule r x =
+    rule (count operations (mark x.0) ∷ sym (operand r) ∷ [])
+    (λ start y. (x.1, operand_value r y.1.0))
 
 abbrev pub assignments : List (Punct × Option BinOp)
 assignments =
-    (p.Assign, None) ∷ (p.PlusAssign, Some bin.Add) ∷ (p.MinusAssign, Some bin.Sub) ∷ (p.StarAssign, Some bin.Mul) ∷ (p.SlashAssign, Some bin.Div)
-    ∷ (p.PercentAssign, Some bin.Rem) ∷ (p.ShlAssign, Some bin.Shl) ∷ (p.ShrAssign, Some bin.Shr) ∷ (p.AndAssign, Some bin.BitAnd)
+    (p.Assign, None) ∷ (p.PlusAssign, Some bin.Add) ∷ (p.MinusAssign, Some bin.Sub)
+    ∷ (p.StarAssign, Some bin.Mul) ∷ (p.SlashAssign, Some bin.Div)
+    ∷ (p.PercentAssign, Some bin.Rem) ∷ (p.ShlAssign, Some bin.Shl) ∷ (p.ShrAssign, Some bin.Shr)
+    ∷ (p.AndAssign, Some bin.BitAnd)
     ∷ (p.CaretAssign, Some bin.BitXor) ∷ (p.OrAssign, Some bin.BitOr) ∷ []
 
 abbrev pub assignment_rule : Punct × Option BinOp → Production (Option BinOp)
@@ -502,7 +532,9 @@ abbrev pub unary_rule : Punct × UnOp → Production UnOp
 unary_rule x = rule (tok (mark x.0) ∷ []) (λ start y. x.1)
 
 abbrev pub unary_operators : List (Punct × UnOp)
-unary_operators = (p.And, un.Addr) ∷ (p.Star, un.Deref) ∷ (p.Plus, un.Plus) ∷ (p.Minus, un.Minus) ∷ (p.Tilde, un.Flip) ∷ (p.Not, un.Not) ∷ []
+unary_operators =
+    (p.And, un.Addr) ∷ (p.Star, un.Deref) ∷ (p.Plus, un.Plus) ∷ (p.Minus, un.Minus)
+    ∷ (p.Tilde, un.Flip) ∷ (p.Not, un.Not) ∷ []
 
 -- ---- the table
 
@@ -513,8 +545,14 @@ abbrev pub sign : Punct → Element
 sign m = tok (mark m)
 
 abbrev pub productions : (s : Sym) → List (Production (Value s))
-productions unit = rule (sym items ∷ tok end_of_text ∷ []) (λ start x. record { tops = x.0; embs = []; last = x.1.0.token.line }) ∷ []
-productions items = rule [] (λ start x. []) ∷ rule (sym item ∷ sym items ∷ []) (λ start x. x.0 ∷ x.1.0) ∷ []
+productions unit =
+    rule (sym items ∷ tok end_of_text ∷ [])
+    (λ start x. record { tops = x.0; embs = []; last = x.1.0.token.line })
+    ∷ []
+productions items =
+    rule [] (λ start x. [])
+    ∷ rule (sym item ∷ sym items ∷ []) (λ start x. x.0 ∷ x.1.0)
+    ∷ []
 productions item =
     rule (tok include_line ∷ []) (λ start x. include_top (text_of x.0))
     ∷ rule (tok directive ∷ []) (λ start x. directive_top (number_of x.0))
@@ -523,24 +561,44 @@ productions item =
     ∷ rule (sym external ∷ []) (λ start x. external_top start x.0.base x.0.tail)
     ∷ rule (word "static" ∷ sym external ∷ []) (λ start x. external_top start x.1.0.base x.1.0.tail)
     ∷ []
-productions external = rule (sym specifiers ∷ own external_tail ∷ []) (λ start x. record { base = x.0; tail = x.1.0 }) ∷ []
+productions external =
+    rule (sym specifiers ∷ own external_tail ∷ []) (λ start x. record { base = x.0; tail = x.1.0 })
+    ∷ []
 productions external_tail =
     rule (sign p.Semicolon ∷ []) (λ start x. None)
-    ∷ rule (sym stars ∷ tok name ∷ sym behind_name ∷ []) (λ start x. Some (x.0, text_of x.1.0, x.1.1.0))
+    ∷ rule (sym stars ∷ tok name ∷ sym behind_name ∷ [])
+    (λ start x. Some (x.0, text_of x.1.0, x.1.1.0))
     ∷ []
 productions behind_name =
     rule (nest parameter_part ∷ sym body ∷ []) (λ start x. function x.0 x.1.0)
-    ∷ rule (sym lengths ∷ sym initializer_option ∷ sym more_declarators ∷ sign p.Semicolon ∷ []) (λ start x. object x.0 x.1.0 x.1.1.0)
+    ∷ rule (sym lengths ∷ sym initializer_option ∷ sym more_declarators ∷ sign p.Semicolon ∷ [])
+    (λ start x. object x.0 x.1.0 x.1.1.0)
     ∷ []
-productions body = rule (sign p.Semicolon ∷ []) (λ start x. None) ∷ rule (nest block ∷ []) (λ start x. Some x.0) ∷ []
-productions parameter_part = rule (sign p.LeftParen ∷ sym parameters ∷ sign p.RightParen ∷ []) (λ start x. without_void x.1.0) ∷ []
-productions parameters = rule [] (λ start x. []) ∷ rule (own parameter ∷ sym more_parameters ∷ []) (λ start x. x.0 ∷ x.1.0) ∷ []
-productions more_parameters = rule [] (λ start x. []) ∷ rule (sign p.Comma ∷ own parameter ∷ sym more_parameters ∷ []) (λ start x. x.1.0 ∷ x.1.1.0) ∷ []
+productions body =
+    rule (sign p.Semicolon ∷ []) (λ start x. None)
+    ∷ rule (nest block ∷ []) (λ start x. Some x.0)
+    ∷ []
+productions parameter_part =
+    rule (sign p.LeftParen ∷ sym parameters ∷ sign p.RightParen ∷ [])
+    (λ start x. without_void x.1.0)
+    ∷ []
+productions parameters =
+    rule [] (λ start x. [])
+    ∷ rule (own parameter ∷ sym more_parameters ∷ []) (λ start x. x.0 ∷ x.1.0)
+    ∷ []
+productions more_parameters =
+    rule [] (λ start x. [])
+    ∷ rule (sign p.Comma ∷ own parameter ∷ sym more_parameters ∷ []) (λ start x. x.1.0 ∷ x.1.1.0)
+    ∷ []
 productions parameter =
     rule (sym specifiers ∷ sym stars ∷ sym parameter_name ∷ sym lengths ∷ [])
-    (λ start x. record { base = x.0; stars = x.1.0; name = x.1.1.0; dims = x.1.1.1.0; section = start.section })
+    (λ start x. record
+    { base = x.0; stars = x.1.0; name = x.1.1.0; dims = x.1.1.1.0; section = start.section })
     ∷ []
-productions parameter_name = rule [] (λ start x. None) ∷ rule (tok name ∷ []) (λ start x. Some (text_of x.0)) ∷ []
+productions parameter_name =
+    rule [] (λ start x. None)
+    ∷ rule (tok name ∷ []) (λ start x. Some (text_of x.0))
+    ∷ []
 productions specifiers = rule (sym constants ∷ sym base ∷ []) (λ start x. x.1.0) ∷ []
 productions base =
     rule (tok type_word ∷ sym more_words ∷ []) (λ start x. words (text_of x.0 ∷ x.1.0))
@@ -552,83 +610,168 @@ productions more_words =
     ∷ rule (word "const" ∷ sym more_words ∷ []) (λ start x. x.1.0)
     ∷ rule (tok type_word ∷ sym more_words ∷ []) (λ start x. text_of x.0 ∷ x.1.0)
     ∷ []
-productions constants = rule [] (λ start x. tt) ∷ rule (word "const" ∷ sym constants ∷ []) (λ start x. tt) ∷ []
+productions constants =
+    rule [] (λ start x. tt)
+    ∷ rule (word "const" ∷ sym constants ∷ []) (λ start x. tt)
+    ∷ []
 productions tag_or_members =
     rule (tok name ∷ sym members_option ∷ []) (λ start x. tag_base (text_of x.0) x.1.0)
     ∷ rule (nest members ∷ []) (λ start x. struct_base None x.0)
     ∷ []
-productions members_option = rule [] (λ start x. None) ∷ rule (nest members ∷ []) (λ start x. Some x.0) ∷ []
+productions members_option =
+    rule [] (λ start x. None)
+    ∷ rule (nest members ∷ []) (λ start x. Some x.0)
+    ∷ []
 productions members =
-    rule (sign p.LeftBrace ∷ sym member_declaration ∷ sym more_members ∷ sign p.RightBrace ∷ []) (λ start x. decls x.1.0 x.1.1.0) ∷ []
-productions more_members = rule [] (λ start x. no_decls) ∷ rule (sym member_declaration ∷ sym more_members ∷ []) (λ start x. decls x.0 x.1.0) ∷ []
+    rule (sign p.LeftBrace ∷ sym member_declaration ∷ sym more_members ∷ sign p.RightBrace ∷ [])
+    (λ start x. decls x.1.0 x.1.1.0)
+    ∷ []
+productions more_members =
+    rule [] (λ start x. no_decls)
+    ∷ rule (sym member_declaration ∷ sym more_members ∷ []) (λ start x. decls x.0 x.1.0)
+    ∷ []
 productions member_declaration =
-    rule (sym specifiers ∷ own declarator_part ∷ sym more_declarators ∷ sign p.Semicolon ∷ []) (λ start x. declared start x.0 (declarators x.1.0 x.1.1.0)) ∷ []
-productions stars = rule [] (λ start x. 0) ∷ rule (count derivations (mark p.Star) ∷ sym constants ∷ sym stars ∷ []) (λ start x. x.1.1.0 + 1) ∷ []
+    rule (sym specifiers ∷ own declarator_part ∷ sym more_declarators ∷ sign p.Semicolon ∷ [])
+    (λ start x. declared start x.0 (declarators x.1.0 x.1.1.0))
+    ∷ []
+productions stars =
+    rule [] (λ start x. 0)
+    ∷ rule (count derivations (mark p.Star) ∷ sym constants ∷ sym stars ∷ [])
+    (λ start x. x.1.1.0 + 1)
+    ∷ []
 productions declarator_part =
-    rule (sym stars ∷ tok name ∷ sym lengths ∷ sym initializer_option ∷ []) (λ start x. declarator x.0 (text_of x.1.0) x.1.1.0 x.1.1.1.0) ∷ []
+    rule (sym stars ∷ tok name ∷ sym lengths ∷ sym initializer_option ∷ [])
+    (λ start x. declarator x.0 (text_of x.1.0) x.1.1.0 x.1.1.1.0)
+    ∷ []
 productions declarators_option =
-    rule [] (λ start x. no_declarators) ∷ rule (own declarator_part ∷ sym more_declarators ∷ []) (λ start x. declarators x.0 x.1.0) ∷ []
+    rule [] (λ start x. no_declarators)
+    ∷ rule (own declarator_part ∷ sym more_declarators ∷ []) (λ start x. declarators x.0 x.1.0)
+    ∷ []
 productions more_declarators =
-    rule [] (λ start x. no_declarators) ∷ rule (sign p.Comma ∷ own declarator_part ∷ sym more_declarators ∷ []) (λ start x. declarators x.1.0 x.1.1.0) ∷ []
-productions lengths = rule [] (λ start x. no_dims) ∷ rule (nest length_part ∷ sym lengths ∷ []) (λ start x. dims x.0 x.1.0) ∷ []
-productions length_part = rule (count derivations (mark p.LeftBracket) ∷ sym length_option ∷ sign p.RightBracket ∷ []) (λ start x. x.1.0) ∷ []
-productions length_option = rule [] (λ start x. open_dim) ∷ rule (whole (operators or_rank) ∷ []) (λ start x. dim x.0) ∷ []
-productions initializer_option = rule [] (λ start x. no_init) ∷ rule (sign p.Assign ∷ sym initializer ∷ []) (λ start x. some_init x.1.0) ∷ []
-productions initializer = rule (whole assignment ∷ []) (λ start x. one x.0) ∷ rule (nest initializer_list ∷ []) (λ start x. many x.0) ∷ []
+    rule [] (λ start x. no_declarators)
+    ∷ rule (sign p.Comma ∷ own declarator_part ∷ sym more_declarators ∷ [])
+    (λ start x. declarators x.1.0 x.1.1.0)
+    ∷ []
+productions lengths =
+    rule [] (λ start x. no_dims)
+    ∷ rule (nest length_part ∷ sym lengths ∷ []) (λ start x. dims x.0 x.1.0)
+    ∷ []
+productions length_part =
+    rule (count derivations (mark p.LeftBracket) ∷ sym length_option ∷ sign p.RightBracket ∷ [])
+    (λ start x. x.1.0)
+    ∷ []
+productions length_option =
+    rule [] (λ start x. open_dim)
+    ∷ rule (whole (operators or_rank) ∷ []) (λ start x. dim x.0)
+    ∷ []
+productions initializer_option =
+    rule [] (λ start x. no_init)
+    ∷ rule (sign p.Assign ∷ sym initializer ∷ []) (λ start x. some_init x.1.0)
+    ∷ []
+productions initializer =
+    rule (whole assignment ∷ []) (λ start x. one x.0)
+    ∷ rule (nest initializer_list ∷ []) (λ start x. many x.0)
+    ∷ []
 productions initializer_list =
-    rule (sign p.LeftBrace ∷ sym initializer ∷ sym more_initializers ∷ sign p.RightBrace ∷ []) (λ start x. inits x.1.0 x.1.1.0) ∷ []
+    rule (sign p.LeftBrace ∷ sym initializer ∷ sym more_initializers ∷ sign p.RightBrace ∷ [])
+    (λ start x. inits x.1.0 x.1.1.0)
+    ∷ []
 productions more_initializers =
     rule [] (λ start x. no_inits)
     ∷ rule (sign p.Comma ∷ []) (λ start x. no_inits)
-    ∷ rule (sign p.Comma ∷ sym initializer ∷ sym more_initializers ∷ []) (λ start x. inits x.1.0 x.1.1.0)
+    ∷ rule (sign p.Comma ∷ sym initializer ∷ sym more_initializers ∷ [])
+    (λ start x. inits x.1.0 x.1.1.0)
     ∷ []
-productions block = rule (sign p.LeftBrace ∷ sym block_items ∷ sign p.RightBrace ∷ []) (λ start x. x.1.0) ∷ []
-productions block_items = rule [] (λ start x. no_stmts) ∷ rule (sym block_item ∷ sym block_items ∷ []) (λ start x. stmts x.0 x.1.0) ∷ []
+productions block =
+    rule (sign p.LeftBrace ∷ sym block_items ∷ sign p.RightBrace ∷ []) (λ start x. x.1.0)
+    ∷ []
+productions block_items =
+    rule [] (λ start x. no_stmts)
+    ∷ rule (sym block_item ∷ sym block_items ∷ []) (λ start x. stmts x.0 x.1.0)
+    ∷ []
 productions block_item =
     rule (sym declaration ∷ []) (λ start x. at start (decl_stmt x.0))
     ∷ rule (tok opening_mark ∷ []) (λ start x. at start (mark_stmt true))
     ∷ rule (tok closing_mark ∷ []) (λ start x. at start (mark_stmt false))
     ∷ rule (sym statement ∷ []) (λ start x. x.0.statement)
     ∷ []
-productions declaration = rule (sym specifiers ∷ sym declarators_option ∷ sign p.Semicolon ∷ []) (λ start x. declared start x.0 x.1.0) ∷ []
+productions declaration =
+    rule (sym specifiers ∷ sym declarators_option ∷ sign p.Semicolon ∷ [])
+    (λ start x. declared start x.0 x.1.0)
+    ∷ []
 productions statement =
     rule (sign p.Semicolon ∷ []) (λ start x. closed start empty_stmt)
     ∷ rule (whole assignment ∷ sign p.Semicolon ∷ []) (λ start x. closed start (expr_stmt x.0))
     ∷ rule (nest block ∷ []) (λ start x. closed start (block_stmt x.0))
-    ∷ rule (tok name ∷ sign p.Colon ∷ nest statement ∷ []) (λ start x. ending start (label_stmt (text_of x.0) x.1.1.0.statement) x.1.1.0)
+    ∷ rule (tok name ∷ sign p.Colon ∷ nest statement ∷ [])
+    (λ start x. ending start (label_stmt (text_of x.0) x.1.1.0.statement) x.1.1.0)
     ∷ rule (tok executable ∷ []) (λ start x. closed start (emb_stmt (number_of x.0)))
     ∷ rule (tok directive ∷ []) (λ start x. closed start (emb_stmt (number_of x.0)))
-    ∷ record { row = word "if" ∷ nest parenthesized ∷ nest statement ∷ sym else_option ∷ []; make = λ start x. with_else start x.1.0 x.1.1.0 x.1.1.1.0; follows = behind_closed }
-    ∷ rule (word "while" ∷ nest parenthesized ∷ nest statement ∷ []) (λ start x. ending start (while_stmt x.1.0 x.1.1.0.statement) x.1.1.0)
-    ∷ rule (word "do" ∷ nest statement ∷ word "while" ∷ nest parenthesized ∷ sign p.Semicolon ∷ []) (λ start x. closed start (do_stmt x.1.0.statement x.1.1.1.0))
-    ∷ rule (word "for" ∷ nest for_head ∷ nest statement ∷ []) (λ start x. for_loop start x.1.0.first x.1.0.condition x.1.0.step x.1.1.0)
+    ∷ record {
+      row = word "if" ∷ nest parenthesized ∷ nest statement ∷ sym else_option
+          ∷ [];
+      make = λ start x. with_else start x.1.0 x.1.1.0 x.1.1.1.0;
+      follows = behind_closed;
+    }
+    ∷ rule (word "while" ∷ nest parenthesized ∷ nest statement ∷ [])
+    (λ start x. ending start (while_stmt x.1.0 x.1.1.0.statement) x.1.1.0)
+    ∷ rule (word "do" ∷ nest statement ∷ word "while" ∷ nest parenthesized ∷ sign p.Semicolon ∷ [])
+    (λ start x. closed start (do_stmt x.1.0.statement x.1.1.1.0))
+    ∷ rule (word "for" ∷ nest for_head ∷ nest statement ∷ [])
+    (λ start x. for_loop start x.1.0.first x.1.0.condition x.1.0.step x.1.1.0)
     ∷ rule (word "break" ∷ sign p.Semicolon ∷ []) (λ start x. closed start break_stmt)
     ∷ rule (word "continue" ∷ sign p.Semicolon ∷ []) (λ start x. closed start continue_stmt)
-    ∷ rule (word "return" ∷ sym expression_option ∷ sign p.Semicolon ∷ []) (λ start x. closed start (return_stmt x.1.0))
-    ∷ rule (word "goto" ∷ tok name ∷ sign p.Semicolon ∷ []) (λ start x. closed start (goto_stmt (text_of x.1.0)))
+    ∷ rule (word "return" ∷ sym expression_option ∷ sign p.Semicolon ∷ [])
+    (λ start x. closed start (return_stmt x.1.0))
+    ∷ rule (word "goto" ∷ tok name ∷ sign p.Semicolon ∷ [])
+    (λ start x. closed start (goto_stmt (text_of x.1.0)))
     ∷ []
-productions else_option = rule [] (λ start x. None) ∷ rule (word "else" ∷ nest statement ∷ []) (λ start x. Some x.1.0) ∷ []
+productions else_option =
+    rule [] (λ start x. None)
+    ∷ rule (word "else" ∷ nest statement ∷ []) (λ start x. Some x.1.0)
+    ∷ []
 productions for_head =
-    rule (sign p.LeftParen ∷ sym for_start ∷ sym expression_option ∷ sign p.Semicolon ∷ sym expression_option ∷ sign p.RightParen ∷ [])
+    rule
+    (sign p.LeftParen ∷ sym for_start ∷ sym expression_option ∷ sign p.Semicolon
+    ∷ sym expression_option ∷ sign p.RightParen ∷ [])
     (λ start x. record { first = x.1.0; condition = x.1.1.0; step = x.1.1.1.1.0 })
     ∷ []
 productions for_start =
     rule (sym expression_option ∷ sign p.Semicolon ∷ []) (λ start x. for_expression x.0)
-    ∷ rule (sym specifiers ∷ own declarator_part ∷ sym more_declarators ∷ sign p.Semicolon ∷ []) (λ start x. for_declaration (declared start x.0 (declarators x.1.0 x.1.1.0)))
+    ∷ rule (sym specifiers ∷ own declarator_part ∷ sym more_declarators ∷ sign p.Semicolon ∷ [])
+    (λ start x. for_declaration (declared start x.0 (declarators x.1.0 x.1.1.0)))
     ∷ []
-productions expression_option = rule [] (λ start x. None) ∷ rule (whole assignment ∷ []) (λ start x. Some x.0) ∷ []
-productions parenthesized = rule (sign p.LeftParen ∷ whole assignment ∷ sign p.RightParen ∷ []) (λ start x. x.1.0) ∷ []
-productions assignment = rule (sym (operators or_rank) ∷ sym assignment_option ∷ []) (λ start x. set_by x.0 x.1.0) ∷ []
-productions assignment_option = rule [] (λ start x. None) ∷ rule (sym assignment_operator ∷ nest assignment ∷ []) (λ start x. Some (x.0, x.1.0)) ∷ []
+productions expression_option =
+    rule [] (λ start x. None)
+    ∷ rule (whole assignment ∷ []) (λ start x. Some x.0)
+    ∷ []
+productions parenthesized =
+    rule (sign p.LeftParen ∷ whole assignment ∷ sign p.RightParen ∷ []) (λ start x. x.1.0)
+    ∷ []
+productions assignment =
+    rule (sym (operators or_rank) ∷ sym assignment_option ∷ []) (λ start x. set_by x.0 x.1.0)
+    ∷ []
+productions assignment_option =
+    rule [] (λ start x. None)
+    ∷ rule (sym assignment_operator ∷ nest assignment ∷ []) (λ start x. Some (x.0, x.1.0))
+    ∷ []
 productions assignment_operator = map assignment_rule assignments
-productions (operators r) = rule (sym (operand r) ∷ sym (more_operands r) ∷ []) (λ start x. fold with_operand (operand_value r x.0) x.1.0) ∷ []
-productions (more_operands r) = rule [] (λ start x. []) ∷ rule (sym (more_operand r) ∷ sym (more_operands r) ∷ []) (λ start x. x.0 ∷ x.1.0) ∷ []
+productions (operators r) =
+    rule (sym (operand r) ∷ sym (more_operands r) ∷ [])
+    (λ start x. fold with_operand (operand_value r x.0) x.1.0)
+    ∷ []
+productions (more_operands r) =
+    rule [] (λ start x. [])
+    ∷ rule (sym (more_operand r) ∷ sym (more_operands r) ∷ []) (λ start x. x.0 ∷ x.1.0)
+    ∷ []
 productions (more_operand r) = map (operand_rule r) (rank_operators r)
 productions cast_part =
     rule (nest type_in_parentheses ∷ nest cast_part ∷ []) (λ start x. cast x.0.0 x.0.1 x.1.0)
     ∷ rule (sym unary_part ∷ []) (λ start x. x.0)
     ∷ []
-productions type_in_parentheses = rule (sign p.LeftParen ∷ own type_name ∷ sign p.RightParen ∷ []) (λ start x. x.1.0) ∷ []
+productions type_in_parentheses =
+    rule (sign p.LeftParen ∷ own type_name ∷ sign p.RightParen ∷ []) (λ start x. x.1.0)
+    ∷ []
 productions type_name = rule (sym specifiers ∷ sym stars ∷ []) (λ start x. (x.0, x.1.0)) ∷ []
 productions unary_part =
     rule (sym postfix ∷ []) (λ start x. x.0)
@@ -642,8 +785,13 @@ productions size_operand =
     rule (sym unary_part ∷ []) (λ start x. size_expr x.0)
     ∷ rule (nest type_in_parentheses ∷ []) (λ start x. size_type x.0.0 x.0.1)
     ∷ []
-productions postfix = rule (sym primary ∷ sym postfix_parts ∷ []) (λ start x. with_postfixes x.0 x.1.0) ∷ []
-productions postfix_parts = rule [] (λ start x. []) ∷ rule (sym postfix_part ∷ sym postfix_parts ∷ []) (λ start x. x.0 ∷ x.1.0) ∷ []
+productions postfix =
+    rule (sym primary ∷ sym postfix_parts ∷ []) (λ start x. with_postfixes x.0 x.1.0)
+    ∷ []
+productions postfix_parts =
+    rule [] (λ start x. [])
+    ∷ rule (sym postfix_part ∷ sym postfix_parts ∷ []) (λ start x. x.0 ∷ x.1.0)
+    ∷ []
 productions postfix_part =
     rule (nest index_part ∷ []) (λ start x. at_index x.0)
     ∷ rule (count operations (mark p.Dot) ∷ tok name ∷ []) (λ start x. at_member (text_of x.1.0))
@@ -652,14 +800,31 @@ productions postfix_part =
     ∷ rule (count operations (mark p.MinusMinus) ∷ []) (λ start x. bumped false)
     ∷ rule (nest argument_part ∷ []) (λ start x. called x.0)
     ∷ []
-productions index_part = rule (count operations (mark p.LeftBracket) ∷ whole assignment ∷ sign p.RightBracket ∷ []) (λ start x. x.1.0) ∷ []
-productions argument_part = rule (count operations (mark p.LeftParen) ∷ sym arguments ∷ sign p.RightParen ∷ []) (λ start x. x.1.0) ∷ []
-productions arguments = rule [] (λ start x. no_exprs) ∷ rule (whole assignment ∷ sym more_arguments ∷ []) (λ start x. exprs x.0 x.1.0) ∷ []
-productions more_arguments = rule [] (λ start x. no_exprs) ∷ rule (sign p.Comma ∷ whole assignment ∷ sym more_arguments ∷ []) (λ start x. exprs x.1.0 x.1.1.0) ∷ []
+productions index_part =
+    rule (count operations (mark p.LeftBracket) ∷ whole assignment ∷ sign p.RightBracket ∷ [])
+    (λ start x. x.1.0)
+    ∷ []
+productions argument_part =
+    rule (count operations (mark p.LeftParen) ∷ sym arguments ∷ sign p.RightParen ∷ [])
+    (λ start x. x.1.0)
+    ∷ []
+productions arguments =
+    rule [] (λ start x. no_exprs)
+    ∷ rule (whole assignment ∷ sym more_arguments ∷ []) (λ start x. exprs x.0 x.1.0)
+    ∷ []
+productions more_arguments =
+    rule [] (λ start x. no_exprs)
+    ∷ rule (sign p.Comma ∷ whole assignment ∷ sym more_arguments ∷ [])
+    (λ start x. exprs x.1.0 x.1.1.0)
+    ∷ []
 productions primary =
     rule (tok name ∷ []) (λ start x. named (text_of x.0))
-    ∷ rule (tok integer_constant ∷ []) (λ start x. record { expression = integer (number_of x.0) (type_in x.0.token.tok); is_name = false })
-    ∷ rule (tok character_constant ∷ []) (λ start x. record { expression = character (character_in x.0.token.tok); is_name = false })
-    ∷ rule (tok string_literal ∷ []) (λ start x. record { expression = string (text_of x.0); is_name = false })
+    ∷ rule (tok integer_constant ∷ [])
+    (λ start x. record
+    { expression = integer (number_of x.0) (type_in x.0.token.tok); is_name = false })
+    ∷ rule (tok character_constant ∷ [])
+    (λ start x. record { expression = character (character_in x.0.token.tok); is_name = false })
+    ∷ rule (tok string_literal ∷ [])
+    (λ start x. record { expression = string (text_of x.0); is_name = false })
     ∷ rule (nest parenthesized ∷ []) (λ start x. record { expression = x.0; is_name = false })
     ∷ []

@@ -21,7 +21,8 @@ is_sql_number text = begins_number text && each is_number_byte (drop 1 text)
 abbrev pub closes_sql_quote : ℕ → Text → Bool
 closes_sql_quote q [] = false
 closes_sql_quote q (b ∷ []) = b == q
-closes_sql_quote q (b ∷ c ∷ bs) = elim (b == q) [ true ↦ c == q && closes_sql_quote q bs | false ↦ closes_sql_quote q (c ∷ bs) ]
+closes_sql_quote q (b ∷ c ∷ bs) =
+    elim (b == q) [ true ↦ c == q && closes_sql_quote q bs | false ↦ closes_sql_quote q (c ∷ bs) ]
 
 -- a quoted text, which may run over lines, with a doubled quote for one
 abbrev pub is_sql_quoted : Text → Bool
@@ -34,13 +35,17 @@ closes_escaped [] = false
 closes_escaped (b ∷ []) = b == single_quote
 closes_escaped (b ∷ c ∷ bs) = elim (b == backslash) [
   | true ↦ closes_escaped bs
-  | false ↦ elim (b == single_quote) [ true ↦ c == single_quote && closes_escaped bs | false ↦ closes_escaped (c ∷ bs) ]
+  | false ↦ elim (b == single_quote) [
+    | true ↦ c == single_quote && closes_escaped bs
+    | false ↦ closes_escaped (c ∷ bs)
+  ]
 ]
 
 -- the word `E`, and a quoted text directly behind it
 abbrev pub is_escaped : Text → Bool
 is_escaped [] = false
-is_escaped (b ∷ bs) = same_word (b ∷ []) (codes "E") && begins_with (codes "'") bs && closes_escaped (drop 1 bs)
+is_escaped (b ∷ bs) =
+    same_word (b ∷ []) (codes "E") && begins_with (codes "'") bs && closes_escaped (drop 1 bs)
 
 -- the text ends where the comment that is open is closed, and so many in it are open too. Comments nest
 abbrev pub closes_nested : ℕ → Text → Bool
@@ -64,18 +69,24 @@ is_dash_comment text = begins_with (codes "--") text && each is_not_newline text
 -- one byte that begins nothing longer
 abbrev pub is_sql_single : Text → Text → Bool
 is_sql_single [] rest = false
-is_sql_single (b ∷ []) rest = not (is_sql_word_start b || begins_number (b ∷ rest) || is_quote b || begins_with (codes "/*") (b ∷ rest) || begins_with (codes "--") (b ∷ rest))
+is_sql_single (b ∷ []) rest =
+    not (is_sql_word_start b || begins_number (b ∷ rest) || is_quote b
+    || begins_with (codes "/*") (b ∷ rest) || begins_with (codes "--") (b ∷ rest))
 is_sql_single (b ∷ c ∷ bs) rest = false
 
 -- A unit of SQL text, and the text that stands behind it. Words, numbers, quotes and comments to the end of the line are as long as they can be. The word `E` directly before a `'` begins an escaped quote.
 pub data SqlUnit : Text → Text → Type 0 where
   word : (u rest : Text) → is_sql_word u ≡ true → begins is_sql_word_byte rest ≡ false
       → (same_word u (codes "E") && begins_with (codes "'") rest) ≡ false → SqlUnit u rest
-  number : (u rest : Text) → is_sql_number u ≡ true → begins is_number_byte rest ≡ false → SqlUnit u rest
-  escaped : (u rest : Text) → is_escaped u ≡ true → begins_with (codes "'") rest ≡ false → SqlUnit u rest
-  quoted : (u rest : Text) → is_sql_quoted u ≡ true → begins_with (take 1 u) rest ≡ false → SqlUnit u rest
+  number : (u rest : Text) → is_sql_number u ≡ true → begins is_number_byte rest ≡ false
+      → SqlUnit u rest
+  escaped : (u rest : Text) → is_escaped u ≡ true → begins_with (codes "'") rest ≡ false
+      → SqlUnit u rest
+  quoted : (u rest : Text) → is_sql_quoted u ≡ true → begins_with (take 1 u) rest ≡ false
+      → SqlUnit u rest
   comment : (u rest : Text) → is_sql_comment u ≡ true → SqlUnit u rest
-  dash_comment : (u rest : Text) → is_dash_comment u ≡ true → begins is_not_newline rest ≡ false → SqlUnit u rest
+  dash_comment : (u rest : Text) → is_dash_comment u ≡ true → begins is_not_newline rest ≡ false
+      → SqlUnit u rest
   single : (u rest : Text) → is_sql_single u rest ≡ true → SqlUnit u rest
 
 -- units, one after the other, and the text behind them

@@ -74,7 +74,8 @@ abbrev pub sql_tokens_in : String → List SqlToken
 sql_tokens_in text = sql_tokens_from false 1 (sql_units (codes text))
 
 -- the pieces have these tokens, or this stop
-pub record Gives (written : Bool) (pieces : List Piece) (answer : Result (List TokenData) Stop) : Type 0 where
+pub record Gives (written : Bool) (pieces : List Piece)
+    (answer : Result (List TokenData) Stop) : Type 0 where
   pub is : TokensOrStop written pieces answer
 
 -- a source has pieces, and these have these tokens or this stop
