@@ -250,7 +250,7 @@ include_hash written true line s f e =
     let is : s ≡ codes "#include" ++ drop 8 s = begins_split (codes "#include") s e in
     subst (λ x. item_of F9 line (option_map (include_item x) (include_behind x)) ≡ item_of (bad_byte true x) line (hash_item written true x)) (sym is) refl
 
-take_then : (k : ℕ) (s : Text) (x : ℕ) (r : Text) → drop k s ≡ x ∷ r → take (suc k) s ≡ take k s ++ x ∷ []
+pub take_then : (k : ℕ) (s : Text) (x : ℕ) (r : Text) → drop k s ≡ x ∷ r → take (suc k) s ≡ take k s ++ x ∷ []
 take_then zero [] x r e = absurd (cc)
 take_then zero (b ∷ s) x r e = let same : b ≡ x = cc in ap (λ y. y ∷ []) same
 take_then (suc k) [] x r e = absurd (cc)

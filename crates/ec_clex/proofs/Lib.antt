@@ -1,6 +1,8 @@
 pub mod Digits
+pub mod FreshLines
 pub mod HashLines
 pub mod ItemSteps
+pub mod LeftOut
 pub mod MarkEnds
 pub mod PieceTokens
 pub mod Rests

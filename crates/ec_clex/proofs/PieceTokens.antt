@@ -22,6 +22,8 @@ use Rattle.ec_language.specs.Pieces as piece
 use Rattle.ec_language.specs.SqlTokens.{StatementUnits}
 use Rattle.ec_language.proofs.Starts.{starts_behind}
 use Rattle.ec_language.proofs.PieceParts.{statement_units_complete, tokens_complete, tokens_sound, Readable, AllReadable, pieces_readable}
+use Rattle.ec_language.specs.Syntax.{EndsOnce}
+use Rattle.ec_language.proofs.LastToken.{ends_of}
 use Rattle.ec_clex.specs.Answers.{UnlessNoMemory, seen}
 use Rattle.ec_clex.specs.Items.{Told}
 use Rattle.ec_language.specs.ReadTokens.{ReadParts, is_c, c_parts, other_parts, piece_parts, all_parts, read_tokens}
@@ -173,6 +175,10 @@ Reads written ps r = Told tokens_view r (read_tokens written ps)
 pub answer_tokens : (written : Bool) (text : Text) (ps : List Piece) (r : Result (List Token) Stop) → Pieces text ps → Reads written ps r → IfOk r (λ ts. Tokens written ps (tokens_view ts))
 answer_tokens written text ps (Ok ts) are told = subst (TokensOrStop written ps) (sym told) (tokens_sound written text ps are)
 answer_tokens written text ps (Err stop) are told = tt
+
+pub answer_ends : (written : Bool) (text : Text) (ps : List Piece) (r : Result (List Token) Stop) → Pieces text ps → Reads written ps r → IfOk r (λ ts. EndsOnce (tokens_view ts))
+answer_ends written text ps (Ok ts) are told = ends_of written ps (tokens_view ts) (answer_tokens written text ps (Ok ts) are told)
+answer_ends written text ps (Err stop) are told = tt
 
 pub answer_only : (written : Bool) (ps : List Piece) (r : Result (List Token) Stop) → Reads written ps r → (wanted : List TokenData) → Tokens written ps wanted → UnlessNoMemory r (seen r ≡ Ok wanted)
 answer_only written ps (Ok ts) told wanted is = told ∙ sym (tokens_complete written ps (Ok wanted) is)

@@ -1,5 +1,5 @@
 -- What is behind a part of a source, once its tokens are taken.
-use Rattle.std.proofs.Common.{◌≡◌, ℕ, zero, suc, ◌+◌, ◌<◌, Bool, false, List, [], ◌∷◌, ◌++◌, length, take, drop, Option, Some, None, Result, Ok, Err, refl, sym, ap, ◌∙◌, arith}
+use Rattle.std.proofs.Common.{◌≡◌, ℕ, zero, suc, ◌+◌, ◌<◌, Bool, true, false, List, [], ◌∷◌, ◌++◌, length, take, drop, get_or, option_map, Option, Some, None, Result, Ok, Err, refl, sym, ap, ◌∙◌, arith}
 use Rattle.std.specs.Prelude.{codes, ◌==◌, ◌||◌, ◌&&◌}
 use Rattle.std.specs.List.{concat}
 use Rattle.std.proofs.lemmas.List.{take-append-drop}
@@ -13,13 +13,14 @@ use Rattle.ec_language.specs.Letters.{Text, newline, is_blank, is_empty}
 use Rattle.ec_language.specs.Line.{newlines}
 use Rattle.ec_language.specs.Lexemes.{is_fresh_after}
 use Rattle.ec_language.specs.SqlTokens.{StatementUnits, first_bad_line, is_executable}
-use Rattle.ec_language.specs.Tokens.{Part, bad_byte, line_behind, part_at, fault_at, lines_before}
-use Rattle.ec_language.specs.ReadTokens.{ReadItem, read_item, ReadParts, c_parts, sql_units, text_behind_start, statement_units, declaration_text}
+use Rattle.ec_language.specs.Tokens.{Part, counted, bad_byte, line_behind, part_at, fault_at, lines_before}
+use Rattle.ec_language.specs.ReadTokens.{ReadItem, read_item, read_hash, lexeme, lexeme_item, ReadParts, c_parts, sql_units, text_behind_start, statement_units, declaration_text}
 use Rattle.ec_language.proofs.ReadLaws.{newlines-append}
 use Rattle.ec_language.proofs.ReadSteps.{c_parts_item, c_parts_bad}
 use Rattle.ec_language.proofs.Items.{item_sound}
+use Rattle.ec_split.proofs.Steps.{at_place}
 use Rattle.ec_clex.specs.Items.{Told, item_checked, item_of}
-use Rattle.ec_clex.specs.Lexing.{Taken, Mid, and_then, fed, fed_all, at_end, pushed, pushed_some, c_rest, moved, took, item_taken, embedded_rest, closed_rest, inner_rest, declared_rest, stated, stated_rest}
+use Rattle.ec_clex.specs.Lexing.{Taken, Mid, and_then, fed, fed_all, at_end, pushed, pushed_some, behind_blank, c_rest, moved, took, item_taken, embedded_rest, closed_rest, inner_rest, declared_rest, stated, stated_rest}
 
 -- ---- stops
 
@@ -38,7 +39,7 @@ fed_append s (p ∷ a) b = step (fed s p.line p.tok) (λ n. fed_append n a b)
     step (Ok n) ih = ih n
     step (Err stop) ih = refl
 
-fresh_append : (u v : Text) (fresh : Bool) → is_fresh_after fresh (u ++ v) ≡ is_fresh_after (is_fresh_after fresh u) v
+pub fresh_append : (u v : Text) (fresh : Bool) → is_fresh_after fresh (u ++ v) ≡ is_fresh_after (is_fresh_after fresh u) v
 fresh_append [] v fresh = refl
 fresh_append (b ∷ u) v fresh = fresh_append u v (b == newline || (fresh && is_blank b))
 
@@ -94,6 +95,21 @@ not_empty (b ∷ t) (suc i) h = not_empty t i (omega arith)
 
 pub item_next : (written : Bool) (m n : Mid) (text rest : Text) → is_empty text ≡ false → Ok (n, rest) ≡ item_taken written m text → c_rest written n rest ≡ c_rest written m text
 item_next written m n text rest some e = sym (c_rest_on written m text some ∙ ap (λ (r : Result (Mid × Text) Stop). and_then r (λ p. c_rest written p.0 p.1)) (sym e))
+
+-- a blank is passed over
+pub blank_item : (written : Bool) (m n : Mid) (t : Text) (i : ℕ) → i < length t → is_blank (get_or t i 0) ≡ true → n ≡ behind_blank m (get_or t i 0)
+    → ◌≡◌ {A = Result (Mid × Text) Stop} (Ok (n, drop (i + 1) t)) (item_taken written m (drop i t))
+blank_item written m n t i h e p =
+    let b = get_or t i 0 in
+    let s = drop (i + 1) t in
+    let it : ReadItem = record { bytes = b ∷ []; tok = None; step = counted; rest = s } in
+    let read : read_item written m.fresh (b ∷ s) ≡ Some it = λ j. elim (e j) [
+      | true ↦ Some it
+      | false ↦ elim (b == 35) [ true ↦ elim m.fresh [ true ↦ read_hash written (b ∷ s) | false ↦ None ] | false ↦ option_map lexeme_item (lexeme (b ∷ s)) ]
+    ] in
+    ap (λ (k : Mid). let r : Result (Mid × Text) Stop = Ok (k, s) in r) p
+    ∙ ap (λ (o : Option ReadItem). and_then (item_of (bad_byte m.fresh (b ∷ s)) m.line o) (λ x. took m x)) (sym read)
+    ∙ ap (item_taken written m) (sym (at_place t i h))
 
 pub item_stops : (written : Bool) (m : Mid) (text : Text) (stop : Stop) → is_empty text ≡ false → Err stop ≡ item_taken written m text → Err stop ≡ c_rest written m text
 item_stops written m text stop some e = sym (c_rest_on written m text some ∙ ap (λ (r : Result (Mid × Text) Stop). and_then r (λ p. c_rest written p.0 p.1)) (sym e))

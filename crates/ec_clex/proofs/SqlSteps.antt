@@ -1,14 +1,17 @@
 -- The tokens of a statement, one unit after the other.
 use Rattle.std.proofs.Common.{◌≡◌, inl, inr, ℕ, zero, suc, ◌+◌, ◌-◌, ◌≤◌, Bool, true, false, List, [], ◌∷◌, ◌++◌, length, take, drop, refl, sym, ap, ◌∙◌, subst, arith, append_assoc, append-nil, eqb-true}
-use Rattle.std.specs.Prelude.{codes, ◌==◌, ◌&&◌, ◌||◌, if◌then◌else◌, Result, Ok, Err, IfOk}
+use Rattle.std.specs.Prelude.{codes, ◌==◌, ◌&&◌, ◌||◌, if◌then◌else◌, Option, Some, None, Result, Ok, Err}
 use Rattle.std.specs.List.{concat}
+use Rattle.ec_base.specs.declared.fault.FaultKind.TheVariants.{F4}
+use Rattle.ec_base.specs.declared.stop.Stop.{Stop}
+use Rattle.ec_base.specs.declared.stop.Stop.TheVariants.{Refused}
 use Rattle.ec_language.specs.Letters.{Text, dot, is_digit, is_sql_word_start, is_sql_word_byte, is_number_byte, is_quote, begins, begins_with, each, same_text, same_word}
 use Rattle.ec_language.specs.Line.{newlines}
 use Rattle.ec_language.specs.SqlText.{SqlUnit, begins_number, is_escaped, closes_escaped, is_sql_gap, is_sql_comment, is_dash_comment, closes_sql_quote, closes_nested, is_sql_single}
 use Rattle.ec_language.specs.SqlText as unit
 use Rattle.ec_language.specs.SqlTokens as sql
-use Rattle.ec_language.specs.Tokens.{lines_before}
-use Rattle.ec_language.specs.SqlTokens.{StatementUnits, SqlToken, sql_class, are_one_mark, sql_tokens_from}
+use Rattle.ec_language.specs.Tokens.{lines_before, refused_at, SqlTokensOrStop}
+use Rattle.ec_language.specs.SqlTokens.{StatementUnits, SqlToken, sql_class, are_one_mark, sql_tokens_from, first_bad_line}
 use Rattle.ec_language.specs.ReadPieces.{Behind, passed, cut, endless, sql_end, front, begins_semicolon, begins_gap, begins_escaped}
 use Rattle.ec_language.specs.ReadTokens.{sql_units, units_within, text_behind_start, statement_units}
 use Rattle.ec_language.proofs.PieceParts.{statement_units_complete}
@@ -357,20 +360,38 @@ escaped_slices t at end g l u h e f =
 
 -- ---- a whole statement
 
-pub statement_tokens : (text bytes : Text) (from line n : ℕ) (units : List Text) → text ≡ bytes → drop from text ≡ text_behind_start text → n ≡ newlines (take from text) → StatementUnits bytes units
-    → sql_tokens_from false (line + n) (sql_units (drop from text)) ≡ sql_tokens_from false (line + lines_before bytes (concat units)) units
-statement_tokens text bytes from line n units same behind lines are =
+-- what is found in the units that are read is found in those of the statement
+statement_at : {A : Type 0} (find : ℕ → List Text → A) (text bytes : Text) (from line n : ℕ) (units : List Text) → text ≡ bytes → drop from text ≡ text_behind_start text → n ≡ newlines (take from text)
+    → StatementUnits bytes units → find (line + n) (sql_units (drop from text)) ≡ find (line + lines_before bytes (concat units)) units
+statement_at find text bytes from line n units same behind lines are =
     subst (λ t. drop from t ≡ text_behind_start t → n ≡ newlines (take from t)
-    → sql_tokens_from false (line + n) (sql_units (drop from t)) ≡ sql_tokens_from false (line + lines_before bytes (concat units)) units) (sym same) base behind lines
+    → find (line + n) (sql_units (drop from t)) ≡ find (line + lines_before bytes (concat units)) units) (sym same) base behind lines
   where
     base : drop from bytes ≡ text_behind_start bytes → n ≡ newlines (take from bytes)
-        → sql_tokens_from false (line + n) (sql_units (drop from bytes)) ≡ sql_tokens_from false (line + lines_before bytes (concat units)) units
+        → find (line + n) (sql_units (drop from bytes)) ≡ find (line + lines_before bytes (concat units)) units
     base e l =
         let is : statement_units bytes ≡ units = statement_units_complete bytes units are in
         let here : StatementUnits bytes (statement_units bytes) = subst (StatementUnits bytes) (sym is) are in
         let at : n ≡ lines_before bytes (concat (statement_units bytes)) = l ∙ statement_lines bytes from e here in
-        (λ i. sql_tokens_from false (line + at i) (sql_units (e i))) ∙ (λ i. sql_tokens_from false (line + lines_before bytes (concat (is i))) (is i))
+        (λ i. find (line + at i) (sql_units (e i))) ∙ (λ i. find (line + lines_before bytes (concat (is i))) (is i))
 
-pub told_tokens : {E : Type 0} (r : Result (List Token) E) (a b : List SqlToken) → a ≡ b → IfOk r (λ tokens. sql_views tokens ≡ a) → IfOk r (λ tokens. sql_views tokens ≡ b)
-told_tokens (Ok tokens) a b e told = told ∙ e
-told_tokens (Err stop) a b e told = tt
+abbrev Answer : Type 0
+Answer = Result (List SqlToken) Stop
+
+pub statement_refused : (text bytes : Text) (from line n : ℕ) (bad : ℕ) (answer : Answer) → text ≡ bytes → drop from text ≡ text_behind_start text → n ≡ newlines (take from text)
+    → Some bad ≡ first_bad_line (line + n) (sql_units (drop from text)) → SqlTokensOrStop line bytes answer → Err (Refused F4 (record { 0 = bad })) ≡ answer
+statement_refused text bytes from line n bad answer same behind lines found is =
+    let units = is.0 in
+    let at = line + lines_before bytes (concat units) in
+    let first : Some bad ≡ first_bad_line at units = found ∙ statement_at first_bad_line text bytes from line n units same behind lines is.1 in
+    ap (λ (o : Option ℕ). refused_at o (sql_tokens_from false at units)) first ∙ sym is.2
+
+pub statement_told : (text bytes : Text) (from line n : ℕ) (tokens : List Token) (answer : Answer) → text ≡ bytes → drop from text ≡ text_behind_start text → n ≡ newlines (take from text)
+    → None ≡ first_bad_line (line + n) (sql_units (drop from text)) → sql_views tokens ≡ sql_tokens_from false (line + n) (sql_units (drop from text))
+    → SqlTokensOrStop line bytes answer → ◌≡◌ {A = Answer} (Ok (sql_views tokens)) answer
+statement_told text bytes from line n tokens answer same behind lines none told is =
+    let units = is.0 in
+    let at = line + lines_before bytes (concat units) in
+    let first : None ≡ first_bad_line at units = none ∙ statement_at first_bad_line text bytes from line n units same behind lines is.1 in
+    let all : sql_views tokens ≡ sql_tokens_from false at units = told ∙ statement_at (sql_tokens_from false) text bytes from line n units same behind lines is.1 in
+    ap (λ (ts : List SqlToken). let r : Answer = Ok ts in r) all ∙ ap (λ (o : Option ℕ). refused_at o (sql_tokens_from false at units)) first ∙ sym is.2

@@ -115,6 +115,10 @@ item_taken written m text = and_then (item_of (bad_byte m.fresh text) m.line (re
 abbrev pub passed_item : Text → ℕ → ℕ → Option ℕ → ReadItem
 passed_item text at end number = record { bytes = take (end - at) (drop at text); tok = None; step = step_view number; rest = drop end text }
 
+-- behind a blank
+abbrev pub behind_blank : Mid → ℕ → Mid
+behind_blank m b = record { taken = m.taken; line = m.line + newlines (b ∷ []); fresh = is_fresh_after m.fresh (b ∷ []) }
+
 -- a line that a number in its place doesn't pass
 abbrev pub line_bound : ℕ → Option ℕ → ℕ
 line_bound line None = line

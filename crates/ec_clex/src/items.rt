@@ -17,8 +17,10 @@ use crate::numbers::integer_constant;
 use crate::words::is_left_out_word;
 use ec_base::{FaultKind, Line, List, Name, Stop};
 use ec_ctypes::{Tok, Ty};
-use ec_split::bytes::{Class, begins_two, behind_all, is_blank, is_digit, is_quote, is_word_start};
-use ec_split::ends::{End, comment_end, quote_end};
+use ec_split::scanning::bytes::{
+    ByteClass, begins_two, behind_all, is_blank, is_digit, is_quote, is_word_start,
+};
+use ec_split::scanning::ends::{End, comment_end, quote_end};
 use std::alloc::Global;
 
 /// Where something stands.
@@ -185,7 +187,7 @@ fn comment_at(text: &[u8], at: usize) -> Option<usize>
         };
     }
     if begins_two(text, at, b'/', b'/') {
-        return Some(behind_all(Class::Line, text, at + 2));
+        return Some(behind_all(ByteClass::Line, text, at + 2));
     }
     None
 }
@@ -199,12 +201,12 @@ fn lexeme(alloc: Global, here: Here, text: &[u8], at: usize) -> Result<Item, Sto
 {
     let byte = text[at];
     if is_word_start(byte) {
-        let end = behind_all(Class::Word, text, at + 1);
+        let end = behind_all(ByteClass::Word, text, at + 1);
         let tok = word(alloc, here, &text[at..end]);
         return with_end(end, tok);
     }
     if is_digit(byte) {
-        let end = behind_all(Class::Number, text, at + 1);
+        let end = behind_all(ByteClass::Number, text, at + 1);
         let tok = number(here, &text[at..end]);
         return with_end(end, tok);
     }

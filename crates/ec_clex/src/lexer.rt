@@ -3,11 +3,13 @@ ghost use Rattle.std.specs.Prelude.{◌≡◌, ◌+◌, ◌-◌, ◌≤◌, ◌<
 ghost use Rattle.ec_ctypes.specs.trees.Tokens as trees;
 ghost use Rattle.ec_ctypes.specs.views.Tokens.{tok_view, token_view, tokens_view};
 ghost use Rattle.ec_ctypes.specs.declared.text.piece.PieceKind.TheVariants as kinds;
+ghost use Rattle.ec_language.specs.Letters as letters;
 ghost use Rattle.ec_language.specs.Line as lines;
 ghost use Rattle.ec_language.specs.SqlTokens as sql;
 ghost use Rattle.ec_language.specs.Lexemes as lexemes;
 ghost use Rattle.ec_language.specs.Tokens as tokens_of;
 ghost use Rattle.ec_language.specs.ReadTokens as read;
+ghost use Rattle.ec_language.specs.Syntax.{EndsOnce};
 ghost use Rattle.ec_base.specs.declared.stop.Stop.{Stop as TheStop};
 ghost use Rattle.ec_base.specs.declared.stop.Stop.TheVariants as stops;
 ghost use Rattle.ec_language.specs.Pieces.{Pieces};
@@ -20,8 +22,8 @@ use crate::lines::fresh_after;
 use crate::statements::{first_bad_line, is_executable};
 use ec_base::{Bytes, FaultKind, LimitKind, Line, List, OutOfMemory, Stop};
 use ec_ctypes::{Piece, PieceKind, Tok, Token};
-use ec_split::bytes::newlines;
-use ec_split::embedded::{behind_start, gap_stop};
+use ec_split::scanning::bytes::{is_blank, newlines};
+use ec_split::scanning::fronts::{behind_start, gap_stop};
 use std::alloc::Global;
 
 /// How many tokens there may be, the end not counted.
@@ -160,6 +162,7 @@ impl Lexer {
     }
 
     /// Puts a token behind the others.
+    #[inline(always)]
     fn add(&mut self, tok: Tok) -> Result<(), Stop>
         ensures is { items.Told (λ _. lexing.taken_of self.new) result (lexing.added (lexing.taken_of self.old) self.old.here.line (tok_view tok)) }
         ensures here { self.new.here ≡ self.old.here }
@@ -255,6 +258,20 @@ impl Lexer {
         Ok(end)
     }
 
+    /// Passes over a blank.
+    fn blank(&mut self, byte: u8)
+        requires blank { letters.is_blank byte ≡ true }
+        requires fits { self.old.here.line + 1 < 2 ^ 32 }
+        ensures is { lexing.mid_of self.new ≡ lexing.behind_blank (lexing.mid_of self.old) byte }
+        ensures late { self.new.here.line ≤ self.old.here.line + 1 }
+        ensures keeps { lexing.Keeps self.old self.new }
+    {
+        if byte == b'\n' {
+            self.here.line += 1;
+            self.here.fresh = true;
+        }
+    }
+
     /// Reads and takes what stands at the index.
     fn item(&mut self, alloc: Global, text: &[u8], at: usize) -> Result<usize, Stop>
         requires inside { at < length text.now }
@@ -264,6 +281,10 @@ impl Lexer {
         ensures late { IfOk result (λ end. self.new.here.line ≤ max self.old.here.line (10 ^ 9) + (end - at)) }
         ensures keeps { lexing.Keeps self.old self.new }
     {
+        if is_blank(text[at]) {
+            self.blank(text[at]);
+            return Ok(at + 1);
+        }
         let item = item_at(alloc, self.here, text, at)?;
         self.take(text, at, item)
     }
@@ -449,6 +470,7 @@ fn read_tokens(alloc: Global, pieces: &[Piece], written: bool) -> Result<List<To
 pub fn tokens(alloc: Global, pieces: &List<Piece>, written: bool) -> Result<List<Token>, Stop>
     requires { (text : Sequence ℕ) × (length text ≤ 2 ^ 24) × Pieces text pieces.now }
     ensures tokens { IfOk result (λ tokens. tokens_of.Tokens written pieces.now (tokens_view tokens)) }
+    ensures ends { IfOk result (λ tokens. EndsOnce (tokens_view tokens)) }
     ensures only { (wanted : Sequence trees.TokenData) → tokens_of.Tokens written pieces.now wanted → answers.UnlessNoMemory result (answers.seen result ≡ Ok wanted) }
     ensures stop { (stop : TheStop) → result ≡ Err stop → (stop ≡ stops.OutOfMemory → ⊥) → tokens_of.TokensOrStop written pieces.now (Err stop) }
     ensures stops { (stop : TheStop) → tokens_of.TokensOrStop written pieces.now (Err stop) → answers.UnlessNoMemory result (result ≡ Err stop) }

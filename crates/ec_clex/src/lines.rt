@@ -7,9 +7,9 @@ ghost use Rattle.ec_language.specs.ReadTokens as read;
 ghost use Rattle.ec_clex.specs.Lines.{line_of, number_of};
 
 use crate::numbers::digits_value;
-use ec_split::bytes::{Class, begins_two, behind_all, is_blank, is_digit};
-use ec_split::ends::End;
-use ec_split::units::c_end;
+use ec_split::scanning::bytes::{ByteClass, begins_two, behind_all, is_blank, is_digit};
+use ec_split::scanning::ends::End;
+use ec_split::scanning::units::c_end;
 
 /// Whether the text begins with these bytes at the index.
 pub fn stands_at(text: &[u8], at: usize, bytes: &[u8]) -> bool
@@ -25,15 +25,24 @@ pub fn stands_at(text: &[u8], at: usize, bytes: &[u8]) -> bool
     true
 }
 
-/// Whether nothing but blanks stands behind the bytes on their last line, if it is so before them.
+/// Whether nothing but blanks stands behind the bytes on their last line, if it is so before them. Their end tells it
+/// mostly, so they are looked at from there.
+#[tactic(auto, using(crate::proofs::FreshLines::fresh_newline, crate::proofs::FreshLines::fresh_other, crate::proofs::FreshLines::fresh_blank))]
 pub fn fresh_after(fresh: bool, bytes: &[u8]) -> bool
     ensures { result ≡ lexemes.is_fresh_after fresh bytes.now }
 {
-    let mut now = fresh;
-    for byte in bytes {
-        now = *byte == b'\n' || (now && is_blank(*byte));
+    let mut left = bytes.len();
+    while left > 0 {
+        let last = bytes[left - 1];
+        if last == b'\n' {
+            return true;
+        }
+        if !is_blank(last) {
+            return false;
+        }
+        left -= 1;
     }
-    now
+    fresh
 }
 
 /// Whether an `#include` line ends at the index.
@@ -128,7 +137,7 @@ pub fn directive_at(text: &[u8], at: usize) -> Option<Directive>
     ensures within { IfSome result (λ found. (at + 1 ≤ found.end) × (found.end ≤ length text.now)) }
     ensures small { IfSome result (λ found. found.number < 10 ^ 9) }
 {
-    let end = behind_all(Class::Line, text, at);
+    let end = behind_all(ByteClass::Line, text, at);
     match directive_number(&text[at..end]) {
         Some(number) => Some(Directive { number, end }),
         None => None,

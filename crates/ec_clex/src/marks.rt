@@ -4,7 +4,7 @@ ghost use Rattle.ec_language.specs.ReadTokens as read;
 ghost use Rattle.ec_clex.specs.Marks as marks;
 
 use ec_ctypes::Punct;
-use ec_split::bytes::byte_at;
+use ec_split::scanning::bytes::byte_at;
 
 /// A mark of C text.
 #[derive(Clone, Copy)]

@@ -5,7 +5,7 @@ ghost use Rattle.ec_language.specs.Constants as constants;
 ghost use Rattle.ec_clex.specs.Numbers.{suffix_view, plain_choices, long_choices, long_long_choices};
 
 use ec_ctypes::Arith;
-use ec_split::bytes::{begins_two, byte_at, is_digit};
+use ec_split::scanning::bytes::{begins_two, byte_at, is_digit};
 
 /// What the letters behind the digits of a constant say.
 #[derive(Clone, Copy)]

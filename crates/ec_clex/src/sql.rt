@@ -1,19 +1,21 @@
 //! The tokens of an embedded statement.
-ghost use Rattle.std.specs.Prelude.{◌≡◌, ◌+◌, ◌-◌, ◌≤◌, ◌<◌, ◌^◌, ◌∷◌, ◌++◌, [], ℕ, List as Sequence, true, false, length, take, drop, IfOk};
-ghost use Rattle.std.specs.List.{concat};
+ghost use Rattle.std.specs.Prelude.{◌≡◌, ◌+◌, ◌-◌, ◌≤◌, ◌<◌, ◌^◌, ◌∷◌, ◌++◌, [], ℕ, List as Sequence, Result as Answer, true, false, length, take, drop, IfOk};
 ghost use Rattle.ec_language.specs.Line as lines;
 ghost use Rattle.ec_language.specs.SqlTokens as sql;
-ghost use Rattle.ec_language.specs.Tokens.{lines_before};
+ghost use Rattle.ec_base.specs.declared.stop.Stop.{Stop as TheStop};
+ghost use Rattle.ec_language.specs.Tokens.{SqlTokensOrStop};
 ghost use Rattle.ec_language.specs.ReadPieces as read;
 ghost use Rattle.ec_language.specs.ReadTokens.{sql_units, text_behind_start};
+ghost use Rattle.ec_clex.specs.Items.{Told};
 ghost use Rattle.ec_clex.specs.Sql as view;
 
 use crate::lexer::behind;
-use ec_base::{Bytes, Line, List, OutOfMemory};
+use crate::statements::first_bad_line;
+use ec_base::{Bytes, FaultKind, Line, List, OutOfMemory, Stop};
 use ec_ctypes::Piece;
-use ec_split::bytes::{begins_two, is_quote, is_sql_word_start, newlines};
-use ec_split::ends::End;
-use ec_split::units::{begins_escaped, begins_gap, begins_number, sql_end};
+use ec_split::scanning::bytes::{begins_two, is_quote, is_sql_word_start, newlines};
+use ec_split::scanning::ends::End;
+use ec_split::scanning::units::{begins_escaped, begins_gap, begins_number, sql_end};
 use std::alloc::Global;
 
 /// What a token of an embedded statement is.
@@ -193,14 +195,16 @@ fn tokens_from(
     Ok(lexer.tokens)
 }
 
-/// The tokens of an embedded statement, in order.
-pub fn sql_tokens(alloc: Global, piece: &Piece) -> Result<List<SqlToken>, OutOfMemory>
+/// The tokens of an embedded statement, in order. The first byte that begins none is a fault (F4) on its line.
+pub fn sql_tokens(alloc: Global, piece: &Piece) -> Result<List<SqlToken>, Stop>
     requires { piece.now.line.0 + length piece.now.bytes < 2 ^ 32 }
-    ensures { (units : Sequence (Sequence ℕ)) → sql.StatementUnits piece.now.bytes units
-        → IfOk result (λ tokens. view.sql_views tokens ≡ sql.sql_tokens_from false (piece.now.line.0 + lines_before piece.now.bytes (concat units)) units) }
+    ensures { (answer : Answer (Sequence sql.SqlToken) TheStop) → SqlTokensOrStop piece.now.line.0 piece.now.bytes answer → Told view.sql_views result answer }
 {
     let text = piece.bytes.as_slice();
     let from = behind(text);
     let line = piece.line.0 + newlines(&text[..from]) as u32;
-    tokens_from(alloc, text, from, line)
+    match first_bad_line(text, from, line) {
+        Some(bad) => Err(Stop::Refused(FaultKind::F4, Line(bad))),
+        None => Ok(tokens_from(alloc, text, from, line)?),
+    }
 }

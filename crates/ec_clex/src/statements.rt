@@ -3,10 +3,10 @@ ghost use Rattle.std.specs.Prelude.{◌≡◌, ◌+◌, ◌-◌, ◌≤◌, ◌<
 ghost use Rattle.ec_language.specs.SqlTokens as sql;
 ghost use Rattle.ec_language.specs.ReadTokens.{sql_units};
 
-use ec_split::bytes::{byte_at, newlines};
-use ec_split::embedded::same_word;
-use ec_split::ends::End;
-use ec_split::units::{begins_gap, sql_end};
+use ec_split::scanning::bytes::{byte_at, newlines};
+use ec_split::scanning::ends::End;
+use ec_split::scanning::units::{begins_gap, sql_end};
+use ec_split::scanning::words::same_word;
 
 /// Whether the word begins a statement that is not executed where it stands.
 fn is_directive(word: &[u8]) -> bool
@@ -43,7 +43,7 @@ fn is_bad_unit(unit: &[u8]) -> bool
 /// The line of the first unit that begins no token, if the first unit stands on this line.
 pub fn first_bad_line(text: &[u8], from: usize, line: u32) -> Option<u32>
     requires inside { from ≤ length text.now }
-    requires fits { line + length text.now < 2 ^ 32 }
+    requires fits { line + (length text.now - from) < 2 ^ 32 }
     ensures is { result ≡ sql.first_bad_line line (sql_units (drop from text.now)) }
 {
     let mut at = from;

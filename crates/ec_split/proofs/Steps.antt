@@ -39,10 +39,10 @@ later zero (suc i) [] = let n : suc i + 0 ≡ suc i = omega arith in ap (λ k. d
 later (suc j) (suc i) [] = let n : suc i + suc j ≡ suc (i + suc j) = omega arith in ap (λ k. drop k []) (sym n)
 later j (suc i) (b ∷ t) = let n : suc i + j ≡ suc (i + j) = omega arith in later j i t ∙ ap (λ k. drop k (b ∷ t)) (sym n)
 
-same_byte : (a b : ℕ) → a ≡ b → (a == b) ≡ true
+pub same_byte : (a b : ℕ) → a ≡ b → (a == b) ≡ true
 same_byte a b e = eq-eqb a b e
 
-other_byte : (a b : ℕ) → (a ≡ b → ⊥) → (a == b) ≡ false
+pub other_byte : (a b : ℕ) → (a ≡ b → ⊥) → (a == b) ≡ false
 other_byte a b e = ne_eqb a b e
 
 -- ---- two bytes

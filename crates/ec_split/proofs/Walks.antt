@@ -1,15 +1,22 @@
 -- One step of each walk from unit to unit, in a text at an index.
-use Rattle.std.proofs.Common.{◌≡◌, ℕ, ◌+◌, ◌-◌, ◌<◌, ◌≤◌, Bool, true, false, not, ◌&&◌, ◌||◌, List, [], ◌∷◌, ◌++◌, length, take, drop, get_or, refl, sym, ap, ◌∙◌, arith, length-drop, Option, None, Some}
-use Rattle.std.specs.Prelude.{codes, if◌then◌else◌}
-use Rattle.ec_ctypes.specs.declared.text.piece.PieceKind.TheVariants.{InPlace}
-use Rattle.ec_language.specs.Letters.{Text, is_blank, is_word_byte, is_digit, is_word_start, is_quote, is_sql_word_start, is_not_newline, begins, begins_with, same_text, same_word, is_among, skip_blanks}
+use Rattle.std.proofs.Common.{◌≡◌, ℕ, ◌+◌, ◌-◌, ◌<◌, ◌≤◌, Bool, true, false, not, ◌&&◌, ◌||◌, List, [], ◌∷◌, length, take, drop, map, get_or, refl, sym, ap, ◌∙◌, arith, length-drop, Option, None, Some}
+use Rattle.std.specs.Prelude.{codes, ◌==◌, is_some, if◌then◌else◌}
+use Rattle.std.proofs.lemmas.Bool.Decides.{nat_tests}
+use Rattle.ec_ctypes.specs.declared.text.piece.PieceKind.{PieceKind}
+use Rattle.ec_ctypes.specs.declared.text.piece.PieceKind.TheVariants.{Emb, InPlace, SectionStart, SectionEnd}
+use Rattle.ec_language.specs.Letters.{Text, is_blank, is_upper, is_word_byte, is_digit, is_word_start, is_quote, is_sql_word_start, is_not_newline, begins, begins_with, lower, same_text, same_word, skip_blanks}
+use Rattle.ec_language.specs.Keywords.{declaring_words}
 use Rattle.ec_language.specs.SqlText.{begins_number}
 use Rattle.ec_language.specs.Pieces.{behind_start, starts_piece, is_type_word}
-use Rattle.ec_language.specs.ReadPieces.{Behind, passed, cut, endless, behind_all, comment_end, escaped_end, nested_end, c_end, sql_end, begins_escaped, begins_gap, gap_stop, begins_semicolon, statement_end, c_stop, begins_type, begins_words, braces_behind, begins_end, has_end, found, front}
+use Rattle.ec_language.specs.ReadPieces.{Behind, passed, cut, endless, behind_all, comment_end, escaped_end, nested_end, c_end, sql_end, begins_escaped, begins_gap, gap_stop, begins_semicolon, statement_end, statement_kind, statement, c_stop, begins_type, begins_words, braces_behind, begins_end, has_end, Found, found, unended, declaration, embedded, front}
 use Rattle.ec_language.proofs.CWalks.{c_stop_on}
+use Rattle.ec_language.proofs.Classes.{neither}
 use Rattle.ec_language.proofs.SqlWalks.{gap_stop_on, statement_end_on, statement_stop}
 use Rattle.ec_language.proofs.Declarations.{run, has_end_next, has_end_skip, run_next, run_stop}
-use Rattle.ec_split.proofs.Steps.{at_place, later}
+use Rattle.ec_split.specs.Places.{word_before, text_behind, ends_mark, kind_behind}
+use Rattle.ec_split.specs.WordTables.{word_in}
+use Rattle.ec_split.proofs.Steps.{at_place, later, same_byte, other_byte}
+use Rattle.ec_split.proofs.WordTables.{looked_up}
 
 -- ---- units
 
@@ -140,6 +147,41 @@ pub start_found : (t : Text) (i j : ℕ) → drop j t ≡ behind_all is_blank (d
     → same_word (take 3 (drop j t)) (codes "SQL") ≡ true → begins is_word_byte (drop (j + 3) t) ≡ false → Some (drop (j + 3) t) ≡ behind_start (drop i t)
 start_found t i j e a b c d = tests_pass (same_word (take 4 (drop i t)) (codes "EXEC")) (begins is_blank (drop (i + 4) t)) (same_word (take 3 (drop j t)) (codes "SQL")) (begins is_word_byte (drop (j + 3) t)) (drop (j + 3) t) a b c d ∙ sym (start_is t i j e)
 
+-- ---- what begins no embedded piece
+
+not_e : (b : ℕ) → (b == 69 || b == 101) ≡ false → (lower b == 101) ≡ false
+not_e b e = go (is_upper b) refl
+  where
+    go : (x : Bool) → is_upper b ≡ x → (lower b == 101) ≡ false
+    go true u = rw u (other_byte (b + 32) 101 (λ h. let k : b ≡ 69 = omega arith in let m = same_byte b 69 k in let n = (neither (b == 69) (b == 101) e).0 in absurd (cc)))
+    go false u = rw u ((neither (b == 69) (b == 101) e).1)
+
+pub no_exec : (s : Text) → begins (λ b. b == 69 || b == 101) s ≡ false → false ≡ starts_piece s
+no_exec [] e = refl
+no_exec (b ∷ s) e =
+    let n = not_e b e in
+    let w : same_word (take 4 (b ∷ s)) (codes "EXEC") ≡ false = λ i. n i && same_text (map lower (take 3 s)) (codes "xec") in
+    ap (λ (x : Option Text). is_some x) (start_no_word (b ∷ s) 0 w)
+
+blank_unit : (b : ℕ) (s : Text) → is_blank b ≡ true → c_end (b ∷ s) ≡ passed s
+blank_unit b s e =
+    let w : is_word_start b ≡ false = grind (arith, nat_tests) in
+    let d : is_digit b ≡ false = grind (arith, nat_tests) in
+    let q : is_quote b ≡ false = grind (arith, nat_tests) in
+    let n : (47 == b) ≡ false = grind (arith, nat_tests) in
+    let x : begins_with (codes "/*") (b ∷ s) ≡ false = λ i. n i && same_text (codes "*") (take 1 s) in
+    let y : begins_with (codes "//") (b ∷ s) ≡ false = λ i. n i && same_text (codes "/") (take 1 s) in
+    rw (w, d, q, x, y, c_end) refl
+
+blank_no_e : (b : ℕ) → is_blank b ≡ true → (b == 69 || b == 101) ≡ false
+blank_no_e b e = grind (arith, nat_tests)
+
+pub blank_next : (t : Text) (i : ℕ) → i < length t → is_blank (get_or t i 0) ≡ true → c_stop (drop (i + 1) t) ≡ c_stop (drop i t)
+blank_next t i h e =
+    let b = get_or t i 0 in
+    let s = drop (i + 1) t in
+    sym (ap c_stop (at_place t i h) ∙ c_stop_on (b ∷ s) s (sym (no_exec (b ∷ s) (blank_no_e b e))) (blank_unit b s e))
+
 -- ---- walks
 
 pub gap_next : (s r : Text) → begins_gap s ≡ true → passed r ≡ sql_end s → gap_stop r ≡ gap_stop s
@@ -175,57 +217,84 @@ front_slice t a e h k =
 abbrev type_choice : Text → Behind → Bool
 type_choice s x = elim x [ passed r ↦ is_type_word (front s r) | cut r ↦ false | endless ↦ false ]
 
-pub type_at : (t : Text) (a e : ℕ) → a ≤ e → e ≤ length t → passed (drop e t) ≡ sql_end (drop a t) → is_type_word (take (e - a) (drop a t)) ≡ begins_type (drop a t)
-type_at t a e h k p = ap is_type_word (sym (front_slice t a e h k)) ∙ ap (type_choice (drop a t)) p
+first_typed : (s : Text) (x : Behind) → is_type_word (word_before s x) ≡ type_choice s x
+first_typed s (passed r) = refl
+first_typed s (cut r) = refl
+first_typed s endless = refl
+
+abbrev embedded_choice : Text → Text → Bool → Found
+embedded_choice s g x = elim x [ true ↦ declaration g | false ↦ statement s ]
+
+embedded_is : (s g w : Text) (x : Bool) → g ≡ gap_stop s → w ≡ word_before g (sql_end g) → is_type_word w ≡ x → embedded_choice s g x ≡ embedded s
+embedded_is s g w x e f t =
+    let typed : x ≡ begins_type g = sym t ∙ ap is_type_word f ∙ first_typed g (sql_end g) in
+    ap (embedded_choice s g) typed ∙ ap (λ z. embedded_choice s z (begins_type z)) e
+
+pub typed : (s g w : Text) → g ≡ gap_stop s → w ≡ word_before g (sql_end g) → is_type_word w ≡ true → declaration g ≡ embedded s
+typed s g w e f t = embedded_is s g w true e f t
+
+pub untyped : (s g w : Text) → g ≡ gap_stop s → w ≡ word_before g (sql_end g) → is_type_word w ≡ false → statement s ≡ embedded s
+untyped s g w e f t = embedded_is s g w false e f t
+
+-- ---- words of a mark
 
 abbrev words_choice : Text → Text → List Text → Behind → Bool
 words_choice s w ws x = elim x [ passed r ↦ elim (same_word (front s r) w) [ true ↦ begins_words ws r | false ↦ false ] | cut r ↦ false | endless ↦ false ]
 
-abbrev word_choice : Bool → List Text → Text → Bool
-word_choice x ws r = elim x [ true ↦ begins_words ws r | false ↦ false ]
+and_choice : (x y : Bool) → (x && y) ≡ elim x [ true ↦ y | false ↦ false ]
+and_choice true y = refl
+and_choice false y = refl
 
-words_at : (t : Text) (f a e : ℕ) (w : Text) (x : Bool) → drop a t ≡ gap_stop (drop f t) → a ≤ e → e ≤ length t → passed (drop e t) ≡ sql_end (drop a t)
-    → same_word (take (e - a) (drop a t)) w ≡ x → (ws : List Text) → word_choice x ws (drop e t) ≡ begins_words (w ∷ ws) (drop f t)
-words_at t f a e w x g h k p s ws =
-    ap (λ y. word_choice y ws (drop e t)) (sym s ∙ ap (λ z. same_word z w) (sym (front_slice t a e h k))) ∙ ap (words_choice (drop a t) w ws) p ∙ ap (λ z. words_choice z w ws (sql_end z)) g
+first_word : (w : Text) (ws : List Text) (g : Text) (x : Behind) → same_word [] w ≡ false → (same_word (word_before g x) w && begins_words ws (text_behind g x)) ≡ words_choice g w ws x
+first_word w ws g (passed r) n = and_choice (same_word (front g r) w) (begins_words ws r)
+first_word w ws g (cut r) n = λ i. n i && begins_words ws g
+first_word w ws g endless n = λ i. n i && begins_words ws g
 
-pub word_found : (t : Text) (f a e : ℕ) (w : Text) → drop a t ≡ gap_stop (drop f t) → a ≤ e → e ≤ length t → passed (drop e t) ≡ sql_end (drop a t)
-    → same_word (take (e - a) (drop a t)) w ≡ true → (ws : List Text) → begins_words ws (drop e t) ≡ begins_words (w ∷ ws) (drop f t)
-word_found t f a e w g h k p s = words_at t f a e w true g h k p s
+words_are : (s g u r w : Text) (ws : List Text) → g ≡ gap_stop s → u ≡ word_before g (sql_end g) → r ≡ text_behind g (sql_end g) → same_word [] w ≡ false
+    → (same_word u w && begins_words ws r) ≡ begins_words (w ∷ ws) s
+words_are s g u r w ws e f h n =
+    ap (λ z. same_word z w && begins_words ws r) f ∙ ap (λ z. same_word (word_before g (sql_end g)) w && begins_words ws z) h
+    ∙ first_word w ws g (sql_end g) n ∙ ap (λ z. words_choice z w ws (sql_end z)) e
 
-pub word_other : (t : Text) (f a e : ℕ) (w : Text) → drop a t ≡ gap_stop (drop f t) → a ≤ e → e ≤ length t → passed (drop e t) ≡ sql_end (drop a t)
-    → same_word (take (e - a) (drop a t)) w ≡ false → (ws : List Text) → false ≡ begins_words (w ∷ ws) (drop f t)
-word_other t f a e w g h k p s = words_at t f a e w false g h k p s
+some_word : (w : Text) → 0 < length w → same_word [] w ≡ false
+some_word [] h = absurd (omega arith)
+some_word (b ∷ w) h = refl
+
+pub word_found : (s g u r w : Text) → g ≡ gap_stop s → u ≡ word_before g (sql_end g) → r ≡ text_behind g (sql_end g) → 0 < length w → same_word u w ≡ true
+    → (ws : List Text) → begins_words ws r ≡ begins_words (w ∷ ws) s
+word_found s g u r w e f h n m ws = sym (ap (λ z. z && begins_words ws r) m) ∙ words_are s g u r w ws e f h (some_word w n)
+
+pub word_other : (s g u r w : Text) → g ≡ gap_stop s → u ≡ word_before g (sql_end g) → r ≡ text_behind g (sql_end g) → 0 < length w → same_word u w ≡ false
+    → (ws : List Text) → false ≡ begins_words (w ∷ ws) s
+word_other s g u r w e f h n m ws = sym (ap (λ z. z && begins_words ws r) m) ∙ words_are s g u r w ws e f h (some_word w n)
+
+kind_choice : (x y : Bool) → (if x then SectionStart else if y then SectionEnd else Emb) ≡ elim x [ true ↦ SectionStart | false ↦ elim y [ true ↦ SectionEnd | false ↦ Emb ] ]
+kind_choice true y = refl
+kind_choice false true = refl
+kind_choice false false = refl
+
+abbrev section : List Text
+section = codes "DECLARE" ∷ codes "SECTION" ∷ []
+
+kind_is : (s g u r : Text) → g ≡ gap_stop s → u ≡ word_before g (sql_end g) → r ≡ text_behind g (sql_end g) → kind_behind u r ≡ statement_kind s
+kind_is s g u r e f h =
+    let begin = words_are s g u r (codes "BEGIN") section e f h refl in
+    let end = words_are s g u r (codes "END") section e f h refl in
+    kind_choice (same_word u (codes "BEGIN") && ends_mark r) (same_word u (codes "END") && ends_mark r)
+    ∙ λ i. elim (begin i) [ true ↦ SectionStart | false ↦ elim (end i) [ true ↦ SectionEnd | false ↦ Emb ] ]
+
+-- a statement, by the end of its text
+abbrev statement_choice : PieceKind → Option Text → Found
+statement_choice kind x = elim x [ Some rest ↦ found kind rest | None ↦ unended ]
+
+pub stated : (s g u r : Text) (x : Option Text) → g ≡ gap_stop s → u ≡ word_before g (sql_end g) → r ≡ text_behind g (sql_end g) → x ≡ statement_end s
+    → statement_choice (kind_behind u r) x ≡ statement s
+stated s g u r x e f h p = ap (λ k. statement_choice k x) (kind_is s g u r e f h) ∙ ap (statement_choice (statement_kind s)) p
 
 -- ---- type words
 
-abbrev integer_words : List Text
-integer_words = codes "char" ∷ codes "short" ∷ codes "int" ∷ codes "long" ∷ []
+abbrev pub type_table : List Text
+type_table = [] ∷ codes "int" ∷ [] ∷ [] ∷ codes "long" ∷ [] ∷ codes "bool" ∷ [] ∷ codes "VARCHAR" ∷ [] ∷ [] ∷ codes "const" ∷ [] ∷ codes "signed" ∷ [] ∷ codes "unsigned" ∷ codes "varchar" ∷ codes "char" ∷ [] ∷ codes "short" ∷ [] ∷ codes "struct" ∷ [] ∷ [] ∷ []
 
-abbrev simple_words : List Text
-simple_words = codes "signed" ∷ codes "unsigned" ∷ codes "bool" ∷ codes "struct" ∷ []
-
-abbrev last_words : List Text
-last_words = codes "const" ∷ codes "VARCHAR" ∷ codes "varchar" ∷ []
-
-or_then : (x y z : Bool) → (x || (y || z)) ≡ ((x || y) || z)
-or_then true y z = refl
-or_then false y z = refl
-
-among_both : (xs ys : List Text) (u : Text) → is_among (xs ++ ys) u ≡ (is_among xs u || is_among ys u)
-among_both [] ys u = refl
-among_both (x ∷ xs) ys u = ap (λ z. same_text x u || z) (among_both xs ys u) ∙ or_then (same_text x u) (is_among xs u) (is_among ys u)
-
-type_word_is : (u : Text) → is_type_word u ≡ (is_among integer_words u || (is_among simple_words u || is_among last_words u))
-type_word_is u = among_both integer_words (simple_words ++ last_words) u ∙ ap (λ z. is_among integer_words u || z) (among_both simple_words last_words u)
-
-pub type_word_first : (u : Text) → is_among (codes "char" ∷ codes "short" ∷ codes "int" ∷ codes "long" ∷ []) u ≡ true → is_type_word u ≡ true
-type_word_first u e = type_word_is u ∙ ap (λ z. z || (is_among simple_words u || is_among last_words u)) e
-
-pub type_word_second : (u : Text) → is_among (codes "char" ∷ codes "short" ∷ codes "int" ∷ codes "long" ∷ []) u ≡ false
-    → is_among (codes "signed" ∷ codes "unsigned" ∷ codes "bool" ∷ codes "struct" ∷ []) u ≡ true → is_type_word u ≡ true
-type_word_second u n e = type_word_is u ∙ ap (λ z. z || (is_among simple_words u || is_among last_words u)) n ∙ ap (λ z. z || is_among last_words u) e
-
-pub type_word_last : (u : Text) → is_among (codes "char" ∷ codes "short" ∷ codes "int" ∷ codes "long" ∷ []) u ≡ false
-    → is_among (codes "signed" ∷ codes "unsigned" ∷ codes "bool" ∷ codes "struct" ∷ []) u ≡ false → is_type_word u ≡ is_among (codes "const" ∷ codes "VARCHAR" ∷ codes "varchar" ∷ []) u
-type_word_last u n m = type_word_is u ∙ ap (λ z. z || (is_among simple_words u || is_among last_words u)) n ∙ ap (λ z. z || is_among last_words u) m
+pub type_word : (w : Text) → (length w == 0) ≡ false → same_text (word_in type_table w) w ≡ is_type_word w
+type_word w e = looked_up declaring_words type_table (record { has_all = refl; has_only = refl }) w e

@@ -1,13 +1,16 @@
-//! Embedded pieces: where they start, what they are, and where they end.
-ghost use Rattle.std.specs.Prelude.{◌≡◌, ◌+◌, ◌≤◌, ◌<◌, ℕ, length, drop, ◌^◌, ◌∷◌, [], codes, option_map, IfSome, List};
+//! Embedded pieces: what they are, and where they end.
+ghost use Rattle.std.specs.Prelude.{◌≡◌, ◌+◌, ◌≤◌, ◌<◌, length, drop, ◌^◌, IfSome};
 ghost use Rattle.ec_language.specs.Letters as letters;
 ghost use Rattle.ec_language.specs.Pieces as pieces;
 ghost use Rattle.ec_language.specs.ReadPieces as read;
-ghost use Rattle.ec_split.specs.Places.{found_at, FoundWithin, words_behind};
+ghost use Rattle.ec_split.specs.Places as places;
+ghost use Rattle.ec_split.specs.Places.{found_at, FoundWithin, text_from, FindsWord, kind_behind};
 
-use crate::bytes::{Class, behind_all, byte_at, class_at, word_at};
-use crate::ends::End;
-use crate::units::{begins_gap, c_end, sql_end};
+use crate::scanning::bytes::byte_at;
+use crate::scanning::ends::End;
+use crate::scanning::fronts::{gap_stop, unit_end};
+use crate::scanning::units::{c_end, sql_end};
+use crate::scanning::words::{place_of, same_word};
 use ec_ctypes::PieceKind;
 
 /// What stands where an embedded piece starts.
@@ -21,60 +24,11 @@ pub enum Found {
     Unended,
 }
 
-/// The index behind `EXEC SQL`, if these two words stand at the index.
-#[tactic(auto, using(crate::proofs::Walks::start_no_word, crate::proofs::Walks::start_no_blank, crate::proofs::Walks::start_no_second, crate::proofs::Walks::start_longer, crate::proofs::Walks::start_found))]
-pub fn behind_start(text: &[u8], at: usize) -> Option<usize>
-    requires { at ≤ length text.now }
-    ensures is { option_map (λ end. drop end text.now) result ≡ pieces.behind_start (drop at text.now) }
-    ensures within { IfSome result (λ end. (at + 1 ≤ end) × (end ≤ length text.now)) }
-{
-    if !word_at(text, at, b"EXEC") {
-        return None;
-    }
-    if !class_at(Class::Blank, text, at + 4) {
-        return None;
-    }
-    let second = behind_all(Class::Blank, text, at + 4);
-    if !word_at(text, second, b"SQL") {
-        return None;
-    }
-    if class_at(Class::Word, text, second + 3) {
-        return None;
-    }
-    Some(second + 3)
-}
-
-/// Whether an embedded piece starts at the index.
-pub fn starts_piece(text: &[u8], at: usize) -> bool
-    requires { at ≤ length text.now }
-    ensures { result ≡ pieces.starts_piece (drop at text.now) }
-{
-    behind_start(text, at).is_some()
-}
-
-/// The index behind the blanks and comments that stand from the index on.
-#[tactic(auto, using(crate::proofs::Walks::gap_next))]
-pub fn gap_stop(text: &[u8], from: usize) -> usize
-    requires { from ≤ length text.now }
-    ensures is { drop result text.now ≡ read.gap_stop (drop from text.now) }
-    ensures behind { from ≤ result }
-    ensures within { result ≤ length text.now }
-{
-    let mut at = from;
-    while begins_gap(text, at) {
-        match sql_end(text, at) {
-            End::Passed(end) => at = end,
-            _ => return at,
-        }
-    }
-    at
-}
-
 /// The index behind the first `;` of SQL text.
 #[tactic(auto, using(crate::proofs::Walks::statement_next, crate::proofs::Walks::statement_here))]
 pub fn statement_end(text: &[u8], from: usize) -> Option<usize>
     requires { from ≤ length text.now }
-    ensures is { option_map (λ end. drop end text.now) result ≡ read.statement_end (drop from text.now) }
+    ensures is { text_from text.now result ≡ read.statement_end (drop from text.now) }
     ensures within { IfSome result (λ end. (from ≤ end) × (end ≤ length text.now)) }
 {
     let mut at = from;
@@ -168,144 +122,84 @@ pub fn declaration(text: &[u8], from: usize) -> Found
     Found::Unended
 }
 
-/// Whether the word is one of the four that name integer types.
-pub fn is_integer_word(word: &[u8]) -> bool
-    ensures { result ≡ letters.is_among (codes "char" ∷ codes "short" ∷ codes "int" ∷ codes "long" ∷ []) word.now }
-{
-    if b"char".as_slice() == word {
-        return true;
-    }
-    if b"short".as_slice() == word {
-        return true;
-    }
-    if b"int".as_slice() == word {
-        return true;
-    }
-    if b"long".as_slice() == word {
-        return true;
-    }
-    false
-}
-
-/// Whether the word is one of four others that begin a declaration.
-pub fn is_simple_word(word: &[u8]) -> bool
-    ensures { result ≡ letters.is_among (codes "signed" ∷ codes "unsigned" ∷ codes "bool" ∷ codes "struct" ∷ []) word.now }
-{
-    if b"signed".as_slice() == word {
-        return true;
-    }
-    if b"unsigned".as_slice() == word {
-        return true;
-    }
-    if b"bool".as_slice() == word {
-        return true;
-    }
-    if b"struct".as_slice() == word {
-        return true;
-    }
-    false
-}
-
-/// Whether the word is one of the last three that begin a declaration.
-pub fn is_last_word(word: &[u8]) -> bool
-    ensures { result ≡ letters.is_among (codes "const" ∷ codes "VARCHAR" ∷ codes "varchar" ∷ []) word.now }
-{
-    if b"const".as_slice() == word {
-        return true;
-    }
-    if b"VARCHAR".as_slice() == word {
-        return true;
-    }
-    if b"varchar".as_slice() == word {
-        return true;
-    }
-    false
-}
+/// The words that begin a declaration, each at its place.
+const TYPE_WORDS: [&[u8]; 24] = [
+    b"",
+    b"int",
+    b"",
+    b"",
+    b"long",
+    b"",
+    b"bool",
+    b"",
+    b"VARCHAR",
+    b"",
+    b"",
+    b"const",
+    b"",
+    b"signed",
+    b"",
+    b"unsigned",
+    b"varchar",
+    b"char",
+    b"",
+    b"short",
+    b"",
+    b"struct",
+    b"",
+    b"",
+];
 
 /// Whether the word begins a declaration.
-#[tactic(auto, using(crate::proofs::Walks::type_word_first, crate::proofs::Walks::type_word_second, crate::proofs::Walks::type_word_last))]
 pub fn is_type_word(word: &[u8]) -> bool
     ensures { result ≡ pieces.is_type_word word.now }
 {
-    if is_integer_word(word) {
-        return true;
-    }
-    if is_simple_word(word) {
-        return true;
-    }
-    is_last_word(word)
-}
-
-/// Whether a word that begins a declaration stands at the index.
-pub fn begins_type(text: &[u8], at: usize) -> bool
-    requires { at ≤ length text.now }
-    ensures { result ≡ read.begins_type (drop at text.now) }
-{
-    if at == text.len() {
+    if word.is_empty() {
         return false;
     }
-    match sql_end(text, at) {
-        End::Passed(end) => is_type_word(&text[at..end]),
-        _ => false,
-    }
+    TYPE_WORDS[place_of(word)] == word
 }
 
-/// Whether the words are one, in any case of letters.
-pub fn same_word(word: &[u8], other: &[u8]) -> bool
-    ensures { result ≡ letters.same_word word.now other.now }
-{
-    word.len() == other.len() && word_at(word, 0, other)
-}
-
-/// The index behind the word, if it stands behind blanks and comments from the index on, in any case of letters.
+/// The index behind the word, if it stands behind blanks and comments from the index on, in any case
+/// of letters.
 pub fn behind_word(text: &[u8], from: usize, word: &[u8]) -> Option<usize>
-    requires { from ≤ length text.now }
-    ensures is { (words : List (List ℕ)) → words_behind words text.now result ≡ read.begins_words (word.now ∷ words) (drop from text.now) }
+    requires inside { from ≤ length text.now }
+    requires some { 0 < length word.now }
+    ensures is { FindsWord text.now from word.now result }
     ensures within { IfSome result (λ end. end ≤ length text.now) }
 {
     let at = gap_stop(text, from);
-    if at == text.len() {
-        return None;
+    let end = unit_end(text, at);
+    if same_word(&text[at..end], word) {
+        return Some(end);
     }
-    match sql_end(text, at) {
-        End::Passed(end) => {
-            if same_word(&text[at..end], word) {
-                return Some(end);
-            }
-            None
-        }
-        _ => None,
-    }
+    None
 }
 
-/// Whether the word, `DECLARE SECTION` and a `;` stand from the index on.
-pub fn is_mark(text: &[u8], from: usize, word: &[u8]) -> bool
+/// Whether `DECLARE SECTION` and a `;` stand from the index on.
+pub fn ends_mark(text: &[u8], from: usize) -> bool
     requires { from ≤ length text.now }
-    ensures { result ≡ read.begins_words (word.now ∷ codes "DECLARE" ∷ codes "SECTION" ∷ []) (drop from text.now) }
+    ensures { result ≡ places.ends_mark (drop from text.now) }
 {
-    let second = match behind_word(text, from, word) {
+    let second = match behind_word(text, from, b"DECLARE") {
         Some(end) => end,
         None => return false,
     };
-    let third = match behind_word(text, second, b"DECLARE") {
-        Some(end) => end,
-        None => return false,
-    };
-    let last = match behind_word(text, third, b"SECTION") {
+    let last = match behind_word(text, second, b"SECTION") {
         Some(end) => end,
         None => return false,
     };
     byte_at(text, gap_stop(text, last), b';')
 }
 
-/// What the statement is that stands behind `EXEC SQL`.
-pub fn statement_kind(text: &[u8], from: usize) -> PieceKind
-    requires { from ≤ length text.now }
-    ensures { result ≡ read.statement_kind (drop from text.now) }
+/// What the statement is that begins with this word, behind which the index stands.
+pub fn statement_kind(text: &[u8], word: &[u8], behind: usize) -> PieceKind
+    requires { behind ≤ length text.now }
+    ensures { result ≡ kind_behind word.now (drop behind text.now) }
 {
-    if is_mark(text, from, b"BEGIN") {
+    if same_word(word, b"BEGIN") && ends_mark(text, behind) {
         PieceKind::SectionStart
-    } else if is_mark(text, from, b"END") {
+    } else if same_word(word, b"END") && ends_mark(text, behind) {
         PieceKind::SectionEnd
     } else {
         PieceKind::Emb
@@ -320,11 +214,13 @@ pub fn embedded(text: &[u8], from: usize) -> Found
     ensures within { FoundWithin from text.now result }
 {
     let first = gap_stop(text, from);
-    if begins_type(text, first) {
+    let behind = unit_end(text, first);
+    let word = &text[first..behind];
+    if is_type_word(word) {
         return declaration(text, first);
     }
     match statement_end(text, from) {
-        Some(end) => Found::Whole(statement_kind(text, from), end),
+        Some(end) => Found::Whole(statement_kind(text, word, behind), end),
         None => Found::Unended,
     }
 }

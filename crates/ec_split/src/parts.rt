@@ -1,22 +1,26 @@
 //! The first piece of a text, or the fault in its place.
-ghost use Rattle.std.specs.Prelude.{◌≡◌, ◌||◌, ◌+◌, ◌^◌, ◌≤◌, ◌<◌, length, drop, IfOk};
+ghost use Rattle.std.specs.Prelude.{◌≡◌, ◌+◌, ◌^◌, ◌≤◌, ◌<◌, length, drop, IfOk};
 ghost use Rattle.ec_base.specs.declared.stop.Stop.TheVariants as stops;
-ghost use Rattle.ec_language.specs.Letters as letters;
-ghost use Rattle.ec_language.specs.Line as lines;
-ghost use Rattle.ec_language.specs.Pieces as pieces;
 ghost use Rattle.ec_language.specs.ReadPieces as read;
-ghost use Rattle.ec_split.specs.Places.{part_read};
+ghost use Rattle.ec_split.specs.Places.{
+  part_read,
+  ends_c_text,
+  lines_between,
+  c_piece,
+  embedded_piece,
+};
 
-use crate::bytes::{begins_two, newlines};
-use crate::embedded::{Found, behind_start, embedded, starts_piece};
-use crate::ends::End;
-use crate::units::c_end;
+use crate::embedded::{Found, embedded};
+use crate::scanning::bytes::{begins_two, is_blank, newlines};
+use crate::scanning::ends::End;
+use crate::scanning::fronts::{behind_start, starts_piece};
+use crate::scanning::units::c_end;
 use ec_base::{FaultKind, Line, Stop};
 use ec_ctypes::PieceKind;
 
 /// What the piece is, and the index behind it.
 #[derive(Clone, Copy)]
-pub struct Part {
+pub struct Extent {
     pub kind: PieceKind,
     pub end: usize,
 }
@@ -37,7 +41,7 @@ impl From<Fault> for Stop {
 }
 
 /// The index where C text stops: an embedded piece starts there, or no unit stands there.
-#[tactic(auto, using(crate::proofs::Walks::c_next))]
+#[tactic(auto, using(crate::proofs::Walks::c_next, crate::proofs::Walks::blank_next))]
 pub fn c_stop(text: &[u8], from: usize) -> usize
     requires { from ≤ length text.now }
     ensures is { drop result text.now ≡ read.c_stop (drop from text.now) }
@@ -46,6 +50,10 @@ pub fn c_stop(text: &[u8], from: usize) -> usize
 {
     let mut at = from;
     while at < text.len() {
+        if is_blank(text[at]) {
+            at += 1;
+            continue;
+        }
         if starts_piece(text, at) {
             return at;
         }
@@ -60,7 +68,7 @@ pub fn c_stop(text: &[u8], from: usize) -> usize
 /// Whether the text ends at the index, or an embedded piece starts there.
 pub fn is_c_end(text: &[u8], at: usize) -> bool
     requires { at ≤ length text.now }
-    ensures { result ≡ (letters.is_empty (drop at text.now) || pieces.starts_piece (drop at text.now)) }
+    ensures { result ≡ ends_c_text (drop at text.now) }
 {
     at == text.len() || starts_piece(text, at)
 }
@@ -72,7 +80,7 @@ pub fn fault_at(text: &[u8], from: usize, line: u32, kind: FaultKind, at: usize)
     requires small { length text.now ≤ 2 ^ 24 }
     requires early { line ≤ from + 1 }
     ensures kind { result.kind ≡ kind }
-    ensures line { result.line.0 ≡ line + lines.newlines (read.front (drop from text.now) (drop at text.now)) }
+    ensures line { result.line.0 ≡ line + lines_between text.now from at }
 {
     Fault {
         kind,
@@ -81,16 +89,16 @@ pub fn fault_at(text: &[u8], from: usize, line: u32, kind: FaultKind, at: usize)
 }
 
 /// The C text that stands from the index on.
-pub fn c_part(text: &[u8], from: usize, line: u32) -> Result<Part, Fault>
+pub fn c_part(text: &[u8], from: usize, line: u32) -> Result<Extent, Fault>
     requires inside { from < length text.now }
     requires small { length text.now ≤ 2 ^ 24 }
     requires early { line ≤ from + 1 }
-    ensures is { part_read text.now from line result ≡ read.c_piece line (drop from text.now) (read.c_stop (drop from text.now)) }
+    ensures is { part_read text.now from line result ≡ c_piece line (drop from text.now) }
     ensures within { IfOk result (λ part. (from ≤ part.end) × (part.end ≤ length text.now)) }
 {
     let end = c_stop(text, from);
     if is_c_end(text, end) {
-        return Ok(Part {
+        return Ok(Extent {
             kind: PieceKind::C,
             end,
         });
@@ -104,16 +112,16 @@ pub fn c_part(text: &[u8], from: usize, line: u32) -> Result<Part, Fault>
 }
 
 /// The embedded piece that starts at the index, behind whose `EXEC SQL` the other index stands.
-pub fn embedded_part(text: &[u8], from: usize, line: u32, behind: usize) -> Result<Part, Fault>
+pub fn embedded_part(text: &[u8], from: usize, line: u32, behind: usize) -> Result<Extent, Fault>
     requires order { from ≤ behind }
     requires inside { behind ≤ length text.now }
     requires small { length text.now ≤ 2 ^ 24 }
     requires early { line ≤ from + 1 }
-    ensures is { part_read text.now from line result ≡ read.embedded_piece line (drop from text.now) (read.embedded (drop behind text.now)) }
+    ensures is { part_read text.now from line result ≡ embedded_piece text.now from line behind }
     ensures within { IfOk result (λ part. (from ≤ part.end) × (part.end ≤ length text.now)) }
 {
     match embedded(text, behind) {
-        Found::Whole(kind, end) => Ok(Part { kind, end }),
+        Found::Whole(kind, end) => Ok(Extent { kind, end }),
         Found::CutAt(at) => Err(fault_at(text, from, line, FaultKind::F2, at)),
         Found::Unended => Err(Fault {
             kind: FaultKind::F3,
@@ -123,7 +131,7 @@ pub fn embedded_part(text: &[u8], from: usize, line: u32, behind: usize) -> Resu
 }
 
 /// The piece that stands from the index on, of a text that begins on this line there.
-pub fn first_part(text: &[u8], from: usize, line: u32) -> Result<Part, Fault>
+pub fn first_part(text: &[u8], from: usize, line: u32) -> Result<Extent, Fault>
     requires inside { from < length text.now }
     requires small { length text.now ≤ 2 ^ 24 }
     requires early { line ≤ from + 1 }

@@ -1,16 +1,18 @@
 //! The splitter.
-ghost use Rattle.std.specs.Prelude.{◌≡◌, ℕ, ◌^◌, ◌≤◌, length, List as Sequence, IfOk, Ok, Err};
-ghost use Rattle.ec_base.specs.declared.fault.FaultKind.{FaultKind};
+ghost use Rattle.std.specs.Prelude.{◌≡◌, ◌^◌, ◌≤◌, length, IfOk, Err};
 ghost use Rattle.ec_base.specs.declared.fault.LimitKind.{LimitKind};
 ghost use Rattle.ec_base.specs.declared.stop.Stop.TheVariants as stops;
-ghost use Rattle.ec_ctypes.specs.declared.text.piece.Piece.{Piece as ThePiece};
 ghost use Rattle.ec_language.specs.Pieces.{Pieces};
-ghost use Rattle.ec_language.specs.PieceFaults.{PieceFault};
 ghost use Rattle.ec_language.specs.ReadPieces as read;
-ghost use Rattle.ec_split.specs.Answers.{UnlessNoMemory, AnswersReading};
+ghost use Rattle.ec_split.specs.Answers.{
+  AnswersReading,
+  FindsAllPieces,
+  FindsFault,
+  FindsAllFaults,
+};
 
-use crate::bytes::newlines;
 use crate::parts::first_part;
+use crate::scanning::bytes::newlines;
 use ec_base::{Line, List, Stop};
 use ec_ctypes::Piece;
 use std::alloc::Global;
@@ -37,13 +39,14 @@ pub fn all_parts(alloc: Global, text: &[u8]) -> Result<List<Piece>, Stop>
     Ok(pieces)
 }
 
-/// The pieces of a text: C text, and what is embedded in it. A text that has none is refused for its first fault.
+/// The pieces of a text: C text, and what is embedded in it. A text that has none is refused for its
+/// first fault.
 pub fn split(alloc: Global, text: &[u8]) -> Result<List<Piece>, Stop>
     requires { length text.now ≤ 2 ^ 24 }
     ensures pieces { IfOk result (λ pieces. Pieces text.now pieces) }
-    ensures all_pieces { (pieces : Sequence ThePiece) → Pieces text.now pieces → UnlessNoMemory result (result ≡ Ok pieces) }
-    ensures fault { (kind : FaultKind) (line : ℕ) → result ≡ Err (stops.Refused kind (record { 0 = line })) → PieceFault text.now kind line }
-    ensures all_faults { (kind : FaultKind) (line : ℕ) → PieceFault text.now kind line → UnlessNoMemory result (result ≡ Err (stops.Refused kind (record { 0 = line }))) }
+    ensures all_pieces { FindsAllPieces text.now result }
+    ensures fault { FindsFault text.now result }
+    ensures all_faults { FindsAllFaults text.now result }
     ensures no_limit { (limit : LimitKind) → result ≡ Err (stops.Limit limit) → ⊥ }
 {
     all_parts(alloc, text)

@@ -1,5 +1,5 @@
 use Rattle.std.proofs.Common.{[], arith}
-use Rattle.ec_clex.proofs.PieceTokens.{pieces_total, pieces_units, answer_tokens, answer_only, answer_stop, answer_stops}
+use Rattle.ec_clex.proofs.PieceTokens.{pieces_total, pieces_units, answer_tokens, answer_ends, answer_only, answer_stop, answer_stops}
 use Rattle.ec_clex.proofs.lexer.tokens.Goals as goal
 
 pub read_tokens-requires-clause-small : goal.read_tokens-requires-clause-small
@@ -27,3 +27,7 @@ returns-clause-stop c = let told = rw c.as_slice.ensures at c.read_tokens.ensure
 
 pub returns-clause-stops : goal.returns-clause-stops
 returns-clause-stops c = let told = rw c.as_slice.ensures at c.read_tokens.ensures in answer_stops c.args.written c.args.pieces.now c.read_tokens.result told
+
+pub returns-clause-ends : goal.returns-clause-ends
+returns-clause-ends c =
+    let told = rw c.as_slice.ensures at c.read_tokens.ensures in answer_ends c.args.written c.requires.0 c.args.pieces.now c.read_tokens.result c.requires.2 told

@@ -1,16 +1,12 @@
-use Rattle.std.proofs.Common.{◌+◌, false, drop}
-use Rattle.std.specs.List.{concat}
-use Rattle.ec_language.specs.Tokens.{lines_before}
-use Rattle.ec_language.specs.SqlTokens.{sql_tokens_from}
-use Rattle.ec_language.specs.ReadTokens.{sql_units}
-use Rattle.ec_clex.proofs.SqlSteps.{statement_tokens, told_tokens}
+use Rattle.ec_clex.proofs.SqlSteps.{statement_refused, statement_told}
 use Rattle.ec_clex.proofs.sql.sql_tokens.Goals as goal
 
-pub returns : goal.returns
-returns c units are =
-    let bytes = c.args.piece.now.bytes in
-    let text = c.as_slice-text.result.now in
-    let from = c.behind-from.result in
-    let line = c.args.piece.now.line.0 in
-    told_tokens c.tokens_from.result (sql_tokens_from false (line + c.newlines.result) (sql_units (drop from text))) (sql_tokens_from false (line + lines_before bytes (concat units)) units)
-    (statement_tokens text bytes from line c.newlines.result units c.as_slice-text.ensures c.behind-from.ensures.is c.newlines.ensures.is are) c.tokens_from.ensures
+pub returns-in-Some : goal.returns-in-Some
+returns-in-Some c answer is =
+    statement_refused c.as_slice-text.result.now c.args.piece.now.bytes c.behind-from.result c.args.piece.now.line.0 c.newlines.result c.in-Some.bad answer
+    c.as_slice-text.ensures c.behind-from.ensures.is c.newlines.ensures.is c.in-Some.ensures.is is
+
+pub returns-in_ok-tokens_from-in-None : goal.returns-in_ok-tokens_from-in-None
+returns-in_ok-tokens_from-in-None c answer is =
+    statement_told c.as_slice-text.result.now c.args.piece.now.bytes c.behind-from.result c.args.piece.now.line.0 c.newlines.result c.in_ok-tokens_from-in-None.field-0 answer
+    c.as_slice-text.ensures c.behind-from.ensures.is c.newlines.ensures.is c.in-None.ensures.is c.in_ok-tokens_from-in-None.ensures is

@@ -1,9 +1,0 @@
-use Rattle.std.proofs.Common.{◌≡◌, ◌-◌, ◌≤◌, length, drop}
-use Rattle.ec_language.specs.ReadPieces as read
-use Rattle.ec_split.proofs.ends.escaped_end.Given as goal
-
-abbrev pub invariant-loop-at : goal.invariant-loop-at
-invariant-loop-at l = record { same : read.escaped_end (drop l.at l.text) ≡ read.escaped_end (drop l.from l.text); order : l.from ≤ l.at; inside : l.at ≤ length l.text }
-
-abbrev pub decreases-loop-at : goal.decreases-loop-at
-decreases-loop-at l = length l.text - l.at

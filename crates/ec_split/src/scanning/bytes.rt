@@ -1,0 +1,153 @@
+//! Single bytes of a text, and the first bytes from an index on.
+ghost use Rattle.std.specs.Prelude.{◌≡◌, ◌+◌, ◌≤◌, length, drop, take, true, [], ◌∷◌, ◌==◌};
+ghost use Rattle.ec_language.specs.Letters as letters;
+ghost use Rattle.ec_language.specs.Line as lines;
+ghost use Rattle.ec_language.specs.ReadPieces as read;
+ghost use Rattle.ec_split.specs.Places.{class_test};
+
+/// A class of bytes.
+#[derive(Clone, Copy)]
+pub enum ByteClass {
+    /// Space, tab, newline, vertical tab, form feed and carriage return.
+    Blank,
+    /// What a word of C goes on with.
+    Word,
+    /// What a number goes on with.
+    Number,
+    /// What a word of SQL goes on with.
+    SqlWord,
+    /// All but a newline.
+    Line,
+}
+
+/// Whether the byte is a blank.
+pub fn is_blank(byte: u8) -> bool
+    ensures { result ≡ letters.is_blank byte }
+{
+    byte == b' ' || (9 <= byte && byte <= 13)
+}
+
+/// Whether the byte is a digit.
+pub fn is_digit(byte: u8) -> bool
+    ensures { result ≡ letters.is_digit byte }
+{
+    48 <= byte && byte <= 57
+}
+
+/// Whether a word of C begins with the byte.
+pub fn is_word_start(byte: u8) -> bool
+    ensures { result ≡ letters.is_word_start byte }
+{
+    (65 <= byte && byte <= 90) || (97 <= byte && byte <= 122) || byte == b'_'
+}
+
+/// Whether a word of SQL begins with the byte.
+pub fn is_sql_word_start(byte: u8) -> bool
+    ensures { result ≡ letters.is_sql_word_start byte }
+{
+    is_word_start(byte) || 128 <= byte
+}
+
+/// Whether the byte is a quote.
+pub fn is_quote(byte: u8) -> bool
+    ensures { result ≡ letters.is_quote byte }
+{
+    byte == b'\'' || byte == b'"'
+}
+
+/// Whether the byte is one of the class.
+pub fn is_in(class: ByteClass, byte: u8) -> bool
+    ensures { result ≡ class_test class byte }
+{
+    match class {
+        ByteClass::Blank => is_blank(byte),
+        ByteClass::Word => is_word_start(byte) || is_digit(byte),
+        ByteClass::Number => is_word_start(byte) || is_digit(byte) || byte == b'.',
+        ByteClass::SqlWord => is_sql_word_start(byte) || is_digit(byte) || byte == b'$',
+        ByteClass::Line => byte != b'\n',
+    }
+}
+
+/// The byte in lower case.
+pub fn lower(byte: u8) -> u8
+    ensures { result ≡ letters.lower byte }
+{
+    if 65 <= byte && byte <= 90 {
+        byte + 32
+    } else {
+        byte
+    }
+}
+
+/// Whether the byte at the index is one of the class.
+pub fn class_at(class: ByteClass, text: &[u8], at: usize) -> bool
+    ensures { result ≡ letters.begins (class_test class) (drop at text.now) }
+{
+    at < text.len() && is_in(class, text[at])
+}
+
+/// Whether the byte at the index is this one.
+pub fn byte_at(text: &[u8], at: usize, byte: u8) -> bool
+    ensures { result ≡ letters.begins (λ b. b == byte) (drop at text.now) }
+{
+    at < text.len() && text[at] == byte
+}
+
+/// Whether these two bytes stand at the index.
+#[tactic(auto, using(crate::proofs::Steps::short_two))]
+pub fn begins_two(text: &[u8], at: usize, first: u8, second: u8) -> bool
+    requires { at ≤ length text.now }
+    ensures is { result ≡ letters.begins_with (first ∷ second ∷ []) (drop at text.now) }
+    ensures fits { result ≡ true → at + 2 ≤ length text.now }
+{
+    if text.len() - at < 2 {
+        return false;
+    }
+    text[at] == first && text[at + 1] == second
+}
+
+/// Whether this word stands at the index, in any case of letters.
+pub fn word_at(text: &[u8], at: usize, word: &[u8]) -> bool
+    requires { at ≤ length text.now }
+    ensures is { result ≡ letters.same_word (take (length word.now) (drop at text.now)) word.now }
+    ensures fits { result ≡ true → at + length word.now ≤ length text.now }
+{
+    for (i, byte) in word.iter().enumerate() {
+        if text.len() - at <= i || lower(text[at + i]) != lower(*byte) {
+            return false;
+        }
+    }
+    true
+}
+
+/// Where the bytes of the class end that stand from the index on.
+#[inline(always)]
+pub fn behind_all(class: ByteClass, text: &[u8], from: usize) -> usize
+    requires { from ≤ length text.now }
+    ensures rest { drop result text.now ≡ read.behind_all (class_test class) (drop from text.now) }
+    ensures behind { from ≤ result }
+    ensures within { result ≤ length text.now }
+{
+    let mut at = from;
+    while at < text.len() {
+        if !is_in(class, text[at]) {
+            return at;
+        }
+        at += 1;
+    }
+    at
+}
+
+/// How many newlines stand in the bytes.
+pub fn newlines(bytes: &[u8]) -> usize
+    ensures is { result ≡ lines.newlines bytes.now }
+    ensures most { result ≤ length bytes.now }
+{
+    let mut count = 0;
+    for byte in bytes {
+        if *byte == b'\n' {
+            count += 1;
+        }
+    }
+    count
+}
