@@ -11,9 +11,8 @@ mod trees;
 
 use crate::printer::Printer;
 use crate::rows::show_rows;
-use crate::task::{MAX_TEXT, show, task_named};
-use ec_base::{Bytes, OutOfMemory, ReadStop, StdSink, StdSource, put_all, read_all};
-use std::alloc::Global;
+use crate::task::{MAX_TEXT, Task, show, show_limit, task_named};
+use ec_base::{Bytes, InputStop, LimitKind, OutOfMemory, StdSink, StdSource, put_all, read_all};
 use std::process::ExitCode;
 use std::{env, str};
 
@@ -34,17 +33,17 @@ impl From<OutOfMemory> for Failure {
     }
 }
 
-impl From<ReadStop> for Failure {
-    fn from(stop: ReadStop) -> Failure {
+impl From<InputStop> for Failure {
+    fn from(stop: InputStop) -> Failure {
         match stop {
-            ReadStop::OutOfMemory => Failure::OutOfMemory,
-            ReadStop::Fault | ReadStop::TooLong => Failure::Read,
+            InputStop::OutOfMemory => Failure::OutOfMemory,
+            InputStop::Fault | InputStop::TooLong => Failure::Read,
         }
     }
 }
 
 // The words behind the program's name, with blanks between them.
-fn asked_for(rt: &HostRuntime) -> Result<Bytes, OutOfMemory> {
+fn words(rt: &HostRuntime) -> Result<Bytes, OutOfMemory> {
     let mut asked = Bytes::new(rt.alloc());
     if let Ok(words) = env::args(rt) {
         for word in words.skip(1) {
@@ -57,31 +56,33 @@ fn asked_for(rt: &HostRuntime) -> Result<Bytes, OutOfMemory> {
     Ok(asked)
 }
 
-// Prints what is asked for of the text.
-fn print(alloc: Global, printer: &mut Printer, asked: &[u8], text: &[u8]) -> Result<(), Failure> {
-    if let Some(task) = task_named(asked) {
-        return Ok(show(alloc, printer, task, text)?);
+// Reads a text, and prints what is asked for of it.
+fn print_text(rt: &HostRuntime, printer: &mut Printer, task: Task) -> Result<(), Failure> {
+    match read_all(rt.alloc(), &mut StdSource::new(rt.stdin()), MAX_TEXT) {
+        Ok(text) => Ok(show(rt.alloc(), printer, task, text.as_slice())?),
+        Err(InputStop::TooLong) => Ok(show_limit(printer, LimitKind::L6)?),
+        Err(stop) => Err(Failure::from(stop)),
     }
-    match str::from_utf8(text) {
-        Ok(rows) => Ok(show_rows(alloc, printer, rows)?),
+}
+
+// Reads rows, and prints what each asks for.
+fn print_rows(rt: &HostRuntime, printer: &mut Printer) -> Result<(), Failure> {
+    let rows = read_all(rt.alloc(), &mut StdSource::new(rt.stdin()), MAX_ROWS)?;
+    match str::from_utf8(rows.as_slice()) {
+        Ok(rows) => Ok(show_rows(rt.alloc(), printer, rows)?),
         Err(_) => Err(Failure::Read),
     }
 }
 
 fn run(rt: &HostRuntime) -> Result<(), Failure> {
-    let alloc = rt.alloc();
-    let asked = asked_for(rt)?;
-    let of_rows = asked.as_slice() == b"rows".as_slice();
-    if !of_rows && task_named(asked.as_slice()).is_none() {
-        return Err(Failure::Usage);
+    let asked = words(rt)?;
+    let mut printer = Printer::new(rt.alloc());
+    match task_named(asked.as_slice()) {
+        Some(task) => print_text(rt, &mut printer, task)?,
+        None if asked.as_slice() == b"rows".as_slice() => print_rows(rt, &mut printer)?,
+        None => return Err(Failure::Usage),
     }
-    let mut input = StdSource::new(rt.stdin());
-    let limit = if of_rows { MAX_ROWS } else { MAX_TEXT + 1 };
-    let text = read_all(alloc, &mut input, limit)?;
-    let mut printer = Printer::new(alloc);
-    print(alloc, &mut printer, asked.as_slice(), text.as_slice())?;
-    let mut output = StdSink::new(rt.stdout());
-    match put_all(&mut output, printer.as_slice()) {
+    match put_all(&mut StdSink::new(rt.stdout()), printer.as_slice()) {
         Ok(()) => Ok(()),
         Err(_) => Err(Failure::Write),
     }

@@ -101,15 +101,15 @@ fn show_fault(printer: &mut Printer, kind: FaultKind, line: Line) -> Result<(), 
     printer.end_line()
 }
 
-// Prints a limit.
-fn show_limit(printer: &mut Printer, kind: LimitKind) -> Result<(), OutOfMemory> {
+/// Prints a limit.
+pub fn show_limit(printer: &mut Printer, kind: LimitKind) -> Result<(), OutOfMemory> {
     printer.atom("limit")?;
     printer.atom(kind.text())?;
     printer.end_line()
 }
 
 // Prints the tokens of an embedded statement.
-fn show_statement(alloc: Global, printer: &mut Printer, piece: &Piece) -> Result<(), OutOfMemory> {
+fn show_statement(alloc: Global, printer: &mut Printer, piece: &Piece) -> Result<(), Stop> {
     let last = u64::from(piece.line.0).saturating_add(piece.bytes.len() as u64);
     if last < 1 << 32 {
         printer.sql_tokens(&sql_tokens(alloc, piece)?)?;
@@ -123,7 +123,7 @@ fn show_tokens(
     printer: &mut Printer,
     pieces: &List<Piece>,
     found: &List<Token>,
-) -> Result<(), OutOfMemory> {
+) -> Result<(), Stop> {
     let mut rest = pieces.as_slice().iter();
     for token in found.as_slice() {
         printer.token(token)?;
@@ -149,7 +149,7 @@ fn show_read(alloc: Global, printer: &mut Printer, task: Task, text: &[u8]) -> R
     }
     let found = tokens(alloc, &pieces, task.written)?;
     if matches!(task.part, Part::Tokens) {
-        return Ok(show_tokens(alloc, printer, &pieces, &found)?);
+        return show_tokens(alloc, printer, &pieces, &found);
     }
     let unit = parse(alloc, &found)?;
     if matches!(task.part, Part::Syntax) {
