@@ -3,6 +3,7 @@
 //! `ec_show rows` prints it of many texts. docs/SHOWN.md has the form.
 #![tactic(auto)]
 
+mod arithmetic;
 mod pieces;
 mod printer;
 mod rows;

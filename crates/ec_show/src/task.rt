@@ -9,6 +9,7 @@ use ec_csyntax::parse;
 use ec_ctypes::{Piece, PieceKind, Tok, Token};
 use ec_split::split;
 use std::alloc::Global;
+use std::str;
 
 /// The most bytes of a text.
 pub const MAX_TEXT: usize = 1 << 24;
@@ -21,6 +22,8 @@ enum Part {
     Syntax,
     // Whether it has a tree.
     Verdict,
+    // Questions on types and numbers, and no source.
+    Arithmetic,
 }
 
 /// What is printed of a text.
@@ -31,7 +34,7 @@ pub struct Task {
     written: bool,
 }
 
-const TASKS: [(&str, Task); 7] = [
+const TASKS: [(&str, Task); 8] = [
     (
         "pieces",
         Task {
@@ -79,6 +82,13 @@ const TASKS: [(&str, Task); 7] = [
         Task {
             part: Part::Verdict,
             written: true,
+        },
+    ),
+    (
+        "arithmetic",
+        Task {
+            part: Part::Arithmetic,
+            written: false,
         },
     ),
 ];
@@ -158,6 +168,14 @@ fn show_read(alloc: Global, printer: &mut Printer, task: Task, text: &[u8]) -> R
     Ok(printer.plain(b"read\n")?)
 }
 
+// Prints the answers to questions.
+fn show_arithmetic(printer: &mut Printer, text: &[u8]) -> Result<(), OutOfMemory> {
+    match str::from_utf8(text) {
+        Ok(questions) => printer.arithmetic(questions),
+        Err(_) => Ok(()),
+    }
+}
+
 /// Prints what is asked for of a text, or the fault or the limit for which it is refused.
 pub fn show(
     alloc: Global,
@@ -167,6 +185,9 @@ pub fn show(
 ) -> Result<(), OutOfMemory> {
     if text.len() > MAX_TEXT {
         return show_limit(printer, LimitKind::L6);
+    }
+    if matches!(task.part, Part::Arithmetic) {
+        return show_arithmetic(printer, text);
     }
     match show_read(alloc, printer, task, text) {
         Ok(()) => Ok(()),
