@@ -149,7 +149,20 @@ impl Printer {
                 self.open("size-of")?;
                 self.last(of.get())
             }
-            _ => Ok(()),
+            // Printed above.
+            Expr::Int(_, _)
+            | Expr::Char(_)
+            | Expr::Str(_)
+            | Expr::Name(_)
+            | Expr::Unary(_, _)
+            | Expr::Binary(_, _, _)
+            | Expr::Assign(_, _, _)
+            | Expr::Bump { .. }
+            | Expr::Call(_, _)
+            | Expr::CallOther(_, _)
+            | Expr::Index(_, _)
+            | Expr::Member(_, _)
+            | Expr::Arrow(_, _) => Ok(()),
         }
     }
 

@@ -106,7 +106,18 @@ impl Printer {
                 self.optional(step)?;
                 self.inner(body.get())
             }
-            _ => Ok(()),
+            // Printed above.
+            StmtKind::Empty
+            | StmtKind::Expr(_)
+            | StmtKind::Block(_)
+            | StmtKind::Break
+            | StmtKind::Continue
+            | StmtKind::Return(_)
+            | StmtKind::Goto(_)
+            | StmtKind::Label(_, _)
+            | StmtKind::Decl(_)
+            | StmtKind::Emb(_)
+            | StmtKind::Mark(_) => Ok(()),
         }
     }
 }
