@@ -1,7 +1,7 @@
 //! Expressions, the types that stand in them, and the declarations that stand in those.
 
 use crate::printer::Printer;
-use ec_base::{Bytes, List, Name, OutOfMemory};
+use ec_base::{Boxed, Bytes, List, Name, OutOfMemory};
 use ec_ctypes::{Base, BinOp, Decl, Declarator, Expr, Init, Ty};
 use itoa::Buffer;
 
@@ -105,7 +105,7 @@ impl Printer {
             Expr::Call(name, arguments) => {
                 self.open("call")?;
                 self.name(name.as_slice())?;
-                self.arguments(arguments)
+                self.arguments(arguments.get())
             }
             Expr::CallOther(function, arguments) => {
                 self.open("call-other")?;
@@ -135,13 +135,13 @@ impl Printer {
         match expression {
             Expr::Cast(base, stars, of) => {
                 self.open("cast")?;
-                self.base(base)?;
+                self.base(base.get())?;
                 self.stars(*stars)?;
                 self.last(of.get())
             }
             Expr::SizeType(base, stars) => {
                 self.open("size-of-type")?;
-                self.base(base)?;
+                self.base(base.get())?;
                 self.stars(*stars)?;
                 self.close()
             }
@@ -203,9 +203,17 @@ impl Printer {
             }
             Base::Struct(tag, members) => {
                 self.open("struct")?;
-                self.optional_name(tag)?;
-                self.members(members)
+                self.tag(tag)?;
+                self.members(members.get())
             }
+        }
+    }
+
+    // Prints the tag of a struct with members, or that there is none.
+    fn tag(&mut self, tag: &Option<Boxed<Name>>) -> Result<(), OutOfMemory> {
+        match tag {
+            Some(tag) => self.name(tag.get().as_slice()),
+            None => self.absent(),
         }
     }
 

@@ -59,7 +59,7 @@ impl Printer {
                 self.close()
             }
             Top::Decl(declaration) => self.declaration(declaration),
-            Top::Func(function) => self.function(function),
+            Top::Func(function) => self.function(function.get()),
             Top::Mark(opens, line) => {
                 self.open("mark")?;
                 self.line(*line)?;

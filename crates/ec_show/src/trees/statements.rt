@@ -13,7 +13,7 @@ fn form_of(kind: &StmtKind) -> &'static str {
         StmtKind::If(_, _, _) => "if",
         StmtKind::While(_, _) => "while",
         StmtKind::Do(_, _) => "do",
-        StmtKind::For(_, _, _, _) => "for",
+        StmtKind::For(_, _) => "for",
         StmtKind::Break => "break",
         StmtKind::Continue => "continue",
         StmtKind::Return(_) => "return",
@@ -69,7 +69,7 @@ impl Printer {
             StmtKind::Block(statements) => self.statements(statements),
             StmtKind::Return(value) => self.optional(value),
             StmtKind::Goto(label) => self.name(label.as_slice()),
-            StmtKind::Decl(declaration) => self.declaration(declaration),
+            StmtKind::Decl(declaration) => self.declaration(declaration.get()),
             StmtKind::Emb(number) => self.number(u64::from(*number)),
             StmtKind::Mark(opens) => self.side(*opens),
             StmtKind::Label(label, body) => {
@@ -85,7 +85,7 @@ impl Printer {
     fn guarded(&mut self, kind: &StmtKind) -> Result<(), OutOfMemory> {
         match kind {
             StmtKind::If(test, then, otherwise) => {
-                self.expression(test)?;
+                self.expression(test.get())?;
                 self.inner(then.get())?;
                 match otherwise {
                     Some(otherwise) => self.inner(otherwise.get()),
@@ -100,10 +100,11 @@ impl Printer {
                 self.inner(body.get())?;
                 self.expression(test)
             }
-            StmtKind::For(first, test, step, body) => {
-                self.optional(first)?;
-                self.optional(test)?;
-                self.optional(step)?;
+            StmtKind::For(parts, body) => {
+                let parts = parts.get();
+                self.optional(&parts.first)?;
+                self.optional(&parts.condition)?;
+                self.optional(&parts.step)?;
                 self.inner(body.get())
             }
             // Printed above.
