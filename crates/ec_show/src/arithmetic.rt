@@ -37,7 +37,7 @@ fn type_named(name: &str) -> Option<Arith> {
 }
 
 // The answer to `promote TYPE`, `usual TYPE TYPE` or `convert TYPE NUMBER`.
-fn answer(question: &str) -> Option<Answer> {
+fn answer_to(question: &str) -> Option<Answer> {
     let mut words = question.split_whitespace();
     let function = words.next()?;
     let ty = type_named(words.next()?)?;
@@ -58,7 +58,7 @@ impl Printer {
     /// Prints the answers to the questions of a text, each on a line.
     pub fn arithmetic(&mut self, questions: &str) -> Result<(), OutOfMemory> {
         for question in questions.lines() {
-            match answer(question) {
+            match answer_to(question) {
                 Some(Answer::Type(ty)) => self.ty(&Ty::from(ty))?,
                 Some(Answer::Number(number)) => self.atom(Buffer::new().format(number))?,
                 None => self.absent()?,
