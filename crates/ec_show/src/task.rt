@@ -34,70 +34,26 @@ pub struct Task {
     written: bool,
 }
 
-const TASKS: [(&str, Task); 8] = [
-    (
-        "pieces",
-        Task {
-            part: Part::Pieces,
-            written: false,
-        },
-    ),
-    (
-        "tokens",
-        Task {
-            part: Part::Tokens,
-            written: false,
-        },
-    ),
-    (
-        "tokens written",
-        Task {
-            part: Part::Tokens,
-            written: true,
-        },
-    ),
-    (
-        "syntax",
-        Task {
-            part: Part::Syntax,
-            written: false,
-        },
-    ),
-    (
-        "syntax written",
-        Task {
-            part: Part::Syntax,
-            written: true,
-        },
-    ),
-    (
-        "verdict",
-        Task {
-            part: Part::Verdict,
-            written: false,
-        },
-    ),
-    (
-        "verdict written",
-        Task {
-            part: Part::Verdict,
-            written: true,
-        },
-    ),
-    (
-        "arithmetic",
-        Task {
-            part: Part::Arithmetic,
-            written: false,
-        },
-    ),
+// The name of each task, its part, and whether the text is written C.
+const TASKS: [(&str, Part, bool); 8] = [
+    ("pieces", Part::Pieces, false),
+    ("tokens", Part::Tokens, false),
+    ("tokens written", Part::Tokens, true),
+    ("syntax", Part::Syntax, false),
+    ("syntax written", Part::Syntax, true),
+    ("verdict", Part::Verdict, false),
+    ("verdict written", Part::Verdict, true),
+    ("arithmetic", Part::Arithmetic, false),
 ];
 
 /// The task of this name.
 pub fn task_named(name: &[u8]) -> Option<Task> {
-    for (known, task) in TASKS.iter() {
+    for (known, part, written) in TASKS.iter() {
         if known.as_bytes() == name {
-            return Some(*task);
+            return Some(Task {
+                part: *part,
+                written: *written,
+            });
         }
     }
     None
