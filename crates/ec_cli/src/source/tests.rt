@@ -1,6 +1,6 @@
 use crate::source::read_source;
 use ec_base::{FaultKind, Line, Stop};
-use ec_model::{Letter, Statement};
+use ec_firstpath::{Letter, Statement};
 use std::test::Fail;
 
 const PROGRAM: &str =

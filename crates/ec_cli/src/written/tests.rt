@@ -1,7 +1,7 @@
 use crate::written::read::read_written;
 use crate::written::write::write;
 use ec_base::{Bytes, Line, List};
-use ec_model::{Action, Letter, Source, Statement, Symbol, WrittenStatement};
+use ec_firstpath::{Action, Letter, Source, Statement, Symbol, WrittenStatement};
 use std::test::Fail;
 
 /// What is written for one SELECT into `x`, and for a `printf` of it.
