@@ -1,6 +1,6 @@
 //! The replies of the rows.
 
-use ec_base::{Bytes, List};
+use ec_base::{Bytes, List, Name};
 use ec_link::{Col, MemLink, Reply, Row, SqlState, Table, Tx};
 use std::alloc::Global;
 use std::test::Fail;
@@ -26,7 +26,7 @@ fn cols(alloc: Global, count: u8) -> Result<List<Col>, Fail> {
     let mut cols = List::new(alloc);
     for _ in 0..count {
         cols.push(Col {
-            name: List::from_slice(alloc, b"a")?,
+            name: Name::from_slice(alloc, b"a")?,
             code: 4,
         })?;
     }

@@ -1,6 +1,6 @@
 //! Calls of the tool over objects in memory, and what they leave.
 
-use ec_base::{Bytes, InputStop, List, MemSink, MemSource, read_all};
+use ec_base::{Bytes, InputStop, List, MemSink, MemSource, Name, read_all};
 use ec_cli::{Ending, ec_main};
 use ec_link::{Link, Logged, Rack, Reply, Request, Slot};
 use std::alloc::Global;
@@ -73,7 +73,7 @@ fn words(alloc: Global, texts: &[&str]) -> Result<Vec<String>, Fail> {
 /// A rack with the one slot `db`, which is ready.
 pub fn rack_over(alloc: Global, link: Box<dyn Link>) -> Result<Rack, Fail> {
     let mut rack = Rack::new(alloc);
-    let name = List::from_slice(alloc, b"db")?;
+    let name = Name::from_slice(alloc, b"db")?;
     rack.add_ready(name, link)
         .map_err(|_| Fail::new("no memory for a slot"))?;
     Ok(rack)
