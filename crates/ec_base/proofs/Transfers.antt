@@ -1,5 +1,5 @@
 -- Reads of a source and puts into a sink, one after another.
-use Rattle.std.proofs.Common.{◌≡◌, ℕ, suc, ◌∷◌, get_or, take, drop, take-append-drop, ◌-◌, ◌^◌, ◌<◌, ◌≤◌, List, [], ◌++◌, length, Option, None, Some, sym, ap, ◌∙◌, subst, append_assoc, append-nil, arith, length-append}
+use Rattle.std.proofs.Common.{◌≡◌, refl, ℕ, suc, ◌∷◌, get_or, take, drop, take-append-drop, ◌-◌, ◌^◌, ◌<◌, ◌≤◌, List, [], ◌++◌, length, Option, None, Some, sym, ap, ◌∙◌, subst, append_assoc, append-nil, arith, length-append}
 use Rattle.std.proofs.Math.Seq.{drop-cons}
 use Rattle.std.proofs.lemmas.Grind.{flat_map-append}
 use Rattle.std.specs.List.{flat_map}
@@ -8,7 +8,7 @@ use Rattle.std.proofs.KnownBytes.{Appends-nil, Appends-trans, Consumes-nil, Cons
 use Rattle.ec_base.specs.declared.stop.InputStop.TheVariants.{TooLong}
 use Rattle.ec_base.specs.Causes.{Rose}
 use Rattle.ec_base.specs.Reading.{Reads, ReadsAll, ReadsPart}
-use Rattle.ec_base.specs.Putting.{Puts, PutsPart}
+use Rattle.ec_base.specs.Putting.{Puts, Took, PutsPart}
 
 -- ---- counts of faults
 
@@ -38,10 +38,10 @@ Consumes-whole xs (Some ys) bs p q = sym (p ∙ ap (λ l. bs ++ l) q ∙ append-
 
 module _ {S : Type 0} {left : S → Option (List ℕ)} {faults : S → ℕ} where
   pub Reads-none : (a : S) → Reads left faults a a []
-  Reads-none a = record { taken = Consumes-nil (left a); later = omega arith }
+  Reads-none a = record { taken = Consumes-nil (left a); steady = refl }
 
   pub Reads-then : {a b c : S} {xs ys : List ℕ} → Reads left faults a b xs → Reads left faults b c ys → Reads left faults a c (xs ++ ys)
-  Reads-then p q = record { taken = Consumes-trans _ _ _ _ _ p.taken q.taken; later = omega (arith, p.later, q.later) }
+  Reads-then p q = record { taken = Consumes-trans _ _ _ _ _ p.taken q.taken; steady = q.steady ∙ p.steady }
 
   -- a source that tells its bytes gives them
   pub ReadsAll-text : {a b : S} {limit : ℕ} {bytes text : List ℕ} → left a ≡ Some text → ReadsAll left faults a b limit bytes → bytes ≡ text
@@ -51,8 +51,8 @@ module _ {S : Type 0} {left : S → Option (List ℕ)} {faults : S → ℕ} wher
   -- and only a text beyond the limit is too long
   pub ReadsPart-long : {a b : S} {limit : ℕ} {text : List ℕ} → left a ≡ Some text → ReadsPart left faults a b limit TooLong → limit < length text
   ReadsPart-long {b} {text} e p =
-      let front = Consumes-front text (left b) p.bytes (subst (λ o. Consumes o (left b) p.bytes) e p.reads.taken) in
-      rw front.1 omega (arith, p.reason, length-append p.bytes front.0)
+      let front = Consumes-front text (left b) p.bytes (subst (λ o. Consumes o (left b) p.bytes) e p.taken) in
+      rw front.1 omega (arith, p.reason.1, length-append p.bytes front.0)
 
 -- ---- a sink
 
@@ -65,11 +65,19 @@ flat_map_at piece items i x h e =
 
 module _ {S : Type 0} {held : S → Option (List ℕ)} {faults : S → ℕ} where
   pub Puts-none : (a : S) → Puts held faults a a []
-  Puts-none a = record { taken = Appends-nil (held a); later = omega arith }
+  Puts-none a = record { taken = Appends-nil (held a); steady = refl }
 
   -- two pieces, one after the other
   pub Puts-then : {a b c : S} {xs ys : List ℕ} → Puts held faults a b xs → Puts held faults b c ys → Puts held faults a c (xs ++ ys)
-  Puts-then p q = record { taken = Appends-trans _ _ _ _ _ p.taken q.taken; later = omega (arith, p.later, q.later) }
+  Puts-then p q = record { taken = Appends-trans _ _ _ _ _ p.taken q.taken; steady = q.steady ∙ p.steady }
+
+  -- a sink that took all of it took it
+  pub Took-puts : {a b : S} {xs : List ℕ} → Puts held faults a b xs → Took held faults a b xs
+  Took-puts p = record { taken = p.taken; later = omega (arith, p.steady) }
+
+  -- two pieces, where the sink may have failed behind the second
+  pub Took-then : {a b c : S} {xs ys : List ℕ} → Puts held faults a b xs → Took held faults b c ys → Took held faults a c (xs ++ ys)
+  Took-then p q = record { taken = Appends-trans _ _ _ _ _ p.taken q.taken; later = omega (arith, p.steady, q.later) }
 
   -- the sink failed at the second of two pieces
   pub PutsPart-then : {a b c : S} {xs ys : List ℕ} → Puts held faults a b xs → PutsPart held faults b c ys → PutsPart held faults a c (xs ++ ys)
@@ -77,8 +85,8 @@ module _ {S : Type 0} {held : S → Option (List ℕ)} {faults : S → ℕ} wher
     front = xs ++ q.front;
     rest = q.rest;
     split = ap (λ l. xs ++ l) q.split ∙ sym (append_assoc xs q.front q.rest);
-    puts = Puts-then p q.puts;
-    failed = Rose-before _ _ _ p.later q.failed;
+    took = Took-then p q.took;
+    failed = omega (arith, p.steady, q.failed);
   }
 
   -- the sink failed at the first of two pieces
@@ -87,7 +95,7 @@ module _ {S : Type 0} {held : S → Option (List ℕ)} {faults : S → ℕ} wher
     front = p.front;
     rest = p.rest ++ ys;
     split = ap (λ l. l ++ ys) p.split ∙ append_assoc p.front p.rest ys;
-    puts = p.puts;
+    took = p.took;
     failed = p.failed;
   }
 

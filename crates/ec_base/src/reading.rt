@@ -11,7 +11,8 @@ const BLOCK: usize = 8192;
 
 /// Reads `source` to its end.
 ///
-/// It stops as soon as more than `limit` bytes have come. What was read by then is gone from the source.
+/// It stops with the read by which more than `limit` bytes have come. What was read by then is gone from the source: at
+/// most `limit` bytes and those of one read.
 pub fn read_all<S: Source>(alloc: Global, source: &mut S, limit: usize) -> Result<Bytes, InputStop>
     ensures ok { IfOk result (ReadsAll S.left S.faults source.old source.new limit) }
     ensures err { IfErr result (ReadsPart S.left S.faults source.old source.new limit) }

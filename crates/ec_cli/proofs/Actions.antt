@@ -5,14 +5,14 @@ use Rattle.std.specs.Fmt.{signed_decimal}
 use Rattle.std.proofs.lemmas.List.{append-nil}
 use Rattle.ec_link.specs.declared.logged.Logged.{Logged}
 use Rattle.ec_link.specs.declared.reply.Reply.{Reply}
-use Rattle.ec_model.specs.declared.source.Letter.{Letter}
-use Rattle.ec_model.specs.declared.written.Global.{Global}
-use Rattle.ec_model.specs.declared.written.Call.{Call}
-use Rattle.ec_model.specs.declared.written.Pointer.{Pointer}
-use Rattle.ec_model.specs.declared.written.Action.{Action}
-use Rattle.ec_model.specs.declared.written.Action.TheVariants as action
-use Rattle.ec_model.specs.Observed.{Answer}
-use Rattle.ec_model.specs.WrittenMeaning.{Machine, on, address, load, store, assigned, call_request, store_reply}
+use Rattle.ec_firstpath.specs.declared.source.Letter.{Letter}
+use Rattle.ec_firstpath.specs.declared.written.Global.{Global}
+use Rattle.ec_firstpath.specs.declared.written.Call.{Call}
+use Rattle.ec_firstpath.specs.declared.written.Pointer.{Pointer}
+use Rattle.ec_firstpath.specs.declared.written.Action.{Action}
+use Rattle.ec_firstpath.specs.declared.written.Action.TheVariants as action
+use Rattle.ec_observed.specs.Observed.{Answer}
+use Rattle.ec_firstpath.specs.WrittenMeaning.{Machine, on, address, load, store, assigned, call_request, store_reply}
 use Rattle.ec_cli.specs.Statements.{Does, Begins}
 use Rattle.ec_cli.proofs.Statements.{act_grows, IsFront-inside, IsFront-refl}
 

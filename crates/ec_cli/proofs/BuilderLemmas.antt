@@ -3,10 +3,10 @@ use Rattle.std.proofs.Common.{◌≡◌, ◌≢◌, ℕ, List, [], ◌∷◌, �
 use Rattle.std.specs.List.{AllByRecursion}
 use Rattle.std.proofs.lemmas.Bool.{false≢true}
 use Rattle.std.proofs.lemmas.List.{append-nil, append_assoc, map_push}
-use Rattle.ec_model.specs.declared.source.Letter.{Letter}
-use Rattle.ec_model.specs.declared.source.Statement.{Statement}
-use Rattle.ec_model.specs.declared.source.Source.{Source}
-use Rattle.ec_model.specs.Source.{IsValid, IsValidStatement, AreDistinct, is_among, SourceLine, declaration, opening, statement, leaving, closing, source_lines}
+use Rattle.ec_firstpath.specs.declared.source.Letter.{Letter}
+use Rattle.ec_firstpath.specs.declared.source.Statement.{Statement}
+use Rattle.ec_firstpath.specs.declared.source.Source.{Source}
+use Rattle.ec_firstpath.specs.Source.{IsValid, IsValidStatement, AreDistinct, is_among, SourceLine, declaration, opening, statement, leaving, closing, source_lines}
 use Rattle.ec_cli.specs.declared.source.builder.Stage.{Stage}
 use Rattle.ec_cli.specs.declared.source.builder.Stage.TheVariants.{Declarations, Body, Left, Closed}
 use Rattle.ec_cli.specs.declared.source.builder.SourceBuilder.{SourceBuilder}

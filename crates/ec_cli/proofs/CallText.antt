@@ -2,10 +2,10 @@
 use Rattle.std.proofs.Common.{◌≡◌, ℕ, List, ◌∷◌, ◌++◌, codes, refl, ◌∙◌, append_assoc}
 use Rattle.std.specs.Fmt.{decimal}
 use Rattle.ec_base.specs.declared.line.Line.{Line}
-use Rattle.ec_model.specs.declared.source.Letter.{Letter}
-use Rattle.ec_model.specs.declared.written.Symbol.TheVariants.{Int}
-use Rattle.ec_model.specs.declared.written.Call.{Call}
-use Rattle.ec_model.specs.WrittenText.{symbol_text, call_text}
+use Rattle.ec_firstpath.specs.declared.source.Letter.{Letter}
+use Rattle.ec_firstpath.specs.declared.written.Symbol.TheVariants.{Int}
+use Rattle.ec_firstpath.specs.declared.written.Call.{Call}
+use Rattle.ec_firstpath.specs.WrittenText.{symbol_text, call_text}
 use Rattle.ec_cli.proofs.Numerals.{decimal_zero, decimal_one, decimal_four}
 
 -- pieces that are joined from the left are pieces that are joined from the right; three of them are two pieces each

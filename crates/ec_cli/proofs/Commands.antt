@@ -14,20 +14,20 @@ use Rattle.ec_link.specs.Rack.{slots_of, log_of}
 use Rattle.ec_link.specs.Slot.{states, talk_at}
 use Rattle.ec_link.specs.SlotState.{ready_slot}
 use Rattle.ec_link.specs.Told.{KeepsTalks, SparesDropped}
-use Rattle.ec_model.specs.declared.source.Letter.{Letter}
-use Rattle.ec_model.specs.declared.source.Statement.{Statement}
-use Rattle.ec_model.specs.declared.source.Statement.TheVariants.{Assign, Select, Print}
-use Rattle.ec_model.specs.declared.source.Source.{Source}
-use Rattle.ec_model.specs.declared.written.WrittenStatement.{WrittenStatement}
-use Rattle.ec_model.specs.declared.written.Written.{Written}
-use Rattle.ec_model.specs.Direct as direct
-use Rattle.ec_model.specs.Direct.{direct_meaning}
-use Rattle.ec_model.specs.Observed.{Answer, answers_in, exits}
-use Rattle.ec_model.specs.Run.{IsWhole, IsPart}
-use Rattle.ec_model.specs.Source.{IsSource, IsValidStatement}
-use Rattle.ec_model.specs.Written.{written, written_globals, written_body}
-use Rattle.ec_model.specs.WrittenMeaning.{written_meaning}
-use Rattle.ec_model.proofs.Simulation.{written_meaning-written}
+use Rattle.ec_firstpath.specs.declared.source.Letter.{Letter}
+use Rattle.ec_firstpath.specs.declared.source.Statement.{Statement}
+use Rattle.ec_firstpath.specs.declared.source.Statement.TheVariants.{Assign, Select, Print}
+use Rattle.ec_firstpath.specs.declared.source.Source.{Source}
+use Rattle.ec_firstpath.specs.declared.written.WrittenStatement.{WrittenStatement}
+use Rattle.ec_firstpath.specs.declared.written.Written.{Written}
+use Rattle.ec_firstpath.specs.Direct as direct
+use Rattle.ec_firstpath.specs.Direct.{direct_meaning}
+use Rattle.ec_observed.specs.Observed.{Answer, answers_in, exits}
+use Rattle.ec_observed.specs.Run.{IsWhole, IsPart}
+use Rattle.ec_firstpath.specs.Source.{IsSource, IsValidStatement}
+use Rattle.ec_firstpath.specs.Written.{written, written_globals, written_body}
+use Rattle.ec_firstpath.specs.WrittenMeaning.{written_meaning}
+use Rattle.ec_firstpath.proofs.Simulation.{written_meaning-written}
 use Rattle.ec_cli.specs.declared.ending.Ending.{Ending}
 use Rattle.ec_cli.specs.declared.ending.Ending.TheVariants.{Wrote, Exited, Trapped, TurnsSpent, Usage, Refused, Limit, ReadFault, WriteFault, OutOfMemory}
 use Rattle.ec_cli.specs.declared.machine.stop.RunEnd.{RunEnd}
@@ -105,13 +105,13 @@ module _ {O X : Type 0} {F : X → Type 0} (held : O → Option (List ℕ)) (put
   pub Ran-run : (p : Source) (q : Written) (out out' : O) (rack rack' : Rack X F) (end : RunEnd) → q ≡ written p
       → ((status : ℕ) → end ≡ ends.Exited status → IsWhole (written_meaning q (over rack) (answers_in (growth_of (log_of rack) (log_of rack')))) (growth_of (log_of rack) (log_of rack')) (held out) (held out') status)
       → (end ≡ ends.WriteFault ⊎ (end ≡ ends.OutOfMemory) → IsPart (written_meaning q (over rack) (answers_in (growth_of (log_of rack) (log_of rack')))) (growth_of (log_of rack) (log_of rack')) (held out) (held out'))
-      → (end ≡ ends.WriteFault → Rose (puts out) (puts out')) → puts out ≤ puts out'
+      → (end ≡ ends.WriteFault → Rose (puts out) (puts out')) → puts out ≤ puts out' → ((end ≡ ends.WriteFault → ⊥) → puts out' ≡ puts out)
       → log_of rack' ≡ log_of rack ++ growth_of (log_of rack) (log_of rack')
-      → RunsOver (states (slots_of rack)) (growth_of (log_of rack) (log_of rack')) (states (slots_of rack'))
+      → RunsOver (slots_of rack) (growth_of (log_of rack) (log_of rack')) (slots_of rack')
       → KeepsTalks (talk_at talk (slots_of rack)) (talk_at talk (slots_of rack')) (growth_of (log_of rack) (log_of rack'))
       → SparesDropped (states (slots_of rack)) (states (slots_of rack')) (growth_of (log_of rack) (log_of rack'))
       → Ran held puts talk (λ w. w ≡ p) out out' rack rack' (ending_of end)
-  Ran-run p q out out' rack rack' (ends.Exited s) e exited stopped fault later logged slots talks dropped = record {
+  Ran-run p q out out' rack rack' (ends.Exited s) e exited stopped fault later steady logged slots talks dropped = record {
     whole = λ status h. let same : s ≡ status = cc in record { program = p; is = refl; whole = rw (← same_meaning q p e (over rack) (answers_in (growth_of (log_of rack) (log_of rack')))) (exited status (ap ends.Exited same)); slots = slots };
     part = λ h. cc;
     want = λ h. cc;
@@ -120,8 +120,9 @@ module _ {O X : Type 0} {F : X → Type 0} (held : O → Option (List ℕ)) (put
     logged = logged;
     fault = λ h. cc;
     later = later;
+    steady = λ other. steady (λ h. cc);
   }
-  Ran-run p q out out' rack rack' ends.WriteFault e exited stopped fault later logged slots talks dropped = record {
+  Ran-run p q out out' rack rack' ends.WriteFault e exited stopped fault later steady logged slots talks dropped = record {
     whole = λ status h. cc;
     part = λ h. record { program = p; is = refl; part = rw (← same_meaning q p e (over rack) (answers_in (growth_of (log_of rack) (log_of rack')))) (stopped (inl refl)); slots = slots };
     want = λ h. cc;
@@ -130,8 +131,9 @@ module _ {O X : Type 0} {F : X → Type 0} (held : O → Option (List ℕ)) (put
     logged = logged;
     fault = λ h. fault refl;
     later = later;
+    steady = λ other. absurd (other refl);
   }
-  Ran-run p q out out' rack rack' ends.OutOfMemory e exited stopped fault later logged slots talks dropped = record {
+  Ran-run p q out out' rack rack' ends.OutOfMemory e exited stopped fault later steady logged slots talks dropped = record {
     whole = λ status h. cc;
     part = λ h. cc;
     want = λ h. inr (record { program = p; is = refl; part = rw (← same_meaning q p e (over rack) (answers_in (growth_of (log_of rack) (log_of rack')))) (stopped (inr refl)); slots = slots });
@@ -140,6 +142,7 @@ module _ {O X : Type 0} {F : X → Type 0} (held : O → Option (List ℕ)) (put
     logged = logged;
     fault = λ h. cc;
     later = later;
+    steady = λ other. steady (λ h. cc);
   }
 
   Whole-weaker : (Is Is' : Source → Type 0) → ((p : Source) → Is p → Is' p) → (out out' : O) (rack rack' : Rack X F) (status : ℕ) → Whole held puts talk Is out out' rack rack' status → Whole held puts talk Is' out out' rack rack' status
@@ -158,6 +161,7 @@ module _ {O X : Type 0} {F : X → Type 0} (held : O → Option (List ℕ)) (put
     logged = r.logged;
     fault = r.fault;
     later = r.later;
+    steady = r.steady;
   }
 
   -- a text that is a source leads to its run
@@ -212,11 +216,14 @@ module _ {I O X : Type 0} {F : X → Type 0} (left : I → Option (List ℕ)) (r
     usage = λ h. absurd (subst (λ e. IsOfText e) h led.ends);
     unread = λ h. absurd (subst (λ e. IsOfText e) h led.ends);
     run = λ no'. absurd (no' named);
-    refused = λ kind line h. (let x = led.refused kind line h in record { text = text; read = record { taken = r.reads.taken; ended = r.ended; within = r.within }; left_out = x.0; fault = x.1 });
+    refused = λ kind line h. (let x = led.refused kind line h in record { text = text; read = record { taken = r.reads.taken; ended = r.ended; within = r.within }; fault = x });
     limit = λ kind h. absurd (subst (λ e. IsOfText e) h led.ends);
     read_fault = λ h. absurd (subst (λ e. IsOfText e) h led.ends);
     write_fault = led.ran.fault;
-    reads_later = r.reads.later;
+    reads_later = omega (arith, r.reads.steady);
     puts_later = led.ran.later;
+    within = record { bytes = text; taken = r.reads.taken; bounded = omega (arith, r.within) };
+    reads_steady = λ other. r.reads.steady;
+    puts_steady = led.ran.steady;
     decides = λ told named' e calm calm'. subst (λ w. Decides w ending) (ReadsAll-text e r) (decided text out out' rack rack' ending r.within led calm');
   }

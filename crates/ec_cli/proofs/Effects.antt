@@ -6,20 +6,20 @@ use Rattle.std.specs.Fmt.{signed_decimal}
 use Rattle.std.specs.declared.alloc.Global.{Global as Allocator}
 use Rattle.std.specs.declared.dyn_box.DynBox.{DynBox}
 use Rattle.ec_base.specs.Putting.{Puts, PutsPart}
-use Rattle.ec_base.proofs.Transfers.{Puts-none, Puts-then}
+use Rattle.ec_base.proofs.Transfers.{Puts-none, Puts-then, Took-puts, Took-then}
 use Rattle.ec_link.specs.declared.connection.Conn.{Conn}
 use Rattle.ec_link.specs.declared.logged.Logged.{Logged}
 use Rattle.ec_link.specs.declared.rack.Rack.{Rack}
 use Rattle.ec_link.specs.Conn.{slot_of}
 use Rattle.ec_link.specs.Logged.{Talk}
 use Rattle.ec_link.proofs.Runs.{Asks-nil, Asks-append}
-use Rattle.ec_model.specs.declared.source.Letter.{Letter}
-use Rattle.ec_model.specs.declared.written.Global.{Global}
-use Rattle.ec_model.specs.declared.written.Call.{Call}
-use Rattle.ec_model.specs.declared.written.Action.{Action}
-use Rattle.ec_model.specs.declared.written.Action.TheVariants as action
-use Rattle.ec_model.specs.declared.written.WrittenStatement.{WrittenStatement}
-use Rattle.ec_model.specs.WrittenMeaning.{address, load}
+use Rattle.ec_firstpath.specs.declared.source.Letter.{Letter}
+use Rattle.ec_firstpath.specs.declared.written.Global.{Global}
+use Rattle.ec_firstpath.specs.declared.written.Call.{Call}
+use Rattle.ec_firstpath.specs.declared.written.Action.{Action}
+use Rattle.ec_firstpath.specs.declared.written.Action.TheVariants as action
+use Rattle.ec_firstpath.specs.declared.written.WrittenStatement.{WrittenStatement}
+use Rattle.ec_firstpath.specs.WrittenMeaning.{address, load}
 use Rattle.ec_cli.specs.Machine.{IsOpen, Called, MayAsk, Done, Stopped, Reached, Broke}
 use Rattle.ec_cli.specs.Statements.{Does, Begins}
 use Rattle.ec_cli.proofs.Actions.{Does-print, Does-call, Begins-nothing, Begins-print}
@@ -79,7 +79,7 @@ module _ {X : Type 0} {F : X → Type 0} (talk : DynBox X Allocator F → Option
 
     pub Stopped-quiet : (globals : List Global) (a : Action) (memory : List ℤ) (old : Rack X F) (was : Option (Conn X F)) (new : Rack X F) (now : Option (Conn X F)) (out : S)
         → MayAsk talk faults old was new now [] → Stopped talk faults held fails globals a memory old was out new now out
-    Stopped-quiet globals a memory old was new now out asked = record { asked = asked; printed = []; put = Puts-none out; begins = Begins-nothing globals (option_map slot_of was) a memory }
+    Stopped-quiet globals a memory old was new now out asked = record { asked = asked; printed = []; put = Took-puts (Puts-none out); begins = Begins-nothing globals (option_map slot_of was) a memory }
 
     pub Stopped-print : (globals : List Global) (x : Letter) (memory : List ℤ) (rack : Rack X F) (conn : Option (Conn X F)) (out out' : S) (text : List ℕ)
         → text ≡ signed_decimal (load (address x globals) memory) ++ 10 ∷ [] → PutsPart held fails out out' text
@@ -87,7 +87,7 @@ module _ {X : Type 0} {F : X → Type 0} (talk : DynBox X Allocator F → Option
     Stopped-print globals x memory rack conn out out' text e part = record {
       asked = MayAsk-nil rack conn;
       printed = part.front;
-      put = part.puts;
+      put = part.took;
       begins = Begins-print globals (option_map slot_of conn) x memory text part.front part.rest e part.split;
     }
 
@@ -124,7 +124,7 @@ module _ {X : Type 0} {F : X → Type 0} (talk : DynBox X Allocator F → Option
           growth = r.growth;
           printed = r.printed ++ d.printed;
           asked = subst (λ (w : List Logged). MayAsk talk faults first was last now w) (append-nil r.growth) (MayAsk-append first was between mid' last now r.growth [] r.asked d.asked);
-          put = Puts-then r.put d.put;
+          put = Took-then r.put d.put;
           output = fronts.0;
           said = fronts.1;
         }

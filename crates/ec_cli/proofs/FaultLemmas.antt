@@ -1,7 +1,7 @@
 -- A text has one fault at most.
 use Rattle.std.proofs.Common.{◌≡◌, ℕ, ◌<◌, List, [], ◌∷◌, ◌++◌, map, length, sym, ◌∙◌, ap, subst, arith, inl, inr, append_assoc}
 use Rattle.std.proofs.lemmas.Bool.{cases_lt}
-use Rattle.ec_model.specs.Faults.{Item, line, last_item, AreItems, BeginsSource, FaultAt}
+use Rattle.ec_firstpath.specs.Faults.{Item, line, last_item, AreItems, BeginsSource, FaultAt}
 use Rattle.ec_cli.proofs.TextLemmas.{same_lines}
 
 -- a text is made of these items and no others

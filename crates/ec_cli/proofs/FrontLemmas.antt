@@ -11,7 +11,7 @@ use Rattle.std.proofs.lemmas.List.Sums.{prefix_len-le-length}
 use Rattle.std.proofs.lemmas.Slice.Eq.{strip_prefix_is}
 use denote.Ref.{Bor}
 use Rattle.ec_cli.specs.Reads.{ReadsAs}
-use Rattle.ec_model.specs.Source.{IsNumber, IsWord, IsWords}
+use Rattle.ec_firstpath.specs.Source.{IsNumber, IsWord, IsWords}
 use Rattle.ec_cli.specs.Fronts.{ReadsFront, ReadsFixed, BeginsWith, is_no_digit, is_quote, IsQuery}
 use Rattle.ec_cli.proofs.NumberLemmas.{each_digit}
 

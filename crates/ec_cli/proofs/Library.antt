@@ -13,9 +13,9 @@ use Rattle.ec_link.specs.Conn.{slot_of, link_of}
 use Rattle.ec_link.specs.Logged.{Talk, last_reply_of}
 use Rattle.ec_link.specs.Rack.{slots_of, log_of}
 use Rattle.ec_link.proofs.Runs.{Asks-AsksOnce, last_reply_of-append}
-use Rattle.ec_model.specs.declared.written.Call.{Call}
-use Rattle.ec_model.specs.declared.written.Pointer.{Pointer}
-use Rattle.ec_model.specs.WrittenMeaning.{store_reply}
+use Rattle.ec_firstpath.specs.declared.written.Call.{Call}
+use Rattle.ec_firstpath.specs.declared.written.Pointer.{Pointer}
+use Rattle.ec_firstpath.specs.WrittenMeaning.{store_reply}
 use Rattle.ec_cli.specs.Machine.{Called}
 
 module _ {X : Type 0} {F : X → Type 0} (talk : DynBox X Global F → Option Talk) (faults : DynBox X Global F → ℕ) where

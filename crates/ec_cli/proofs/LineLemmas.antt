@@ -3,10 +3,10 @@ use Rattle.std.proofs.Common.{◌≡◌, ℕ, List, [], ◌∷◌, ◌++◌, get
 use Rattle.std.specs.Fmt.{decimal}
 use Rattle.std.proofs.lemmas.Fmt.{decimal_injective}
 use Rattle.std.proofs.lemmas.List.{append_assoc, append_cancel_left, append_cancel_right, same_from_push}
-use Rattle.ec_model.specs.declared.source.Letter.{Letter}
-use Rattle.ec_model.specs.declared.source.Statement.{Statement}
-use Rattle.ec_model.specs.declared.source.Statement.TheVariants.{Assign, Select, Print}
-use Rattle.ec_model.specs.Source.{IsNumber, IsWords, SourceLine, declaration, opening, statement, leaving, closing, statement_text, line_text}
+use Rattle.ec_firstpath.specs.declared.source.Letter.{Letter}
+use Rattle.ec_firstpath.specs.declared.source.Statement.{Statement}
+use Rattle.ec_firstpath.specs.declared.source.Statement.TheVariants.{Assign, Select, Print}
+use Rattle.ec_firstpath.specs.Source.{IsNumber, IsWords, SourceLine, declaration, opening, statement, leaving, closing, statement_text, line_text}
 use Rattle.ec_cli.specs.Reads.{ReadsAs, IsAny, IsLower, letter_text, text_between}
 use Rattle.ec_cli.specs.SourceLines.{IsAssignment, assignment_text, IsSelection, selection_text, IsStatement, IsLine}
 use Rattle.ec_cli.proofs.ReadsLemmas.{only_reading}

@@ -7,7 +7,7 @@ use Rattle.std.specs.Str.Parse.{AllDigits, digits_value}
 use Rattle.std.proofs.lemmas.Bool.Decides.{nat_tests}
 use Rattle.std.proofs.lemmas.Str.Parse.{IsNumeralModel, numerals_by_value, tells_digits, digit_at, digits_value_short}
 use Rattle.std.proofs.lemmas.Fmt.{digits_decimal, digits_value-decimal, decimal-digits_value, length-decimal-le, decimal_nonempty, first_decimal, decimal_digit}
-use Rattle.ec_model.specs.Source.{IsNumber}
+use Rattle.ec_firstpath.specs.Source.{IsNumber}
 use Rattle.ec_cli.specs.Reads.{ReadsAs}
 use Rattle.std.specs.Prelude.{Some}
 

@@ -7,11 +7,11 @@ use Rattle.std.proofs.lemmas.Bool.{and_parts, not-true, eqb-false, false≢true,
 use Rattle.std.proofs.lemmas.List.{get_or_default}
 use Rattle.std.proofs.lemmas.List.Elements.{recursion_from_All}
 use Rattle.std.proofs.lemmas.List.Splits.{slice_split-cons_yes, slice_split-cons_no}
-use Rattle.ec_model.specs.declared.source.Letter.{Letter}
-use Rattle.ec_model.specs.declared.source.Statement.{Statement}
-use Rattle.ec_model.specs.declared.source.Statement.TheVariants.{Assign, Select, Print}
-use Rattle.ec_model.specs.Lines.{IsOneLine}
-use Rattle.ec_model.specs.Source.{IsNumber, IsWord, IsWords, SourceLine, declaration, opening, statement, leaving, closing, statement_text, line_text}
+use Rattle.ec_firstpath.specs.declared.source.Letter.{Letter}
+use Rattle.ec_firstpath.specs.declared.source.Statement.{Statement}
+use Rattle.ec_firstpath.specs.declared.source.Statement.TheVariants.{Assign, Select, Print}
+use Rattle.ec_firstpath.specs.Lines.{IsOneLine}
+use Rattle.ec_firstpath.specs.Source.{IsNumber, IsWord, IsWords, SourceLine, declaration, opening, statement, leaving, closing, statement_text, line_text}
 use Rattle.ec_cli.specs.Reads.{IsLower}
 use Rattle.ec_cli.specs.SourceLines.{IsStatement, IsLine}
 use Rattle.ec_cli.proofs.NumberLemmas.{each_digit}

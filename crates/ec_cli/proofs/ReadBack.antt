@@ -5,15 +5,15 @@ use Rattle.std.specs.List.{flat_map, position_or_len}
 use Rattle.std.proofs.lemmas.List.{append-nil, append_cancel_left, nil_from_length}
 use Rattle.std.proofs.lemmas.Bool.{false≢true}
 use Rattle.ec_base.specs.declared.line.Line.{Line}
-use Rattle.ec_model.specs.declared.written.Global.{Global}
-use Rattle.ec_model.specs.declared.written.Action.{Action}
-use Rattle.ec_model.specs.declared.written.Action.TheVariants.{Store, Print}
-use Rattle.ec_model.specs.declared.written.Action.TheVariants as action
-use Rattle.ec_model.specs.declared.written.WrittenStatement.{WrittenStatement}
-use Rattle.ec_model.specs.declared.written.Written.{Written}
-use Rattle.ec_model.specs.Lines.{unlines}
-use Rattle.ec_model.specs.Source.{IsNumber}
-use Rattle.ec_model.specs.WrittenText.{line_mark, global_lines, statement_lines, written_text}
+use Rattle.ec_firstpath.specs.declared.written.Global.{Global}
+use Rattle.ec_firstpath.specs.declared.written.Action.{Action}
+use Rattle.ec_firstpath.specs.declared.written.Action.TheVariants.{Store, Print}
+use Rattle.ec_firstpath.specs.declared.written.Action.TheVariants as action
+use Rattle.ec_firstpath.specs.declared.written.WrittenStatement.{WrittenStatement}
+use Rattle.ec_firstpath.specs.declared.written.Written.{Written}
+use Rattle.ec_firstpath.specs.Lines.{unlines}
+use Rattle.ec_firstpath.specs.Source.{IsNumber}
+use Rattle.ec_firstpath.specs.WrittenText.{line_mark, global_lines, statement_lines, written_text}
 use Rattle.ec_cli.specs.Fronts.{ReadsFront, ReadsFixed, ReadsAll, is_no_digit}
 use Rattle.ec_cli.specs.PartTexts.{header_text, global_text, opening_text, action_text, statement_text, ending_text}
 use Rattle.ec_cli.specs.Readable.{IsReadableLine, IsReadableGlobal, IsReadableStatement, IsReadable}

@@ -4,10 +4,10 @@ use Rattle.std.specs.List.{AllByRecursion}
 use Rattle.std.proofs.lemmas.List.{append-nil, append_assoc, map-append, length-append, length-map}
 use Rattle.ec_base.specs.declared.stop.Stop.{Stop}
 use Rattle.ec_base.specs.declared.stop.Stop.TheVariants.{Refused, Limit, OutOfMemory}
-use Rattle.ec_model.specs.declared.source.Source.{Source}
-use Rattle.ec_model.specs.Lines.{unlines, IsOneLine}
-use Rattle.ec_model.specs.Source.{IsValid, IsSource, SourceLine, declaration, opening, statement, leaving, closing, source_lines, line_text}
-use Rattle.ec_model.specs.Faults.{Item, line, unfinished, end, last_item, source_items, BeginsSource, FaultAt}
+use Rattle.ec_firstpath.specs.declared.source.Source.{Source}
+use Rattle.ec_firstpath.specs.Lines.{unlines, IsOneLine}
+use Rattle.ec_firstpath.specs.Source.{IsValid, IsSource, SourceLine, declaration, opening, statement, leaving, closing, source_lines, line_text}
+use Rattle.ec_firstpath.specs.Faults.{Item, line, unfinished, end, last_item, source_items, BeginsSource, FaultAt}
 use Rattle.ec_cli.specs.declared.source.builder.SourceBuilder.{SourceBuilder}
 use Rattle.ec_cli.specs.Refusals.{IsRefusal}
 use Rattle.ec_cli.specs.SourceLines.{IsLine}

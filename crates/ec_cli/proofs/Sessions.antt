@@ -18,10 +18,10 @@ use Rattle.ec_link.specs.SlotState.{ready_slot}
 use Rattle.ec_link.specs.Told.{KeepsTalks, SparesDropped}
 use Rattle.ec_link.proofs.Runs.{growth_of-grown, KeepsTalks-run, Ran-run, SparesDropped-run}
 use Rattle.ec_link.proofs.Talks.{KeepsTalks-same}
-use Rattle.ec_model.specs.declared.written.Written.{Written}
-use Rattle.ec_model.specs.Observed.{Observed, answers_in}
-use Rattle.ec_model.specs.Run.{IsFront, IsWhole, IsPart}
-use Rattle.ec_model.specs.WrittenMeaning.{Outcome, on, waiting, acts, seen, written_meaning}
+use Rattle.ec_firstpath.specs.declared.written.Written.{Written}
+use Rattle.ec_observed.specs.Observed.{Observed, answers_in}
+use Rattle.ec_observed.specs.Run.{IsFront, IsWhole, IsPart}
+use Rattle.ec_firstpath.specs.WrittenMeaning.{Outcome, on, waiting, acts, seen, written_meaning}
 use Rattle.ec_cli.specs.declared.machine.stop.RunStop.{RunStop}
 use Rattle.ec_cli.specs.declared.machine.stop.RunStop.TheVariants as stops
 use Rattle.ec_cli.specs.declared.machine.stop.RunEnd.{RunEnd}
@@ -60,7 +60,7 @@ module _ {X : Type 0} {F : X → Type 0} (talk : DynBox X Allocator F → Option
           growth = r.growth;
           asked = r.asked;
           whole = rw whole record { ending = refl; conversation = refl; output = r.put.taken };
-          later = r.put.later;
+          steady = r.put.steady;
         }
 
     -- what the statements mean over the answers in a log
@@ -117,8 +117,8 @@ module _ {X : Type 0} {F : X → Type 0} (talk : DynBox X Allocator F → Option
   -- what becomes of the slots
   pub RunsOver-run : (first second third last : Rack X F) (was now : Option (Conn X F)) (growth : List Logged)
       → Takes (slots_of first) (slots_of second) was → MayAsk talk faults second was third now growth → Gives (slots_of third) (slots_of last) now
-      → RunsOver (states (slots_of first)) growth (states (slots_of last))
-  RunsOver-run first second third last None None growth t a g = rw t.0 (a.0, ap states (g ∙ a.1 ∙ t.1))
+      → RunsOver (slots_of first) growth (slots_of last)
+  RunsOver-run first second third last None None growth t a g = rw t.0 (a.0, g ∙ a.1 ∙ t.1)
   RunsOver-run first second third last None (Some now) growth t a g = absurd a
   RunsOver-run first second third last (Some was) None growth t a g = absurd a
   RunsOver-run first second third last (Some was) (Some now) growth t a g = rw t.first (Ran-run talk faults first second third last was now growth t a g)
@@ -152,7 +152,7 @@ module _ {X : Type 0} {F : X → Type 0} (talk : DynBox X Allocator F → Option
     pub session : (q : Written) (old : Rack X F) (was : Option (Conn X F)) (out : S) (new : Rack X F) (now : Option (Conn X F)) (out' : S) (end : Result ℕ RunStop)
         → IfOk end (Finished talk faults held fails q old was out new now out') → OnErr end (Cut talk faults held fails q old was out new now out')
         → Session old was out new now out'
-    session q old was out new now out' (Ok status) f b = record { growth = f.growth; asked = f.asked; later = f.later }
+    session q old was out new now out' (Ok status) f b = record { growth = f.growth; asked = f.asked; later = omega (arith, f.steady) }
     session q old was out new now out' (Err stop) f b = record { growth = b.growth; asked = b.asked; later = b.later }
 
     -- the meaning, over the slots and the log of the rack
@@ -187,6 +187,13 @@ module _ {X : Type 0} {F : X → Type 0} (talk : DynBox X Allocator F → Option
     Stopped-run q first second third last was now out out' (Err stop) answer b t e g a h =
         let grown = growth_of-grown (log_of first) (log_of last) b.growth (run_logged first second third last was now b.growth e b.asked g) in
         rw (same_meaning q first second last was b.growth t grown, grown) b.part
+
+-- unless the statements met a write fault, the output's count of faults is the same
+pub steady_from : {P : ℕ → Type 0} (Steady : Type 0) (end : Result ℕ RunStop) (answer : RunEnd) → ((s : ℕ) → P s → Steady)
+    → answer ≡ end_of end → IfOk end P → (end ≡ Err stops.OutOfMemory → Steady) → (answer ≡ ends.WriteFault → ⊥) → Steady
+steady_from Steady (Ok s) answer f a ok want other = f s ok
+steady_from Steady (Err stops.WriteFault) answer f a ok want other = absurd (other a)
+steady_from Steady (Err stops.OutOfMemory) answer f a ok want other = want refl
 
 -- a write fault comes from the statements
 pub fault_from : (end : Result ℕ RunStop) (answer : RunEnd) → answer ≡ end_of end → answer ≡ ends.WriteFault → end ≡ Err stops.WriteFault

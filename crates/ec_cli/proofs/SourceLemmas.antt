@@ -3,11 +3,11 @@ use Rattle.std.proofs.Common.{◌≡◌, ◌==◌, ℕ, List, [], ◌∷◌, ◌
 use Rattle.std.specs.List.{AllByRecursion}
 use Rattle.std.proofs.lemmas.Bool.{or_parts, or_from, or_cases, false≢true}
 use Rattle.std.proofs.lemmas.Bool.Decides.{nat_tests}
-use Rattle.ec_model.specs.declared.source.Letter.{Letter}
-use Rattle.ec_model.specs.declared.source.Statement.{Statement}
-use Rattle.ec_model.specs.declared.source.Statement.TheVariants.{Assign, Select, Print}
-use Rattle.ec_model.specs.declared.source.Source.{Source}
-use Rattle.ec_model.specs.Source.{IsValid, IsValidStatement, AreDistinct, is_among, declaration, opening, statement, leaving, closing, source_lines}
+use Rattle.ec_firstpath.specs.declared.source.Letter.{Letter}
+use Rattle.ec_firstpath.specs.declared.source.Statement.{Statement}
+use Rattle.ec_firstpath.specs.declared.source.Statement.TheVariants.{Assign, Select, Print}
+use Rattle.ec_firstpath.specs.declared.source.Source.{Source}
+use Rattle.ec_firstpath.specs.Source.{IsValid, IsValidStatement, AreDistinct, is_among, declaration, opening, statement, leaving, closing, source_lines}
 use Rattle.ec_cli.specs.Reads.{IsLower}
 use Rattle.ec_cli.specs.SourceLines.{IsStatement, IsLine}
 use Rattle.ec_cli.specs.SourceBuilder.{letter_in}

@@ -4,15 +4,15 @@ use Rattle.std.specs.Prelude.{ℤ}
 use Rattle.std.specs.Fmt.{signed_decimal}
 use Rattle.std.proofs.lemmas.List.{map-append, append-nil}
 use Rattle.ec_link.specs.declared.logged.Logged.{Logged}
-use Rattle.ec_model.specs.declared.written.Global.{Global}
-use Rattle.ec_model.specs.declared.written.Call.{Call}
-use Rattle.ec_model.specs.declared.written.Pointer.{Pointer}
-use Rattle.ec_model.specs.declared.written.Action.{Action}
-use Rattle.ec_model.specs.declared.written.Action.TheVariants as action
-use Rattle.ec_model.specs.declared.written.WrittenStatement.{WrittenStatement}
-use Rattle.ec_model.specs.Observed.{Answer, answers_in}
-use Rattle.ec_model.specs.Run.{IsFront}
-use Rattle.ec_model.specs.WrittenMeaning.{Machine, Outcome, on, waiting, act, acts, address, load, called, assigned, followed}
+use Rattle.ec_firstpath.specs.declared.written.Global.{Global}
+use Rattle.ec_firstpath.specs.declared.written.Call.{Call}
+use Rattle.ec_firstpath.specs.declared.written.Pointer.{Pointer}
+use Rattle.ec_firstpath.specs.declared.written.Action.{Action}
+use Rattle.ec_firstpath.specs.declared.written.Action.TheVariants as action
+use Rattle.ec_firstpath.specs.declared.written.WrittenStatement.{WrittenStatement}
+use Rattle.ec_observed.specs.Observed.{Answer, answers_in}
+use Rattle.ec_observed.specs.Run.{IsFront}
+use Rattle.ec_firstpath.specs.WrittenMeaning.{Machine, Outcome, on, waiting, act, acts, address, load, called, assigned, followed}
 use Rattle.ec_cli.specs.Statements.{output_of, said_of, Does, Begins, Reaches}
 
 -- fronts

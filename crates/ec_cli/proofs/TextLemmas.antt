@@ -3,12 +3,12 @@ use Rattle.std.proofs.Common.{◌≡◌, ◌≢◌, ℕ, ◌≤◌, List, [], �
 use Rattle.std.specs.List.{AllByRecursion}
 use Rattle.std.proofs.lemmas.List.{append-nil, append_assoc, map-append, length-append}
 use Rattle.std.proofs.lemmas.Bool.{cases_eq}
-use Rattle.ec_model.specs.declared.source.Letter.{Letter}
-use Rattle.ec_model.specs.declared.source.Statement.{Statement}
-use Rattle.ec_model.specs.declared.source.Source.{Source}
-use Rattle.ec_model.specs.Lines.{unlines, IsOneLine}
-use Rattle.ec_model.specs.Source.{IsValid, SourceLine, declaration, opening, statement, leaving, closing, source_lines, line_text}
-use Rattle.ec_model.specs.Faults.{Item, line, end}
+use Rattle.ec_firstpath.specs.declared.source.Letter.{Letter}
+use Rattle.ec_firstpath.specs.declared.source.Statement.{Statement}
+use Rattle.ec_firstpath.specs.declared.source.Source.{Source}
+use Rattle.ec_firstpath.specs.Lines.{unlines, IsOneLine}
+use Rattle.ec_firstpath.specs.Source.{IsValid, SourceLine, declaration, opening, statement, leaving, closing, source_lines, line_text}
+use Rattle.ec_firstpath.specs.Faults.{Item, line, end}
 use Rattle.ec_cli.specs.declared.source.builder.Stage.{Stage}
 use Rattle.ec_cli.specs.declared.source.builder.Stage.TheVariants.{Declarations, Body, Left, Closed}
 use Rattle.ec_cli.specs.declared.source.builder.SourceBuilder.{SourceBuilder}

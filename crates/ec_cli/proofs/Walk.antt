@@ -2,15 +2,15 @@
 use Rattle.std.proofs.Common.{◌≡◌, ℕ, ◌+◌, ◌<◌, List, [], ◌∷◌, ◌++◌, length, get_or, drop, sym, ap, ◌∙◌, append_assoc, arith, codes}
 use Rattle.std.specs.List.{flat_map}
 use Rattle.std.proofs.lemmas.List.{at_drop_more}
-use Rattle.ec_model.specs.declared.source.Letter.{Letter}
-use Rattle.ec_model.specs.declared.source.Statement.{Statement}
-use Rattle.ec_model.specs.Lines.{unlines}
-use Rattle.ec_model.specs.Written.{at_line, written_globals, written_action, written_body}
+use Rattle.ec_firstpath.specs.declared.source.Letter.{Letter}
+use Rattle.ec_firstpath.specs.declared.source.Statement.{Statement}
+use Rattle.ec_firstpath.specs.Lines.{unlines}
+use Rattle.ec_firstpath.specs.Written.{at_line, written_globals, written_action, written_body}
 use Rattle.std.specs.Fmt.{decimal}
-use Rattle.ec_model.specs.declared.written.Written.{Written}
+use Rattle.ec_firstpath.specs.declared.written.Written.{Written}
 use Rattle.ec_cli.proofs.TextLemmas.{unlines-append}
 use Rattle.ec_cli.specs.PartTexts.{header_text, opening_text, ending_text}
-use Rattle.ec_model.specs.WrittenText.{line_mark, global_lines, statement_lines, written_text}
+use Rattle.ec_firstpath.specs.WrittenText.{line_mark, global_lines, statement_lines, written_text}
 
 -- the text of the declarations from line n on
 abbrev pub globals_text : ℕ → List Letter → List ℕ

@@ -3,21 +3,21 @@ use Rattle.std.proofs.Common.{◌≡◌, ℕ, List, [], ◌∷◌, ◌++◌, Opt
 use Rattle.std.specs.Fmt.{decimal}
 use Rattle.std.specs.Option.{option_map}
 use Rattle.ec_base.specs.declared.line.Line.{Line}
-use Rattle.ec_model.specs.declared.source.Letter.{Letter}
-use Rattle.ec_model.specs.Source.{IsNumber}
-use Rattle.ec_model.specs.Written.{at_line}
-use Rattle.ec_model.specs.WrittenText.{line_mark}
+use Rattle.ec_firstpath.specs.declared.source.Letter.{Letter}
+use Rattle.ec_firstpath.specs.Source.{IsNumber}
+use Rattle.ec_firstpath.specs.Written.{at_line}
+use Rattle.ec_firstpath.specs.WrittenText.{line_mark}
 use Rattle.ec_cli.specs.Reads.{IsLower, letter_text}
 use Rattle.std.specs.Char.{is_ascii_lowercase}
 use Rattle.std.proofs.lemmas.Bool.{false≢true}
 use Rattle.ec_cli.specs.Fronts.{ReadsFront, ReadsFixed}
-use Rattle.ec_model.specs.declared.written.Action.{Action}
-use Rattle.ec_model.specs.declared.written.Action.TheVariants.{Store, Print}
-use Rattle.ec_model.specs.declared.written.Action.TheVariants as action
-use Rattle.ec_model.specs.declared.written.WrittenStatement.{WrittenStatement}
-use Rattle.ec_model.specs.declared.written.Symbol.{Symbol}
-use Rattle.ec_model.specs.declared.written.Symbol.TheVariants.{Int}
-use Rattle.ec_model.specs.declared.written.Call.{Call}
+use Rattle.ec_firstpath.specs.declared.written.Action.{Action}
+use Rattle.ec_firstpath.specs.declared.written.Action.TheVariants.{Store, Print}
+use Rattle.ec_firstpath.specs.declared.written.Action.TheVariants as action
+use Rattle.ec_firstpath.specs.declared.written.WrittenStatement.{WrittenStatement}
+use Rattle.ec_firstpath.specs.declared.written.Symbol.{Symbol}
+use Rattle.ec_firstpath.specs.declared.written.Symbol.TheVariants.{Int}
+use Rattle.ec_firstpath.specs.declared.written.Call.{Call}
 use Rattle.ec_cli.specs.declared.written.read.Host.{Host}
 use Rattle.ec_cli.specs.Fronts.{IsQuery}
 use Rattle.ec_cli.specs.PartTexts.{action_text, statement_text, host_text, call_lines_text, mark_text, global_text, opening_text, ending_text}

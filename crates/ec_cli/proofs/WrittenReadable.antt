@@ -3,12 +3,12 @@ use Rattle.std.proofs.Common.{◌≡◌, ℕ, ◌+◌, ◌^◌, ◌<◌, Bool, t
 use Rattle.std.specs.List.{AllByRecursion}
 use Rattle.std.specs.Char.{is_ascii_lowercase}
 use Rattle.std.proofs.lemmas.Bool.{false≢true}
-use Rattle.ec_model.specs.declared.source.Letter.{Letter}
-use Rattle.ec_model.specs.declared.source.Statement.{Statement}
-use Rattle.ec_model.specs.declared.source.Statement.TheVariants.{Assign, Select, Print}
-use Rattle.ec_model.specs.declared.source.Source.{Source}
-use Rattle.ec_model.specs.Source.{is_among, IsValid, IsValidStatement}
-use Rattle.ec_model.specs.Written.{written, written_globals, written_action, written_body}
+use Rattle.ec_firstpath.specs.declared.source.Letter.{Letter}
+use Rattle.ec_firstpath.specs.declared.source.Statement.{Statement}
+use Rattle.ec_firstpath.specs.declared.source.Statement.TheVariants.{Assign, Select, Print}
+use Rattle.ec_firstpath.specs.declared.source.Source.{Source}
+use Rattle.ec_firstpath.specs.Source.{is_among, IsValid, IsValidStatement}
+use Rattle.ec_firstpath.specs.Written.{written, written_globals, written_action, written_body}
 use Rattle.ec_cli.specs.Reads.{IsLower}
 use Rattle.ec_cli.specs.Readable.{IsReadable, IsReadableAction, IsReadableGlobal, IsReadableStatement}
 

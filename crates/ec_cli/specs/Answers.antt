@@ -19,13 +19,13 @@ use Rattle.ec_link.specs.Logged.{Talk, growth_of}
 use Rattle.ec_link.specs.Rack.{slots_of, log_of}
 use Rattle.ec_link.specs.Slot.{states, talk_at}
 use Rattle.ec_link.specs.Told.{KeepsTalks, SparesDropped}
-use Rattle.ec_model.specs.declared.source.Source.{Source}
-use Rattle.ec_model.specs.Faults.{FaultAt}
-use Rattle.ec_model.specs.Direct.{direct_meaning}
-use Rattle.ec_model.specs.Headline.{connection_slot, RunsWhole, RunsPart, RefusesAt, IsTooLong}
-use Rattle.ec_model.specs.Observed.{Observed, answers_in}
-use Rattle.ec_model.specs.Run.{IsWhole, IsPart}
-use Rattle.ec_model.specs.Source.{IsSource}
+use Rattle.ec_firstpath.specs.declared.source.Source.{Source}
+use Rattle.ec_firstpath.specs.Faults.{FaultAt, IsFault}
+use Rattle.ec_firstpath.specs.Direct.{direct_meaning}
+use Rattle.ec_observed.specs.Headline.{connection_slot, RunsWhole, RunsPart, RefusesAt, IsTooLong, ReadsWithin}
+use Rattle.ec_observed.specs.Observed.{Observed, answers_in}
+use Rattle.ec_observed.specs.Run.{IsWhole, IsPart}
+use Rattle.ec_firstpath.specs.Source.{IsSource}
 use Rattle.ec_cli.specs.declared.ending.Ending.{Ending}
 use Rattle.ec_cli.specs.declared.ending.Ending.TheVariants.{Wrote, Exited, Trapped, TurnsSpent, Usage, Refused, Limit, ReadFault, WriteFault, OutOfMemory}
 use Rattle.ec_cli.specs.declared.machine.stop.RunEnd.{RunEnd}
@@ -124,15 +124,15 @@ module _ {I O X : Type 0} {F : X → Type 0} (left : I → Option (List ℕ)) (r
 
   -- a part of what a source means was carried out
   pub record RanPart (input input' : I) (out out' : O) (rack rack' : Rack X F) : Type 0 where
-    pub run : RunsPart (left input) (left input') (held out) (held out') (states (slots_of rack)) (grown rack rack')
-    pub slots : RunsOver (states (slots_of rack)) (grown rack rack') (states (slots_of rack'))
+    pub run : RunsPart IsSource direct_meaning (left input) (left input') (held out) (held out') (states (slots_of rack)) (grown rack rack')
+    pub slots : RunsOver (slots_of rack) (grown rack rack') (slots_of rack')
 
   -- everything that is promised of a call, the line on standard error aside
   pub record Answers (words : List (String Allocator)) (input input' : I) (out out' : O) (rack rack' : Rack X F) (ending : Ending) : Type 0 where
-    pub whole : (status : ℕ) → ending ≡ Exited status → RunsWhole (left input) (left input') (held out) (held out') (states (slots_of rack)) (grown rack rack') status
+    pub whole : (status : ℕ) → ending ≡ Exited status → RunsWhole IsSource direct_meaning (left input) (left input') (held out) (held out') (states (slots_of rack)) (grown rack rack') status
     pub part : ending ≡ WriteFault → RanPart input input' out out' rack rack'
     pub want : ending ≡ OutOfMemory → IsUntouched out out' rack rack' ⊎ RanPart input input' out out' rack rack'
-    pub slots : (status : ℕ) → ending ≡ Exited status → RunsOver (states (slots_of rack)) (grown rack rack') (states (slots_of rack'))
+    pub slots : (status : ℕ) → ending ≡ Exited status → RunsOver (slots_of rack) (grown rack rack') (slots_of rack')
     pub talks : KeepsTalks (talk_at talk (slots_of rack)) (talk_at talk (slots_of rack')) (grown rack rack')
     pub dropped : SparesDropped (states (slots_of rack)) (states (slots_of rack')) (grown rack rack')
     pub logged : log_of rack' ≡ log_of rack ++ grown rack rack'
@@ -141,12 +141,15 @@ module _ {I O X : Type 0} {F : X → Type 0} (left : I → Option (List ℕ)) (r
     pub usage : ending ≡ Usage → IsRun words → ⊥
     pub unread : ending ≡ Usage → input' ≡ input
     pub run : (IsRun words → ⊥) → ending ≡ Usage
-    pub refused : (kind : FaultKind) (line : Line) → ending ≡ Refused kind line → RefusesAt (left input) (left input') kind line.0
+    pub refused : (kind : FaultKind) (line : Line) → ending ≡ Refused kind line → RefusesAt IsFault (left input) (left input') kind line.0
     pub limit : (kind : LimitKind) → ending ≡ Limit kind → IsTooLong (left input) (left input')
     pub read_fault : ending ≡ ReadFault → Rose (reads input) (reads input')
     pub write_fault : ending ≡ WriteFault → Rose (puts out) (puts out')
     pub reads_later : reads input ≤ reads input'
     pub puts_later : puts out ≤ puts out'
+    pub within : ReadsWithin (left input) (left input')
+    pub reads_steady : (ending ≡ ReadFault → ⊥) → reads input' ≡ reads input
+    pub puts_steady : (ending ≡ WriteFault → ⊥) → puts out' ≡ puts out
     pub decides : (text : List ℕ) → IsRun words → left input ≡ Some text → (Rose (reads input) (reads input') → ⊥) → (Rose (puts out) (puts out') → ⊥) → Decides text ending
 
 module _ {O X : Type 0} {F : X → Type 0} (held : O → Option (List ℕ)) (puts : O → ℕ) (talk : DynBox X Allocator F → Option Talk) where
@@ -159,14 +162,14 @@ module _ {O X : Type 0} {F : X → Type 0} (held : O → Option (List ℕ)) (put
     pub program : Source
     pub is : Is program
     pub whole : IsWhole (meaning_of program rack rack') (growth_of (log_of rack) (log_of rack')) (held out) (held out') status
-    pub slots : RunsOver (states (slots_of rack)) (growth_of (log_of rack) (log_of rack')) (states (slots_of rack'))
+    pub slots : RunsOver (slots_of rack) (growth_of (log_of rack) (log_of rack')) (slots_of rack')
 
   -- a part of what one of these sources means was carried out
   pub record Part (Is : Source → Type 0) (out out' : O) (rack rack' : Rack X F) : Type 0 where
     pub program : Source
     pub is : Is program
     pub part : IsPart (meaning_of program rack rack') (growth_of (log_of rack) (log_of rack')) (held out) (held out')
-    pub slots : RunsOver (states (slots_of rack)) (growth_of (log_of rack) (log_of rack')) (states (slots_of rack'))
+    pub slots : RunsOver (slots_of rack) (growth_of (log_of rack) (log_of rack')) (slots_of rack')
 
   -- what running one of these sources does, by its ending
   pub record Ran (Is : Source → Type 0) (out out' : O) (rack rack' : Rack X F) (ending : Ending) : Type 0 where
@@ -178,6 +181,7 @@ module _ {O X : Type 0} {F : X → Type 0} (held : O → Option (List ℕ)) (put
     pub logged : log_of rack' ≡ log_of rack ++ growth_of (log_of rack) (log_of rack')
     pub fault : ending ≡ WriteFault → Rose (puts out) (puts out')
     pub later : puts out ≤ puts out'
+    pub steady : (ending ≡ WriteFault → ⊥) → puts out' ≡ puts out
 
   -- what a text leads to: a refusal that touches nothing, or a run
   pub record Led (text : List ℕ) (out out' : O) (rack rack' : Rack X F) (ending : Ending) : Type 0 where

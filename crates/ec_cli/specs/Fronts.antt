@@ -4,7 +4,7 @@ use Rattle.std.specs.Borrow.{Bor}
 use Rattle.std.specs.Char.{is_ascii_digit}
 use Rattle.std.specs.List.{AllByRecursion, flat_map}
 use Rattle.std.specs.Option.{option_map}
-use Rattle.ec_model.specs.Source.{IsWords}
+use Rattle.ec_firstpath.specs.Source.{IsWords}
 use Rattle.ec_cli.specs.Reads.{ReadsAs}
 
 -- a value and the text behind it

@@ -2,26 +2,27 @@
 use Rattle.std.specs.Prelude.{◌≡◌, ◌≤◌, ℕ, ℤ, List, [], ◌∷◌, Option, None, Some, option_map, MatchOption, Result, Ok, Err}
 use Rattle.std.specs.declared.alloc.Global.{Global as Allocator}
 use Rattle.std.specs.declared.dyn_box.DynBox.{DynBox}
-use Rattle.ec_base.specs.Putting.{Puts}
+use Rattle.ec_base.specs.Putting.{Puts, Took}
 use Rattle.ec_link.specs.declared.connection.Conn.{Conn}
 use Rattle.ec_link.specs.declared.logged.Logged.{Logged}
 use Rattle.ec_link.specs.declared.rack.Rack.{Rack}
 use Rattle.ec_link.specs.declared.reply.Reply.{Reply}
+use Rattle.ec_link.specs.declared.slot.Slot.{Slot}
 use Rattle.ec_link.specs.Calls.{Asks, Ran}
 use Rattle.ec_link.specs.Conn.{slot_of}
 use Rattle.ec_link.specs.Logged.{Talk}
 use Rattle.ec_link.specs.Rack.{slots_of, log_of}
 use Rattle.ec_link.specs.Slot.{states}
-use Rattle.ec_link.specs.SlotState.{SlotState, TakenAt, ready_slot}
-use Rattle.ec_model.specs.declared.written.Global.{Global}
-use Rattle.ec_model.specs.declared.written.Pointer.{Pointer}
-use Rattle.ec_model.specs.declared.written.Call.{Call}
-use Rattle.ec_model.specs.declared.written.Action.{Action}
-use Rattle.ec_model.specs.declared.written.WrittenStatement.{WrittenStatement}
-use Rattle.ec_model.specs.Observed.{answers_in}
-use Rattle.ec_model.specs.Run.{IsFront, IsWhole, IsPart}
-use Rattle.ec_model.specs.declared.written.Written.{Written}
-use Rattle.ec_model.specs.WrittenMeaning.{acts, call_request, store_reply, written_meaning}
+use Rattle.ec_link.specs.SlotState.{TakenAt, ready_slot}
+use Rattle.ec_firstpath.specs.declared.written.Global.{Global}
+use Rattle.ec_firstpath.specs.declared.written.Pointer.{Pointer}
+use Rattle.ec_firstpath.specs.declared.written.Call.{Call}
+use Rattle.ec_firstpath.specs.declared.written.Action.{Action}
+use Rattle.ec_firstpath.specs.declared.written.WrittenStatement.{WrittenStatement}
+use Rattle.ec_observed.specs.Observed.{answers_in}
+use Rattle.ec_observed.specs.Run.{IsFront, IsWhole, IsPart}
+use Rattle.ec_firstpath.specs.declared.written.Written.{Written}
+use Rattle.ec_firstpath.specs.WrittenMeaning.{acts, call_request, store_reply, written_meaning}
 use Rattle.ec_cli.specs.declared.machine.stop.RunStop.{RunStop}
 use Rattle.ec_cli.specs.declared.machine.stop.RunStop.TheVariants as stops
 use Rattle.ec_cli.specs.declared.machine.stop.RunEnd.{RunEnd}
@@ -35,8 +36,9 @@ end_of (Err stops.WriteFault) = ends.WriteFault
 end_of (Err stops.OutOfMemory) = ends.OutOfMemory
 
 -- what a run over the first connection does to the slots: nothing where none is ready
-abbrev pub RunsOver : List SlotState → List Logged → List SlotState → Type 0
-RunsOver before growth after = MatchOption (ready_slot before) ((growth ≡ []) × (after ≡ before)) (λ _. Ran before growth after)
+abbrev pub RunsOver : {X : Type 0} {F : X → Type 0} → List (Slot X F) → List Logged → List (Slot X F) → Type 0
+RunsOver before growth after =
+    MatchOption (ready_slot (states before)) ((growth ≡ []) × (after ≡ before)) (λ _. Ran before growth after)
 
 module _ {X : Type 0} {F : X → Type 0} where
   -- the slot of a connection, if there is one, is taken
@@ -69,7 +71,7 @@ module _ {X : Type 0} {F : X → Type 0} where
       pub record Stopped (globals : List Global) (action : Action) (memory : List ℤ) (old : Rack X F) (was : Option (Conn X F)) (out : S) (new : Rack X F) (now : Option (Conn X F)) (out' : S) : Type 0 where
         pub asked : MayAsk old was new now []
         pub printed : List ℕ
-        pub put : Puts held fails out out' printed
+        pub put : Took held fails out out' printed
         pub begins : Begins globals (option_map slot_of was) action memory printed
 
       -- the statements up to `rest` were done
@@ -85,7 +87,7 @@ module _ {X : Type 0} {F : X → Type 0} where
         pub growth : List Logged
         pub printed : List ℕ
         pub asked : MayAsk old was new now growth
-        pub put : Puts held fails out out' printed
+        pub put : Took held fails out out' printed
         pub output : IsFront printed (output_of (acts globals (option_map slot_of was) body (record { memory = memory; output = []; conversation = []; answers = answers_in growth })))
         pub said : IsFront growth (said_of (acts globals (option_map slot_of was) body (record { memory = memory; output = []; conversation = []; answers = answers_in growth })))
 
@@ -94,7 +96,7 @@ module _ {X : Type 0} {F : X → Type 0} where
         pub growth : List Logged
         pub asked : MayAsk old was new now growth
         pub whole : IsWhole (written_meaning program (option_map slot_of was) (answers_in growth)) growth (held out) (held out') status
-        pub later : fails out ≤ fails out'
+        pub steady : fails out' ≡ fails out
 
       -- the program stopped in the middle
       pub record Cut (program : Written) (old : Rack X F) (was : Option (Conn X F)) (out : S) (new : Rack X F) (now : Option (Conn X F)) (out' : S) : Type 0 where

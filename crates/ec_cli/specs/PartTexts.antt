@@ -2,12 +2,12 @@
 use Rattle.std.specs.Prelude.{ℕ, List, [], ◌∷◌, ◌++◌, codes}
 use Rattle.std.specs.Fmt.{decimal}
 use Rattle.ec_base.specs.declared.line.Line.{Line}
-use Rattle.ec_model.specs.declared.written.Global.{Global}
-use Rattle.ec_model.specs.declared.written.Call.{Call}
-use Rattle.ec_model.specs.declared.written.Action.{Action}
-use Rattle.ec_model.specs.declared.written.WrittenStatement.{WrittenStatement}
-use Rattle.ec_model.specs.Lines.{unlines}
-use Rattle.ec_model.specs.WrittenText.{line_mark, call_text, action_lines, global_lines, statement_lines}
+use Rattle.ec_firstpath.specs.declared.written.Global.{Global}
+use Rattle.ec_firstpath.specs.declared.written.Call.{Call}
+use Rattle.ec_firstpath.specs.declared.written.Action.{Action}
+use Rattle.ec_firstpath.specs.declared.written.WrittenStatement.{WrittenStatement}
+use Rattle.ec_firstpath.specs.Lines.{unlines}
+use Rattle.ec_firstpath.specs.WrittenText.{line_mark, call_text, action_lines, global_lines, statement_lines}
 use Rattle.ec_cli.specs.Reads.{letter_text}
 use Rattle.ec_cli.specs.declared.written.read.Host.{Host}
 

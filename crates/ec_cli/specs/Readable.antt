@@ -1,16 +1,16 @@
 -- Which written programs can be read back from their text.
 use Rattle.std.specs.List.{AllByRecursion}
 use Rattle.ec_base.specs.declared.line.Line.{Line}
-use Rattle.ec_model.specs.declared.written.Global.{Global}
-use Rattle.ec_model.specs.declared.written.Symbol.TheVariants.{Int}
-use Rattle.ec_model.specs.declared.written.Call.{Call}
-use Rattle.ec_model.specs.declared.written.Action.{Action}
-use Rattle.ec_model.specs.declared.written.Action.TheVariants.{Store, Print}
-use Rattle.ec_model.specs.declared.written.Action.TheVariants as action
-use Rattle.ec_model.specs.declared.written.WrittenStatement.{WrittenStatement}
-use Rattle.ec_model.specs.declared.written.Written.{Written}
-use Rattle.ec_model.specs.Source.{IsNumber}
-use Rattle.ec_model.specs.Written.{at_line}
+use Rattle.ec_firstpath.specs.declared.written.Global.{Global}
+use Rattle.ec_firstpath.specs.declared.written.Symbol.TheVariants.{Int}
+use Rattle.ec_firstpath.specs.declared.written.Call.{Call}
+use Rattle.ec_firstpath.specs.declared.written.Action.{Action}
+use Rattle.ec_firstpath.specs.declared.written.Action.TheVariants.{Store, Print}
+use Rattle.ec_firstpath.specs.declared.written.Action.TheVariants as action
+use Rattle.ec_firstpath.specs.declared.written.WrittenStatement.{WrittenStatement}
+use Rattle.ec_firstpath.specs.declared.written.Written.{Written}
+use Rattle.ec_firstpath.specs.Source.{IsNumber}
+use Rattle.ec_firstpath.specs.Written.{at_line}
 use Rattle.ec_cli.specs.Reads.{IsLower}
 use Rattle.ec_cli.specs.Fronts.{IsQuery}
 use Rattle.ec_cli.specs.declared.written.read.Host.{Host}

@@ -1,7 +1,7 @@
 -- What an exact reader answers: the one value with this text, or that there is none.
 use Rattle.std.specs.Prelude.{◌≡◌, ◌≢◌, ℕ, List, [], ◌∷◌, ◌++◌, Option, None, Some, true}
 use Rattle.std.specs.Char.{is_ascii_lowercase}
-use Rattle.ec_model.specs.declared.source.Letter.{Letter}
+use Rattle.ec_firstpath.specs.declared.source.Letter.{Letter}
 
 -- the answer is the one value with this text, or there is none
 abbrev pub ReadsAs : {A T : Type 0} → Option A → (A → Type 0) → (A → T) → T → Type 0

@@ -1,11 +1,11 @@
 -- A source of which the first lines are taken.
 use Rattle.std.specs.Prelude.{◌≡◌, ℕ, List, [], ◌∷◌, ◌++◌, map}
-use Rattle.ec_model.specs.declared.source.Letter.{Letter}
-use Rattle.ec_model.specs.declared.source.Statement.{Statement}
-use Rattle.ec_model.specs.declared.source.Statement.TheVariants.{Assign, Select, Print}
-use Rattle.ec_model.specs.declared.source.Source.{Source}
-use Rattle.ec_model.specs.Source.{IsValid, SourceLine, declaration, opening, statement, leaving, closing, source_lines, line_text}
-use Rattle.ec_model.specs.Faults.{line, BeginsSource}
+use Rattle.ec_firstpath.specs.declared.source.Letter.{Letter}
+use Rattle.ec_firstpath.specs.declared.source.Statement.{Statement}
+use Rattle.ec_firstpath.specs.declared.source.Statement.TheVariants.{Assign, Select, Print}
+use Rattle.ec_firstpath.specs.declared.source.Source.{Source}
+use Rattle.ec_firstpath.specs.Source.{IsValid, SourceLine, declaration, opening, statement, leaving, closing, source_lines, line_text}
+use Rattle.ec_firstpath.specs.Faults.{line, BeginsSource}
 use Rattle.ec_cli.specs.declared.source.builder.Stage.{Stage}
 use Rattle.ec_cli.specs.declared.source.builder.Stage.TheVariants.{Declarations, Body, Left, Closed}
 use Rattle.ec_cli.specs.declared.source.builder.SourceBuilder.{SourceBuilder}

@@ -1,9 +1,9 @@
 -- The lines of sources, each for itself.
 use Rattle.std.specs.Prelude.{ℕ, List}
-use Rattle.ec_model.specs.declared.source.Letter.{Letter}
-use Rattle.ec_model.specs.declared.source.Statement.{Statement}
-use Rattle.ec_model.specs.declared.source.Statement.TheVariants.{Assign, Select, Print}
-use Rattle.ec_model.specs.Source.{IsNumber, IsWords, SourceLine, declaration, opening, statement, leaving, closing, statement_text}
+use Rattle.ec_firstpath.specs.declared.source.Letter.{Letter}
+use Rattle.ec_firstpath.specs.declared.source.Statement.{Statement}
+use Rattle.ec_firstpath.specs.declared.source.Statement.TheVariants.{Assign, Select, Print}
+use Rattle.ec_firstpath.specs.Source.{IsNumber, IsWords, SourceLine, declaration, opening, statement, leaving, closing, statement_text}
 use Rattle.ec_cli.specs.declared.source.source_line.SourceLine.{SourceLine as CodeLine}
 use Rattle.ec_cli.specs.declared.source.source_line.SourceLine.TheVariants.{Declaration, Opening, Statement as CodeStatement, Leaving, Closing}
 use Rattle.ec_cli.specs.Reads.{IsLower}

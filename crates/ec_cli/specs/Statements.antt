@@ -1,14 +1,14 @@
 -- What statements of a written program do, against what they mean.
 use Rattle.std.specs.Prelude.{◌≡◌, ℕ, ℤ, List, [], ◌++◌, Option}
 use Rattle.ec_link.specs.declared.logged.Logged.{Logged}
-use Rattle.ec_model.specs.declared.written.Global.{Global}
-use Rattle.ec_model.specs.declared.written.Action.{Action}
-use Rattle.ec_model.specs.declared.written.Action.TheVariants.{Store, Call, Print}
-use Rattle.ec_model.specs.declared.written.WrittenStatement.{WrittenStatement}
-use Rattle.ec_model.specs.Observed.{Answer, answers_in}
-use Rattle.ec_model.specs.Run.{IsFront}
-use Rattle.ec_model.specs.Source.{IsNumber}
-use Rattle.ec_model.specs.WrittenMeaning.{Outcome, on, waiting, act, acts}
+use Rattle.ec_firstpath.specs.declared.written.Global.{Global}
+use Rattle.ec_firstpath.specs.declared.written.Action.{Action}
+use Rattle.ec_firstpath.specs.declared.written.Action.TheVariants.{Store, Call, Print}
+use Rattle.ec_firstpath.specs.declared.written.WrittenStatement.{WrittenStatement}
+use Rattle.ec_observed.specs.Observed.{Answer, answers_in}
+use Rattle.ec_observed.specs.Run.{IsFront}
+use Rattle.ec_firstpath.specs.Source.{IsNumber}
+use Rattle.ec_firstpath.specs.WrittenMeaning.{Outcome, on, waiting, act, acts}
 
 -- the number that is stored fits an int
 abbrev pub StoresInt : Action → Type 0

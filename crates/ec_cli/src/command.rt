@@ -1,10 +1,11 @@
 //! The command `run`: a source is read, written as C, read back and run.
 ghost use Rattle.std.specs.Prelude.{◌≡◌, ◌+◌, ◌≤◌, ◌<◌, ◌^◌, ◌↔◌, IsTrue, codes, length, IfOk, IfErr};
 ghost use Rattle.std.specs.String.{string_bytes};
-ghost use Rattle.ec_model.specs.Source.{IsValid, IsSource};
-ghost use Rattle.ec_model.specs.Written.{written};
+ghost use Rattle.ec_firstpath.specs.Source.{IsValid, IsSource};
+ghost use Rattle.ec_firstpath.specs.Written.{written};
 ghost use Rattle.ec_cli.specs.Refusals as text_refusal;
 ghost use Rattle.ec_cli.specs.Answers.{IsRun, IsOfRun, Answers, Ran, Led, refusal_of, ending_of};
+ghost use Rattle.ec_link.specs.Links.{talk_by};
 
 use crate::ending::Ending;
 use crate::machine::{RunEnd, run};
@@ -12,8 +13,8 @@ use crate::source::read_source;
 use crate::written::read::read_written;
 use crate::written::write::write;
 use ec_base::{Bytes, InputStop, LimitKind, OutOfMemory, Sink, Source as Input, Stop, read_all};
+use ec_firstpath::{Source, Written};
 use ec_link::{Link, Rack};
-use ec_model::{Source, Written};
 use std::alloc::Global;
 
 /// The most bytes that an input has.
@@ -85,7 +86,7 @@ fn ended(end: RunEnd) -> Ending
 fn run_source<O: Sink>(alloc: Global, source: Source, out: &mut O, rack: &mut Rack) -> Ending
     requires valid { IsValid source }
     requires bounded { length source.letters + length source.body + 3 < 2 ^ 31 }
-    ensures ran { Ran O.held O.faults (λ b. (⟦<dyn Link as Link>⟧ b.vtable).talk b.value) (λ p. p ≡ source) out.old out.new rack.old rack.new result }
+    ensures ran { Ran O.held O.faults (talk_by ⟦<dyn Link as Link>⟧) (λ p. p ≡ source) out.old out.new rack.old rack.new result }
     ensures ends { IsOfRun result }
 {
     match translate(alloc, source) {
@@ -97,7 +98,7 @@ fn run_source<O: Sink>(alloc: Global, source: Source, out: &mut O, rack: &mut Ra
 // Runs the source in a text.
 fn run_text<O: Sink>(alloc: Global, text: Bytes, out: &mut O, rack: &mut Rack) -> Ending
     requires { length text ≤ 2 ^ 24 }
-    ensures { Led O.held O.faults (λ b. (⟦<dyn Link as Link>⟧ b.vtable).talk b.value) text out.old out.new rack.old rack.new result }
+    ensures { Led O.held O.faults (talk_by ⟦<dyn Link as Link>⟧) text out.old out.new rack.old rack.new result }
 {
     match parse(alloc, text) {
         Ok(source) => run_source(alloc, source, out, rack),
@@ -113,7 +114,7 @@ pub fn command<I: Input, O: Sink>(
     out: &mut O,
     rack: &mut Rack,
 ) -> Ending
-    ensures { Answers I.left I.faults O.held O.faults (λ b. (⟦<dyn Link as Link>⟧ b.vtable).talk b.value) words.now input.old input.new out.old out.new rack.old rack.new result }
+    ensures { Answers I.left I.faults O.held O.faults (talk_by ⟦<dyn Link as Link>⟧) words.now input.old input.new out.old out.new rack.old rack.new result }
 {
     if !names_run(words) {
         return Ending::Usage;

@@ -1,8 +1,8 @@
 //! What holds of every text, each as the contract of a function that does nothing.
 ghost use Rattle.std.specs.Prelude.{◌≡◌, ℕ, List};
-ghost use Rattle.ec_model.specs.declared.source.Source.{Source};
-ghost use Rattle.ec_model.specs.Faults.{FaultAt};
-ghost use Rattle.ec_model.specs.Source.{IsSource};
+ghost use Rattle.ec_firstpath.specs.declared.source.Source.{Source};
+ghost use Rattle.ec_firstpath.specs.Faults.{FaultAt};
+ghost use Rattle.ec_firstpath.specs.Source.{IsSource};
 
 /// A text is that of at most one source, has at most one fault, and never both: so what it leads to is one answer.
 pub fn one_reading()

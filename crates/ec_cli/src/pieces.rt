@@ -3,11 +3,11 @@ ghost use Rattle.std.specs.Prelude.{◌≡◌, ◌↔◌, ℕ, List, ◌∷◌, 
 ghost use Rattle.std.specs.List.{AllByRecursion};
 ghost use Rattle.std.specs.Option.{option_copied};
 ghost use Rattle.std.specs.Fmt.{decimal};
-ghost use Rattle.ec_model.specs.Lines.{IsOneLine};
-ghost use Rattle.ec_model.specs.Source.{IsNumber, IsWord, IsWords};
+ghost use Rattle.ec_firstpath.specs.Lines.{IsOneLine};
+ghost use Rattle.ec_firstpath.specs.Source.{IsNumber, IsWord, IsWords};
 ghost use Rattle.ec_cli.specs.Reads.{ReadsAs, IsAny, IsLower, letter_text, text_between};
 
-use ec_model::Letter;
+use ec_firstpath::Letter;
 
 /// What stands in `line` between `prefix` and `suffix`, if it begins with the one and ends with the other behind it.
 pub fn between<'a>(line: &'a [u8], prefix: &[u8], suffix: &[u8]) -> Option<&'a [u8]>

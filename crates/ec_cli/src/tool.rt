@@ -8,10 +8,14 @@ ghost use Rattle.ec_base.specs.Causes.{Rose};
 ghost use Rattle.ec_link.specs.Rack.{slots_of, log_of};
 ghost use Rattle.ec_link.specs.Slot.{states, talk_at};
 ghost use Rattle.ec_link.specs.Told.{KeepsTalks, SparesDropped};
-ghost use Rattle.ec_model.specs.Headline.{RunsWhole, RunsPart, RefusesAt, IsTooLong};
+ghost use Rattle.ec_observed.specs.Headline.{RunsWhole, RefusesAt, IsTooLong, ReadsWithin};
+ghost use Rattle.ec_firstpath.specs.Direct.{direct_meaning};
+ghost use Rattle.ec_firstpath.specs.Faults.{IsFault};
+ghost use Rattle.ec_firstpath.specs.Source.{IsSource};
 ghost use Rattle.ec_cli.specs.Answers.{IsRun, IsRefusal, IsOwn, Decides, Announces, RanPart, grown};
 ghost use Rattle.ec_cli.specs.Ending.{last_line};
 ghost use Rattle.ec_cli.specs.Machine.{RunsOver};
+ghost use Rattle.ec_link.specs.Links.{talk_by};
 
 use crate::command::command;
 use crate::ending::Ending;
@@ -36,35 +40,50 @@ pub fn ec_main<I: Source, O: Sink, E: Sink>(
 ) -> Ending
     // A run to its end is the whole of what the source means, over the answers that the log got in this call.
     ensures whole { (status : ℕ) → result ≡ Ending.Exited status →
-        RunsWhole (I.left input.old) (I.left input.new) (O.held out.old) (O.held out.new) (states (slots_of rack.old)) (grown rack.old rack.new) status }
+        RunsWhole IsSource direct_meaning (I.left input.old) (I.left input.new)
+        (O.held out.old) (O.held out.new) (states (slots_of rack.old)) (grown rack.old rack.new) status }
 
     // A run that stopped is a part of it, and want of memory may also come before anything was done.
-    ensures part { result ≡ Ending.WriteFault → RanPart I.left I.faults O.held O.faults (λ b. (⟦<dyn Link as Link>⟧ b.vtable).talk b.value) input.old input.new out.old out.new rack.old rack.new }
+    ensures part { result ≡ Ending.WriteFault →
+        RanPart I.left I.faults O.held O.faults (talk_by ⟦<dyn Link as Link>⟧)
+        input.old input.new out.old out.new rack.old rack.new }
     ensures want { result ≡ Ending.OutOfMemory →
         ((rack.new ≡ rack.old) × (out.new ≡ out.old))
-        ⊎ RanPart I.left I.faults O.held O.faults (λ b. (⟦<dyn Link as Link>⟧ b.vtable).talk b.value) input.old input.new out.old out.new rack.old rack.new }
+        ⊎ RanPart I.left I.faults O.held O.faults (talk_by ⟦<dyn Link as Link>⟧)
+        input.old input.new out.old out.new rack.old rack.new }
 
-    // The slots go through the log: the ready one is taken, and free again at the end.
-    ensures slots { (status : ℕ) → result ≡ Ending.Exited status → RunsOver (states (slots_of rack.old)) (grown rack.old rack.new) (states (slots_of rack.new)) }
+    // The slots go through the log: the ready one is taken, and free again at the end. The others are as they were.
+    ensures slots { (status : ℕ) → result ≡ Ending.Exited status →
+        RunsOver (slots_of rack.old) (grown rack.old rack.new) (slots_of rack.new) }
 
     // A link that tells its talk says what the log says of its slot.
-    ensures talks { KeepsTalks (talk_at (λ b. (⟦<dyn Link as Link>⟧ b.vtable).talk b.value) (slots_of rack.old)) (talk_at (λ b. (⟦<dyn Link as Link>⟧ b.vtable).talk b.value) (slots_of rack.new)) (grown rack.old rack.new) }
-    ensures dropped { SparesDropped (states (slots_of rack.old)) (states (slots_of rack.new)) (grown rack.old rack.new) }
+    ensures talks { KeepsTalks
+        (talk_at (talk_by ⟦<dyn Link as Link>⟧) (slots_of rack.old))
+        (talk_at (talk_by ⟦<dyn Link as Link>⟧) (slots_of rack.new)) (grown rack.old rack.new) }
+    ensures dropped { SparesDropped
+        (states (slots_of rack.old)) (states (slots_of rack.new)) (grown rack.old rack.new) }
     ensures logged { log_of rack.new ≡ log_of rack.old ++ grown rack.old rack.new }
 
-    // A refusal touches nothing, and wrong words read nothing.
+    // A refusal touches nothing, and wrong words read nothing. No call reads far beyond the limit.
     ensures unread { result ≡ Ending.Usage → input.new ≡ input.old }
     ensures untouched { IsRefusal result → (rack.new ≡ rack.old) × (out.new ≡ out.old) }
+    ensures within { ReadsWithin (I.left input.old) (I.left input.new) }
 
     // When each answer comes.
     ensures own { IsOwn result }
     ensures usage { (result ≡ Ending.Usage) ↔ (IsRun words.now → ⊥) }
-    ensures refused { (kind : FaultKind) (line : Line) → result ≡ Ending.Refused kind line → RefusesAt (I.left input.old) (I.left input.new) kind line.0 }
+    ensures refused { (kind : FaultKind) (line : Line) → result ≡ Ending.Refused kind line →
+        RefusesAt IsFault (I.left input.old) (I.left input.new) kind line.0 }
     ensures limit { result ≡ Ending.Limit L6 → IsTooLong (I.left input.old) (I.left input.new) }
     ensures read_fault { result ≡ Ending.ReadFault → Rose (I.faults input.old) (I.faults input.new) }
     ensures write_fault { result ≡ Ending.WriteFault → Rose (O.faults out.old) (O.faults out.new) }
     ensures decides { (text : List ℕ) → IsRun words.now → I.left input.old ≡ Some text
-        → (Rose (I.faults input.old) (I.faults input.new) → ⊥) → (Rose (O.faults out.old) (O.faults out.new) → ⊥) → Decides text result }
+        → (Rose (I.faults input.old) (I.faults input.new) → ⊥)
+        → (Rose (O.faults out.old) (O.faults out.new) → ⊥) → Decides text result }
+
+    // With every other answer, want of memory among them, no count rose.
+    ensures read_steady { (result ≡ Ending.ReadFault → ⊥) → I.faults input.new ≡ I.faults input.old }
+    ensures write_steady { (result ≡ Ending.WriteFault → ⊥) → O.faults out.new ≡ O.faults out.old }
 
     // The last line, whole, or in part where the count of `err` rose.
     ensures last_line { Announces E.held E.faults err.old err.new (last_line result) }

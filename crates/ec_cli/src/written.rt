@@ -2,6 +2,4 @@
 
 mod fronts;
 pub(crate) mod read;
-#[cfg(test)]
-mod tests;
 pub(crate) mod write;

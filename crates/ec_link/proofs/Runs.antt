@@ -219,7 +219,7 @@ module _ {X : Type 0} {F : X → Type 0} where
           cc
 
       -- the first ready slot is taken while the log grows, and free at the end
-      pub Ran-run : Ran (states (slots_of first)) growth (states (slots_of last))
+      pub Ran-run : Ran (slots_of first) growth (slots_of last)
       unfolding open_slots
       Ran-run = record {
         slot = slot_of was;
@@ -232,6 +232,11 @@ module _ {X : Type 0} {F : X → Type 0} where
             ∙ ap (λ slots. slice_set slots (slot_of now) (free gives.name)) ended
             ∙ ap (λ i. slice_set open_slots i (free gives.name)) asks.slot
             ∙ ap (λ name. slice_set open_slots (slot_of was) (free name)) same_name;
+        others = λ i other.
+            ap (λ (slots : List (Slot X F)). slice_get slots i) gives.now
+            ∙ slice_get-slice_set_other (slots_of third) (slot_of now) i (Free gives.name (link_of now)) (λ same. other (same ∙ asks.slot))
+            ∙ ap (λ (slots : List (Slot X F)). slice_get slots i) (asks.slots ∙ takes.now)
+            ∙ slice_get-slice_set_other (slots_of first) (slot_of was) i (Taken takes.name) other;
       }
 
       -- no dropped slot gets an exchange

@@ -1,5 +1,5 @@
 -- What the calls of a rack do.
-use Rattle.std.specs.Prelude.{◌≡◌, ◌≤◌, ℕ, Option, Some, List, [], ◌∷◌, ◌++◌, All, Contains, slice_get, slice_set}
+use Rattle.std.specs.Prelude.{◌≡◌, ◌≢◌, ◌≤◌, ℕ, Option, Some, List, [], ◌∷◌, ◌++◌, All, Contains, slice_get, slice_set}
 use Rattle.std.specs.declared.alloc.Global.{Global}
 use Rattle.std.specs.declared.dyn_box.DynBox.{DynBox}
 use Rattle.ec_base.specs.Causes.{Rose}
@@ -52,12 +52,13 @@ module _ {X : Type 0} {F : X → Type 0} where
       pub broken : Contains (replies_of growth) Broken → Rose (faults (link_of was)) (faults (link_of now))
 
 -- What a program's run over its first connection does to the slots: the first ready one is taken, the log grows as the
--- slots allow, and at the end the slot, which is still taken, is free again.
-pub record Ran (before : List SlotState) (growth : List Logged) (after : List SlotState) : Type 0 where
+-- slots allow, and at the end the slot, which is still taken, is free again. Every other slot is as it was, with its link.
+pub record Ran {X : Type 0} {F : X → Type 0} (before : List (Slot X F)) (growth : List Logged) (after : List (Slot X F)) : Type 0 where
   pub slot : ℕ
   pub name : List ℕ
-  pub first : ready_slot before ≡ Some (slot, name)
+  pub first : ready_slot (states before) ≡ Some (slot, name)
   pub ended : List SlotState
-  pub exchanged : Slots (slice_set before slot (taken name)) growth ended
+  pub exchanged : Slots (slice_set (states before) slot (taken name)) growth ended
   pub still_taken : slice_get ended slot ≡ Some (taken name)
-  pub freed : after ≡ slice_set ended slot (free name)
+  pub freed : states after ≡ slice_set ended slot (free name)
+  pub others : (i : ℕ) → i ≢ slot → slice_get after i ≡ slice_get before i

@@ -1,6 +1,7 @@
 pub mod Calls
 pub mod Conn
 pub mod Link
+pub mod Links
 pub mod Logged
 pub mod MemLink
 pub mod Rack

@@ -1,4 +1,4 @@
-ghost use Rattle.std.specs.Prelude.{◌≡◌, ℕ, List, None, Some, ◌-◌, ◌^◌, ◌<◌, ◌≤◌, [], ◌∷◌, ◌++◌, length, option_copied, IfErr, OnErr, OnOk, IfOk, MatchOption, IfSome, option_map, slice_set, take};
+ghost use Rattle.std.specs.Prelude.{◌≡◌, ℕ, List, None, Some, ◌-◌, ◌^◌, ◌<◌, ◌≤◌, [], ◌∷◌, ◌++◌, length, option_copied, IfErr, OnErr, OnOk, IfOk, MatchBool, MatchOption, IfSome, IsSome, option_map, slice_set, take};
 ghost use Rattle.ec_link.specs.Conn.{slot_of, link_of};
 ghost use Rattle.ec_link.specs.Logged.{IsAsk, growth_of, last_reply_of};
 ghost use Rattle.ec_link.specs.Slot.{states};
@@ -61,6 +61,13 @@ impl Rack {
         }
     }
 
+    /// Whether a slot is ready.
+    pub fn has_ready(&self) -> bool
+        ensures { MatchBool result (IsSome (ready_slot (states (slots_of self.now)))) (ready_slot (states (slots_of self.now)) ≡ None) }
+    {
+        first_ready(self.slots.as_slice()).is_some()
+    }
+
     /// Adds the link of a program's first connection. For want of memory it is handed back.
     #[tactic(auto, using(std::proofs::lemmas::List::set_at))]
     pub fn add_ready(
@@ -105,7 +112,7 @@ impl Rack {
         ensures log { log_of self.new ≡ log_of self.old }
     {
         let at = self.slots.len();
-        let empty = Slot::Taken(List::new(self.slots.allocator()));
+        let empty = Slot::Taken(Name::new());
         match self.slots.push(empty) {
             Ok(()) => Some(at),
             Err(_) => None,
@@ -124,7 +131,7 @@ impl Rack {
         ensures dropped { SparesDropped (states (slots_of self.old)) (states (slots_of self.new)) [] }
     {
         let at = first_ready(self.slots.as_slice())?;
-        let empty = Slot::Taken(List::new(self.slots.allocator()));
+        let empty = Slot::Taken(Name::new());
         match self.slots.replace(at, empty) {
             Slot::Ready(name, link) => {
                 self.slots.set(at, Slot::Taken(name));
@@ -183,7 +190,7 @@ impl Rack {
     {
         let Conn { slot, link } = conn;
         let at = slot as usize;
-        let empty = Slot::Taken(List::new(self.slots.allocator()));
+        let empty = Slot::Taken(Name::new());
         match self.slots.replace(at, empty) {
             Slot::Taken(name) => self.slots.set(at, Slot::Free(name, link)),
             _ => unreachable!(),
@@ -264,7 +271,10 @@ mod tests {
         let link: Box<dyn Link> = Box::new(alloc, MemLink::new(alloc, replies, &[])?)?;
         let mut rack = Rack::new(alloc);
         assert!(rt; rack.last_reply().is_none());
-        assert!(rt; rack.add_ready(text(alloc, b"db")?, link).is_ok());
+        assert!(rt;
+            rack.add_ready(Name::from_slice(alloc, b"db")?, link)
+                .is_ok()
+        );
         let first = statement(alloc, b"a")?;
         let second = statement(alloc, b"b")?;
         let Some(mut conn) = rack.take_ready() else {

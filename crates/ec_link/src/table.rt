@@ -120,7 +120,7 @@ mod tests {
         for (widths, want) in cases {
             let mut cols = List::new(alloc);
             cols.push(Col {
-                name: List::from_slice(alloc, b"id")?,
+                name: Name::from_slice(alloc, b"id")?,
                 code: 23,
             })?;
             let mut rows = List::new(alloc);

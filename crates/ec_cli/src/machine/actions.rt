@@ -1,17 +1,18 @@
 ghost use Rattle.std.specs.Prelude.{◌≡◌, ◌<◌, ◌^◌, ◌++◌, ◌∷◌, [], length, pos, IfOk, OnOk, OnErr};
 ghost use Rattle.std.specs.Fmt.{signed_decimal};
 ghost use Rattle.ec_base.specs.Causes.{Rose};
-ghost use Rattle.ec_model.specs.WrittenMeaning.{load, store};
+ghost use Rattle.ec_firstpath.specs.WrittenMeaning.{load, store};
 ghost use Rattle.ec_cli.specs.Machine.{IsOpen, Done, Stopped};
 ghost use Rattle.ec_cli.specs.Statements.{StoresInt};
+ghost use Rattle.ec_link.specs.Links.{talk_by, faults_by};
 
 use crate::machine::library::call_library;
 use crate::machine::memory::{address, load, store};
 use crate::machine::number::printed;
 use crate::machine::stop::RunStop;
 use ec_base::{Bytes, List, OutOfMemory, Sink, put_all};
+use ec_firstpath::{Action, Global, Pointer};
 use ec_link::{Conn, Link, Rack};
-use ec_model::{Action, Global, Pointer};
 use std::alloc;
 
 // Stores a number of the program.
@@ -47,9 +48,10 @@ pub fn act<O: Sink>(
     requires few { length globals.now < 2 ^ 31 }
     requires int { StoresInt action.now }
     requires open { IsOpen rack.old conn.old }
-    ensures done { OnOk result (Done (λ b. (⟦<dyn Link as Link>⟧ b.vtable).talk b.value) (λ b. (⟦<dyn Link as Link>⟧ b.vtable).faults b.value) O.held O.faults globals.now action.now memory.old memory.new rack.old conn.old out.old rack.new conn.new out.new) }
-    ensures stopped { OnErr result (Stopped (λ b. (⟦<dyn Link as Link>⟧ b.vtable).talk b.value) (λ b. (⟦<dyn Link as Link>⟧ b.vtable).faults b.value) O.held O.faults globals.now action.now memory.old rack.old conn.old out.old rack.new conn.new out.new) }
+    ensures done { OnOk result (Done (talk_by ⟦<dyn Link as Link>⟧) (faults_by ⟦<dyn Link as Link>⟧) O.held O.faults globals.now action.now memory.old memory.new rack.old conn.old out.old rack.new conn.new out.new) }
+    ensures stopped { OnErr result (Stopped (talk_by ⟦<dyn Link as Link>⟧) (faults_by ⟦<dyn Link as Link>⟧) O.held O.faults globals.now action.now memory.old rack.old conn.old out.old rack.new conn.new out.new) }
     ensures cause { result ≡ Err RunStop.WriteFault → Rose (O.faults out.old) (O.faults out.new) }
+    ensures steady { result ≡ Err RunStop.OutOfMemory → O.faults out.new ≡ O.faults out.old }
 {
     match action {
         Action::Store(letter, number) => {

@@ -4,13 +4,14 @@ ghost use Rattle.ec_link.specs.Rack.{slots_of, log_of};
 ghost use Rattle.ec_link.specs.Slot.{states};
 ghost use Rattle.ec_link.specs.SlotState.{TakenAt};
 ghost use Rattle.ec_link.specs.Calls.{Asks};
-ghost use Rattle.ec_model.specs.WrittenMeaning.{store_table, store_reply};
+ghost use Rattle.ec_firstpath.specs.WrittenMeaning.{store_table, store_reply};
 ghost use Rattle.ec_cli.specs.Machine.{Called};
+ghost use Rattle.ec_link.specs.Links.{talk_by, faults_by};
 
 use crate::machine::memory::store_rows;
 use ec_base::{Bytes, List, OutOfMemory};
+use ec_firstpath::{Call, Pointer};
 use ec_link::{Conn, Link, Rack, Reply, Request, Table};
-use ec_model::{Call, Pointer};
 use std::alloc::Global;
 
 // Stores a table of one column, if the output has an element for each of its rows.
@@ -47,8 +48,8 @@ pub fn call_library(
 ) -> Result<(), OutOfMemory>
     requires start { IfSome pointer (λ p. p.offset ≡ 0) }
     requires taken { TakenAt (states (slots_of rack.old)) (slot_of conn.old) }
-    ensures called { OnOk result (Called (λ b. (⟦<dyn Link as Link>⟧ b.vtable).talk b.value) (λ b. (⟦<dyn Link as Link>⟧ b.vtable).faults b.value) call.now pointer memory.old memory.new rack.old conn.old rack.new conn.new) }
-    ensures unasked { OnErr result (Asks (λ b. (⟦<dyn Link as Link>⟧ b.vtable).talk b.value) (λ b. (⟦<dyn Link as Link>⟧ b.vtable).faults b.value) rack.old conn.old rack.new conn.new []) }
+    ensures called { OnOk result (Called (talk_by ⟦<dyn Link as Link>⟧) (faults_by ⟦<dyn Link as Link>⟧) call.now pointer memory.old memory.new rack.old conn.old rack.new conn.new) }
+    ensures unasked { OnErr result (Asks (talk_by ⟦<dyn Link as Link>⟧) (faults_by ⟦<dyn Link as Link>⟧) rack.old conn.old rack.new conn.new []) }
     ensures kept { OnErr result (memory.new ≡ memory.old) }
 {
     let request = Request::Text {

@@ -1,9 +1,9 @@
 ghost use Rattle.std.specs.Prelude.{◌≡◌, ◌<◌, ◌≤◌, ◌^◌, ℕ, length, unwrap_or, MatchOption, IfSome};
-ghost use Rattle.ec_model.specs.WrittenMeaning.{address_from, address, load, store, element, element_value, store_rows};
+ghost use Rattle.ec_firstpath.specs.WrittenMeaning.{address_from, address, load, store, element, element_value, store_rows};
 
 use crate::machine::number::int_value;
 use ec_base::{Bytes, List};
-use ec_model::{Call, Global, Letter, Pointer, Symbol};
+use ec_firstpath::{Call, Global, Letter, Pointer, Symbol};
 
 /// The address of a global. Object 1 is `sqlca`, and the globals are the objects from 2 on.
 pub fn address(globals: &[Global], letter: Letter) -> Option<Pointer>

@@ -1,5 +1,5 @@
 ghost use Rattle.std.specs.Prelude.{◌≡◌, ◌++◌, ◌∷◌, [], IfOk};
-ghost use Rattle.ec_model.specs.Numbers.{int_value};
+ghost use Rattle.ec_firstpath.specs.Numbers.{int_value};
 ghost use Rattle.std.specs.Fmt.{signed_decimal};
 
 use ec_base::{Bytes, OutOfMemory};

@@ -6,18 +6,19 @@ ghost use Rattle.ec_link.specs.Rack.{slots_of, log_of};
 ghost use Rattle.ec_link.specs.Slot.{states, talk_at};
 ghost use Rattle.ec_link.specs.SlotState.{ready_slot};
 ghost use Rattle.ec_link.specs.Told.{KeepsTalks, SparesDropped};
-ghost use Rattle.ec_model.specs.Observed.{answers_in};
-ghost use Rattle.ec_model.specs.Run.{IsWhole, IsPart};
-ghost use Rattle.ec_model.specs.WrittenMeaning.{written_meaning};
+ghost use Rattle.ec_observed.specs.Observed.{answers_in};
+ghost use Rattle.ec_observed.specs.Run.{IsWhole, IsPart};
+ghost use Rattle.ec_firstpath.specs.WrittenMeaning.{written_meaning};
 ghost use Rattle.ec_cli.specs.Statements.{StoresInt};
 ghost use Rattle.ec_cli.specs.Machine.{IsOpen, Reached, Broke, Finished, Cut, RunsOver, end_of};
-ghost use Rattle.ec_model.specs.declared.written.WrittenStatement.{WrittenStatement};
+ghost use Rattle.ec_firstpath.specs.declared.written.WrittenStatement.{WrittenStatement};
+ghost use Rattle.ec_link.specs.Links.{talk_by, faults_by};
 
 use crate::machine::actions::act;
 use crate::machine::stop::{RunEnd, RunStop};
 use ec_base::{List, OutOfMemory, Sink};
+use ec_firstpath::{Global, Written, WrittenStatement};
 use ec_link::{Conn, Link, Rack};
-use ec_model::{Global, Written, WrittenStatement};
 use std::alloc;
 
 // The memory at the start: each global is 0.
@@ -44,9 +45,10 @@ fn act_all<O: Sink>(
     requires few { length globals.now < 2 ^ 31 }
     requires ints { All (λ (s : WrittenStatement). StoresInt s.action) body.now }
     requires open { IsOpen rack.old conn.old }
-    ensures reached { OnOk result (Reached (λ b. (⟦<dyn Link as Link>⟧ b.vtable).talk b.value) (λ b. (⟦<dyn Link as Link>⟧ b.vtable).faults b.value) O.held O.faults globals.now body.now memory.old [] memory.new rack.old conn.old out.old rack.new conn.new out.new) }
-    ensures broke { OnErr result (Broke (λ b. (⟦<dyn Link as Link>⟧ b.vtable).talk b.value) (λ b. (⟦<dyn Link as Link>⟧ b.vtable).faults b.value) O.held O.faults globals.now body.now memory.old rack.old conn.old out.old rack.new conn.new out.new) }
+    ensures reached { OnOk result (Reached (talk_by ⟦<dyn Link as Link>⟧) (faults_by ⟦<dyn Link as Link>⟧) O.held O.faults globals.now body.now memory.old [] memory.new rack.old conn.old out.old rack.new conn.new out.new) }
+    ensures broke { OnErr result (Broke (talk_by ⟦<dyn Link as Link>⟧) (faults_by ⟦<dyn Link as Link>⟧) O.held O.faults globals.now body.now memory.old rack.old conn.old out.old rack.new conn.new out.new) }
     ensures cause { result ≡ Err RunStop.WriteFault → Rose (O.faults out.old) (O.faults out.new) }
+    ensures steady { result ≡ Err RunStop.OutOfMemory → O.faults out.new ≡ O.faults out.old }
 {
     for statement in body {
         act(alloc, globals, &statement.action, memory, rack, conn, out)?;
@@ -65,9 +67,10 @@ fn execute<O: Sink>(
     requires few { length program.now.globals < 2 ^ 31 }
     requires ints { All (λ (s : WrittenStatement). StoresInt s.action) program.now.body }
     requires open { IsOpen rack.old conn.old }
-    ensures whole { IfOk result (Finished (λ b. (⟦<dyn Link as Link>⟧ b.vtable).talk b.value) (λ b. (⟦<dyn Link as Link>⟧ b.vtable).faults b.value) O.held O.faults program.now rack.old conn.old out.old rack.new conn.new out.new) }
-    ensures part { OnErr result (Cut (λ b. (⟦<dyn Link as Link>⟧ b.vtable).talk b.value) (λ b. (⟦<dyn Link as Link>⟧ b.vtable).faults b.value) O.held O.faults program.now rack.old conn.old out.old rack.new conn.new out.new) }
+    ensures whole { IfOk result (Finished (talk_by ⟦<dyn Link as Link>⟧) (faults_by ⟦<dyn Link as Link>⟧) O.held O.faults program.now rack.old conn.old out.old rack.new conn.new out.new) }
+    ensures part { OnErr result (Cut (talk_by ⟦<dyn Link as Link>⟧) (faults_by ⟦<dyn Link as Link>⟧) O.held O.faults program.now rack.old conn.old out.old rack.new conn.new out.new) }
     ensures cause { result ≡ Err RunStop.WriteFault → Rose (O.faults out.old) (O.faults out.new) }
+    ensures steady { result ≡ Err RunStop.OutOfMemory → O.faults out.new ≡ O.faults out.old }
 {
     let globals = program.globals.as_slice();
     let mut memory = new_memory(alloc, globals)?;
@@ -117,9 +120,10 @@ pub fn run<O: Sink>(alloc: alloc::Global, program: &Written, rack: &mut Rack, ou
         (growth_of (log_of rack.old) (log_of rack.new)) (O.held out.old) (O.held out.new) }
     ensures fault { result ≡ RunEnd.WriteFault → Rose (O.faults out.old) (O.faults out.new) }
     ensures later { O.faults out.old ≤ O.faults out.new }
+    ensures steady { (result ≡ RunEnd.WriteFault → ⊥) → O.faults out.new ≡ O.faults out.old }
     ensures logged { log_of rack.new ≡ log_of rack.old ++ growth_of (log_of rack.old) (log_of rack.new) }
-    ensures slots { RunsOver (states (slots_of rack.old)) (growth_of (log_of rack.old) (log_of rack.new)) (states (slots_of rack.new)) }
-    ensures talks { KeepsTalks (talk_at (λ b. (⟦<dyn Link as Link>⟧ b.vtable).talk b.value) (slots_of rack.old)) (talk_at (λ b. (⟦<dyn Link as Link>⟧ b.vtable).talk b.value) (slots_of rack.new)) (growth_of (log_of rack.old) (log_of rack.new)) }
+    ensures slots { RunsOver (slots_of rack.old) (growth_of (log_of rack.old) (log_of rack.new)) (slots_of rack.new) }
+    ensures talks { KeepsTalks (talk_at (talk_by ⟦<dyn Link as Link>⟧) (slots_of rack.old)) (talk_at (talk_by ⟦<dyn Link as Link>⟧) (slots_of rack.new)) (growth_of (log_of rack.old) (log_of rack.new)) }
     ensures dropped { SparesDropped (states (slots_of rack.old)) (states (slots_of rack.new)) (growth_of (log_of rack.old) (log_of rack.new)) }
 {
     let mut conn = rack.take_ready();

@@ -1,13 +1,13 @@
 //! A source of which the first lines are taken.
 ghost use Rattle.std.specs.Prelude.{◌≡◌, [], ◌∷◌, ◌++◌, IfOk, OnErr, MatchBool};
-ghost use Rattle.ec_model.specs.Source.{is_among, IsValid, source_lines, declaration, statement};
+ghost use Rattle.ec_firstpath.specs.Source.{is_among, IsValid, source_lines, declaration, statement};
 ghost use Rattle.ec_cli.specs.Reads.{ReadsAs, IsLower};
 ghost use Rattle.ec_cli.specs.SourceLines.{IsStatement, IsLine, line_of};
 ghost use Rattle.ec_cli.specs.SourceBuilder.{letter_in, source_of, lines_of, texts_of, IsSound, Begins, Takes, TakesText, IsDead};
 
 use crate::source::source_line::{SourceLine, read_line};
 use ec_base::{List, OutOfMemory};
-use ec_model::{Letter, Source, Statement};
+use ec_firstpath::{Letter, Source, Statement};
 use std::alloc::Global;
 
 /// How far the lines go.

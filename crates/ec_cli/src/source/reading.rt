@@ -1,13 +1,13 @@
 //! The reader of a source.
 ghost use Rattle.std.specs.Prelude.{◌≡◌, ◌+◌, ◌^◌, ◌<◌, ◌≤◌, length, IfOk, IfErr, MatchResult};
-ghost use Rattle.ec_model.specs.declared.source.Source.{Source};
-ghost use Rattle.ec_model.specs.Source.{IsSource};
+ghost use Rattle.ec_firstpath.specs.declared.source.Source.{Source};
+ghost use Rattle.ec_firstpath.specs.Source.{IsSource};
 ghost use Rattle.ec_cli.specs.Refusals.{IsRefusal};
 
 use crate::pieces::split_line;
 use crate::source::builder::SourceBuilder;
 use ec_base::{FaultKind, Line, Stop};
-use ec_model::Source;
+use ec_firstpath::Source;
 use std::alloc::Global;
 
 /// The refusal of a form that is left out, behind so many lines.

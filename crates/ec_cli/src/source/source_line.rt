@@ -1,13 +1,13 @@
 //! The reader of one line of a source.
 ghost use Rattle.std.specs.Prelude.{IfOk};
 ghost use Rattle.std.specs.Option.{option_map};
-ghost use Rattle.ec_model.specs.Source.{statement_text, line_text};
+ghost use Rattle.ec_firstpath.specs.Source.{statement_text, line_text};
 ghost use Rattle.ec_cli.specs.Reads.{ReadsAs};
 ghost use Rattle.ec_cli.specs.SourceLines.{IsAssignment, assignment_text, IsSelection, selection_text, IsStatement, IsLine, line_of};
 
 use crate::pieces::{between, is_words, letter, letter_between, number_between};
 use ec_base::{Bytes, OutOfMemory};
-use ec_model::{Letter, Statement};
+use ec_firstpath::{Letter, Statement};
 use std::alloc::Global;
 
 /// A line of a source.

@@ -3,12 +3,12 @@ ghost use Rattle.std.specs.Prelude.{◌≡◌, ◌++◌};
 ghost use Rattle.std.specs.List.{position_or_len};
 ghost use Rattle.std.specs.Option.{option_copied, option_map};
 ghost use Rattle.std.specs.Fmt.{decimal};
-ghost use Rattle.ec_model.specs.Source.{IsNumber};
+ghost use Rattle.ec_firstpath.specs.Source.{IsNumber};
 ghost use Rattle.ec_cli.specs.Reads.{ReadsAs, IsLower, letter_text};
 ghost use Rattle.ec_cli.specs.Fronts.{front_of, ReadsFront, ReadsFixed, BeginsWith, is_no_digit, is_quote, IsQuery};
 
 use crate::pieces::{is_words, letter, number};
-use ec_model::Letter;
+use ec_firstpath::Letter;
 
 /// What stands behind the fixed text.
 pub fn behind<'a>(text: &'a [u8], fixed: &[u8]) -> Option<&'a [u8]>

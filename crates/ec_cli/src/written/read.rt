@@ -1,17 +1,17 @@
 //! The reader: it reads the text of a written program back into its tree.
 ghost use Rattle.std.specs.Prelude.{◌≡◌, ◌++◌, IfOk, IfSome};
 ghost use Rattle.std.specs.Option.{option_copied, option_map};
-ghost use Rattle.ec_model.specs.Source.{IsNumber};
+ghost use Rattle.ec_firstpath.specs.Source.{IsNumber};
 ghost use Rattle.ec_base.specs.declared.line.Line.{Line};
-ghost use Rattle.ec_model.specs.declared.written.Written.{Written};
-ghost use Rattle.ec_model.specs.WrittenText.{written_text};
+ghost use Rattle.ec_firstpath.specs.declared.written.Written.{Written};
+ghost use Rattle.ec_firstpath.specs.WrittenText.{written_text};
 ghost use Rattle.ec_cli.specs.Fronts.{front_of, ReadsFront, ReadsFixed, ReadsAll};
 ghost use Rattle.ec_cli.specs.PartTexts.{host_text, call_lines_text, mark_text, action_text, statement_text, global_text, opening_text, ending_text};
 ghost use Rattle.ec_cli.specs.Readable.{IsReadableLine, IsReadableGlobal, IsReadableHost, IsReadableCall, IsReadableAction, IsReadableStatement, IsReadable, IsPlain, call_of};
 
 use crate::written::fronts::{behind, letter_then, number_then, query_then};
 use ec_base::{Bytes, Line, List, OutOfMemory};
-use ec_model::{Action, Call, Global, Letter, Symbol, Written, WrittenStatement};
+use ec_firstpath::{Action, Call, Global, Letter, Symbol, Written, WrittenStatement};
 use std::alloc::Global as Heap;
 
 /// What a call says of its host.

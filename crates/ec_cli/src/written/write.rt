@@ -3,16 +3,16 @@ ghost use Rattle.std.specs.Prelude.{◌≡◌, ◌+◌, ◌^◌, ◌<◌, [], �
 ghost use Rattle.std.specs.List.{flat_map};
 ghost use Rattle.std.specs.Fmt.{decimal};
 ghost use Rattle.ec_base.specs.declared.line.Line.{Line};
-ghost use Rattle.ec_model.specs.Lines.{unlines};
-ghost use Rattle.ec_model.specs.Written.{at_line, written_globals, written_action, written_body, written};
-ghost use Rattle.ec_model.specs.WrittenText.{call_text, global_lines, statement_lines, written_text};
+ghost use Rattle.ec_firstpath.specs.Lines.{unlines};
+ghost use Rattle.ec_firstpath.specs.Written.{at_line, written_globals, written_action, written_body, written};
+ghost use Rattle.ec_firstpath.specs.WrittenText.{call_text, global_lines, statement_lines, written_text};
 ghost use Rattle.ec_cli.specs.PartTexts.{mark_text, global_text, opening_text, action_text, statement_text, ending_text};
-ghost use Rattle.ec_model.specs.declared.source.Statement.TheVariants.{Select};
-ghost use Rattle.ec_model.specs.declared.written.Symbol.TheVariants.{Int};
-ghost use Rattle.ec_model.specs.declared.written.Action.TheVariants as action;
+ghost use Rattle.ec_firstpath.specs.declared.source.Statement.TheVariants.{Select};
+ghost use Rattle.ec_firstpath.specs.declared.written.Symbol.TheVariants.{Int};
+ghost use Rattle.ec_firstpath.specs.declared.written.Action.TheVariants as action;
 
 use ec_base::{Bytes, Line, OutOfMemory};
-use ec_model::{Letter, Source, Statement};
+use ec_firstpath::{Letter, Source, Statement};
 use itoa::Buffer;
 use std::alloc::Global;
 

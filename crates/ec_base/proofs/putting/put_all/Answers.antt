@@ -13,4 +13,4 @@ loop-rest-preserved g c =
     let (done, split, puts) = c.loop-rest.invariant in
     let rest = c.loop-rest.rest.now in
     let n = c.in_ok-count.count in
-    (done ++ take n rest, moves_front _ done rest n split, Puts-then puts (record { taken = c.in_ok-count.ensures.bytes; later = c.in_ok-count.ensures.cause.later }))
+    (done ++ take n rest, moves_front _ done rest n split, Puts-then puts (record { taken = c.in_ok-count.ensures.bytes; steady = c.in_ok-count.ensures.cause.steady }))

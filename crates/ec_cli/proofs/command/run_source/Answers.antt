@@ -12,4 +12,4 @@ pub returns-in-Ok-clause-ran : goal.returns-in-Ok-clause-ran
 returns-in-Ok-clause-ran g c =
     let r = c.run.ensures in
     rw c.ended.ensures
-    (Ran-run _ _ _ c.args.source c.in-Ok.program _ _ c.args.rack.now c.run.new.rack c.run.result c.in-Ok.ensures r.exited r.stopped r.fault r.later r.logged r.slots r.talks r.dropped)
+    (Ran-run _ _ _ c.args.source c.in-Ok.program _ _ c.args.rack.now c.run.new.rack c.run.result c.in-Ok.ensures r.exited r.stopped r.fault r.later r.steady r.logged r.slots r.talks r.dropped)

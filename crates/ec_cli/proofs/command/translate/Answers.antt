@@ -1,5 +1,5 @@
 use Rattle.std.proofs.Common.{◌≡◌, ◌∙◌, Some, None}
-use Rattle.ec_model.specs.Written.{written}
+use Rattle.ec_firstpath.specs.Written.{written}
 use Rattle.ec_cli.proofs.WrittenReadable.{written_readable}
 use Rattle.ec_cli.proofs.command.translate.Goals as goal
 

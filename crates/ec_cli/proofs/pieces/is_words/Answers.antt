@@ -4,7 +4,7 @@ use Rattle.std.proofs.lemmas.Bool.{false≢true}
 use Rattle.std.proofs.lemmas.Iterator.{cases_from_all}
 use Rattle.std.proofs.lemmas.Iterator.Splits.{YieldsList-from_slice_split}
 use Rattle.std.proofs.lemmas.List.Elements.{recursion_from_All, All-from_recursion, All-from_all_within}
-use Rattle.ec_model.specs.Source.{IsWord}
+use Rattle.ec_firstpath.specs.Source.{IsWord}
 use Rattle.ec_cli.proofs.pieces.is_words.Goals as goal
 
 each_or_one : (r : Bool) (words : List (List ℕ)) → MatchBool r (AllWithin IsWord words 0 (length words)) ((k : ℕ) × (k < length words) × HoldsAt (λ w. IsWord w → ⊥) words k) → (IsTrue r → AllByRecursion IsWord words) × (AllByRecursion IsWord words → IsTrue r)

@@ -3,7 +3,7 @@ use Rattle.std.specs.Prelude.{option_map}
 use Rattle.ec_link.specs.Conn.{slot_of}
 use Rattle.std.specs.Fmt.{signed_decimal}
 use Rattle.std.proofs.lemmas.Result.{err_from_is_err_and}
-use Rattle.ec_model.specs.WrittenMeaning.{load}
+use Rattle.ec_firstpath.specs.WrittenMeaning.{load}
 use Rattle.ec_cli.proofs.Actions.{Does-store, Does-no_store, Does-no_call}
 use Rattle.ec_cli.proofs.Effects.{MayAsk-nil, Done-quiet, Done-print, Done-call, Stopped-quiet, Stopped-print}
 use Rattle.ec_cli.proofs.machine.actions.act.Goals as goal

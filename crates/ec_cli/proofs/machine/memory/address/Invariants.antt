@@ -1,5 +1,5 @@
 use Rattle.std.proofs.Common.{◌≡◌, ◌+◌, drop}
-use Rattle.ec_model.specs.WrittenMeaning.{address_from}
+use Rattle.ec_firstpath.specs.WrittenMeaning.{address_from}
 use Rattle.ec_cli.proofs.machine.memory.address.Given as goal
 
 abbrev pub invariant-loop-index : goal.invariant-loop-index

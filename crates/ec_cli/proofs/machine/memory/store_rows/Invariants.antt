@@ -1,5 +1,5 @@
 use Rattle.std.proofs.Common.{◌≡◌, drop}
-use Rattle.ec_model.specs.WrittenMeaning.{store_rows}
+use Rattle.ec_firstpath.specs.WrittenMeaning.{store_rows}
 use Rattle.ec_cli.proofs.machine.memory.store_rows.Given as goal
 
 abbrev pub invariant-loop-index : goal.invariant-loop-index

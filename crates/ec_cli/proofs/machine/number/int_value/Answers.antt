@@ -1,5 +1,5 @@
 use Rattle.std.proofs.Common.{◌∙◌, ap, sym}
-use Rattle.ec_model.specs.Numbers.{int_value}
+use Rattle.ec_firstpath.specs.Numbers.{int_value}
 use Rattle.ec_cli.proofs.Fields.{int_value_no_text, int_value_parsed}
 use Rattle.ec_cli.proofs.machine.number.int_value.Goals as goal
 

@@ -1,7 +1,7 @@
 use Rattle.ec_link.specs.Rack.{log_of}
 use Rattle.ec_link.proofs.Runs.{growth_of-grown}
 use Rattle.ec_cli.proofs.Effects.{still_open}
-use Rattle.ec_cli.proofs.Sessions.{session, run_logged, RunsOver-run, KeepsTalks-session, SparesDropped-session, Exited-run, Stopped-run, fault_from}
+use Rattle.ec_cli.proofs.Sessions.{session, run_logged, RunsOver-run, KeepsTalks-session, SparesDropped-session, Exited-run, Stopped-run, fault_from, steady_from}
 use Rattle.ec_cli.proofs.machine.program.run.Goals as goal
 
 pub release-requires : goal.release-requires
@@ -26,6 +26,10 @@ pub returns-clause-later : goal.returns-clause-later
 returns-clause-later g c =
     let s = session _ _ _ _ c.args.program.now _ _ _ _ _ _ c.execute-end.result c.execute-end.ensures.whole c.execute-end.ensures.part in
     s.later
+
+pub returns-clause-steady : goal.returns-clause-steady
+returns-clause-steady g c =
+    steady_from _ c.execute-end.result c.ended.result (λ s f. f.steady) c.ended.ensures c.execute-end.ensures.whole c.execute-end.ensures.steady
 
 pub returns-clause-logged : goal.returns-clause-logged
 returns-clause-logged g c =

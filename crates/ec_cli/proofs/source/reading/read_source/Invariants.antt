@@ -1,6 +1,6 @@
 use Rattle.std.proofs.Common.{◌≡◌, ◌++◌, length}
 use Rattle.std.specs.List.{AllByRecursion}
-use Rattle.ec_model.specs.Lines.{unlines, IsOneLine}
+use Rattle.ec_firstpath.specs.Lines.{unlines, IsOneLine}
 use Rattle.ec_cli.specs.SourceBuilder.{IsSound, texts_of}
 use Rattle.ec_cli.proofs.source.reading.read_source.Given as goal
 

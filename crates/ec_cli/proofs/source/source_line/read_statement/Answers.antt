@@ -1,4 +1,4 @@
-use Rattle.ec_model.specs.declared.source.Statement.TheVariants.{Assign, Select}
+use Rattle.ec_firstpath.specs.declared.source.Statement.TheVariants.{Assign, Select}
 use Rattle.ec_cli.proofs.LineLemmas.{reads_statement, no_statement}
 use Rattle.ec_cli.proofs.source.source_line.read_statement.Goals as goal
 

@@ -1,5 +1,5 @@
 use Rattle.std.proofs.Common.{ap, subst, ℕ, ◌∷◌, []}
-use Rattle.ec_model.specs.Source.{IsWords}
+use Rattle.ec_firstpath.specs.Source.{IsWords}
 use Rattle.ec_cli.proofs.LineLemmas.{reads_selection, selection_middle, no_selection}
 use Rattle.ec_cli.proofs.source.source_line.selection.Goals as goal
 

@@ -1,5 +1,5 @@
 use Rattle.std.specs.Fmt.{decimal}
-use Rattle.ec_model.specs.Source.{IsNumber}
+use Rattle.ec_firstpath.specs.Source.{IsNumber}
 use Rattle.ec_cli.specs.Fronts.{is_no_digit}
 use Rattle.ec_cli.proofs.FrontLemmas.{CutBefore, place_within, number_is_digits, no_value, no_fixed, value_then}
 use Rattle.ec_cli.proofs.written.fronts.number_then.Goals as goal

@@ -1,4 +1,4 @@
-use Rattle.ec_model.specs.Source.{IsNumber}
+use Rattle.ec_firstpath.specs.Source.{IsNumber}
 use Rattle.ec_cli.proofs.FrontLemmas.{and_then, missing_first}
 use Rattle.ec_cli.proofs.WrittenFronts.{as_host, length_text, count_text, distance_text}
 use Rattle.ec_cli.proofs.written.read.host_at.Goals as goal

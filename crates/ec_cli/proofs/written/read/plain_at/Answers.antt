@@ -1,6 +1,6 @@
 use Rattle.std.proofs.Common.{◌++◌, codes}
 use Rattle.std.specs.Fmt.{decimal}
-use Rattle.ec_model.specs.Source.{IsNumber}
+use Rattle.ec_firstpath.specs.Source.{IsNumber}
 use Rattle.ec_cli.proofs.FrontLemmas.{and_then, missing_first}
 use Rattle.ec_cli.proofs.WrittenFronts.{as_print, as_store}
 use Rattle.ec_cli.proofs.written.read.plain_at.Goals as goal

@@ -1,8 +1,8 @@
 use Rattle.std.proofs.Common.{◌≡◌, List, ℕ, [], ◌∷◌, ◌++◌, codes, append_assoc}
 use Rattle.ec_base.specs.declared.line.Line.{Line}
-use Rattle.ec_model.specs.declared.written.Symbol.TheVariants.{Int}
-use Rattle.ec_model.specs.Lines.{unlines}
-use Rattle.ec_model.specs.WrittenText.{line_mark, call_text}
+use Rattle.ec_firstpath.specs.declared.written.Symbol.TheVariants.{Int}
+use Rattle.ec_firstpath.specs.Lines.{unlines}
+use Rattle.ec_firstpath.specs.WrittenText.{line_mark, call_text}
 use Rattle.ec_cli.proofs.written.write.push_select.Goals as goal
 
 -- the lines of a block, one after the other

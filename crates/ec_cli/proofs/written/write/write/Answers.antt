@@ -1,5 +1,5 @@
 use Rattle.std.proofs.Common.{sym}
-use Rattle.ec_model.specs.Written.{written}
+use Rattle.ec_firstpath.specs.Written.{written}
 use Rattle.ec_cli.proofs.Walk.{written_text-parts}
 use Rattle.ec_cli.proofs.written.write.write.Goals as goal
 

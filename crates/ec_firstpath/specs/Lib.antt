@@ -1,0 +1,11 @@
+pub mod Direct
+pub mod DirectExample
+pub mod Faults
+pub mod Lines
+pub mod Numbers
+pub mod Simulation
+pub mod Source
+pub mod Written
+pub mod WrittenExample
+pub mod WrittenMeaning
+pub mod WrittenText
