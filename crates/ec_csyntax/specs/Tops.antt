@@ -1,5 +1,5 @@
 -- What is read at the top level, with all levels left.
-use Rattle.std.specs.Prelude.{ℕ, Bool, true, false, List, [], ◌∷◌}
+use Rattle.std.specs.Prelude.{ℕ, Bool, List, [], ◌∷◌}
 use Rattle.ec_ctypes.specs.declared.text.token.Punct.TheVariants as p
 use Rattle.ec_ctypes.specs.trees.Exprs.{BaseData, DeclaratorData, declarator}
 use Rattle.ec_ctypes.specs.trees.Units.{TopData, decl_top}
@@ -10,6 +10,7 @@ use Rattle.ec_language.specs.Syntax.{limits}
 use Rattle.ec_grammar.specs.declared.kind.Kind.{Kind}
 use Rattle.ec_grammar.specs.declared.kind.Kind.TheVariants as k
 use Rattle.ec_grammar.specs.Input.{Parser, ◌>>=◌, ◌>>◌, pure, expect}
+use Rattle.ec_grammar.specs.Kinds.{same_kind}
 use Rattle.ec_grammar.specs.Nested.{Nested, NestedStatements}
 use Rattle.ec_grammar.specs.ReadDeclarations.{nested, stars, lengths, initializer_option, more_declarators}
 use Rattle.ec_grammar.specs.ReadStatements.{nested_statements, body, body_of, behind_name, external_tail}
@@ -21,8 +22,7 @@ abbrev pub top_deeper : NestedStatements
 top_deeper = nested_statements limits limits.nesting
 
 abbrev pub is_semicolon : Kind → Bool
-is_semicolon (k.Mark p.Semicolon) = true
-is_semicolon _ = false
+is_semicolon j = same_kind j (k.Mark p.Semicolon)
 
 -- the declarators of a declaration of objects, of which the first has so many stars and this name
 unfoldable pub object_declarators : ℕ → Text → Parser (List DeclaratorData)

@@ -1,16 +1,12 @@
 //! Blocks (ISO/IEC 9899:1999, 6.8.2).
 
 ghost use Rattle.ec_ctypes.specs.views.Stmts.{stmt_view};
-ghost use Rattle.ec_grammar.specs.Input.{Reads};
-ghost use Rattle.ec_grammar.specs.ReadDeclarations.{nested};
 ghost use Rattle.ec_grammar.specs.ReadStatements as spec;
-ghost use Rattle.ec_grammar.specs.ReadStatements.{nested_statements};
-ghost use Rattle.ec_language.specs.Syntax.{limits};
 ghost use Rattle.ec_declarations.specs.Parts.{start_view};
-ghost use Rattle.ec_declarations.specs.States.{seen};
+ghost use Rattle.ec_declarations.specs.States.{Reading};
 ghost use Rattle.ec_csyntax.specs.Arms.{block_item_of};
 ghost use Rattle.ec_csyntax.specs.declared.forms.ItemForm.TheVariants as forms;
-ghost use Rattle.ec_csyntax.specs.Nests.{NestsStatements, NestsBlocks};
+ghost use Rattle.ec_csyntax.specs.Nests.{StatementsNest, BlocksNest, within_statements};
 ghost use Rattle.ec_csyntax.specs.Views.{each_stmt};
 
 use crate::forms::{ItemForm, item_form};
@@ -29,7 +25,8 @@ impl<
     /// The start of a declare section.
     #[tactic(auto, unfolding(crate::specs::Arms::block_item_of))]
     fn opening(&self, cursor: &mut Cursor<'_>, start: Start) -> Result<Stmt, Failure>
-        ensures { Reads stmt_view (block_item_of self.now.levels (start_view start) forms.Opening (seen cursor.old)) result (seen cursor.new) }
+        ensures { Reading stmt_view (block_item_of self.now.levels (start_view start) forms.Opening)
+            cursor.old result cursor.new }
     {
         cursor.expect(Kind::Opening)?;
         Ok(at(start, StmtKind::Mark(true)))
@@ -38,7 +35,8 @@ impl<
     /// The end of a declare section.
     #[tactic(auto, unfolding(crate::specs::Arms::block_item_of))]
     fn closing(&self, cursor: &mut Cursor<'_>, start: Start) -> Result<Stmt, Failure>
-        ensures { Reads stmt_view (block_item_of self.now.levels (start_view start) forms.Closing (seen cursor.old)) result (seen cursor.new) }
+        ensures { Reading stmt_view (block_item_of self.now.levels (start_view start) forms.Closing)
+            cursor.old result cursor.new }
     {
         cursor.expect(Kind::Closing)?;
         Ok(at(start, StmtKind::Mark(false)))
@@ -47,7 +45,9 @@ impl<
     /// A declaration (ISO/IEC 9899:1999, 6.7).
     #[tactic(auto, unfolding(crate::specs::Arms::block_item_of))]
     fn declaration(&self, cursor: &mut Cursor<'_>, start: Start) -> Result<Stmt, Failure>
-        ensures { Reads stmt_view (block_item_of self.now.levels (start_view start) forms.Declaration (seen cursor.old)) result (seen cursor.new) }
+        ensures { Reading stmt_view
+            (block_item_of self.now.levels (start_view start) forms.Declaration)
+            cursor.old result cursor.new }
     {
         let declaration = declaration(self.alloc, cursor, self.levels)?;
         let declaration = Boxed::new(self.alloc, declaration)?;
@@ -62,9 +62,10 @@ impl<
         start: Start,
         form: ItemForm,
     ) -> Result<Stmt, Failure>
-        requires statements { NestsStatements self.now.levels (S.pre self.now.statement) (S.post self.now.statement) }
-        requires blocks { NestsBlocks self.now.levels (B.pre self.now.block) (B.post self.now.block) }
-        ensures { Reads stmt_view (block_item_of self.now.levels (start_view start) form (seen cursor.old)) result (seen cursor.new) }
+        requires statements { StatementsNest S.pre S.post self.now }
+        requires blocks { BlocksNest B.pre B.post self.now }
+        ensures { Reading stmt_view (block_item_of self.now.levels (start_view start) form)
+            cursor.old result cursor.new }
     {
         match form {
             ItemForm::Opening => self.opening(cursor, start),
@@ -77,9 +78,10 @@ impl<
     /// A declaration, a mark or a statement.
     #[tactic(auto, using(crate::proofs::FormSteps::block_item_goes))]
     fn block_item(&self, cursor: &mut Cursor<'_>) -> Result<Stmt, Failure>
-        requires statements { NestsStatements self.now.levels (S.pre self.now.statement) (S.post self.now.statement) }
-        requires blocks { NestsBlocks self.now.levels (B.pre self.now.block) (B.post self.now.block) }
-        ensures { Reads stmt_view (spec.block_item limits (nested limits self.now.levels) (nested_statements limits self.now.levels) (seen cursor.old)) result (seen cursor.new) }
+        requires statements { StatementsNest S.pre S.post self.now }
+        requires blocks { BlocksNest B.pre B.post self.now }
+        ensures { Reading stmt_view (within_statements self.now.levels spec.block_item)
+            cursor.old result cursor.new }
     {
         let start = cursor.start();
         let form = item_form(cursor.peek());
@@ -88,9 +90,10 @@ impl<
 
     /// All that stands in a block.
     fn block_items(&self, cursor: &mut Cursor<'_>) -> Result<List<Stmt>, Failure>
-        requires statements { NestsStatements self.now.levels (S.pre self.now.statement) (S.post self.now.statement) }
-        requires blocks { NestsBlocks self.now.levels (B.pre self.now.block) (B.post self.now.block) }
-        ensures { Reads each_stmt (spec.block_items limits (nested limits self.now.levels) (nested_statements limits self.now.levels) (seen cursor.old)) result (seen cursor.new) }
+        requires statements { StatementsNest S.pre S.post self.now }
+        requires blocks { BlocksNest B.pre B.post self.now }
+        ensures { Reading each_stmt (within_statements self.now.levels spec.block_items)
+            cursor.old result cursor.new }
     {
         let mut found = List::new(self.alloc);
         for _turn in 0..cursor.left() {
@@ -105,9 +108,10 @@ impl<
     /// A block (ISO/IEC 9899:1999, 6.8.2).
     #[tactic(auto, unfolding(ec_grammar::specs::ReadStatements::block))]
     pub fn block(&self, cursor: &mut Cursor<'_>) -> Result<List<Stmt>, Failure>
-        requires statements { NestsStatements self.now.levels (S.pre self.now.statement) (S.post self.now.statement) }
-        requires blocks { NestsBlocks self.now.levels (B.pre self.now.block) (B.post self.now.block) }
-        ensures { Reads each_stmt (spec.block limits (nested limits self.now.levels) (nested_statements limits self.now.levels) (seen cursor.old)) result (seen cursor.new) }
+        requires statements { StatementsNest S.pre S.post self.now }
+        requires blocks { BlocksNest B.pre B.post self.now }
+        ensures { Reading each_stmt (within_statements self.now.levels spec.block)
+            cursor.old result cursor.new }
     {
         cursor.expect(Kind::Mark(Punct::LeftBrace))?;
         let items = self.block_items(cursor)?;

@@ -91,7 +91,9 @@ fn first_form(first: Kind) -> Form
 
 /// The form of the statement that stands before the cursor, by its first two tokens.
 pub fn statement_form(cursor: &Cursor<'_>) -> Form
-    ensures { result ≡ spec.statement_form (kind_at (seen cursor.now).tokens) (kind_next (seen cursor.now).tokens) }
+    ensures { result
+        ≡ spec.statement_form (kind_at (seen cursor.now).tokens)
+        (kind_next (seen cursor.now).tokens) }
 {
     match cursor.peek() {
         Kind::Name => name_form(cursor.peek_next()),

@@ -9,9 +9,9 @@ ghost use Rattle.ec_grammar.specs.ReadStatements as spec;
 ghost use Rattle.ec_language.specs.Productions as places;
 ghost use Rattle.ec_csyntax.specs.Views.{each_stmt, stmt_option};
 
-use ec_base::{Boxed, Line, List, OutOfMemory};
+use ec_base::{Boxed, Line, List, OutOfMemory, beside};
 use ec_ctypes::{Decl, Expr, ForParts, Stmt, StmtKind};
-use ec_declarations::{ForHead, ForStart, Start};
+use ec_declarations::{ForHead, ForStart, Start, list_of};
 use std::alloc::Global;
 
 /// A statement of this kind.
@@ -33,7 +33,9 @@ pub fn branch(
     then: Boxed<Stmt>,
     other: Option<Boxed<Stmt>>,
 ) -> Stmt
-    ensures { stmt_view result ≡ places.at (start_view start) (trees.if_stmt (expr_view test) (stmt_view then) (stmt_of (stmt_option other))) }
+    ensures { stmt_view result
+        ≡ places.at (start_view start)
+        (trees.if_stmt (expr_view test) (stmt_view then) (stmt_of (stmt_option other))) }
 {
     at(start, StmtKind::If(test, then, other))
 }
@@ -48,7 +50,10 @@ fn loop_of(
     step: Option<Expr>,
     inner: Boxed<Stmt>,
 ) -> Result<Stmt, OutOfMemory>
-    ensures { IfOk result (λ s. stmt_view s ≡ places.at (start_view start) (trees.for_stmt (expr_option_view first) (expr_option_view condition) (expr_option_view step) (stmt_view inner))) }
+    ensures { IfOk result (λ s. stmt_view s
+        ≡ places.at (start_view start)
+        (trees.for_stmt (expr_option_view first) (expr_option_view condition)
+        (expr_option_view step) (stmt_view inner))) }
 {
     let parts = ForParts {
         first,
@@ -61,7 +66,8 @@ fn loop_of(
 /// A block of these statements.
 #[tactic(auto, using(crate::proofs::Trees::block_view))]
 pub fn block_of(start: Start, items: List<Stmt>) -> Stmt
-    ensures { stmt_view result ≡ places.at (start_view start) (trees.block_stmt (stmts_of (each_stmt items))) }
+    ensures { stmt_view result
+        ≡ places.at (start_view start) (trees.block_stmt (stmts_of (each_stmt items))) }
 {
     at(start, StmtKind::Block(items))
 }
@@ -77,7 +83,9 @@ fn line_of(declaration: &Decl) -> Line
 /// A declaration, as it stands in a block.
 #[tactic(auto, using(crate::proofs::Trees::statements))]
 fn declaration_statement(alloc: Global, declaration: Decl) -> Result<Stmt, OutOfMemory>
-    ensures { IfOk result (λ s. stmt_view s ≡ trees.stmt (places.line_of (decl_view declaration)) (trees.decl_stmt (decl_view declaration))) }
+    ensures { IfOk result (λ s. stmt_view s
+        ≡ trees.stmt (places.line_of (decl_view declaration))
+        (trees.decl_stmt (decl_view declaration))) }
 {
     let line = line_of(&declaration);
     Ok(Stmt {
@@ -86,25 +94,20 @@ fn declaration_statement(alloc: Global, declaration: Decl) -> Result<Stmt, OutOf
     })
 }
 
-/// A list of one statement.
-fn single(alloc: Global, first: Stmt) -> Result<List<Stmt>, OutOfMemory>
-    ensures { IfOk result (λ items. items ≡ first ∷ []) }
-{
-    let mut items = List::new(alloc);
-    items.push(first)?;
-    Ok(items)
-}
-
 /// A list of a declaration.
 fn declared(alloc: Global, declaration: Decl) -> Result<List<Stmt>, OutOfMemory>
-    ensures { IfOk result (λ items. each_stmt items ≡ trees.stmt (places.line_of (decl_view declaration)) (trees.decl_stmt (decl_view declaration)) ∷ []) }
+    ensures { IfOk result (λ items. each_stmt items
+        ≡ trees.stmt (places.line_of (decl_view declaration))
+        (trees.decl_stmt (decl_view declaration)) ∷ []) }
 {
-    single(alloc, declaration_statement(alloc, declaration)?)
+    list_of(alloc, declaration_statement(alloc, declaration)?)
 }
 
 /// A block of these statements and a last one.
 fn block_with(start: Start, mut items: List<Stmt>, last: Stmt) -> Result<Stmt, OutOfMemory>
-    ensures { IfOk result (λ s. stmt_view s ≡ places.at (start_view start) (trees.block_stmt (stmts_of (each_stmt (items ++ last ∷ []))))) }
+    ensures { IfOk result (λ s. stmt_view s
+        ≡ places.at (start_view start)
+        (trees.block_stmt (stmts_of (each_stmt (items ++ last ∷ []))))) }
 {
     items.push(last)?;
     Ok(block_of(start, items))
@@ -117,7 +120,8 @@ pub fn for_loop(
     head: ForHead,
     inner: Boxed<Stmt>,
 ) -> Result<Stmt, OutOfMemory>
-    ensures { IfOk result (λ s. stmt_view s ≡ spec.for_loop (start_view start) (for_head_view head) (stmt_view inner)) }
+    ensures { IfOk result (λ s. stmt_view s
+        ≡ spec.for_loop (start_view start) (for_head_view head) (stmt_view inner)) }
 {
     let ForHead {
         first,
@@ -127,8 +131,9 @@ pub fn for_loop(
     match first {
         ForStart::Expression(first) => loop_of(alloc, start, first, condition, step, inner),
         ForStart::Declaration(declaration) => {
-            let items = declared(alloc, declaration)?;
-            let repeated = loop_of(alloc, start, None, condition, step, inner)?;
+            let inner = loop_of(alloc, start, None, condition, step, inner);
+            let (declaration, repeated) = beside(declaration, inner)?;
+            let (repeated, items) = beside(repeated, declared(alloc, declaration))?;
             block_with(start, items, repeated)
         }
     }

@@ -1,17 +1,16 @@
 //! Statements and blocks one level deeper, with so many levels left where they stand. The two lead back to each other.
 
 ghost use Rattle.ec_ctypes.specs.views.Stmts.{stmt_view};
-ghost use Rattle.ec_grammar.specs.Input.{Reads};
 ghost use Rattle.ec_grammar.specs.ReadStatements.{nested_statements};
 ghost use Rattle.ec_language.specs.Syntax.{limits};
-ghost use Rattle.ec_declarations.specs.States.{seen};
+ghost use Rattle.ec_declarations.specs.States.{Reading};
 ghost use Rattle.ec_csyntax.specs.Views.{each_stmt};
 
 use crate::statements::Statements;
 use ec_base::List;
-use ec_ctypes::Stmt;
-use ec_declarations::{Cursor, begins_statement, is_left_brace};
-use ec_grammar::Failure;
+use ec_ctypes::{Punct, Stmt};
+use ec_declarations::{Cursor, begins_statement};
+use ec_grammar::{Failure, Kind};
 use std::alloc::Global;
 
 /// A statement, one level deeper (ISO/IEC 9899:1999, 6.8).
@@ -21,7 +20,8 @@ pub fn nested_statement(
     cursor: &mut Cursor<'_>,
     levels: u32,
 ) -> Result<Stmt, Failure>
-    ensures { Reads stmt_view ((nested_statements limits levels).statement (seen cursor.old)) result (seen cursor.new) }
+    ensures { Reading stmt_view (nested_statements limits levels).statement
+        cursor.old result cursor.new }
 {
     if levels == 0 {
         return Err(cursor.no_level(begins_statement(cursor.peek())));
@@ -42,10 +42,11 @@ pub fn nested_block(
     cursor: &mut Cursor<'_>,
     levels: u32,
 ) -> Result<List<Stmt>, Failure>
-    ensures { Reads each_stmt ((nested_statements limits levels).block (seen cursor.old)) result (seen cursor.new) }
+    ensures { Reading each_stmt (nested_statements limits levels).block
+        cursor.old result cursor.new }
 {
     if levels == 0 {
-        return Err(cursor.no_level(is_left_brace(cursor.peek())));
+        return Err(cursor.no_level(cursor.sees(Kind::Mark(Punct::LeftBrace))));
     }
     Statements {
         alloc,

@@ -60,8 +60,10 @@ fn read_unit(alloc: Global, tokens: &[Token]) -> Result<Unit, Stop>
 pub fn parse(alloc: Global, tokens: &List<Token>) -> Result<Unit, Stop>
     requires { EndsOnce (tokens_view tokens.now) }
     ensures tree { IfOk result (λ unit. TreeOrStop (tokens_view tokens.now) (Ok (unit_view unit))) }
-    ensures stop { (stop : TheStop) → result ≡ Err stop → stop ≢ stops.OutOfMemory → TreeOrStop (tokens_view tokens.now) (Err stop) }
-    ensures only { (a : Result UnitData TheStop) → TreeOrStop (tokens_view tokens.now) a → GivesUnlessNoMemory result a }
+    ensures stop { (stop : TheStop) → result ≡ Err stop → stop ≢ stops.OutOfMemory
+        → TreeOrStop (tokens_view tokens.now) (Err stop) }
+    ensures only { (answer : Result UnitData TheStop)
+        → TreeOrStop (tokens_view tokens.now) answer → GivesUnlessNoMemory result answer }
 {
     readings_are_exact();
     read_unit(alloc, tokens.as_slice())

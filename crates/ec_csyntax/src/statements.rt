@@ -4,25 +4,23 @@
 ghost use Rattle.std.specs.Prelude.{◌≡◌};
 ghost use Rattle.ec_ctypes.specs.views.Exprs.{expr_view};
 ghost use Rattle.ec_ctypes.specs.views.Stmts.{stmt_view};
-ghost use Rattle.ec_grammar.specs.Input.{Reads};
-ghost use Rattle.ec_grammar.specs.ReadDeclarations.{nested};
 ghost use Rattle.ec_grammar.specs.ReadStatements as spec;
 ghost use Rattle.ec_grammar.specs.ReadStatements.{nested_statements};
 ghost use Rattle.ec_language.specs.Syntax.{limits};
 ghost use Rattle.ec_declarations.specs.Parts.{start_view};
-ghost use Rattle.ec_declarations.specs.States.{seen};
+ghost use Rattle.ec_declarations.specs.States.{Reading};
 ghost use Rattle.ec_csyntax.specs.Arms.{statement_of, branches};
 ghost use Rattle.ec_csyntax.specs.declared.forms.Form.TheVariants as forms;
-ghost use Rattle.ec_csyntax.specs.Nests.{NestsStatements, NestsBlocks};
+ghost use Rattle.ec_csyntax.specs.Nests.{StatementsNest, BlocksNest, within_statements};
 ghost use Rattle.ec_csyntax.specs.Views.{each_stmt, stmt_option};
 
 use crate::forms::{Form, statement_form};
 use crate::makers::{at, block_of, branch, for_loop};
 use crate::texts::embedded_number;
-use ec_base::{Boxed, List};
+use ec_base::{Boxed, List, beside};
 use ec_ctypes::{Expr, Punct, Stmt, StmtKind};
 use ec_declarations::{
-    Cursor, Start, copy_name, expression, expression_option, for_head, is_else, parenthesized,
+    Cursor, Start, copy_name, expression, expression_option, for_head, parenthesized,
 };
 use ec_grammar::{Failure, Kind};
 use std::alloc::Global;
@@ -42,16 +40,18 @@ impl<
 > Statements<S, B> {
     /// A statement, one level deeper.
     fn inner_statement(&self, cursor: &mut Cursor<'_>) -> Result<Stmt, Failure>
-        requires { NestsStatements self.now.levels (S.pre self.now.statement) (S.post self.now.statement) }
-        ensures { Reads stmt_view ((nested_statements limits self.now.levels).statement (seen cursor.old)) result (seen cursor.new) }
+        requires { StatementsNest S.pre S.post self.now }
+        ensures { Reading stmt_view (nested_statements limits self.now.levels).statement
+            cursor.old result cursor.new }
     {
         (self.statement)(self.alloc, cursor, self.levels)
     }
 
     /// The same, in a box.
     fn boxed_statement(&self, cursor: &mut Cursor<'_>) -> Result<Boxed<Stmt>, Failure>
-        requires { NestsStatements self.now.levels (S.pre self.now.statement) (S.post self.now.statement) }
-        ensures { Reads stmt_view ((nested_statements limits self.now.levels).statement (seen cursor.old)) result (seen cursor.new) }
+        requires { StatementsNest S.pre S.post self.now }
+        ensures { Reading stmt_view (nested_statements limits self.now.levels).statement
+            cursor.old result cursor.new }
     {
         let inner = self.inner_statement(cursor)?;
         Ok(Boxed::new(self.alloc, inner)?)
@@ -59,8 +59,9 @@ impl<
 
     /// A block, one level deeper.
     fn inner_block(&self, cursor: &mut Cursor<'_>) -> Result<List<Stmt>, Failure>
-        requires { NestsBlocks self.now.levels (B.pre self.now.block) (B.post self.now.block) }
-        ensures { Reads each_stmt ((nested_statements limits self.now.levels).block (seen cursor.old)) result (seen cursor.new) }
+        requires { BlocksNest B.pre B.post self.now }
+        ensures { Reading each_stmt (nested_statements limits self.now.levels).block
+            cursor.old result cursor.new }
     {
         (self.block)(self.alloc, cursor, self.levels)
     }
@@ -68,10 +69,11 @@ impl<
     /// `else` and its statement, or nothing.
     #[tactic(auto, unfolding(ec_grammar::specs::ReadStatements::else_option))]
     fn else_option(&self, cursor: &mut Cursor<'_>) -> Result<Option<Boxed<Stmt>>, Failure>
-        requires { NestsStatements self.now.levels (S.pre self.now.statement) (S.post self.now.statement) }
-        ensures { Reads stmt_option (spec.else_option limits (nested limits self.now.levels) (nested_statements limits self.now.levels) (seen cursor.old)) result (seen cursor.new) }
+        requires { StatementsNest S.pre S.post self.now }
+        ensures { Reading stmt_option (within_statements self.now.levels spec.else_option)
+            cursor.old result cursor.new }
     {
-        if !is_else(cursor.peek()) {
+        if !cursor.sees(Kind::Else) {
             return Ok(None);
         }
         cursor.expect(Kind::Else)?;
@@ -82,7 +84,8 @@ impl<
     /// A semicolon alone (ISO/IEC 9899:1999, 6.8.3).
     #[tactic(auto, unfolding(crate::specs::Arms::statement_of))]
     fn empty(&self, cursor: &mut Cursor<'_>, start: Start) -> Result<Stmt, Failure>
-        ensures { Reads stmt_view (statement_of self.now.levels (start_view start) forms.Empty (seen cursor.old)) result (seen cursor.new) }
+        ensures { Reading stmt_view (statement_of self.now.levels (start_view start) forms.Empty)
+            cursor.old result cursor.new }
     {
         cursor.expect(Kind::Mark(Punct::Semicolon))?;
         Ok(at(start, StmtKind::Empty))
@@ -91,8 +94,9 @@ impl<
     /// A block (ISO/IEC 9899:1999, 6.8.2).
     #[tactic(auto, unfolding(crate::specs::Arms::statement_of))]
     fn block_statement(&self, cursor: &mut Cursor<'_>, start: Start) -> Result<Stmt, Failure>
-        requires { NestsBlocks self.now.levels (B.pre self.now.block) (B.post self.now.block) }
-        ensures { Reads stmt_view (statement_of self.now.levels (start_view start) forms.Block (seen cursor.old)) result (seen cursor.new) }
+        requires { BlocksNest B.pre B.post self.now }
+        ensures { Reading stmt_view (statement_of self.now.levels (start_view start) forms.Block)
+            cursor.old result cursor.new }
     {
         let items = self.inner_block(cursor)?;
         Ok(block_of(start, items))
@@ -101,7 +105,9 @@ impl<
     /// An embedded statement that is executed.
     #[tactic(auto, unfolding(crate::specs::Arms::statement_of))]
     fn executable(&self, cursor: &mut Cursor<'_>, start: Start) -> Result<Stmt, Failure>
-        ensures { Reads stmt_view (statement_of self.now.levels (start_view start) forms.Executable (seen cursor.old)) result (seen cursor.new) }
+        ensures { Reading stmt_view
+            (statement_of self.now.levels (start_view start) forms.Executable)
+            cursor.old result cursor.new }
     {
         let token = cursor.expect(Kind::Executable)?;
         Ok(at(start, StmtKind::Emb(embedded_number(token))))
@@ -110,7 +116,9 @@ impl<
     /// An embedded statement that is a directive.
     #[tactic(auto, unfolding(crate::specs::Arms::statement_of))]
     fn directive(&self, cursor: &mut Cursor<'_>, start: Start) -> Result<Stmt, Failure>
-        ensures { Reads stmt_view (statement_of self.now.levels (start_view start) forms.Directive (seen cursor.old)) result (seen cursor.new) }
+        ensures { Reading stmt_view
+            (statement_of self.now.levels (start_view start) forms.Directive)
+            cursor.old result cursor.new }
     {
         let token = cursor.expect(Kind::Directive)?;
         Ok(at(start, StmtKind::Emb(embedded_number(token))))
@@ -119,8 +127,9 @@ impl<
     /// `if` (ISO/IEC 9899:1999, 6.8.4.1).
     #[tactic(auto, unfolding(crate::specs::Arms::statement_of, crate::specs::Arms::branches))]
     fn branch(&self, cursor: &mut Cursor<'_>, start: Start) -> Result<Stmt, Failure>
-        requires { NestsStatements self.now.levels (S.pre self.now.statement) (S.post self.now.statement) }
-        ensures { Reads stmt_view (statement_of self.now.levels (start_view start) forms.If (seen cursor.old)) result (seen cursor.new) }
+        requires { StatementsNest S.pre S.post self.now }
+        ensures { Reading stmt_view (statement_of self.now.levels (start_view start) forms.If)
+            cursor.old result cursor.new }
     {
         cursor.expect(Kind::If)?;
         let test = Boxed::new(self.alloc, parenthesized(self.alloc, cursor, self.levels)?)?;
@@ -135,57 +144,62 @@ impl<
         start: Start,
         test: Boxed<Expr>,
     ) -> Result<Stmt, Failure>
-        requires { NestsStatements self.now.levels (S.pre self.now.statement) (S.post self.now.statement) }
-        ensures { Reads stmt_view (branches self.now.levels (start_view start) (expr_view test) (seen cursor.old)) result (seen cursor.new) }
+        requires { StatementsNest S.pre S.post self.now }
+        ensures { Reading stmt_view (branches self.now.levels (start_view start) (expr_view test))
+            cursor.old result cursor.new }
     {
-        let then = self.boxed_statement(cursor)?;
-        let other = self.else_option(cursor)?;
+        let (test, then) = beside(test, self.boxed_statement(cursor))?;
+        let ((test, then), other) = beside((test, then), self.else_option(cursor))?;
         Ok(branch(start, test, then, other))
     }
 
     /// `while` (ISO/IEC 9899:1999, 6.8.5.1).
     #[tactic(auto, unfolding(crate::specs::Arms::statement_of))]
     fn while_loop(&self, cursor: &mut Cursor<'_>, start: Start) -> Result<Stmt, Failure>
-        requires { NestsStatements self.now.levels (S.pre self.now.statement) (S.post self.now.statement) }
-        ensures { Reads stmt_view (statement_of self.now.levels (start_view start) forms.While (seen cursor.old)) result (seen cursor.new) }
+        requires { StatementsNest S.pre S.post self.now }
+        ensures { Reading stmt_view (statement_of self.now.levels (start_view start) forms.While)
+            cursor.old result cursor.new }
     {
         cursor.expect(Kind::While)?;
         let test = parenthesized(self.alloc, cursor, self.levels)?;
-        let inner = self.boxed_statement(cursor)?;
+        let (test, inner) = beside(test, self.boxed_statement(cursor))?;
         Ok(at(start, StmtKind::While(test, inner)))
     }
 
     /// `do` (ISO/IEC 9899:1999, 6.8.5.2).
     #[tactic(auto, unfolding(crate::specs::Arms::statement_of))]
     fn do_loop(&self, cursor: &mut Cursor<'_>, start: Start) -> Result<Stmt, Failure>
-        requires { NestsStatements self.now.levels (S.pre self.now.statement) (S.post self.now.statement) }
-        ensures { Reads stmt_view (statement_of self.now.levels (start_view start) forms.Do (seen cursor.old)) result (seen cursor.new) }
+        requires { StatementsNest S.pre S.post self.now }
+        ensures { Reading stmt_view (statement_of self.now.levels (start_view start) forms.Do)
+            cursor.old result cursor.new }
     {
         cursor.expect(Kind::Do)?;
         let inner = self.boxed_statement(cursor)?;
-        cursor.expect(Kind::While)?;
-        let test = parenthesized(self.alloc, cursor, self.levels)?;
-        let end = Kind::Mark(Punct::Semicolon);
-        cursor.expect(end)?;
+        let (inner, _word) = beside(inner, cursor.expect(Kind::While))?;
+        let (inner, test) = beside(inner, parenthesized(self.alloc, cursor, self.levels))?;
+        let kept = (inner, test);
+        let ((inner, test), _mark) = beside(kept, cursor.expect(Kind::Mark(Punct::Semicolon)))?;
         Ok(at(start, StmtKind::Do(inner, test)))
     }
 
     /// `for` (ISO/IEC 9899:1999, 6.8.5.3).
     #[tactic(auto, unfolding(crate::specs::Arms::statement_of))]
     fn for_loop(&self, cursor: &mut Cursor<'_>, start: Start) -> Result<Stmt, Failure>
-        requires { NestsStatements self.now.levels (S.pre self.now.statement) (S.post self.now.statement) }
-        ensures { Reads stmt_view (statement_of self.now.levels (start_view start) forms.For (seen cursor.old)) result (seen cursor.new) }
+        requires { StatementsNest S.pre S.post self.now }
+        ensures { Reading stmt_view (statement_of self.now.levels (start_view start) forms.For)
+            cursor.old result cursor.new }
     {
         cursor.expect(Kind::For)?;
         let head = for_head(self.alloc, cursor, self.levels)?;
-        let inner = self.boxed_statement(cursor)?;
+        let (head, inner) = beside(head, self.boxed_statement(cursor))?;
         Ok(for_loop(self.alloc, start, head, inner)?)
     }
 
     /// `break` (ISO/IEC 9899:1999, 6.8.6.3).
     #[tactic(auto, unfolding(crate::specs::Arms::statement_of))]
     fn break_statement(&self, cursor: &mut Cursor<'_>, start: Start) -> Result<Stmt, Failure>
-        ensures { Reads stmt_view (statement_of self.now.levels (start_view start) forms.Break (seen cursor.old)) result (seen cursor.new) }
+        ensures { Reading stmt_view (statement_of self.now.levels (start_view start) forms.Break)
+            cursor.old result cursor.new }
     {
         cursor.expect(Kind::Break)?;
         cursor.expect(Kind::Mark(Punct::Semicolon))?;
@@ -195,7 +209,8 @@ impl<
     /// `continue` (ISO/IEC 9899:1999, 6.8.6.2).
     #[tactic(auto, unfolding(crate::specs::Arms::statement_of))]
     fn continue_statement(&self, cursor: &mut Cursor<'_>, start: Start) -> Result<Stmt, Failure>
-        ensures { Reads stmt_view (statement_of self.now.levels (start_view start) forms.Continue (seen cursor.old)) result (seen cursor.new) }
+        ensures { Reading stmt_view (statement_of self.now.levels (start_view start) forms.Continue)
+            cursor.old result cursor.new }
     {
         cursor.expect(Kind::Continue)?;
         cursor.expect(Kind::Mark(Punct::Semicolon))?;
@@ -205,18 +220,20 @@ impl<
     /// `return` (ISO/IEC 9899:1999, 6.8.6.4).
     #[tactic(auto, unfolding(crate::specs::Arms::statement_of))]
     fn return_statement(&self, cursor: &mut Cursor<'_>, start: Start) -> Result<Stmt, Failure>
-        ensures { Reads stmt_view (statement_of self.now.levels (start_view start) forms.Return (seen cursor.old)) result (seen cursor.new) }
+        ensures { Reading stmt_view (statement_of self.now.levels (start_view start) forms.Return)
+            cursor.old result cursor.new }
     {
         cursor.expect(Kind::Return)?;
         let value = expression_option(self.alloc, cursor, self.levels)?;
-        cursor.expect(Kind::Mark(Punct::Semicolon))?;
+        let (value, _mark) = beside(value, cursor.expect(Kind::Mark(Punct::Semicolon)))?;
         Ok(at(start, StmtKind::Return(value)))
     }
 
     /// `goto` (ISO/IEC 9899:1999, 6.8.6.1).
     #[tactic(auto, unfolding(crate::specs::Arms::statement_of))]
     fn goto_statement(&self, cursor: &mut Cursor<'_>, start: Start) -> Result<Stmt, Failure>
-        ensures { Reads stmt_view (statement_of self.now.levels (start_view start) forms.Goto (seen cursor.old)) result (seen cursor.new) }
+        ensures { Reading stmt_view (statement_of self.now.levels (start_view start) forms.Goto)
+            cursor.old result cursor.new }
     {
         cursor.expect(Kind::Goto)?;
         let token = cursor.expect(Kind::Name)?;
@@ -228,8 +245,9 @@ impl<
     /// A label and its statement (ISO/IEC 9899:1999, 6.8.1).
     #[tactic(auto, unfolding(crate::specs::Arms::statement_of))]
     fn labelled(&self, cursor: &mut Cursor<'_>, start: Start) -> Result<Stmt, Failure>
-        requires { NestsStatements self.now.levels (S.pre self.now.statement) (S.post self.now.statement) }
-        ensures { Reads stmt_view (statement_of self.now.levels (start_view start) forms.Label (seen cursor.old)) result (seen cursor.new) }
+        requires { StatementsNest S.pre S.post self.now }
+        ensures { Reading stmt_view (statement_of self.now.levels (start_view start) forms.Label)
+            cursor.old result cursor.new }
     {
         let token = cursor.expect(Kind::Name)?;
         let name = copy_name(self.alloc, &token.tok)?;
@@ -241,10 +259,12 @@ impl<
     /// An expression (ISO/IEC 9899:1999, 6.8.3).
     #[tactic(auto, unfolding(crate::specs::Arms::statement_of))]
     fn expression_statement(&self, cursor: &mut Cursor<'_>, start: Start) -> Result<Stmt, Failure>
-        ensures { Reads stmt_view (statement_of self.now.levels (start_view start) forms.Expression (seen cursor.old)) result (seen cursor.new) }
+        ensures { Reading stmt_view
+            (statement_of self.now.levels (start_view start) forms.Expression)
+            cursor.old result cursor.new }
     {
         let expr = expression(self.alloc, cursor, self.levels)?;
-        cursor.expect(Kind::Mark(Punct::Semicolon))?;
+        let (expr, _mark) = beside(expr, cursor.expect(Kind::Mark(Punct::Semicolon)))?;
         Ok(at(start, StmtKind::Expr(expr)))
     }
 
@@ -255,9 +275,10 @@ impl<
         start: Start,
         form: Form,
     ) -> Result<Stmt, Failure>
-        requires statements { NestsStatements self.now.levels (S.pre self.now.statement) (S.post self.now.statement) }
-        requires blocks { NestsBlocks self.now.levels (B.pre self.now.block) (B.post self.now.block) }
-        ensures { Reads stmt_view (statement_of self.now.levels (start_view start) form (seen cursor.old)) result (seen cursor.new) }
+        requires statements { StatementsNest S.pre S.post self.now }
+        requires blocks { BlocksNest B.pre B.post self.now }
+        ensures { Reading stmt_view (statement_of self.now.levels (start_view start) form)
+            cursor.old result cursor.new }
     {
         match form {
             Form::Empty => self.empty(cursor, start),
@@ -280,9 +301,10 @@ impl<
     /// A statement.
     #[tactic(auto, using(crate::proofs::FormSteps::statement_goes))]
     pub fn statement(&self, cursor: &mut Cursor<'_>) -> Result<Stmt, Failure>
-        requires statements { NestsStatements self.now.levels (S.pre self.now.statement) (S.post self.now.statement) }
-        requires blocks { NestsBlocks self.now.levels (B.pre self.now.block) (B.post self.now.block) }
-        ensures { Reads stmt_view (spec.statement limits (nested limits self.now.levels) (nested_statements limits self.now.levels) (seen cursor.old)) result (seen cursor.new) }
+        requires statements { StatementsNest S.pre S.post self.now }
+        requires blocks { BlocksNest B.pre B.post self.now }
+        ensures { Reading stmt_view (within_statements self.now.levels spec.statement)
+            cursor.old result cursor.new }
     {
         let start = cursor.start();
         let form = statement_form(cursor);

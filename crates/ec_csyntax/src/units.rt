@@ -4,12 +4,11 @@ ghost use Rattle.std.specs.Prelude.{◌≡◌};
 ghost use Rattle.ec_ctypes.specs.trees.Exprs.{declarator};
 ghost use Rattle.ec_ctypes.specs.views.Exprs.{base_view, decl_view, declarator_view, dims_of, init_of, declarators_of};
 ghost use Rattle.ec_ctypes.specs.views.Units.{top_view, unit_view};
-ghost use Rattle.ec_grammar.specs.Input.{Reads};
 ghost use Rattle.ec_grammar.specs.ReadStatements as spec;
 ghost use Rattle.ec_language.specs.Productions.{declared};
 ghost use Rattle.ec_language.specs.Syntax.{limits};
 ghost use Rattle.ec_declarations.specs.Parts.{start_view, each_declarator, each_length, init_option};
-ghost use Rattle.ec_declarations.specs.States.{seen};
+ghost use Rattle.ec_declarations.specs.States.{Reading};
 ghost use Rattle.ec_csyntax.specs.Arms.{item_of};
 ghost use Rattle.ec_csyntax.specs.declared.forms.TopForm.TheVariants as forms;
 ghost use Rattle.ec_csyntax.specs.Tops as tops;
@@ -19,10 +18,10 @@ ghost use Rattle.ec_csyntax.specs.Views.{block_option, each_top};
 use crate::forms::{TopForm, top_form};
 use crate::nested::nested_block;
 use crate::texts::embedded_number;
-use ec_base::{Boxed, List, Name};
+use ec_base::{Boxed, List, Name, beside};
 use ec_ctypes::{Base, Decl, Declarator, Expr, Func, Init, Punct, Stmt, Top, Unit};
 use ec_declarations::{
-    Cursor, Start, begins_item, copy_name, copy_text, initializer_option, is_left_parenthesis, lengths,
+    Cursor, Start, begins_item, copy_name, copy_text, initializer_option, lengths, list_of,
     more_declarators, parameter_part, specifiers, stars,
 };
 use ec_grammar::{Failure, Kind};
@@ -34,7 +33,8 @@ const MAX_NESTING: u32 = 64;
 /// The body of a function, or the semicolon behind its declaration.
 #[tactic(auto, unfolding(ec_grammar::specs::ReadStatements::body))]
 fn body(alloc: Global, cursor: &mut Cursor<'_>) -> Result<Option<List<Stmt>>, Failure>
-    ensures { Reads block_option (spec.body limits top_inner top_deeper (seen cursor.old)) result (seen cursor.new) }
+    ensures { Reading block_option (spec.body limits top_inner top_deeper)
+        cursor.old result cursor.new }
 {
     match cursor.peek() {
         Kind::Mark(Punct::Semicolon) => {
@@ -52,7 +52,8 @@ fn body(alloc: Global, cursor: &mut Cursor<'_>) -> Result<Option<List<Stmt>>, Fa
 /// A declaration of these declarators that begins at `start`.
 #[tactic(auto, using(crate::proofs::Trees::declarations))]
 fn declaration_of(start: Start, base: Base, items: List<Declarator>) -> Decl
-    ensures { decl_view result ≡ declared (start_view start) (base_view base) (declarators_of (each_declarator items)) }
+    ensures { decl_view result
+        ≡ declared (start_view start) (base_view base) (declarators_of (each_declarator items)) }
 {
     Decl {
         base,
@@ -65,7 +66,8 @@ fn declaration_of(start: Start, base: Base, items: List<Declarator>) -> Decl
 /// A declarator with these parts.
 #[tactic(auto, using(crate::proofs::Trees::declarations))]
 fn declarator_of(stars: u32, name: Name, dims: List<Option<Expr>>, init: Option<Init>) -> Declarator
-    ensures { declarator_view result ≡ declarator stars name (dims_of (each_length dims)) (init_of (init_option init)) }
+    ensures { declarator_view result
+        ≡ declarator stars name (dims_of (each_length dims)) (init_of (init_option init)) }
 {
     Declarator {
         stars,
@@ -85,10 +87,11 @@ fn function(
     stars: u32,
     name: Name,
 ) -> Result<Top, Failure>
-    ensures { Reads top_view (named_function (start_view start) (base_view base) stars name (seen cursor.old)) result (seen cursor.new) }
+    ensures { Reading top_view (named_function (start_view start) (base_view base) stars name)
+        cursor.old result cursor.new }
 {
-    let params = parameter_part(alloc, cursor, MAX_NESTING)?;
-    let body = body(alloc, cursor)?;
+    let kept = beside((base, name), parameter_part(alloc, cursor, MAX_NESTING))?;
+    let (((base, name), params), body) = beside(kept, body(alloc, cursor))?;
     let function = Func {
         base,
         stars,
@@ -109,12 +112,11 @@ fn declarators(
     stars: u32,
     name: Name,
 ) -> Result<List<Declarator>, Failure>
-    ensures { Reads each_declarator (object_declarators stars name (seen cursor.old)) result (seen cursor.new) }
+    ensures { Reading each_declarator (object_declarators stars name) cursor.old result cursor.new }
 {
-    let dims = lengths(alloc, cursor, MAX_NESTING)?;
-    let init = initializer_option(alloc, cursor, MAX_NESTING)?;
-    let mut found = List::new(alloc);
-    found.push(declarator_of(stars, name, dims, init))?;
+    let kept = beside(name, lengths(alloc, cursor, MAX_NESTING))?;
+    let ((name, dims), init) = beside(kept, initializer_option(alloc, cursor, MAX_NESTING))?;
+    let found = list_of(alloc, declarator_of(stars, name, dims, init))?;
     more_declarators(alloc, cursor, MAX_NESTING, found)
 }
 
@@ -128,10 +130,11 @@ fn object(
     stars: u32,
     name: Name,
 ) -> Result<Top, Failure>
-    ensures { Reads top_view (named_object (start_view start) (base_view base) stars name (seen cursor.old)) result (seen cursor.new) }
+    ensures { Reading top_view (named_object (start_view start) (base_view base) stars name)
+        cursor.old result cursor.new }
 {
-    let items = declarators(alloc, cursor, stars, name)?;
-    cursor.expect(Kind::Mark(Punct::Semicolon))?;
+    let kept = beside(base, declarators(alloc, cursor, stars, name))?;
+    let ((base, items), _mark) = beside(kept, cursor.expect(Kind::Mark(Punct::Semicolon)))?;
     Ok(Top::Decl(declaration_of(start, base, items)))
 }
 
@@ -145,9 +148,10 @@ fn behind_name(
     stars: u32,
     name: Name,
 ) -> Result<Top, Failure>
-    ensures { Reads top_view (named (start_view start) (base_view base) stars name (seen cursor.old)) result (seen cursor.new) }
+    ensures { Reading top_view (named (start_view start) (base_view base) stars name)
+        cursor.old result cursor.new }
 {
-    if is_left_parenthesis(cursor.peek()) {
+    if cursor.sees(Kind::Mark(Punct::LeftParen)) {
         function(alloc, cursor, start, base, stars, name)
     } else {
         object(alloc, cursor, start, base, stars, name)
@@ -162,9 +166,10 @@ fn nameless(
     start: Start,
     base: Base,
 ) -> Result<Top, Failure>
-    ensures { Reads top_view (nameless (start_view start) (base_view base) (seen cursor.old)) result (seen cursor.new) }
+    ensures { Reading top_view (nameless (start_view start) (base_view base))
+        cursor.old result cursor.new }
 {
-    cursor.expect(Kind::Mark(Punct::Semicolon))?;
+    let (base, _mark) = beside(base, cursor.expect(Kind::Mark(Punct::Semicolon)))?;
     Ok(Top::Decl(declaration_of(start, base, List::new(alloc))))
 }
 
@@ -176,22 +181,13 @@ fn with_name(
     start: Start,
     base: Base,
 ) -> Result<Top, Failure>
-    ensures { Reads top_view (with_name (start_view start) (base_view base) (seen cursor.old)) result (seen cursor.new) }
+    ensures { Reading top_view (with_name (start_view start) (base_view base))
+        cursor.old result cursor.new }
 {
-    let stars = stars(cursor)?;
-    let token = cursor.expect(Kind::Name)?;
-    let name = copy_name(alloc, &token.tok)?;
+    let (base, stars) = beside(base, stars(cursor))?;
+    let (base, token) = beside(base, cursor.expect(Kind::Name))?;
+    let (base, name) = beside(base, copy_name(alloc, &token.tok))?;
     behind_name(alloc, cursor, start, base, stars, name)
-}
-
-/// Whether it is `;`.
-fn is_semicolon(kind: Kind) -> bool
-    ensures { result ≡ tops.is_semicolon kind }
-{
-    match kind {
-        Kind::Mark(Punct::Semicolon) => true,
-        _ => false,
-    }
 }
 
 /// What stands behind the base of a declaration or function.
@@ -202,9 +198,10 @@ fn external_tail(
     start: Start,
     base: Base,
 ) -> Result<Top, Failure>
-    ensures { Reads top_view (tail (start_view start) (base_view base) (seen cursor.old)) result (seen cursor.new) }
+    ensures { Reading top_view (tail (start_view start) (base_view base))
+        cursor.old result cursor.new }
 {
-    if is_semicolon(cursor.peek()) {
+    if cursor.sees(Kind::Mark(Punct::Semicolon)) {
         nameless(alloc, cursor, start, base)
     } else {
         with_name(alloc, cursor, start, base)
@@ -213,7 +210,8 @@ fn external_tail(
 
 /// A declaration or a function that begins at `start` (ISO/IEC 9899:1999, 6.9).
 fn external(alloc: Global, cursor: &mut Cursor<'_>, start: Start) -> Result<Top, Failure>
-    ensures { Reads top_view (spec.external limits top_inner top_deeper (start_view start) (seen cursor.old)) result (seen cursor.new) }
+    ensures { Reading top_view (spec.external limits top_inner top_deeper (start_view start))
+        cursor.old result cursor.new }
 {
     let base = specifiers(alloc, cursor, MAX_NESTING)?;
     let outside = cursor.begin_declarator();
@@ -225,7 +223,8 @@ fn external(alloc: Global, cursor: &mut Cursor<'_>, start: Start) -> Result<Top,
 /// An `#include` line.
 #[tactic(auto, unfolding(crate::specs::Arms::item_of))]
 fn include(alloc: Global, cursor: &mut Cursor<'_>) -> Result<Top, Failure>
-    ensures { (start : _) → Reads top_view (item_of start forms.Include (seen cursor.old)) result (seen cursor.new) }
+    ensures { (start : _) → Reading top_view (item_of start forms.Include)
+        cursor.old result cursor.new }
 {
     let token = cursor.expect(Kind::Include)?;
     Ok(Top::Include(copy_text(alloc, &token.tok)?))
@@ -234,7 +233,8 @@ fn include(alloc: Global, cursor: &mut Cursor<'_>) -> Result<Top, Failure>
 /// A directive.
 #[tactic(auto, unfolding(crate::specs::Arms::item_of))]
 fn directive(cursor: &mut Cursor<'_>) -> Result<Top, Failure>
-    ensures { (start : _) → Reads top_view (item_of start forms.Directive (seen cursor.old)) result (seen cursor.new) }
+    ensures { (start : _) → Reading top_view (item_of start forms.Directive)
+        cursor.old result cursor.new }
 {
     let token = cursor.expect(Kind::Directive)?;
     Ok(Top::Directive(embedded_number(token)))
@@ -243,7 +243,8 @@ fn directive(cursor: &mut Cursor<'_>) -> Result<Top, Failure>
 /// The start of a declare section.
 #[tactic(auto, unfolding(crate::specs::Arms::item_of))]
 fn opening(cursor: &mut Cursor<'_>, start: Start) -> Result<Top, Failure>
-    ensures { Reads top_view (item_of (start_view start) forms.Opening (seen cursor.old)) result (seen cursor.new) }
+    ensures { Reading top_view (item_of (start_view start) forms.Opening)
+        cursor.old result cursor.new }
 {
     cursor.expect(Kind::Opening)?;
     Ok(Top::Mark(true, start.line))
@@ -252,7 +253,8 @@ fn opening(cursor: &mut Cursor<'_>, start: Start) -> Result<Top, Failure>
 /// The end of a declare section.
 #[tactic(auto, unfolding(crate::specs::Arms::item_of))]
 fn closing(cursor: &mut Cursor<'_>, start: Start) -> Result<Top, Failure>
-    ensures { Reads top_view (item_of (start_view start) forms.Closing (seen cursor.old)) result (seen cursor.new) }
+    ensures { Reading top_view (item_of (start_view start) forms.Closing)
+        cursor.old result cursor.new }
 {
     cursor.expect(Kind::Closing)?;
     Ok(Top::Mark(false, start.line))
@@ -261,7 +263,8 @@ fn closing(cursor: &mut Cursor<'_>, start: Start) -> Result<Top, Failure>
 /// A declaration or a function behind `static` (ISO/IEC 9899:1999, 6.7.1).
 #[tactic(auto, unfolding(crate::specs::Arms::item_of))]
 fn behind_static(alloc: Global, cursor: &mut Cursor<'_>, start: Start) -> Result<Top, Failure>
-    ensures { Reads top_view (item_of (start_view start) forms.Static (seen cursor.old)) result (seen cursor.new) }
+    ensures { Reading top_view (item_of (start_view start) forms.Static)
+        cursor.old result cursor.new }
 {
     cursor.expect(Kind::Static)?;
     external(alloc, cursor, start)
@@ -275,7 +278,7 @@ fn item_of(
     start: Start,
     form: TopForm,
 ) -> Result<Top, Failure>
-    ensures { Reads top_view (item_of (start_view start) form (seen cursor.old)) result (seen cursor.new) }
+    ensures { Reading top_view (item_of (start_view start) form) cursor.old result cursor.new }
 {
     match form {
         TopForm::Include => include(alloc, cursor),
@@ -290,7 +293,8 @@ fn item_of(
 /// What stands at the top level.
 #[tactic(auto, using(crate::proofs::FormSteps::item_goes))]
 fn item(alloc: Global, cursor: &mut Cursor<'_>) -> Result<Top, Failure>
-    ensures { Reads top_view (spec.item limits top_inner top_deeper (seen cursor.old)) result (seen cursor.new) }
+    ensures { Reading top_view (spec.item limits top_inner top_deeper)
+        cursor.old result cursor.new }
 {
     let start = cursor.start();
     let form = top_form(cursor.peek());
@@ -299,7 +303,8 @@ fn item(alloc: Global, cursor: &mut Cursor<'_>) -> Result<Top, Failure>
 
 /// All that stands at the top level.
 fn items(alloc: Global, cursor: &mut Cursor<'_>) -> Result<List<Top>, Failure>
-    ensures { Reads each_top (spec.items limits top_inner top_deeper (seen cursor.old)) result (seen cursor.new) }
+    ensures { Reading each_top (spec.items limits top_inner top_deeper)
+        cursor.old result cursor.new }
 {
     let mut found = List::new(alloc);
     for _turn in 0..cursor.left() {
@@ -314,7 +319,8 @@ fn items(alloc: Global, cursor: &mut Cursor<'_>) -> Result<List<Top>, Failure>
 /// A program (ISO/IEC 9899:1999, 6.9).
 #[tactic(auto, unfolding(ec_grammar::specs::ReadStatements::unit))]
 pub fn unit(alloc: Global, cursor: &mut Cursor<'_>) -> Result<Unit, Failure>
-    ensures { Reads unit_view (spec.unit limits top_inner top_deeper (seen cursor.old)) result (seen cursor.new) }
+    ensures { Reading unit_view (spec.unit limits top_inner top_deeper)
+        cursor.old result cursor.new }
 {
     let tops = items(alloc, cursor)?;
     let token = cursor.expect(Kind::End)?;

@@ -2,10 +2,10 @@
 use Rattle.std.proofs.Common.{◌≡◌, ℕ, suc, ◌-◌, ◌<◌, length, Err, refl, ap, ◌∙◌, arith}
 use Rattle.ec_language.specs.Syntax.{limits}
 use Rattle.ec_grammar.specs.Input.{State, kind_at, level_failure}
-use Rattle.ec_declarations.specs.declared.parts.Part.{Part}
-use Rattle.ec_declarations.specs.declared.parts.Part.TheVariants as part
-use Rattle.ec_declarations.specs.Branches.{part_at, begins_part}
-use Rattle.ec_declarations.specs.Parts.{part_of}
+use Rattle.ec_declarations.specs.declared.parts.Subexpression.{Subexpression}
+use Rattle.ec_declarations.specs.declared.parts.Subexpression.TheVariants as sub
+use Rattle.ec_declarations.specs.Branches.{subexpression_at, begins_subexpression}
+use Rattle.ec_declarations.specs.Parts.{subexpression_of}
 use Rattle.ec_grammar.specs.ReadDeclarations.{nested, length_part, type_in_parentheses, members, initializer_list, parameter_part, for_head}
 use Rattle.ec_language.specs.Productions.{or_rank}
 use Rattle.ec_grammar.specs.ReadExpressions.{assignment, operators, argument_part}
@@ -24,31 +24,31 @@ nested_arguments n i some = inside (λ m. (nested limits m).argument_part i) n s
 
 -- ---- a part of an expression
 
-first_part : (p : Part) (i : State) → part_of p (nested limits 0) i ≡ Err (level_failure (begins_part p (kind_at i.tokens)) (length i.tokens))
+first_part : (p : Subexpression) (i : State) → subexpression_of p (nested limits 0) i ≡ Err (level_failure (begins_subexpression p (kind_at i.tokens)) (length i.tokens))
 unfolding nested
-first_part part.Assignment i = refl
-first_part part.Operators i = refl
-first_part part.Cast i = refl
-first_part part.Unary i = refl
-first_part part.SizeOperand i = refl
-first_part part.Parenthesized i = refl
-first_part part.Index i = refl
+first_part sub.Assignment i = refl
+first_part sub.Operators i = refl
+first_part sub.Cast i = refl
+first_part sub.Unary i = refl
+first_part sub.SizeOperand i = refl
+first_part sub.Parenthesized i = refl
+first_part sub.Index i = refl
 
-next_part : (n : ℕ) (p : Part) (i : State) → part_of p (nested limits (suc n)) i ≡ part_at limits (nested limits n) p i
+next_part : (n : ℕ) (p : Subexpression) (i : State) → subexpression_of p (nested limits (suc n)) i ≡ subexpression_at limits (nested limits n) p i
 unfolding nested
-next_part n part.Assignment i = refl
-next_part n part.Operators i = refl
-next_part n part.Cast i = refl
-next_part n part.Unary i = refl
-next_part n part.SizeOperand i = refl
-next_part n part.Parenthesized i = refl
-next_part n part.Index i = refl
+next_part n sub.Assignment i = refl
+next_part n sub.Operators i = refl
+next_part n sub.Cast i = refl
+next_part n sub.Unary i = refl
+next_part n sub.SizeOperand i = refl
+next_part n sub.Parenthesized i = refl
+next_part n sub.Index i = refl
 
-pub no_part : (n : ℕ) (p : Part) (i : State) → n ≡ 0 → part_of p (nested limits n) i ≡ Err (level_failure (begins_part p (kind_at i.tokens)) (length i.tokens))
-no_part n p i none = ap (λ m. part_of p (nested limits m) i) none ∙ first_part p i
+pub no_part : (n : ℕ) (p : Subexpression) (i : State) → n ≡ 0 → subexpression_of p (nested limits n) i ≡ Err (level_failure (begins_subexpression p (kind_at i.tokens)) (length i.tokens))
+no_part n p i none = ap (λ m. subexpression_of p (nested limits m) i) none ∙ first_part p i
 
-pub part_inside : (n : ℕ) (p : Part) (i : State) → 0 < n → part_of p (nested limits n) i ≡ part_at limits (nested limits (n - 1)) p i
-part_inside n p i some = inside (λ m. part_of p (nested limits m) i) n some ∙ next_part (n - 1) p i
+pub part_inside : (n : ℕ) (p : Subexpression) (i : State) → 0 < n → subexpression_of p (nested limits n) i ≡ subexpression_at limits (nested limits (n - 1)) p i
+part_inside n p i some = inside (λ m. subexpression_of p (nested limits m) i) n some ∙ next_part (n - 1) p i
 
 -- ---- what else nests
 

@@ -5,5 +5,6 @@ pub mod NoVoid
 pub mod RankOperators
 pub mod RankSteps
 pub mod SeenTokens
+pub mod Sees
 pub mod StarCounts
 pub mod Turns

@@ -8,8 +8,8 @@ use Rattle.ec_grammar.specs.Input.{Parser, ◌>>=◌, pure}
 use Rattle.ec_grammar.specs.Nested.{Nested}
 use Rattle.ec_grammar.specs.ReadExpressions.{assignment, operators, cast_part, unary_part, size_operand, parenthesized, index_part}
 use Rattle.ec_grammar.specs.Starts.{begins_expression, is_left_parenthesis, is_left_bracket}
-use Rattle.ec_declarations.specs.declared.parts.Part.{Part}
-use Rattle.ec_declarations.specs.declared.parts.Part.TheVariants as part
+use Rattle.ec_declarations.specs.declared.parts.Subexpression.{Subexpression}
+use Rattle.ec_declarations.specs.declared.parts.Subexpression.TheVariants as sub
 
 module _ (most : Limits) (inner : Nested) where
   -- a type in parentheses, and what is cast to it
@@ -22,18 +22,18 @@ module _ (most : Limits) (inner : Nested) where
   abbrev pub size_by_expression : Parser ExprData
   size_by_expression = do e ← unary_part most inner; pure (size_expr e)
 
-  -- a part, where it stands itself
-  abbrev pub part_at : Part → Parser ExprData
-  part_at part.Assignment = assignment most inner
-  part_at part.Operators = operators most inner or_rank
-  part_at part.Cast = cast_part most inner
-  part_at part.Unary = unary_part most inner
-  part_at part.SizeOperand = size_operand most inner
-  part_at part.Parenthesized = parenthesized most inner
-  part_at part.Index = index_part most inner
+  -- a subexpression, where it stands itself
+  abbrev pub subexpression_at : Subexpression → Parser ExprData
+  subexpression_at sub.Assignment = assignment most inner
+  subexpression_at sub.Operators = operators most inner or_rank
+  subexpression_at sub.Cast = cast_part most inner
+  subexpression_at sub.Unary = unary_part most inner
+  subexpression_at sub.SizeOperand = size_operand most inner
+  subexpression_at sub.Parenthesized = parenthesized most inner
+  subexpression_at sub.Index = index_part most inner
 
--- whether a token begins the part
-abbrev pub begins_part : Part → Kind → Bool
-begins_part part.Parenthesized k = is_left_parenthesis k
-begins_part part.Index k = is_left_bracket k
-begins_part _ k = begins_expression k
+-- whether a token begins the subexpression
+abbrev pub begins_subexpression : Subexpression → Kind → Bool
+begins_subexpression sub.Parenthesized k = is_left_parenthesis k
+begins_subexpression sub.Index k = is_left_bracket k
+begins_subexpression _ k = begins_expression k

@@ -3,4 +3,5 @@ pub mod Nests
 pub mod Parts
 pub mod Primaries
 pub mod Ranks
+pub mod Sees
 pub mod States

@@ -11,16 +11,19 @@ use Rattle.ec_language.specs.Syntax.{limits}
 use Rattle.ec_grammar.specs.declared.failure.Failure.{Failure}
 use Rattle.ec_grammar.specs.Input.{Reads}
 use Rattle.ec_grammar.specs.ReadDeclarations.{nested}
-use Rattle.ec_declarations.specs.declared.parts.Part.{Part}
-use Rattle.ec_declarations.specs.Parts.{part_of, each_init, each_decl, type_view}
+use Rattle.ec_declarations.specs.declared.declarations.Declarations.{Declarations}
+use Rattle.ec_declarations.specs.declared.declarators.Declarators.{Declarators}
+use Rattle.ec_declarations.specs.declared.expressions.Expressions.{Expressions}
+use Rattle.ec_declarations.specs.declared.parts.Subexpression.{Subexpression}
+use Rattle.ec_declarations.specs.Parts.{subexpression_of, each_init, each_decl, type_view}
 use Rattle.ec_declarations.specs.States.{Left, seen}
 
 -- expressions
-pub record NestsParts (levels : ℕ) (pre : Global → MutBor Left → ℕ → Part → Type 0)
-    (post : Global → MutBor Left → ℕ → Part → Result Expr Failure → MutBor Left → Type 0) : Type 0 where
-  pub callable : (alloc : Global) (old : MutBor Left) (p : Part) → pre alloc old levels p
-  pub reads : (alloc : Global) (old new : MutBor Left) (p : Part) (r : Result Expr Failure) → post alloc old levels p r new
-      → Reads expr_view (part_of p (nested limits levels) (seen old.now)) r (seen new.now)
+pub record NestsSubexpressions (levels : ℕ) (pre : Global → MutBor Left → ℕ → Subexpression → Type 0)
+    (post : Global → MutBor Left → ℕ → Subexpression → Result Expr Failure → MutBor Left → Type 0) : Type 0 where
+  pub callable : (alloc : Global) (old : MutBor Left) (p : Subexpression) → pre alloc old levels p
+  pub reads : (alloc : Global) (old new : MutBor Left) (p : Subexpression) (r : Result Expr Failure) → post alloc old levels p r new
+      → Reads expr_view (subexpression_of p (nested limits levels) (seen old.now)) r (seen new.now)
 
 -- types in parentheses
 pub record NestsTypes (levels : ℕ) (pre : Global → MutBor Left → ℕ → Type 0)
@@ -42,3 +45,21 @@ pub record NestsInitializers (levels : ℕ) (pre : Global → MutBor Left → �
   pub callable : (alloc : Global) (old : MutBor Left) → pre alloc old levels
   pub reads : (alloc : Global) (old new : MutBor Left) (r : Result (List Init) Failure) → post alloc old levels r new
       → Reads each_init ((nested limits levels).initializer_list (seen old.now)) r (seen new.now)
+
+-- ---- the same, of the function values that the readers of a level hold
+
+abbrev pub SubexpressionsNest : {E T : Type 0} → (E → Global → MutBor Left → ℕ → Subexpression → Type 0)
+    → (E → Global → MutBor Left → ℕ → Subexpression → Result Expr Failure → MutBor Left → Type 0) → Expressions E T → Type 0
+SubexpressionsNest pre post e = NestsSubexpressions e.levels (pre e.subexpression) (post e.subexpression)
+
+abbrev pub TypesNest : {E T : Type 0} → (T → Global → MutBor Left → ℕ → Type 0)
+    → (T → Global → MutBor Left → ℕ → Result (Base × ℕ) Failure → MutBor Left → Type 0) → Expressions E T → Type 0
+TypesNest pre post e = NestsTypes e.levels (pre e.type_in_parentheses) (post e.type_in_parentheses)
+
+abbrev pub InitializersNest : {E T I : Type 0} → (I → Global → MutBor Left → ℕ → Type 0)
+    → (I → Global → MutBor Left → ℕ → Result (List Init) Failure → MutBor Left → Type 0) → Declarators E T I → Type 0
+InitializersNest pre post d = NestsInitializers d.expressions.levels (pre d.initializer_list) (post d.initializer_list)
+
+abbrev pub MembersNest : {E T I M : Type 0} → (M → Global → MutBor Left → ℕ → Type 0)
+    → (M → Global → MutBor Left → ℕ → Result (List Decl) Failure → MutBor Left → Type 0) → Declarations E T I M → Type 0
+MembersNest pre post d = NestsMembers d.declarators.expressions.levels (pre d.members) (post d.members)

@@ -19,20 +19,20 @@ use Rattle.ec_grammar.specs.Nested.{Nested}
 use Rattle.ec_grammar.specs.ReadDeclarations.{declarator_part, more_declarators}
 use Rattle.ec_grammar.specs.ReadExpressions.{expression_option}
 use Rattle.ec_declarations.specs.declared.cursor.Start.{Start}
-use Rattle.ec_declarations.specs.declared.parts.Part.{Part}
-use Rattle.ec_declarations.specs.declared.parts.Part.TheVariants as part
+use Rattle.ec_declarations.specs.declared.parts.Subexpression.{Subexpression}
+use Rattle.ec_declarations.specs.declared.parts.Subexpression.TheVariants as sub
 use Rattle.ec_declarations.specs.declared.parts.ForHead.{ForHead}
 use Rattle.ec_declarations.specs.declared.parts.ForStart.{ForStart}
 use Rattle.ec_declarations.specs.declared.parts.ForStart.TheVariants as first
 
-abbrev pub part_of : Part → Nested → Parser ExprData
-part_of part.Assignment n = n.assignment
-part_of part.Operators n = n.operators
-part_of part.Cast n = n.cast_part
-part_of part.Unary n = n.unary_part
-part_of part.SizeOperand n = n.size_operand
-part_of part.Parenthesized n = n.parenthesized
-part_of part.Index n = n.index_part
+abbrev pub subexpression_of : Subexpression → Nested → Parser ExprData
+subexpression_of sub.Assignment n = n.assignment
+subexpression_of sub.Operators n = n.operators
+subexpression_of sub.Cast n = n.cast_part
+subexpression_of sub.Unary n = n.unary_part
+subexpression_of sub.SizeOperand n = n.size_operand
+subexpression_of sub.Parenthesized n = n.parenthesized
+subexpression_of sub.Index n = n.index_part
 
 -- ---- lists, as the plain reading has them
 

@@ -1,12 +1,15 @@
 -- What a cursor stands for.
-use Rattle.std.specs.Prelude.{◌≡◌, Bool, List, Option, Some, None, if◌then◌else◌}
+use Rattle.std.specs.Prelude.{◌≡◌, ℕ, Bool, List, Option, Some, None, Result, if◌then◌else◌}
 use Rattle.ec_ctypes.specs.declared.text.token.Token.{Token}
 use Rattle.ec_ctypes.specs.views.Tokens.{tokens_view}
 use Rattle.ec_language.specs.Grammar as g
 use Rattle.ec_language.specs.Syntax.{limits}
 use Rattle.ec_language.specs.Productions.{placed_from}
 use Rattle.ec_language.specs.Productions as p
-use Rattle.ec_grammar.specs.Input.{State, state, kind_at}
+use Rattle.ec_grammar.specs.declared.failure.Failure.{Failure}
+use Rattle.ec_grammar.specs.Input.{State, state, Parser, Reads, kind_at, kind_next}
+use Rattle.ec_grammar.specs.Nested.{Nested}
+use Rattle.ec_grammar.specs.ReadDeclarations.{nested}
 use Rattle.ec_grammar.specs.declared.kind.Kind.{Kind}
 use Rattle.ec_declarations.specs.declared.counts.Counts.{Counts}
 use Rattle.ec_declarations.specs.declared.counts.Counted.{Counted}
@@ -33,6 +36,24 @@ seen l = state (placed_from l.section (tokens_view l.tokens)) (counts_view l.cou
 abbrev pub IsNextKind : Bool → List Token → Kind → Type 0
 IsNextKind section tokens kind = kind ≡ kind_at (placed_from section (tokens_view tokens))
 
+-- and of the one behind it
+abbrev pub IsSecondKind : Bool → List Token → Kind → Type 0
+IsSecondKind section tokens kind = kind ≡ kind_next (placed_from section (tokens_view tokens))
+
+pub record AreNextKinds (section : Bool) (tokens : List Token) (kind behind : Kind) : Type 0 where
+  pub next_is : IsNextKind section tokens kind
+  pub behind_is : IsSecondKind section tokens behind
+
 -- one more of what is counted, or none beyond the limit
 abbrev pub counted_within : p.Counted → g.Counts → Option g.Counts
 counted_within n c = if g.is_within limits n (g.behind_counted n c) then Some (g.behind_counted n c) else None
+
+-- ---- what readers ensure
+
+-- a function of the plain reading, where so many levels are left
+abbrev pub within : {X : Type 0} → ℕ → (g.Limits → Nested → X) → X
+within levels f = f limits (nested limits levels)
+
+-- The code reads what a function of the plain reading does, from one cursor to the other.
+abbrev pub Reading : {A B : Type 0} → (B → A) → Parser A → Left → Result B Failure → Left → Type 0
+Reading view parser old result new = Reads view (parser (seen old)) result (seen new)

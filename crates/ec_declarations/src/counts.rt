@@ -30,7 +30,8 @@ pub enum Counted {
 
 /// One more of what is counted, or none where that is beyond the limit.
 pub fn count_one(counts: Counts, counted: Counted) -> Option<Counts>
-    ensures { option_map counts_view result ≡ counted_within (counted_by counted) (counts_view counts) }
+    ensures { option_map counts_view result
+        ≡ counted_within (counted_by counted) (counts_view counts) }
 {
     match counted {
         Counted::Operations => count_operation(counts),

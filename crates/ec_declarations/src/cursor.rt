@@ -3,7 +3,8 @@
 ghost use Rattle.std.specs.Prelude.{◌≡◌, Bool, length, Some, None};
 ghost use Rattle.ec_ctypes.specs.views.Tokens.{tok_view, token_view, tokens_view};
 ghost use Rattle.ec_declarations.specs.Parts.{start_view};
-ghost use Rattle.ec_declarations.specs.States.{counts_view, counted_by, seen, IsNextKind};
+ghost use Rattle.ec_declarations.specs.Sees.{sees};
+ghost use Rattle.ec_declarations.specs.States.{counts_view, counted_by, seen, IsNextKind, IsSecondKind};
 ghost use Rattle.ec_grammar.specs.Input as spec;
 ghost use Rattle.ec_grammar.specs.Input.{Reads, Passes, kind_at, kind_next, state};
 ghost use Rattle.ec_language.specs.Grammar as g;
@@ -29,8 +30,9 @@ pub struct Start {
 #[derive(Drop)]
 pub struct Cursor<'a> {
     rest: &'a [Token],
-    /// The kind of the next token, so that each is found once.
+    /// The kinds of the next token and of the one behind it, so that each is found once.
     kind: Kind,
+    kind_behind: Kind,
     /// Whether the next token stands in a declare section.
     section: bool,
     counts: Counts,
@@ -39,7 +41,7 @@ pub struct Cursor<'a> {
 impl<'a> Model for Cursor<'a> {
     ghost use Rattle.std.specs.Coded.{codes};
     ghost use Rattle.ec_ctypes.specs.contracts.types.ty.Ty as ty;
-    ghost use Rattle.ec_declarations.specs.States.{Left, IsNextKind};
+    ghost use Rattle.ec_declarations.specs.States.{Left, AreNextKinds};
 
     ghost Value = { Left };
 
@@ -47,7 +49,7 @@ impl<'a> Model for Cursor<'a> {
 
     ghost view = { λ c. record { tokens = c.rest.now; section = c.section; counts = c.counts } };
 
-    ghost invariant = { λ c. IsNextKind c.section c.rest.now c.kind };
+    ghost invariant = { λ c. AreNextKinds c.section c.rest.now c.kind c.kind_behind };
 }
 
 /// The kind of the first token.
@@ -56,6 +58,16 @@ fn first_kind(tokens: &[Token]) -> Kind
 {
     match tokens {
         [first, ..] => kind_of(&first.tok),
+        [] => Kind::End,
+    }
+}
+
+/// The kind of the second token.
+fn second_kind(tokens: &[Token]) -> Kind
+    ensures { (section : Bool) → IsSecondKind section tokens.now result }
+{
+    match tokens {
+        [_, rest @ ..] => first_kind(rest),
         [] => Kind::End,
     }
 }
@@ -80,6 +92,7 @@ impl<'a> Cursor<'a> {
         Cursor {
             rest: tokens,
             kind: first_kind(tokens),
+            kind_behind: second_kind(tokens),
             section: false,
             counts: Counts {
                 operations: None,
@@ -104,15 +117,20 @@ impl<'a> Cursor<'a> {
         self.kind
     }
 
+    /// Whether the next token is of this kind.
+    #[tactic(auto, using(crate::proofs::Sees::same_is_sees))]
+    pub fn sees(&self, kind: Kind) -> bool
+        ensures { result ≡ sees kind (kind_at (seen self.now).tokens) }
+    {
+        same_kind(self.peek(), kind)
+    }
+
     /// The kind of the token behind the next.
     #[tactic(auto, unfolding(crate::specs::States::seen))]
     pub fn peek_next(&self) -> Kind
         ensures { result ≡ kind_next (seen self.now).tokens }
     {
-        match self.rest {
-            [_, rest @ ..] => first_kind(rest),
-            [] => Kind::End,
-        }
+        self.kind_behind
     }
 
     /// Where the next token stands.
@@ -155,7 +173,8 @@ impl<'a> Cursor<'a> {
     /// A token of this kind.
     #[tactic(auto, using(crate::proofs::SeenTokens::placed_length), unfolding(crate::specs::States::seen, ec_grammar::specs::Input::expect))]
     pub fn expect(&mut self, kind: Kind) -> Result<&'a Token, Failure>
-        ensures { Reads (λ t. record { token = token_view t.now; section = self.old.section }) (spec.expect kind (seen self.old)) result (seen self.new) }
+        ensures { Reads (λ t. record { token = token_view t.now; section = self.old.section })
+            (spec.expect kind (seen self.old)) result (seen self.new) }
     {
         let tokens = self.rest;
         match tokens {
@@ -164,7 +183,8 @@ impl<'a> Cursor<'a> {
                     return Err(Failure::Dead(tokens.len()));
                 }
                 self.section = section_behind_token(self.section, &first.tok);
-                self.kind = first_kind(rest);
+                self.kind = self.kind_behind;
+                self.kind_behind = second_kind(rest);
                 self.rest = rest;
                 Ok(first)
             }
@@ -175,7 +195,8 @@ impl<'a> Cursor<'a> {
     /// A token of this kind, which is counted.
     #[tactic(auto, using(crate::proofs::SeenTokens::placed_length), unfolding(crate::specs::States::seen, ec_grammar::specs::Input::expect, ec_grammar::specs::Input::expect_counted))]
     pub fn expect_counted(&mut self, counted: Counted, kind: Kind) -> Result<(), Failure>
-        ensures { Passes (spec.expect_counted limits (counted_by counted) kind (seen self.old)) result (seen self.new) }
+        ensures { Passes (spec.expect_counted limits (counted_by counted) kind (seen self.old))
+            result (seen self.new) }
     {
         let left = self.rest.len();
         self.expect(kind)?;
@@ -192,7 +213,8 @@ impl<'a> Cursor<'a> {
     #[tactic(auto, unfolding(crate::specs::States::seen))]
     pub fn begin_expression(&mut self) -> Counts
         ensures outside { counts_view result ≡ (seen self.old).counts }
-        ensures inside { seen self.new ≡ state (seen self.old).tokens (g.in_expression (seen self.old).counts) }
+        ensures inside { seen self.new
+            ≡ state (seen self.old).tokens (g.in_expression (seen self.old).counts) }
     {
         let outside = self.counts;
         if self.counts.operations.is_none() {
@@ -204,7 +226,8 @@ impl<'a> Cursor<'a> {
     /// Leaves an expression, by what was counted outside of it.
     #[tactic(auto, unfolding(crate::specs::States::seen))]
     pub fn end_expression(&mut self, outside: Counts)
-        ensures { seen self.new ≡ state (seen self.old).tokens (g.behind_expression (counts_view outside) (seen self.old).counts) }
+        ensures { seen self.new
+            ≡ state (seen self.old).tokens (g.behind_expression (counts_view outside) (seen self.old).counts) }
     {
         if outside.operations.is_none() {
             self.counts.operations = None;
@@ -216,7 +239,8 @@ impl<'a> Cursor<'a> {
     #[tactic(auto, unfolding(crate::specs::States::seen))]
     pub fn begin_declarator(&mut self) -> Counts
         ensures outside { counts_view result ≡ (seen self.old).counts }
-        ensures inside { seen self.new ≡ state (seen self.old).tokens (g.in_declarator (seen self.old).counts) }
+        ensures inside { seen self.new
+            ≡ state (seen self.old).tokens (g.in_declarator (seen self.old).counts) }
     {
         let outside = self.counts;
         self.counts.derivations = 0;
@@ -226,7 +250,8 @@ impl<'a> Cursor<'a> {
     /// Leaves it, by what was counted outside of it.
     #[tactic(auto, unfolding(crate::specs::States::seen))]
     pub fn end_declarator(&mut self, outside: Counts)
-        ensures { seen self.new ≡ state (seen self.old).tokens (g.behind_declarator (counts_view outside) (seen self.old).counts) }
+        ensures { seen self.new
+            ≡ state (seen self.old).tokens (g.behind_declarator (counts_view outside) (seen self.old).counts) }
     {
         self.counts.derivations = outside.derivations;
     }

@@ -5,22 +5,21 @@ ghost use Rattle.std.specs.Prelude.{◌≡◌};
 ghost use Rattle.ec_ctypes.specs.trees.Exprs as tree;
 ghost use Rattle.ec_ctypes.specs.views.Exprs.{expr_option_view, base_view, dims_view, decl_view, declarators_of};
 ghost use Rattle.ec_ctypes.specs.views.Units.{param_view};
-ghost use Rattle.ec_grammar.specs.Input.{Reads, own};
+ghost use Rattle.ec_grammar.specs.Input.{own};
 ghost use Rattle.ec_grammar.specs.ReadDeclarations as spec;
-ghost use Rattle.ec_grammar.specs.ReadDeclarations.{nested};
 ghost use Rattle.ec_language.specs.Productions as language;
-ghost use Rattle.ec_language.specs.Syntax.{limits};
-ghost use Rattle.ec_declarations.specs.Nests.{NestsParts, NestsTypes, NestsInitializers, NestsMembers};
+ghost use Rattle.ec_declarations.specs.Nests.{SubexpressionsNest, TypesNest, InitializersNest, MembersNest};
 ghost use Rattle.ec_declarations.specs.Parts.{each_declarator, each_decl, each_param, start_view, for_start_view, for_head_view, for_condition, for_step};
-ghost use Rattle.ec_declarations.specs.States.{seen};
+ghost use Rattle.ec_declarations.specs.States.{Reading, within};
 
 use crate::cursor::{Cursor, Start};
 use crate::declarators::Declarators;
-use crate::parts::{ForHead, ForStart, Part};
-use crate::starts::{begins_type, is_comma, is_name};
+use crate::lists::list_of;
+use crate::parts::{ForHead, ForStart, Subexpression};
+use crate::starts::begins_type;
 use crate::texts::copy_name;
 use crate::types::{Types, stars};
-use ec_base::{List, Name};
+use ec_base::{List, Name, beside};
 use ec_ctypes::{Base, Decl, Declarator, Expr, Init, Param, Punct};
 use ec_grammar::{Failure, Kind};
 use std::alloc::Global;
@@ -32,7 +31,8 @@ pub struct Declarations<E, T, I, M> {
 }
 
 fn declared(start: Start, base: Base, items: List<Declarator>) -> Decl
-    ensures { decl_view result ≡ language.declared (start_view start) (base_view base) (declarators_of (each_declarator items)) }
+    ensures { decl_view result
+        ≡ language.declared (start_view start) (base_view base) (declarators_of (each_declarator items)) }
 {
     Decl {
         base,
@@ -44,7 +44,9 @@ fn declared(start: Start, base: Base, items: List<Declarator>) -> Decl
 
 /// Whether a parameter is `void` alone, which stands for no parameters (ISO/IEC 9899:1999, 6.7.5.3).
 fn is_void(param: &Param) -> bool
-    ensures { result ≡ language.is_void (base_view param.now.base) param.now.stars param.now.name (dims_view param.now.dims) }
+    ensures { result
+        ≡ language.is_void (base_view param.now.base) param.now.stars param.now.name
+        (dims_view param.now.dims) }
 {
     match (&param.base, &param.name) {
         (Base::Words(words), None) => {
@@ -81,8 +83,9 @@ impl<
 > Declarations<E, T, I, M> {
     /// What a declaration begins with.
     fn specifiers(&self, cursor: &mut Cursor<'_>) -> Result<Base, Failure>
-        requires members { NestsMembers self.now.declarators.expressions.levels (M.pre self.now.members) (M.post self.now.members) }
-        ensures { Reads base_view (spec.specifiers limits (nested limits self.now.declarators.expressions.levels) (seen cursor.old)) result (seen cursor.new) }
+        requires members { MembersNest M.pre M.post self.now }
+        ensures { Reading base_view (within self.now.declarators.expressions.levels spec.specifiers)
+            cursor.old result cursor.new }
     {
         Types {
             alloc: self.declarators.expressions.alloc,
@@ -94,16 +97,18 @@ impl<
 }
 
 impl<
-    E: Fn(Global, &mut Cursor<'_>, u32, Part) -> Result<Expr, Failure>,
+    E: Fn(Global, &mut Cursor<'_>, u32, Subexpression) -> Result<Expr, Failure>,
     T,
     I,
     M: Fn(Global, &mut Cursor<'_>, u32) -> Result<List<Decl>, Failure> + Copy,
 > Declarations<E, T, I, M> {
     #[tactic(auto, unfolding(ec_grammar::specs::ReadDeclarations::parameter_name))]
     fn parameter_name(&self, cursor: &mut Cursor<'_>) -> Result<Option<Name>, Failure>
-        ensures { Reads (λ name. name) (spec.parameter_name limits (nested limits self.now.declarators.expressions.levels) (seen cursor.old)) result (seen cursor.new) }
+        ensures { Reading (λ name. name)
+            (within self.now.declarators.expressions.levels spec.parameter_name)
+            cursor.old result cursor.new }
     {
-        if !is_name(cursor.peek()) {
+        if !cursor.sees(Kind::Name) {
             return Ok(None);
         }
         let token = cursor.expect(Kind::Name)?;
@@ -112,15 +117,16 @@ impl<
 
     #[tactic(auto, unfolding(ec_grammar::specs::ReadDeclarations::parameter))]
     fn parameter(&self, cursor: &mut Cursor<'_>) -> Result<Param, Failure>
-        requires parts { NestsParts self.now.declarators.expressions.levels (E.pre self.now.declarators.expressions.part) (E.post self.now.declarators.expressions.part) }
-        requires members { NestsMembers self.now.declarators.expressions.levels (M.pre self.now.members) (M.post self.now.members) }
-        ensures { Reads param_view (spec.parameter limits (nested limits self.now.declarators.expressions.levels) (seen cursor.old)) result (seen cursor.new) }
+        requires subexpressions { SubexpressionsNest E.pre E.post self.now.declarators.expressions }
+        requires members { MembersNest M.pre M.post self.now }
+        ensures { Reading param_view (within self.now.declarators.expressions.levels spec.parameter)
+            cursor.old result cursor.new }
     {
         let start = cursor.start();
         let base = self.specifiers(cursor)?;
-        let stars = stars(cursor)?;
-        let name = self.parameter_name(cursor)?;
-        let dims = self.declarators.lengths(cursor)?;
+        let (base, stars) = beside(base, stars(cursor))?;
+        let (base, name) = beside(base, self.parameter_name(cursor))?;
+        let ((base, name), dims) = beside((base, name), self.declarators.lengths(cursor))?;
         Ok(Param {
             base,
             stars,
@@ -133,9 +139,11 @@ impl<
     /// A parameter. Its stars and lengths are counted by themselves.
     #[tactic(auto, unfolding(ec_grammar::specs::Input::own))]
     fn own_parameter(&self, cursor: &mut Cursor<'_>) -> Result<Param, Failure>
-        requires parts { NestsParts self.now.declarators.expressions.levels (E.pre self.now.declarators.expressions.part) (E.post self.now.declarators.expressions.part) }
-        requires members { NestsMembers self.now.declarators.expressions.levels (M.pre self.now.members) (M.post self.now.members) }
-        ensures { Reads param_view (own (spec.parameter limits (nested limits self.now.declarators.expressions.levels)) (seen cursor.old)) result (seen cursor.new) }
+        requires subexpressions { SubexpressionsNest E.pre E.post self.now.declarators.expressions }
+        requires members { MembersNest M.pre M.post self.now }
+        ensures { Reading param_view
+            (own (within self.now.declarators.expressions.levels spec.parameter))
+            cursor.old result cursor.new }
     {
         let outside = cursor.begin_declarator();
         let found = self.parameter(cursor)?;
@@ -148,12 +156,14 @@ impl<
         cursor: &mut Cursor<'_>,
         mut found: List<Param>,
     ) -> Result<List<Param>, Failure>
-        requires parts { NestsParts self.now.declarators.expressions.levels (E.pre self.now.declarators.expressions.part) (E.post self.now.declarators.expressions.part) }
-        requires members { NestsMembers self.now.declarators.expressions.levels (M.pre self.now.members) (M.post self.now.members) }
-        ensures { Reads each_param (spec.more_parameters limits (nested limits self.now.declarators.expressions.levels) (each_param found) (seen cursor.old)) result (seen cursor.new) }
+        requires subexpressions { SubexpressionsNest E.pre E.post self.now.declarators.expressions }
+        requires members { MembersNest M.pre M.post self.now }
+        ensures { Reading each_param
+            (within self.now.declarators.expressions.levels spec.more_parameters (each_param found))
+            cursor.old result cursor.new }
     {
         for _turn in 0..cursor.left() {
-            if !is_comma(cursor.peek()) {
+            if !cursor.sees(Kind::Mark(Punct::Comma)) {
                 return Ok(found);
             }
             cursor.expect(Kind::Mark(Punct::Comma))?;
@@ -165,25 +175,29 @@ impl<
 
     #[tactic(auto, unfolding(ec_grammar::specs::ReadDeclarations::parameters))]
     fn parameters(&self, cursor: &mut Cursor<'_>) -> Result<List<Param>, Failure>
-        requires parts { NestsParts self.now.declarators.expressions.levels (E.pre self.now.declarators.expressions.part) (E.post self.now.declarators.expressions.part) }
-        requires members { NestsMembers self.now.declarators.expressions.levels (M.pre self.now.members) (M.post self.now.members) }
-        ensures { Reads each_param (spec.parameters limits (nested limits self.now.declarators.expressions.levels) (seen cursor.old)) result (seen cursor.new) }
+        requires subexpressions { SubexpressionsNest E.pre E.post self.now.declarators.expressions }
+        requires members { MembersNest M.pre M.post self.now }
+        ensures { Reading each_param
+            (within self.now.declarators.expressions.levels spec.parameters)
+            cursor.old result cursor.new }
     {
-        let mut found = List::new(self.declarators.expressions.alloc);
+        let alloc = self.declarators.expressions.alloc;
         if !begins_type(cursor.peek()) {
-            return Ok(found);
+            return Ok(List::new(alloc));
         }
         let first = self.own_parameter(cursor)?;
-        found.push(first)?;
+        let found = list_of(alloc, first)?;
         self.more_parameters(cursor, found)
     }
 
     /// Parameters in parentheses. `void` alone stands for none.
     #[tactic(auto, unfolding(ec_grammar::specs::ReadDeclarations::parameter_part))]
     pub fn parameter_part(&self, cursor: &mut Cursor<'_>) -> Result<List<Param>, Failure>
-        requires parts { NestsParts self.now.declarators.expressions.levels (E.pre self.now.declarators.expressions.part) (E.post self.now.declarators.expressions.part) }
-        requires members { NestsMembers self.now.declarators.expressions.levels (M.pre self.now.members) (M.post self.now.members) }
-        ensures { Reads each_param (spec.parameter_part limits (nested limits self.now.declarators.expressions.levels) (seen cursor.old)) result (seen cursor.new) }
+        requires subexpressions { SubexpressionsNest E.pre E.post self.now.declarators.expressions }
+        requires members { MembersNest M.pre M.post self.now }
+        ensures { Reading each_param
+            (within self.now.declarators.expressions.levels spec.parameter_part)
+            cursor.old result cursor.new }
     {
         cursor.expect(Kind::Mark(Punct::LeftParen))?;
         let found = self.parameters(cursor)?;
@@ -193,7 +207,7 @@ impl<
 }
 
 impl<
-    E: Fn(Global, &mut Cursor<'_>, u32, Part) -> Result<Expr, Failure>,
+    E: Fn(Global, &mut Cursor<'_>, u32, Subexpression) -> Result<Expr, Failure>,
     T: Fn(Global, &mut Cursor<'_>, u32) -> Result<(Base, u32), Failure>,
     I: Fn(Global, &mut Cursor<'_>, u32) -> Result<List<Init>, Failure>,
     M: Fn(Global, &mut Cursor<'_>, u32) -> Result<List<Decl>, Failure> + Copy,
@@ -201,32 +215,36 @@ impl<
     /// A declaration, maybe with no declarator.
     #[tactic(auto, unfolding(ec_grammar::specs::ReadDeclarations::declaration))]
     pub fn declaration(&self, cursor: &mut Cursor<'_>) -> Result<Decl, Failure>
-        requires parts { NestsParts self.now.declarators.expressions.levels (E.pre self.now.declarators.expressions.part) (E.post self.now.declarators.expressions.part) }
-        requires types { NestsTypes self.now.declarators.expressions.levels (T.pre self.now.declarators.expressions.type_in_parentheses) (T.post self.now.declarators.expressions.type_in_parentheses) }
-        requires initializers { NestsInitializers self.now.declarators.expressions.levels (I.pre self.now.declarators.initializer_list) (I.post self.now.declarators.initializer_list) }
-        requires members { NestsMembers self.now.declarators.expressions.levels (M.pre self.now.members) (M.post self.now.members) }
-        ensures { Reads decl_view (spec.declaration limits (nested limits self.now.declarators.expressions.levels) (seen cursor.old)) result (seen cursor.new) }
+        requires subexpressions { SubexpressionsNest E.pre E.post self.now.declarators.expressions }
+        requires types { TypesNest T.pre T.post self.now.declarators.expressions }
+        requires initializers { InitializersNest I.pre I.post self.now.declarators }
+        requires members { MembersNest M.pre M.post self.now }
+        ensures { Reading decl_view
+            (within self.now.declarators.expressions.levels spec.declaration)
+            cursor.old result cursor.new }
     {
         let start = cursor.start();
         let base = self.specifiers(cursor)?;
-        let items = self.declarators.declarators_option(cursor)?;
-        cursor.expect(Kind::Mark(Punct::Semicolon))?;
+        let kept = beside(base, self.declarators.declarators_option(cursor))?;
+        let ((base, items), _mark) = beside(kept, cursor.expect(Kind::Mark(Punct::Semicolon)))?;
         Ok(declared(start, base, items))
     }
 
     /// A declaration with one declarator at least: of members, and in a `for`.
     #[tactic(auto, unfolding(ec_grammar::specs::ReadDeclarations::member_declaration))]
     fn member_declaration(&self, cursor: &mut Cursor<'_>) -> Result<Decl, Failure>
-        requires parts { NestsParts self.now.declarators.expressions.levels (E.pre self.now.declarators.expressions.part) (E.post self.now.declarators.expressions.part) }
-        requires types { NestsTypes self.now.declarators.expressions.levels (T.pre self.now.declarators.expressions.type_in_parentheses) (T.post self.now.declarators.expressions.type_in_parentheses) }
-        requires initializers { NestsInitializers self.now.declarators.expressions.levels (I.pre self.now.declarators.initializer_list) (I.post self.now.declarators.initializer_list) }
-        requires members { NestsMembers self.now.declarators.expressions.levels (M.pre self.now.members) (M.post self.now.members) }
-        ensures { Reads decl_view (spec.member_declaration limits (nested limits self.now.declarators.expressions.levels) (seen cursor.old)) result (seen cursor.new) }
+        requires subexpressions { SubexpressionsNest E.pre E.post self.now.declarators.expressions }
+        requires types { TypesNest T.pre T.post self.now.declarators.expressions }
+        requires initializers { InitializersNest I.pre I.post self.now.declarators }
+        requires members { MembersNest M.pre M.post self.now }
+        ensures { Reading decl_view
+            (within self.now.declarators.expressions.levels spec.member_declaration)
+            cursor.old result cursor.new }
     {
         let start = cursor.start();
         let base = self.specifiers(cursor)?;
-        let items = self.declarators.declarators(cursor)?;
-        cursor.expect(Kind::Mark(Punct::Semicolon))?;
+        let kept = beside(base, self.declarators.declarators(cursor))?;
+        let ((base, items), _mark) = beside(kept, cursor.expect(Kind::Mark(Punct::Semicolon)))?;
         Ok(declared(start, base, items))
     }
 
@@ -235,11 +253,13 @@ impl<
         cursor: &mut Cursor<'_>,
         mut found: List<Decl>,
     ) -> Result<List<Decl>, Failure>
-        requires parts { NestsParts self.now.declarators.expressions.levels (E.pre self.now.declarators.expressions.part) (E.post self.now.declarators.expressions.part) }
-        requires types { NestsTypes self.now.declarators.expressions.levels (T.pre self.now.declarators.expressions.type_in_parentheses) (T.post self.now.declarators.expressions.type_in_parentheses) }
-        requires initializers { NestsInitializers self.now.declarators.expressions.levels (I.pre self.now.declarators.initializer_list) (I.post self.now.declarators.initializer_list) }
-        requires members { NestsMembers self.now.declarators.expressions.levels (M.pre self.now.members) (M.post self.now.members) }
-        ensures { Reads each_decl (spec.more_members limits (nested limits self.now.declarators.expressions.levels) (each_decl found) (seen cursor.old)) result (seen cursor.new) }
+        requires subexpressions { SubexpressionsNest E.pre E.post self.now.declarators.expressions }
+        requires types { TypesNest T.pre T.post self.now.declarators.expressions }
+        requires initializers { InitializersNest I.pre I.post self.now.declarators }
+        requires members { MembersNest M.pre M.post self.now }
+        ensures { Reading each_decl
+            (within self.now.declarators.expressions.levels spec.more_members (each_decl found))
+            cursor.old result cursor.new }
     {
         for _turn in 0..cursor.left() {
             if !begins_type(cursor.peek()) {
@@ -254,38 +274,42 @@ impl<
     /// The members of a struct, in braces.
     #[tactic(auto, unfolding(ec_grammar::specs::ReadDeclarations::members))]
     pub fn members(&self, cursor: &mut Cursor<'_>) -> Result<List<Decl>, Failure>
-        requires parts { NestsParts self.now.declarators.expressions.levels (E.pre self.now.declarators.expressions.part) (E.post self.now.declarators.expressions.part) }
-        requires types { NestsTypes self.now.declarators.expressions.levels (T.pre self.now.declarators.expressions.type_in_parentheses) (T.post self.now.declarators.expressions.type_in_parentheses) }
-        requires initializers { NestsInitializers self.now.declarators.expressions.levels (I.pre self.now.declarators.initializer_list) (I.post self.now.declarators.initializer_list) }
-        requires members { NestsMembers self.now.declarators.expressions.levels (M.pre self.now.members) (M.post self.now.members) }
-        ensures { Reads each_decl (spec.members limits (nested limits self.now.declarators.expressions.levels) (seen cursor.old)) result (seen cursor.new) }
+        requires subexpressions { SubexpressionsNest E.pre E.post self.now.declarators.expressions }
+        requires types { TypesNest T.pre T.post self.now.declarators.expressions }
+        requires initializers { InitializersNest I.pre I.post self.now.declarators }
+        requires members { MembersNest M.pre M.post self.now }
+        ensures { Reading each_decl (within self.now.declarators.expressions.levels spec.members)
+            cursor.old result cursor.new }
     {
         cursor.expect(Kind::Mark(Punct::LeftBrace))?;
         let first = self.member_declaration(cursor)?;
-        let mut found = List::new(self.declarators.expressions.alloc);
-        found.push(first)?;
+        let found = list_of(self.declarators.expressions.alloc, first)?;
         let found = self.more_members(cursor, found)?;
         cursor.expect(Kind::Mark(Punct::RightBrace))?;
         Ok(found)
     }
 
     fn first_expression(&self, cursor: &mut Cursor<'_>) -> Result<ForStart, Failure>
-        requires parts { NestsParts self.now.declarators.expressions.levels (E.pre self.now.declarators.expressions.part) (E.post self.now.declarators.expressions.part) }
-        requires types { NestsTypes self.now.declarators.expressions.levels (T.pre self.now.declarators.expressions.type_in_parentheses) (T.post self.now.declarators.expressions.type_in_parentheses) }
-        ensures { Reads for_start_view (spec.first_expression limits (nested limits self.now.declarators.expressions.levels) (seen cursor.old)) result (seen cursor.new) }
+        requires subexpressions { SubexpressionsNest E.pre E.post self.now.declarators.expressions }
+        requires types { TypesNest T.pre T.post self.now.declarators.expressions }
+        ensures { Reading for_start_view
+            (within self.now.declarators.expressions.levels spec.first_expression)
+            cursor.old result cursor.new }
     {
         let expr = self.declarators.expressions.expression_option(cursor)?;
-        cursor.expect(Kind::Mark(Punct::Semicolon))?;
+        let (expr, _mark) = beside(expr, cursor.expect(Kind::Mark(Punct::Semicolon)))?;
         Ok(ForStart::Expression(expr))
     }
 
     #[tactic(auto, unfolding(ec_grammar::specs::ReadDeclarations::for_start))]
     fn for_start(&self, cursor: &mut Cursor<'_>) -> Result<ForStart, Failure>
-        requires parts { NestsParts self.now.declarators.expressions.levels (E.pre self.now.declarators.expressions.part) (E.post self.now.declarators.expressions.part) }
-        requires types { NestsTypes self.now.declarators.expressions.levels (T.pre self.now.declarators.expressions.type_in_parentheses) (T.post self.now.declarators.expressions.type_in_parentheses) }
-        requires initializers { NestsInitializers self.now.declarators.expressions.levels (I.pre self.now.declarators.initializer_list) (I.post self.now.declarators.initializer_list) }
-        requires members { NestsMembers self.now.declarators.expressions.levels (M.pre self.now.members) (M.post self.now.members) }
-        ensures { Reads for_start_view (spec.for_start limits (nested limits self.now.declarators.expressions.levels) (seen cursor.old)) result (seen cursor.new) }
+        requires subexpressions { SubexpressionsNest E.pre E.post self.now.declarators.expressions }
+        requires types { TypesNest T.pre T.post self.now.declarators.expressions }
+        requires initializers { InitializersNest I.pre I.post self.now.declarators }
+        requires members { MembersNest M.pre M.post self.now }
+        ensures { Reading for_start_view
+            (within self.now.declarators.expressions.levels spec.for_start)
+            cursor.old result cursor.new }
     {
         if !begins_type(cursor.peek()) {
             return self.first_expression(cursor);
@@ -300,12 +324,20 @@ impl<
         first: ForStart,
         condition: Option<Expr>,
     ) -> Result<ForHead, Failure>
-        requires parts { NestsParts self.now.declarators.expressions.levels (E.pre self.now.declarators.expressions.part) (E.post self.now.declarators.expressions.part) }
-        requires types { NestsTypes self.now.declarators.expressions.levels (T.pre self.now.declarators.expressions.type_in_parentheses) (T.post self.now.declarators.expressions.type_in_parentheses) }
-        ensures { Reads for_head_view (for_step limits (nested limits self.now.declarators.expressions.levels) (for_start_view first) (expr_option_view condition) (seen cursor.old)) result (seen cursor.new) }
+        requires subexpressions { SubexpressionsNest E.pre E.post self.now.declarators.expressions }
+        requires types { TypesNest T.pre T.post self.now.declarators.expressions }
+        ensures { Reading for_head_view
+            (within self.now.declarators.expressions.levels
+            for_step (for_start_view first) (expr_option_view condition))
+            cursor.old result cursor.new }
     {
-        let step = self.declarators.expressions.expression_option(cursor)?;
-        cursor.expect(Kind::Mark(Punct::RightParen))?;
+        let kept = (first, condition);
+        let (kept, step) = beside(kept, self.declarators.expressions.expression_option(cursor))?;
+        let kept = (kept, step);
+        let (((first, condition), step), _mark) = beside(
+            kept,
+            cursor.expect(Kind::Mark(Punct::RightParen)),
+        )?;
         Ok(ForHead {
             first,
             condition,
@@ -314,23 +346,33 @@ impl<
     }
 
     fn for_condition(&self, cursor: &mut Cursor<'_>, first: ForStart) -> Result<ForHead, Failure>
-        requires parts { NestsParts self.now.declarators.expressions.levels (E.pre self.now.declarators.expressions.part) (E.post self.now.declarators.expressions.part) }
-        requires types { NestsTypes self.now.declarators.expressions.levels (T.pre self.now.declarators.expressions.type_in_parentheses) (T.post self.now.declarators.expressions.type_in_parentheses) }
-        ensures { Reads for_head_view (for_condition limits (nested limits self.now.declarators.expressions.levels) (for_start_view first) (seen cursor.old)) result (seen cursor.new) }
+        requires subexpressions { SubexpressionsNest E.pre E.post self.now.declarators.expressions }
+        requires types { TypesNest T.pre T.post self.now.declarators.expressions }
+        ensures { Reading for_head_view
+            (within self.now.declarators.expressions.levels for_condition (for_start_view first))
+            cursor.old result cursor.new }
     {
-        let condition = self.declarators.expressions.expression_option(cursor)?;
-        cursor.expect(Kind::Mark(Punct::Semicolon))?;
+        let kept = beside(
+            first,
+            self.declarators.expressions.expression_option(cursor),
+        )?;
+        let ((first, condition), _mark) = beside(
+            kept,
+            cursor.expect(Kind::Mark(Punct::Semicolon)),
+        )?;
         self.for_step(cursor, first, condition)
     }
 
     /// What stands behind `for`, in parentheses.
     #[tactic(auto, unfolding(ec_grammar::specs::ReadDeclarations::for_head))]
     pub fn for_head(&self, cursor: &mut Cursor<'_>) -> Result<ForHead, Failure>
-        requires parts { NestsParts self.now.declarators.expressions.levels (E.pre self.now.declarators.expressions.part) (E.post self.now.declarators.expressions.part) }
-        requires types { NestsTypes self.now.declarators.expressions.levels (T.pre self.now.declarators.expressions.type_in_parentheses) (T.post self.now.declarators.expressions.type_in_parentheses) }
-        requires initializers { NestsInitializers self.now.declarators.expressions.levels (I.pre self.now.declarators.initializer_list) (I.post self.now.declarators.initializer_list) }
-        requires members { NestsMembers self.now.declarators.expressions.levels (M.pre self.now.members) (M.post self.now.members) }
-        ensures { Reads for_head_view (spec.for_head limits (nested limits self.now.declarators.expressions.levels) (seen cursor.old)) result (seen cursor.new) }
+        requires subexpressions { SubexpressionsNest E.pre E.post self.now.declarators.expressions }
+        requires types { TypesNest T.pre T.post self.now.declarators.expressions }
+        requires initializers { InitializersNest I.pre I.post self.now.declarators }
+        requires members { MembersNest M.pre M.post self.now }
+        ensures { Reading for_head_view
+            (within self.now.declarators.expressions.levels spec.for_head)
+            cursor.old result cursor.new }
     {
         cursor.expect(Kind::Mark(Punct::LeftParen))?;
         let first = self.for_start(cursor)?;

@@ -5,25 +5,24 @@ ghost use Rattle.std.specs.Prelude.{◌≡◌, ◌<◌, ◌-◌};
 ghost use Rattle.ec_ctypes.specs.declared.text.token.Punct.TheVariants as mark;
 ghost use Rattle.ec_ctypes.specs.trees.Exprs as tree;
 ghost use Rattle.ec_ctypes.specs.views.Exprs.{expr_view, expr_option_view, init_view, inits_of, declarator_view, dims_of, init_of};
-ghost use Rattle.ec_grammar.specs.Input.{Reads, own};
+ghost use Rattle.ec_grammar.specs.Input.{own};
 ghost use Rattle.ec_grammar.specs.ReadDeclarations as spec;
 ghost use Rattle.ec_grammar.specs.ReadDeclarations.{nested};
 ghost use Rattle.ec_grammar.specs.declared.kind.Kind.TheVariants as kind;
 ghost use Rattle.ec_language.specs.Syntax.{limits};
-ghost use Rattle.ec_declarations.specs.Nests.{NestsParts, NestsTypes, NestsInitializers};
+ghost use Rattle.ec_declarations.specs.Nests.{SubexpressionsNest, TypesNest, InitializersNest};
 ghost use Rattle.ec_declarations.specs.Parts.{each_length, each_init, each_declarator, init_option, some_declarators};
-ghost use Rattle.ec_declarations.specs.States.{seen};
+ghost use Rattle.ec_declarations.specs.States.{Reading, within};
 
 use crate::counts::Counted;
 use crate::cursor::Cursor;
 use crate::expressions::Expressions;
-use crate::parts::Part;
-use crate::starts::{
-    begins_declarator, begins_expression, begins_initializer, is_assign, is_comma, is_left_bracket,
-};
+use crate::lists::list_of;
+use crate::parts::Subexpression;
+use crate::starts::{begins_declarator, begins_expression, begins_initializer};
 use crate::texts::copy_name;
 use crate::types::stars;
-use ec_base::{List, Name};
+use ec_base::{List, Name, beside};
 use ec_ctypes::{Base, Declarator, Expr, Init, Punct};
 use ec_grammar::{Failure, Kind};
 use std::alloc::Global;
@@ -47,7 +46,8 @@ fn many(inits: List<Init>) -> Init
 }
 
 fn declarator(stars: u32, name: Name, dims: List<Option<Expr>>, init: Option<Init>) -> Declarator
-    ensures { declarator_view result ≡ tree.declarator stars name (dims_of (each_length dims)) (init_of (init_option init)) }
+    ensures { declarator_view result
+        ≡ tree.declarator stars name (dims_of (each_length dims)) (init_of (init_option init)) }
 {
     Declarator {
         stars,
@@ -57,25 +57,33 @@ fn declarator(stars: u32, name: Name, dims: List<Option<Expr>>, init: Option<Ini
     }
 }
 
-impl<E: Fn(Global, &mut Cursor<'_>, u32, Part) -> Result<Expr, Failure>, T, I> Declarators<
+impl<E: Fn(Global, &mut Cursor<'_>, u32, Subexpression) -> Result<Expr, Failure>, T, I> Declarators<
     E,
     T,
     I,
 > {
     fn operators(&self, cursor: &mut Cursor<'_>) -> Result<Expr, Failure>
-        requires { NestsParts self.now.expressions.levels (E.pre self.now.expressions.part) (E.post self.now.expressions.part) }
-        ensures { Reads expr_view ((nested limits self.now.expressions.levels).operators (seen cursor.old)) result (seen cursor.new) }
+        requires { SubexpressionsNest E.pre E.post self.now.expressions }
+        ensures { Reading expr_view (nested limits self.now.expressions.levels).operators
+            cursor.old result cursor.new }
     {
         let within = &self.expressions;
-        (within.part)(within.alloc, cursor, within.levels, Part::Operators)
+        (within.subexpression)(
+            within.alloc,
+            cursor,
+            within.levels,
+            Subexpression::Operators,
+        )
     }
 
     /// An array length, unless it is left out.
     #[tactic(auto, unfolding(ec_grammar::specs::ReadDeclarations::length_option, ec_grammar::specs::Input::whole))]
     fn length_option(&self, cursor: &mut Cursor<'_>) -> Result<Option<Expr>, Failure>
         requires some { 0 < self.now.expressions.levels }
-        requires parts { NestsParts self.now.expressions.levels (E.pre self.now.expressions.part) (E.post self.now.expressions.part) }
-        ensures { Reads expr_option_view (spec.length_option limits (nested limits (self.now.expressions.levels - 1)) (seen cursor.old)) result (seen cursor.new) }
+        requires subexpressions { SubexpressionsNest E.pre E.post self.now.expressions }
+        ensures { Reading expr_option_view
+            (within (self.now.expressions.levels - 1) spec.length_option)
+            cursor.old result cursor.new }
     {
         if !begins_expression(cursor.peek()) {
             return Ok(None);
@@ -90,34 +98,38 @@ impl<E: Fn(Global, &mut Cursor<'_>, u32, Part) -> Result<Expr, Failure>, T, I> D
     #[tactic(auto, unfolding(ec_grammar::specs::ReadDeclarations::length_part))]
     fn length_in_brackets(&self, cursor: &mut Cursor<'_>) -> Result<Option<Expr>, Failure>
         requires some { 0 < self.now.expressions.levels }
-        requires parts { NestsParts self.now.expressions.levels (E.pre self.now.expressions.part) (E.post self.now.expressions.part) }
-        ensures { Reads expr_option_view (spec.length_part limits (nested limits (self.now.expressions.levels - 1)) (seen cursor.old)) result (seen cursor.new) }
+        requires subexpressions { SubexpressionsNest E.pre E.post self.now.expressions }
+        ensures { Reading expr_option_view
+            (within (self.now.expressions.levels - 1) spec.length_part)
+            cursor.old result cursor.new }
     {
         cursor.expect_counted(Counted::Derivations, Kind::Mark(Punct::LeftBracket))?;
         let length = self.length_option(cursor)?;
-        cursor.expect(Kind::Mark(Punct::RightBracket))?;
+        let (length, _mark) = beside(length, cursor.expect(Kind::Mark(Punct::RightBracket)))?;
         Ok(length)
     }
 
     /// The same, one level deeper.
     fn length_part(&self, cursor: &mut Cursor<'_>) -> Result<Option<Expr>, Failure>
-        requires { NestsParts self.now.expressions.levels (E.pre self.now.expressions.part) (E.post self.now.expressions.part) }
-        ensures { Reads expr_option_view ((nested limits self.now.expressions.levels).length_part (seen cursor.old)) result (seen cursor.new) }
+        requires { SubexpressionsNest E.pre E.post self.now.expressions }
+        ensures { Reading expr_option_view (nested limits self.now.expressions.levels).length_part
+            cursor.old result cursor.new }
     {
         if self.expressions.levels == 0 {
-            return Err(cursor.no_level(is_left_bracket(cursor.peek())));
+            return Err(cursor.no_level(cursor.sees(Kind::Mark(Punct::LeftBracket))));
         }
         self.length_in_brackets(cursor)
     }
 
     /// Array lengths, outermost first (ISO/IEC 9899:1999, 6.7.5.2).
     pub fn lengths(&self, cursor: &mut Cursor<'_>) -> Result<List<Option<Expr>>, Failure>
-        requires { NestsParts self.now.expressions.levels (E.pre self.now.expressions.part) (E.post self.now.expressions.part) }
-        ensures { Reads each_length (spec.lengths limits (nested limits self.now.expressions.levels) (seen cursor.old)) result (seen cursor.new) }
+        requires { SubexpressionsNest E.pre E.post self.now.expressions }
+        ensures { Reading each_length (within self.now.expressions.levels spec.lengths)
+            cursor.old result cursor.new }
     {
         let mut found = List::new(self.expressions.alloc);
         for _turn in 0..cursor.left() {
-            if !is_left_bracket(cursor.peek()) {
+            if !cursor.sees(Kind::Mark(Punct::LeftBracket)) {
                 return Ok(found);
             }
             let length = self.length_part(cursor)?;
@@ -128,13 +140,15 @@ impl<E: Fn(Global, &mut Cursor<'_>, u32, Part) -> Result<Expr, Failure>, T, I> D
 }
 
 impl<
-    E: Fn(Global, &mut Cursor<'_>, u32, Part) -> Result<Expr, Failure>,
+    E: Fn(Global, &mut Cursor<'_>, u32, Subexpression) -> Result<Expr, Failure>,
     T: Fn(Global, &mut Cursor<'_>, u32) -> Result<(Base, u32), Failure>,
     I: Fn(Global, &mut Cursor<'_>, u32) -> Result<List<Init>, Failure>,
 > Declarators<E, T, I> {
     fn braced(&self, cursor: &mut Cursor<'_>) -> Result<Init, Failure>
-        requires { NestsInitializers self.now.expressions.levels (I.pre self.now.initializer_list) (I.post self.now.initializer_list) }
-        ensures { Reads init_view (spec.initializer_by limits (nested limits self.now.expressions.levels) (kind.Mark mark.LeftBrace) (seen cursor.old)) result (seen cursor.new) }
+        requires { InitializersNest I.pre I.post self.now }
+        ensures { Reading init_view
+            (within self.now.expressions.levels spec.initializer_by (kind.Mark mark.LeftBrace))
+            cursor.old result cursor.new }
     {
         let within = &self.expressions;
         let found = (self.initializer_list)(within.alloc, cursor, within.levels)?;
@@ -143,10 +157,11 @@ impl<
 
     #[tactic(auto, unfolding(ec_grammar::specs::ReadDeclarations::initializer))]
     fn initializer(&self, cursor: &mut Cursor<'_>) -> Result<Init, Failure>
-        requires parts { NestsParts self.now.expressions.levels (E.pre self.now.expressions.part) (E.post self.now.expressions.part) }
-        requires types { NestsTypes self.now.expressions.levels (T.pre self.now.expressions.type_in_parentheses) (T.post self.now.expressions.type_in_parentheses) }
-        requires initializers { NestsInitializers self.now.expressions.levels (I.pre self.now.initializer_list) (I.post self.now.initializer_list) }
-        ensures { Reads init_view (spec.initializer limits (nested limits self.now.expressions.levels) (seen cursor.old)) result (seen cursor.new) }
+        requires subexpressions { SubexpressionsNest E.pre E.post self.now.expressions }
+        requires types { TypesNest T.pre T.post self.now.expressions }
+        requires initializers { InitializersNest I.pre I.post self.now }
+        ensures { Reading init_view (within self.now.expressions.levels spec.initializer)
+            cursor.old result cursor.new }
     {
         match cursor.peek() {
             Kind::Mark(Punct::LeftBrace) => self.braced(cursor),
@@ -163,13 +178,15 @@ impl<
         cursor: &mut Cursor<'_>,
         mut found: List<Init>,
     ) -> Result<List<Init>, Failure>
-        requires parts { NestsParts self.now.expressions.levels (E.pre self.now.expressions.part) (E.post self.now.expressions.part) }
-        requires types { NestsTypes self.now.expressions.levels (T.pre self.now.expressions.type_in_parentheses) (T.post self.now.expressions.type_in_parentheses) }
-        requires initializers { NestsInitializers self.now.expressions.levels (I.pre self.now.initializer_list) (I.post self.now.initializer_list) }
-        ensures { Reads each_init (spec.more_initializers limits (nested limits self.now.expressions.levels) (each_init found) (seen cursor.old)) result (seen cursor.new) }
+        requires subexpressions { SubexpressionsNest E.pre E.post self.now.expressions }
+        requires types { TypesNest T.pre T.post self.now.expressions }
+        requires initializers { InitializersNest I.pre I.post self.now }
+        ensures { Reading each_init
+            (within self.now.expressions.levels spec.more_initializers (each_init found))
+            cursor.old result cursor.new }
     {
         for _turn in 0..cursor.left() {
-            if !is_comma(cursor.peek()) {
+            if !cursor.sees(Kind::Mark(Punct::Comma)) {
                 return Ok(found);
             }
             let goes_on = begins_initializer(cursor.peek_next());
@@ -186,15 +203,15 @@ impl<
     /// Initializers in braces.
     #[tactic(auto, unfolding(ec_grammar::specs::ReadDeclarations::initializer_list))]
     pub fn initializer_list(&self, cursor: &mut Cursor<'_>) -> Result<List<Init>, Failure>
-        requires parts { NestsParts self.now.expressions.levels (E.pre self.now.expressions.part) (E.post self.now.expressions.part) }
-        requires types { NestsTypes self.now.expressions.levels (T.pre self.now.expressions.type_in_parentheses) (T.post self.now.expressions.type_in_parentheses) }
-        requires initializers { NestsInitializers self.now.expressions.levels (I.pre self.now.initializer_list) (I.post self.now.initializer_list) }
-        ensures { Reads each_init (spec.initializer_list limits (nested limits self.now.expressions.levels) (seen cursor.old)) result (seen cursor.new) }
+        requires subexpressions { SubexpressionsNest E.pre E.post self.now.expressions }
+        requires types { TypesNest T.pre T.post self.now.expressions }
+        requires initializers { InitializersNest I.pre I.post self.now }
+        ensures { Reading each_init (within self.now.expressions.levels spec.initializer_list)
+            cursor.old result cursor.new }
     {
         cursor.expect(Kind::Mark(Punct::LeftBrace))?;
         let first = self.initializer(cursor)?;
-        let mut found = List::new(self.expressions.alloc);
-        found.push(first)?;
+        let found = list_of(self.expressions.alloc, first)?;
         let found = self.more_initializers(cursor, found)?;
         cursor.expect(Kind::Mark(Punct::RightBrace))?;
         Ok(found)
@@ -203,12 +220,13 @@ impl<
     /// `=` and an initializer, or nothing.
     #[tactic(auto, unfolding(ec_grammar::specs::ReadDeclarations::initializer_option))]
     pub fn initializer_option(&self, cursor: &mut Cursor<'_>) -> Result<Option<Init>, Failure>
-        requires parts { NestsParts self.now.expressions.levels (E.pre self.now.expressions.part) (E.post self.now.expressions.part) }
-        requires types { NestsTypes self.now.expressions.levels (T.pre self.now.expressions.type_in_parentheses) (T.post self.now.expressions.type_in_parentheses) }
-        requires initializers { NestsInitializers self.now.expressions.levels (I.pre self.now.initializer_list) (I.post self.now.initializer_list) }
-        ensures { Reads init_option (spec.initializer_option limits (nested limits self.now.expressions.levels) (seen cursor.old)) result (seen cursor.new) }
+        requires subexpressions { SubexpressionsNest E.pre E.post self.now.expressions }
+        requires types { TypesNest T.pre T.post self.now.expressions }
+        requires initializers { InitializersNest I.pre I.post self.now }
+        ensures { Reading init_option (within self.now.expressions.levels spec.initializer_option)
+            cursor.old result cursor.new }
     {
-        if !is_assign(cursor.peek()) {
+        if !cursor.sees(Kind::Mark(Punct::Assign)) {
             return Ok(None);
         }
         cursor.expect(Kind::Mark(Punct::Assign))?;
@@ -218,10 +236,11 @@ impl<
 
     #[tactic(auto, unfolding(ec_grammar::specs::ReadDeclarations::declarator_part))]
     fn declarator_part(&self, cursor: &mut Cursor<'_>) -> Result<Declarator, Failure>
-        requires parts { NestsParts self.now.expressions.levels (E.pre self.now.expressions.part) (E.post self.now.expressions.part) }
-        requires types { NestsTypes self.now.expressions.levels (T.pre self.now.expressions.type_in_parentheses) (T.post self.now.expressions.type_in_parentheses) }
-        requires initializers { NestsInitializers self.now.expressions.levels (I.pre self.now.initializer_list) (I.post self.now.initializer_list) }
-        ensures { Reads declarator_view (spec.declarator_part limits (nested limits self.now.expressions.levels) (seen cursor.old)) result (seen cursor.new) }
+        requires subexpressions { SubexpressionsNest E.pre E.post self.now.expressions }
+        requires types { TypesNest T.pre T.post self.now.expressions }
+        requires initializers { InitializersNest I.pre I.post self.now }
+        ensures { Reading declarator_view (within self.now.expressions.levels spec.declarator_part)
+            cursor.old result cursor.new }
     {
         let stars = stars(cursor)?;
         let token = cursor.expect(Kind::Name)?;
@@ -234,10 +253,12 @@ impl<
     /// A declarator. Its stars and lengths are counted by themselves.
     #[tactic(auto, unfolding(ec_grammar::specs::Input::own))]
     pub fn own_declarator(&self, cursor: &mut Cursor<'_>) -> Result<Declarator, Failure>
-        requires parts { NestsParts self.now.expressions.levels (E.pre self.now.expressions.part) (E.post self.now.expressions.part) }
-        requires types { NestsTypes self.now.expressions.levels (T.pre self.now.expressions.type_in_parentheses) (T.post self.now.expressions.type_in_parentheses) }
-        requires initializers { NestsInitializers self.now.expressions.levels (I.pre self.now.initializer_list) (I.post self.now.initializer_list) }
-        ensures { Reads declarator_view (own (spec.declarator_part limits (nested limits self.now.expressions.levels)) (seen cursor.old)) result (seen cursor.new) }
+        requires subexpressions { SubexpressionsNest E.pre E.post self.now.expressions }
+        requires types { TypesNest T.pre T.post self.now.expressions }
+        requires initializers { InitializersNest I.pre I.post self.now }
+        ensures { Reading declarator_view
+            (own (within self.now.expressions.levels spec.declarator_part))
+            cursor.old result cursor.new }
     {
         let outside = cursor.begin_declarator();
         let found = self.declarator_part(cursor)?;
@@ -251,13 +272,15 @@ impl<
         cursor: &mut Cursor<'_>,
         mut found: List<Declarator>,
     ) -> Result<List<Declarator>, Failure>
-        requires parts { NestsParts self.now.expressions.levels (E.pre self.now.expressions.part) (E.post self.now.expressions.part) }
-        requires types { NestsTypes self.now.expressions.levels (T.pre self.now.expressions.type_in_parentheses) (T.post self.now.expressions.type_in_parentheses) }
-        requires initializers { NestsInitializers self.now.expressions.levels (I.pre self.now.initializer_list) (I.post self.now.initializer_list) }
-        ensures { Reads each_declarator (spec.more_declarators limits (nested limits self.now.expressions.levels) (each_declarator found) (seen cursor.old)) result (seen cursor.new) }
+        requires subexpressions { SubexpressionsNest E.pre E.post self.now.expressions }
+        requires types { TypesNest T.pre T.post self.now.expressions }
+        requires initializers { InitializersNest I.pre I.post self.now }
+        ensures { Reading each_declarator
+            (within self.now.expressions.levels spec.more_declarators (each_declarator found))
+            cursor.old result cursor.new }
     {
         for _turn in 0..cursor.left() {
-            if !is_comma(cursor.peek()) {
+            if !cursor.sees(Kind::Mark(Punct::Comma)) {
                 return Ok(found);
             }
             cursor.expect(Kind::Mark(Punct::Comma))?;
@@ -269,24 +292,26 @@ impl<
 
     /// A declarator and further ones, behind a comma each.
     pub fn declarators(&self, cursor: &mut Cursor<'_>) -> Result<List<Declarator>, Failure>
-        requires parts { NestsParts self.now.expressions.levels (E.pre self.now.expressions.part) (E.post self.now.expressions.part) }
-        requires types { NestsTypes self.now.expressions.levels (T.pre self.now.expressions.type_in_parentheses) (T.post self.now.expressions.type_in_parentheses) }
-        requires initializers { NestsInitializers self.now.expressions.levels (I.pre self.now.initializer_list) (I.post self.now.initializer_list) }
-        ensures { Reads each_declarator (some_declarators limits (nested limits self.now.expressions.levels) (seen cursor.old)) result (seen cursor.new) }
+        requires subexpressions { SubexpressionsNest E.pre E.post self.now.expressions }
+        requires types { TypesNest T.pre T.post self.now.expressions }
+        requires initializers { InitializersNest I.pre I.post self.now }
+        ensures { Reading each_declarator (within self.now.expressions.levels some_declarators)
+            cursor.old result cursor.new }
     {
         let first = self.own_declarator(cursor)?;
-        let mut found = List::new(self.expressions.alloc);
-        found.push(first)?;
+        let found = list_of(self.expressions.alloc, first)?;
         self.more_declarators(cursor, found)
     }
 
     /// Declarators, or none.
     #[tactic(auto, unfolding(ec_grammar::specs::ReadDeclarations::declarators_option))]
     pub fn declarators_option(&self, cursor: &mut Cursor<'_>) -> Result<List<Declarator>, Failure>
-        requires parts { NestsParts self.now.expressions.levels (E.pre self.now.expressions.part) (E.post self.now.expressions.part) }
-        requires types { NestsTypes self.now.expressions.levels (T.pre self.now.expressions.type_in_parentheses) (T.post self.now.expressions.type_in_parentheses) }
-        requires initializers { NestsInitializers self.now.expressions.levels (I.pre self.now.initializer_list) (I.post self.now.initializer_list) }
-        ensures { Reads each_declarator (spec.declarators_option limits (nested limits self.now.expressions.levels) (seen cursor.old)) result (seen cursor.new) }
+        requires subexpressions { SubexpressionsNest E.pre E.post self.now.expressions }
+        requires types { TypesNest T.pre T.post self.now.expressions }
+        requires initializers { InitializersNest I.pre I.post self.now }
+        ensures { Reading each_declarator
+            (within self.now.expressions.levels spec.declarators_option)
+            cursor.old result cursor.new }
     {
         if !begins_declarator(cursor.peek()) {
             return Ok(List::new(self.expressions.alloc));

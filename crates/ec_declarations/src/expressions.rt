@@ -2,14 +2,13 @@
 //! that each is proved by itself.
 
 ghost use Rattle.ec_ctypes.specs.views.Exprs.{expr_view, expr_option_view};
-ghost use Rattle.ec_grammar.specs.Input.{Reads};
 ghost use Rattle.ec_grammar.specs.ReadDeclarations.{nested};
 ghost use Rattle.ec_grammar.specs.ReadExpressions as spec;
 ghost use Rattle.ec_language.specs.Syntax.{limits};
-ghost use Rattle.ec_declarations.specs.Branches.{part_at};
-ghost use Rattle.ec_declarations.specs.Nests.{NestsParts, NestsTypes};
-ghost use Rattle.ec_declarations.specs.Parts.{part_of, type_view};
-ghost use Rattle.ec_declarations.specs.States.{seen};
+ghost use Rattle.ec_declarations.specs.Branches.{subexpression_at};
+ghost use Rattle.ec_declarations.specs.Nests.{SubexpressionsNest, TypesNest};
+ghost use Rattle.ec_declarations.specs.Parts.{subexpression_of, type_view};
+ghost use Rattle.ec_declarations.specs.States.{Reading, within};
 
 mod assignments;
 mod brackets;
@@ -21,7 +20,7 @@ mod ranks;
 mod unary;
 
 use crate::cursor::Cursor;
-use crate::parts::Part;
+use crate::parts::Subexpression;
 use ec_ctypes::{Base, Expr};
 use ec_grammar::Failure;
 pub use primary::Primary;
@@ -33,44 +32,55 @@ pub struct Expressions<E, T> {
     pub alloc: Global,
     /// How many levels are left where the expressions stand.
     pub levels: u32,
-    pub part: E,
+    pub subexpression: E,
     pub type_in_parentheses: T,
 }
 
 impl<
-    E: Fn(Global, &mut Cursor<'_>, u32, Part) -> Result<Expr, Failure>,
+    E: Fn(Global, &mut Cursor<'_>, u32, Subexpression) -> Result<Expr, Failure>,
     T: Fn(Global, &mut Cursor<'_>, u32) -> Result<(Base, u32), Failure>,
 > Expressions<E, T> {
-    /// A part that stands one level deeper.
-    fn part(&self, cursor: &mut Cursor<'_>, part: Part) -> Result<Expr, Failure>
-        requires { NestsParts self.now.levels (E.pre self.now.part) (E.post self.now.part) }
-        ensures { Reads expr_view (part_of part (nested limits self.now.levels) (seen cursor.old)) result (seen cursor.new) }
+    /// An expression that stands one level deeper.
+    fn subexpression(
+        &self,
+        cursor: &mut Cursor<'_>,
+        subexpression: Subexpression,
+    ) -> Result<Expr, Failure>
+        requires { SubexpressionsNest E.pre E.post self.now }
+        ensures { Reading expr_view (subexpression_of subexpression (nested limits self.now.levels))
+            cursor.old result cursor.new }
     {
-        (self.part)(self.alloc, cursor, self.levels, part)
+        (self.subexpression)(self.alloc, cursor, self.levels, subexpression)
     }
 
     /// A type in parentheses, one level deeper.
     fn nested_type(&self, cursor: &mut Cursor<'_>) -> Result<(Base, u32), Failure>
-        requires { NestsTypes self.now.levels (T.pre self.now.type_in_parentheses) (T.post self.now.type_in_parentheses) }
-        ensures { Reads type_view ((nested limits self.now.levels).type_in_parentheses (seen cursor.old)) result (seen cursor.new) }
+        requires { TypesNest T.pre T.post self.now }
+        ensures { Reading type_view (nested limits self.now.levels).type_in_parentheses
+            cursor.old result cursor.new }
     {
         (self.type_in_parentheses)(self.alloc, cursor, self.levels)
     }
 
-    /// A part that stands where these expressions do.
-    pub fn part_here(&self, cursor: &mut Cursor<'_>, part: Part) -> Result<Expr, Failure>
-        requires parts { NestsParts self.now.levels (E.pre self.now.part) (E.post self.now.part) }
-        requires types { NestsTypes self.now.levels (T.pre self.now.type_in_parentheses) (T.post self.now.type_in_parentheses) }
-        ensures { Reads expr_view (part_at limits (nested limits self.now.levels) part (seen cursor.old)) result (seen cursor.new) }
+    /// The same, where these expressions stand.
+    pub fn subexpression_here(
+        &self,
+        cursor: &mut Cursor<'_>,
+        subexpression: Subexpression,
+    ) -> Result<Expr, Failure>
+        requires subexpressions { SubexpressionsNest E.pre E.post self.now }
+        requires types { TypesNest T.pre T.post self.now }
+        ensures { Reading expr_view (within self.now.levels subexpression_at subexpression)
+            cursor.old result cursor.new }
     {
-        match part {
-            Part::Assignment => self.assignment(cursor),
-            Part::Operators => self.operators(cursor, Rank::Or),
-            Part::Cast => self.cast_part(cursor),
-            Part::Unary => self.unary_part(cursor),
-            Part::SizeOperand => self.size_operand(cursor),
-            Part::Parenthesized => self.parenthesized(cursor),
-            Part::Index => self.index_part(cursor),
+        match subexpression {
+            Subexpression::Assignment => self.assignment(cursor),
+            Subexpression::Operators => self.operators(cursor, Rank::Or),
+            Subexpression::Cast => self.cast_part(cursor),
+            Subexpression::Unary => self.unary_part(cursor),
+            Subexpression::SizeOperand => self.size_operand(cursor),
+            Subexpression::Parenthesized => self.parenthesized(cursor),
+            Subexpression::Index => self.index_part(cursor),
         }
     }
 }

@@ -11,7 +11,8 @@ use ec_grammar::Kind;
 
 /// Whether a word is one of those of integer types and `void`.
 fn is_short_type_word(word: &[u8]) -> bool
-    ensures { result ≡ is_among (codes "void" ∷ codes "bool" ∷ codes "char" ∷ codes "short" ∷ []) word.now }
+    ensures { result
+        ≡ is_among (codes "void" ∷ codes "bool" ∷ codes "char" ∷ codes "short" ∷ []) word.now }
 {
     if b"void".as_slice() == word {
         return true;
@@ -29,7 +30,9 @@ fn is_short_type_word(word: &[u8]) -> bool
 }
 
 fn is_long_type_word(word: &[u8]) -> bool
-    ensures { result ≡ is_among (codes "int" ∷ codes "long" ∷ codes "signed" ∷ codes "unsigned" ∷ []) word.now }
+    ensures { result
+        ≡ is_among (codes "int" ∷ codes "long" ∷ codes "signed" ∷ codes "unsigned" ∷ [])
+        word.now }
 {
     if b"int".as_slice() == word {
         return true;
@@ -59,7 +62,12 @@ fn is_varchar_word(word: &[u8]) -> bool
 }
 
 fn jump_kind(word: &[u8]) -> Kind
-    ensures { result ≡ spec.kind_among (spec.keyword (codes "break") kind.Break ∷ spec.keyword (codes "continue") kind.Continue ∷ spec.keyword (codes "return") kind.Return ∷ spec.keyword (codes "goto") kind.Goto ∷ spec.keyword (codes "sizeof") kind.Sizeof ∷ []) word.now }
+    ensures { result ≡ spec.kind_among (
+        spec.keyword (codes "break") kind.Break ∷
+        spec.keyword (codes "continue") kind.Continue ∷
+        spec.keyword (codes "return") kind.Return ∷
+        spec.keyword (codes "goto") kind.Goto ∷
+        spec.keyword (codes "sizeof") kind.Sizeof ∷ []) word.now }
 {
     if word == b"break".as_slice() {
         return Kind::Break;
@@ -80,7 +88,16 @@ fn jump_kind(word: &[u8]) -> Kind
 }
 
 fn loop_kind(word: &[u8]) -> Kind
-    ensures { result ≡ spec.kind_among (spec.keyword (codes "else") kind.Else ∷ spec.keyword (codes "while") kind.While ∷ spec.keyword (codes "do") kind.Do ∷ spec.keyword (codes "for") kind.For ∷ spec.keyword (codes "break") kind.Break ∷ spec.keyword (codes "continue") kind.Continue ∷ spec.keyword (codes "return") kind.Return ∷ spec.keyword (codes "goto") kind.Goto ∷ spec.keyword (codes "sizeof") kind.Sizeof ∷ []) word.now }
+    ensures { result ≡ spec.kind_among (
+        spec.keyword (codes "else") kind.Else ∷
+        spec.keyword (codes "while") kind.While ∷
+        spec.keyword (codes "do") kind.Do ∷
+        spec.keyword (codes "for") kind.For ∷
+        spec.keyword (codes "break") kind.Break ∷
+        spec.keyword (codes "continue") kind.Continue ∷
+        spec.keyword (codes "return") kind.Return ∷
+        spec.keyword (codes "goto") kind.Goto ∷
+        spec.keyword (codes "sizeof") kind.Sizeof ∷ []) word.now }
 {
     if word == b"else".as_slice() {
         return Kind::Else;

@@ -1,44 +1,38 @@
 //! What stands one level deeper, with so many levels left where it stands. These four lead back to one another.
 
 ghost use Rattle.ec_ctypes.specs.views.Exprs.{expr_view};
-ghost use Rattle.ec_grammar.specs.Input.{Reads};
 ghost use Rattle.ec_grammar.specs.ReadDeclarations.{nested};
 ghost use Rattle.ec_language.specs.Syntax.{limits};
-ghost use Rattle.ec_declarations.specs.Parts.{part_of, each_init, each_decl, type_view};
-ghost use Rattle.ec_declarations.specs.States.{seen};
+ghost use Rattle.ec_declarations.specs.Parts.{subexpression_of, each_init, each_decl, type_view};
+ghost use Rattle.ec_declarations.specs.States.{Reading};
 
 use crate::cursor::Cursor;
 use crate::declarations::Declarations;
 use crate::declarators::Declarators;
 use crate::expressions::Expressions;
-use crate::parts::Part;
-use crate::starts::{begins_part, is_left_brace, is_left_parenthesis};
+use crate::parts::Subexpression;
+use crate::readers::{declarations_at, declarators_at, expressions_at, types_at};
+use crate::starts::begins_subexpression;
 use crate::types::Types;
 use ec_base::List;
-use ec_ctypes::{Base, Decl, Expr, Init};
-use ec_grammar::Failure;
+use ec_ctypes::{Base, Decl, Expr, Init, Punct};
+use ec_grammar::{Failure, Kind};
 use std::alloc::Global;
 
 /// An expression, one level deeper.
 #[cycle(nested)]
-pub fn nested_part(
+pub fn nested_subexpression(
     alloc: Global,
     cursor: &mut Cursor<'_>,
     levels: u32,
-    part: Part,
+    subexpression: Subexpression,
 ) -> Result<Expr, Failure>
-    ensures { Reads expr_view (part_of part (nested limits levels) (seen cursor.old)) result (seen cursor.new) }
+    ensures { Reading expr_view (subexpression_of subexpression (nested limits levels)) cursor.old result cursor.new }
 {
     if levels == 0 {
-        return Err(cursor.no_level(begins_part(part, cursor.peek())));
+        return Err(cursor.no_level(begins_subexpression(subexpression, cursor)));
     }
-    Expressions {
-        alloc,
-        levels: levels - 1,
-        part: nested_part,
-        type_in_parentheses: nested_type,
-    }
-    .part_here(cursor, part)
+    expressions_at!(alloc, levels - 1).subexpression_here(cursor, subexpression)
 }
 
 /// A type in parentheses, one level deeper: its base and its stars (ISO/IEC 9899:1999, 6.7.6).
@@ -48,17 +42,13 @@ pub fn nested_type(
     cursor: &mut Cursor<'_>,
     levels: u32,
 ) -> Result<(Base, u32), Failure>
-    ensures { Reads type_view ((nested limits levels).type_in_parentheses (seen cursor.old)) result (seen cursor.new) }
+    ensures { Reading type_view (nested limits levels).type_in_parentheses
+        cursor.old result cursor.new }
 {
     if levels == 0 {
-        return Err(cursor.no_level(is_left_parenthesis(cursor.peek())));
+        return Err(cursor.no_level(cursor.sees(Kind::Mark(Punct::LeftParen))));
     }
-    Types {
-        alloc,
-        levels: levels - 1,
-        members: nested_members,
-    }
-    .type_in_parentheses(cursor)
+    types_at!(alloc, levels - 1).type_in_parentheses(cursor)
 }
 
 /// The members of a struct, one level deeper (ISO/IEC 9899:1999, 6.7.2.1).
@@ -68,24 +58,12 @@ pub fn nested_members(
     cursor: &mut Cursor<'_>,
     levels: u32,
 ) -> Result<List<Decl>, Failure>
-    ensures { Reads each_decl ((nested limits levels).members (seen cursor.old)) result (seen cursor.new) }
+    ensures { Reading each_decl (nested limits levels).members cursor.old result cursor.new }
 {
     if levels == 0 {
-        return Err(cursor.no_level(is_left_brace(cursor.peek())));
+        return Err(cursor.no_level(cursor.sees(Kind::Mark(Punct::LeftBrace))));
     }
-    Declarations {
-        declarators: Declarators {
-            expressions: Expressions {
-                alloc,
-                levels: levels - 1,
-                part: nested_part,
-                type_in_parentheses: nested_type,
-            },
-            initializer_list: nested_initializers,
-        },
-        members: nested_members,
-    }
-    .members(cursor)
+    declarations_at!(alloc, levels - 1).members(cursor)
 }
 
 /// A list of initializers in braces, one level deeper (ISO/IEC 9899:1999, 6.7.8).
@@ -95,19 +73,11 @@ pub fn nested_initializers(
     cursor: &mut Cursor<'_>,
     levels: u32,
 ) -> Result<List<Init>, Failure>
-    ensures { Reads each_init ((nested limits levels).initializer_list (seen cursor.old)) result (seen cursor.new) }
+    ensures { Reading each_init (nested limits levels).initializer_list
+        cursor.old result cursor.new }
 {
     if levels == 0 {
-        return Err(cursor.no_level(is_left_brace(cursor.peek())));
+        return Err(cursor.no_level(cursor.sees(Kind::Mark(Punct::LeftBrace))));
     }
-    Declarators {
-        expressions: Expressions {
-            alloc,
-            levels: levels - 1,
-            part: nested_part,
-            type_in_parentheses: nested_type,
-        },
-        initializer_list: nested_initializers,
-    }
-    .initializer_list(cursor)
+    declarators_at!(alloc, levels - 1).initializer_list(cursor)
 }

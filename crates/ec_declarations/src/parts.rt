@@ -2,7 +2,7 @@ use ec_ctypes::{Decl, Expr};
 
 /// An expression that is read one level deeper than where it stands.
 #[derive(Clone, Copy, Debug, PartialEq, Eq)]
-pub enum Part {
+pub enum Subexpression {
     /// The right side of an assignment.
     Assignment,
     /// An array length.

@@ -2,38 +2,31 @@
 
 ghost use Rattle.std.specs.Prelude.{◌≡◌, ◌≤◌};
 ghost use Rattle.ec_ctypes.specs.views.Exprs.{expr_view, expr_option_view, base_view, decl_view};
-ghost use Rattle.ec_grammar.specs.Input.{Reads};
 ghost use Rattle.ec_grammar.specs.ReadDeclarations as spec;
 ghost use Rattle.ec_grammar.specs.ReadDeclarations.{nested};
 ghost use Rattle.ec_grammar.specs.ReadExpressions.{expression as read_expression, expression_option as read_expression_option};
 ghost use Rattle.ec_language.specs.Syntax.{limits};
 ghost use Rattle.ec_declarations.specs.Parts.{each_length, init_option, each_declarator, each_param, for_head_view};
-ghost use Rattle.ec_declarations.specs.States.{seen};
+ghost use Rattle.ec_declarations.specs.States.{Reading, within};
 
 use crate::cursor::Cursor;
 use crate::declarations::Declarations;
 use crate::declarators::Declarators;
 use crate::expressions::Expressions;
-use crate::nested::{nested_initializers, nested_members, nested_part, nested_type};
-use crate::parts::{ForHead, Part};
-use crate::starts::is_left_parenthesis;
+use crate::nested::{nested_initializers, nested_members, nested_subexpression, nested_type};
+use crate::parts::{ForHead, Subexpression};
+use crate::readers::{declarations_at, declarators_at, expressions_at, types_at};
 use crate::types::{Types, stars as read_stars};
 use ec_base::List;
-use ec_ctypes::{Base, Decl, Declarator, Expr, Init, Param};
-use ec_grammar::Failure;
+use ec_ctypes::{Base, Decl, Declarator, Expr, Init, Param, Punct};
+use ec_grammar::{Failure, Kind};
 use std::alloc::Global;
 
 /// A whole expression (ISO/IEC 9899:1999, 6.5.16).
 pub fn expression(alloc: Global, cursor: &mut Cursor<'_>, levels: u32) -> Result<Expr, Failure>
-    ensures { Reads expr_view (read_expression limits (nested limits levels) (seen cursor.old)) result (seen cursor.new) }
+    ensures { Reading expr_view (within levels read_expression) cursor.old result cursor.new }
 {
-    Expressions {
-        alloc,
-        levels,
-        part: nested_part,
-        type_in_parentheses: nested_type,
-    }
-    .expression(cursor)
+    expressions_at!(alloc, levels).expression(cursor)
 }
 
 /// A whole expression, or none where the next token begins none.
@@ -42,44 +35,27 @@ pub fn expression_option(
     cursor: &mut Cursor<'_>,
     levels: u32,
 ) -> Result<Option<Expr>, Failure>
-    ensures { Reads expr_option_view (read_expression_option limits (nested limits levels) (seen cursor.old)) result (seen cursor.new) }
+    ensures { Reading expr_option_view (within levels read_expression_option)
+        cursor.old result cursor.new }
 {
-    Expressions {
-        alloc,
-        levels,
-        part: nested_part,
-        type_in_parentheses: nested_type,
-    }
-    .expression_option(cursor)
+    expressions_at!(alloc, levels).expression_option(cursor)
 }
 
 /// An expression in parentheses, one level deeper.
 pub fn parenthesized(alloc: Global, cursor: &mut Cursor<'_>, levels: u32) -> Result<Expr, Failure>
-    ensures { Reads expr_view ((nested limits levels).parenthesized (seen cursor.old)) result (seen cursor.new) }
+    ensures { Reading expr_view (nested limits levels).parenthesized cursor.old result cursor.new }
 {
-    nested_part(alloc, cursor, levels, Part::Parenthesized)
+    nested_subexpression(alloc, cursor, levels, Subexpression::Parenthesized)
 }
 
 /// What stands behind `for`, one level deeper (ISO/IEC 9899:1999, 6.8.5.3).
 pub fn for_head(alloc: Global, cursor: &mut Cursor<'_>, levels: u32) -> Result<ForHead, Failure>
-    ensures { Reads for_head_view ((nested limits levels).for_head (seen cursor.old)) result (seen cursor.new) }
+    ensures { Reading for_head_view (nested limits levels).for_head cursor.old result cursor.new }
 {
     if levels == 0 {
-        return Err(cursor.no_level(is_left_parenthesis(cursor.peek())));
+        return Err(cursor.no_level(cursor.sees(Kind::Mark(Punct::LeftParen))));
     }
-    Declarations {
-        declarators: Declarators {
-            expressions: Expressions {
-                alloc,
-                levels: levels - 1,
-                part: nested_part,
-                type_in_parentheses: nested_type,
-            },
-            initializer_list: nested_initializers,
-        },
-        members: nested_members,
-    }
-    .for_head(cursor)
+    declarations_at!(alloc, levels - 1).for_head(cursor)
 }
 
 /// Parameters in parentheses, one level deeper (ISO/IEC 9899:1999, 6.7.5.3).
@@ -88,41 +64,25 @@ pub fn parameter_part(
     cursor: &mut Cursor<'_>,
     levels: u32,
 ) -> Result<List<Param>, Failure>
-    ensures { Reads each_param ((nested limits levels).parameter_part (seen cursor.old)) result (seen cursor.new) }
+    ensures { Reading each_param (nested limits levels).parameter_part
+        cursor.old result cursor.new }
 {
     if levels == 0 {
-        return Err(cursor.no_level(is_left_parenthesis(cursor.peek())));
+        return Err(cursor.no_level(cursor.sees(Kind::Mark(Punct::LeftParen))));
     }
-    Declarations {
-        declarators: Declarators {
-            expressions: Expressions {
-                alloc,
-                levels: levels - 1,
-                part: nested_part,
-                type_in_parentheses: nested_type,
-            },
-            initializer_list: nested_initializers,
-        },
-        members: nested_members,
-    }
-    .parameter_part(cursor)
+    declarations_at!(alloc, levels - 1).parameter_part(cursor)
 }
 
 /// What a declaration begins with (ISO/IEC 9899:1999, 6.7.2).
 pub fn specifiers(alloc: Global, cursor: &mut Cursor<'_>, levels: u32) -> Result<Base, Failure>
-    ensures { Reads base_view (spec.specifiers limits (nested limits levels) (seen cursor.old)) result (seen cursor.new) }
+    ensures { Reading base_view (within levels spec.specifiers) cursor.old result cursor.new }
 {
-    Types {
-        alloc,
-        levels,
-        members: nested_members,
-    }
-    .specifiers(cursor)
+    types_at!(alloc, levels).specifiers(cursor)
 }
 
 /// How many stars stand before a name (ISO/IEC 9899:1999, 6.7.5.1).
 pub fn stars(cursor: &mut Cursor<'_>) -> Result<u32, Failure>
-    ensures { Reads (λ n. n) (spec.stars limits (seen cursor.old)) result (seen cursor.new) }
+    ensures { Reading (λ n. n) (spec.stars limits) cursor.old result cursor.new }
 {
     read_stars(cursor)
 }
@@ -133,18 +93,9 @@ pub fn lengths(
     cursor: &mut Cursor<'_>,
     levels: u32,
 ) -> Result<List<Option<Expr>>, Failure>
-    ensures { Reads each_length (spec.lengths limits (nested limits levels) (seen cursor.old)) result (seen cursor.new) }
+    ensures { Reading each_length (within levels spec.lengths) cursor.old result cursor.new }
 {
-    Declarators {
-        expressions: Expressions {
-            alloc,
-            levels,
-            part: nested_part,
-            type_in_parentheses: nested_type,
-        },
-        initializer_list: nested_initializers,
-    }
-    .lengths(cursor)
+    declarators_at!(alloc, levels).lengths(cursor)
 }
 
 /// `=` and an initializer, or nothing (ISO/IEC 9899:1999, 6.7.8).
@@ -153,18 +104,10 @@ pub fn initializer_option(
     cursor: &mut Cursor<'_>,
     levels: u32,
 ) -> Result<Option<Init>, Failure>
-    ensures { Reads init_option (spec.initializer_option limits (nested limits levels) (seen cursor.old)) result (seen cursor.new) }
+    ensures { Reading init_option (within levels spec.initializer_option)
+        cursor.old result cursor.new }
 {
-    Declarators {
-        expressions: Expressions {
-            alloc,
-            levels,
-            part: nested_part,
-            type_in_parentheses: nested_type,
-        },
-        initializer_list: nested_initializers,
-    }
-    .initializer_option(cursor)
+    declarators_at!(alloc, levels).initializer_option(cursor)
 }
 
 /// Further declarators, each behind a comma, put behind those in `found`.
@@ -174,35 +117,15 @@ pub fn more_declarators(
     levels: u32,
     found: List<Declarator>,
 ) -> Result<List<Declarator>, Failure>
-    ensures { Reads each_declarator (spec.more_declarators limits (nested limits levels) (each_declarator found) (seen cursor.old)) result (seen cursor.new) }
+    ensures { Reading each_declarator (within levels spec.more_declarators (each_declarator found))
+        cursor.old result cursor.new }
 {
-    Declarators {
-        expressions: Expressions {
-            alloc,
-            levels,
-            part: nested_part,
-            type_in_parentheses: nested_type,
-        },
-        initializer_list: nested_initializers,
-    }
-    .more_declarators(cursor, found)
+    declarators_at!(alloc, levels).more_declarators(cursor, found)
 }
 
 /// A declaration (ISO/IEC 9899:1999, 6.7).
 pub fn declaration(alloc: Global, cursor: &mut Cursor<'_>, levels: u32) -> Result<Decl, Failure>
-    ensures { Reads decl_view (spec.declaration limits (nested limits levels) (seen cursor.old)) result (seen cursor.new) }
+    ensures { Reading decl_view (within levels spec.declaration) cursor.old result cursor.new }
 {
-    Declarations {
-        declarators: Declarators {
-            expressions: Expressions {
-                alloc,
-                levels,
-                part: nested_part,
-                type_in_parentheses: nested_type,
-            },
-            initializer_list: nested_initializers,
-        },
-        members: nested_members,
-    }
-    .declaration(cursor)
+    declarations_at!(alloc, levels).declaration(cursor)
 }

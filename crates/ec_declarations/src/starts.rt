@@ -1,102 +1,15 @@
 //! What the parts of a program begin with.
 
 ghost use Rattle.std.specs.Prelude.{◌≡◌};
-ghost use Rattle.ec_declarations.specs.Branches.{begins_part as part_begins};
+ghost use Rattle.ec_declarations.specs.Branches.{begins_subexpression as subexpression_begins};
+ghost use Rattle.ec_declarations.specs.States.{seen};
+ghost use Rattle.ec_grammar.specs.Input.{kind_at};
 ghost use Rattle.ec_grammar.specs.Starts as spec;
 
-use crate::parts::Part;
+use crate::cursor::Cursor;
+use crate::parts::Subexpression;
 use ec_ctypes::Punct;
 use ec_grammar::Kind;
-
-/// Whether it is `*`.
-pub fn is_star(kind: Kind) -> bool
-    ensures { result ≡ spec.is_star kind }
-{
-    match kind {
-        Kind::Mark(Punct::Star) => true,
-        _ => false,
-    }
-}
-
-/// Whether it is `,`.
-pub fn is_comma(kind: Kind) -> bool
-    ensures { result ≡ spec.is_comma kind }
-{
-    match kind {
-        Kind::Mark(Punct::Comma) => true,
-        _ => false,
-    }
-}
-
-/// Whether it is `(`.
-pub fn is_left_parenthesis(kind: Kind) -> bool
-    ensures { result ≡ spec.is_left_parenthesis kind }
-{
-    match kind {
-        Kind::Mark(Punct::LeftParen) => true,
-        _ => false,
-    }
-}
-
-/// Whether it is `[`.
-pub fn is_left_bracket(kind: Kind) -> bool
-    ensures { result ≡ spec.is_left_bracket kind }
-{
-    match kind {
-        Kind::Mark(Punct::LeftBracket) => true,
-        _ => false,
-    }
-}
-
-/// Whether it is `{`.
-pub fn is_left_brace(kind: Kind) -> bool
-    ensures { result ≡ spec.is_left_brace kind }
-{
-    match kind {
-        Kind::Mark(Punct::LeftBrace) => true,
-        _ => false,
-    }
-}
-
-/// Whether it is `=`.
-pub fn is_assign(kind: Kind) -> bool
-    ensures { result ≡ spec.is_assign kind }
-{
-    match kind {
-        Kind::Mark(Punct::Assign) => true,
-        _ => false,
-    }
-}
-
-/// Whether it is `const`.
-pub fn is_const(kind: Kind) -> bool
-    ensures { result ≡ spec.is_const kind }
-{
-    match kind {
-        Kind::Const => true,
-        _ => false,
-    }
-}
-
-/// Whether it is a name.
-pub fn is_name(kind: Kind) -> bool
-    ensures { result ≡ spec.is_name kind }
-{
-    match kind {
-        Kind::Name => true,
-        _ => false,
-    }
-}
-
-/// Whether it is `else`.
-pub fn is_else(kind: Kind) -> bool
-    ensures { result ≡ spec.is_else kind }
-{
-    match kind {
-        Kind::Else => true,
-        _ => false,
-    }
-}
 
 /// Whether it begins a type.
 pub fn begins_type(kind: Kind) -> bool
@@ -146,14 +59,14 @@ pub fn begins_expression(kind: Kind) -> bool
     }
 }
 
-/// Whether it begins the part.
-pub fn begins_part(part: Part, kind: Kind) -> bool
-    ensures { result ≡ part_begins part kind }
+/// Whether the next token begins the subexpression.
+pub fn begins_subexpression(subexpression: Subexpression, cursor: &Cursor<'_>) -> bool
+    ensures { result ≡ subexpression_begins subexpression (kind_at (seen cursor.now).tokens) }
 {
-    match part {
-        Part::Parenthesized => is_left_parenthesis(kind),
-        Part::Index => is_left_bracket(kind),
-        _ => begins_expression(kind),
+    match subexpression {
+        Subexpression::Parenthesized => cursor.sees(Kind::Mark(Punct::LeftParen)),
+        Subexpression::Index => cursor.sees(Kind::Mark(Punct::LeftBracket)),
+        _ => begins_expression(cursor.peek()),
     }
 }
 

@@ -4,20 +4,19 @@
 ghost use Rattle.std.specs.Prelude.{◌≡◌, ◌∷◌, [], IfOk, OnOk};
 ghost use Rattle.ec_ctypes.specs.trees.Exprs as tree;
 ghost use Rattle.ec_ctypes.specs.views.Exprs.{base_view, decls_view};
-ghost use Rattle.ec_grammar.specs.Input.{Reads};
 ghost use Rattle.ec_grammar.specs.ReadDeclarations as spec;
 ghost use Rattle.ec_grammar.specs.ReadDeclarations.{nested};
 ghost use Rattle.ec_grammar.specs.declared.kind.Kind.TheVariants as kind;
 ghost use Rattle.ec_language.specs.Syntax.{limits};
 ghost use Rattle.ec_declarations.specs.Nests.{NestsMembers};
 ghost use Rattle.ec_declarations.specs.Parts.{decls_option, each_decl, type_view};
-ghost use Rattle.ec_declarations.specs.States.{seen};
+ghost use Rattle.ec_declarations.specs.States.{Reading, within};
 
 use crate::counts::Counted;
 use crate::cursor::Cursor;
-use crate::starts::{is_const, is_left_brace, is_star};
+use crate::lists::list_of;
 use crate::texts::copy_name;
-use ec_base::{Boxed, List, Name, OutOfMemory};
+use ec_base::{Boxed, List, Name, OutOfMemory, beside};
 use ec_ctypes::{Base, Decl, Punct};
 use ec_grammar::{Failure, Kind};
 use std::alloc::Global;
@@ -32,10 +31,10 @@ pub struct Types<M> {
 
 /// Any number of `const` (ISO/IEC 9899:1999, 6.7.3).
 fn constants(cursor: &mut Cursor<'_>) -> Result<(), Failure>
-    ensures { Reads (λ u. u) (spec.constants (seen cursor.old)) result (seen cursor.new) }
+    ensures { Reading (λ u. u) spec.constants cursor.old result cursor.new }
 {
     for _turn in 0..cursor.left() {
-        if !is_const(cursor.peek()) {
+        if !cursor.sees(Kind::Const) {
             return Ok(());
         }
         cursor.expect(Kind::Const)?;
@@ -49,7 +48,7 @@ fn more_words(
     cursor: &mut Cursor<'_>,
     mut found: List<Name>,
 ) -> Result<List<Name>, Failure>
-    ensures { Reads (λ ws. ws) (spec.more_words found (seen cursor.old)) result (seen cursor.new) }
+    ensures { Reading (λ ws. ws) (spec.more_words found) cursor.old result cursor.new }
 {
     for _turn in 0..cursor.left() {
         match cursor.peek() {
@@ -68,11 +67,11 @@ fn more_words(
 
 /// How many stars stand before a name, each with its `const` behind it (ISO/IEC 9899:1999, 6.7.5.1).
 pub fn stars(cursor: &mut Cursor<'_>) -> Result<u32, Failure>
-    ensures { Reads (λ n. n) (spec.stars limits (seen cursor.old)) result (seen cursor.new) }
+    ensures { Reading (λ n. n) (spec.stars limits) cursor.old result cursor.new }
 {
     let mut found = 0u32;
     for _turn in 0..cursor.left() {
-        if !is_star(cursor.peek()) {
+        if !cursor.sees(Kind::Mark(Punct::Star)) {
             return Ok(found);
         }
         cursor.expect_counted(Counted::Derivations, Kind::Mark(Punct::Star))?;
@@ -115,7 +114,8 @@ fn nameless(alloc: Global, members: List<Decl>) -> Result<Base, OutOfMemory>
 impl<M: Fn(Global, &mut Cursor<'_>, u32) -> Result<List<Decl>, Failure>> Types<M> {
     fn nested_members(&self, cursor: &mut Cursor<'_>) -> Result<List<Decl>, Failure>
         requires { NestsMembers self.now.levels (M.pre self.now.members) (M.post self.now.members) }
-        ensures { Reads each_decl ((nested limits self.now.levels).members (seen cursor.old)) result (seen cursor.new) }
+        ensures { Reading each_decl (nested limits self.now.levels).members
+            cursor.old result cursor.new }
     {
         (self.members)(self.alloc, cursor, self.levels)
     }
@@ -123,9 +123,10 @@ impl<M: Fn(Global, &mut Cursor<'_>, u32) -> Result<List<Decl>, Failure>> Types<M
     #[tactic(auto, unfolding(ec_grammar::specs::ReadDeclarations::members_option))]
     fn members_option(&self, cursor: &mut Cursor<'_>) -> Result<Option<List<Decl>>, Failure>
         requires { NestsMembers self.now.levels (M.pre self.now.members) (M.post self.now.members) }
-        ensures { Reads decls_option (spec.members_option limits (nested limits self.now.levels) (seen cursor.old)) result (seen cursor.new) }
+        ensures { Reading decls_option (within self.now.levels spec.members_option)
+            cursor.old result cursor.new }
     {
-        if !is_left_brace(cursor.peek()) {
+        if !cursor.sees(Kind::Mark(Punct::LeftBrace)) {
             return Ok(None);
         }
         let members = self.nested_members(cursor)?;
@@ -135,7 +136,8 @@ impl<M: Fn(Global, &mut Cursor<'_>, u32) -> Result<List<Decl>, Failure>> Types<M
     /// A tag, with its members where they follow.
     fn tagged(&self, cursor: &mut Cursor<'_>) -> Result<Base, Failure>
         requires { NestsMembers self.now.levels (M.pre self.now.members) (M.post self.now.members) }
-        ensures { Reads base_view (spec.tag_or_members_by limits (nested limits self.now.levels) kind.Name (seen cursor.old)) result (seen cursor.new) }
+        ensures { Reading base_view (within self.now.levels spec.tag_or_members_by kind.Name)
+            cursor.old result cursor.new }
     {
         let token = cursor.expect(Kind::Name)?;
         let tag = copy_name(self.alloc, &token.tok)?;
@@ -146,7 +148,8 @@ impl<M: Fn(Global, &mut Cursor<'_>, u32) -> Result<List<Decl>, Failure>> Types<M
     #[tactic(auto, unfolding(ec_grammar::specs::ReadDeclarations::tag_or_members))]
     fn tag_or_members(&self, cursor: &mut Cursor<'_>) -> Result<Base, Failure>
         requires { NestsMembers self.now.levels (M.pre self.now.members) (M.post self.now.members) }
-        ensures { Reads base_view (spec.tag_or_members limits (nested limits self.now.levels) (seen cursor.old)) result (seen cursor.new) }
+        ensures { Reading base_view (within self.now.levels spec.tag_or_members)
+            cursor.old result cursor.new }
     {
         match cursor.peek() {
             Kind::Name => self.tagged(cursor),
@@ -160,17 +163,19 @@ impl<M: Fn(Global, &mut Cursor<'_>, u32) -> Result<List<Decl>, Failure>> Types<M
 
     /// The words of a type.
     fn words_base(&self, cursor: &mut Cursor<'_>) -> Result<Base, Failure>
-        ensures { Reads base_view (spec.base_by limits (nested limits self.now.levels) kind.TypeWord (seen cursor.old)) result (seen cursor.new) }
+        ensures { Reading base_view (within self.now.levels spec.base_by kind.TypeWord)
+            cursor.old result cursor.new }
     {
-        let first = cursor.expect(Kind::TypeWord)?;
-        let mut found = List::new(self.alloc);
-        found.push(copy_name(self.alloc, &first.tok)?)?;
+        let token = cursor.expect(Kind::TypeWord)?;
+        let first = copy_name(self.alloc, &token.tok)?;
+        let found = list_of(self.alloc, first)?;
         let found = more_words(self.alloc, cursor, found)?;
         Ok(words(found))
     }
 
     fn varchar_base(&self, cursor: &mut Cursor<'_>) -> Result<Base, Failure>
-        ensures { Reads base_view (spec.base_by limits (nested limits self.now.levels) kind.Varchar (seen cursor.old)) result (seen cursor.new) }
+        ensures { Reading base_view (within self.now.levels spec.base_by kind.Varchar)
+            cursor.old result cursor.new }
     {
         cursor.expect(Kind::Varchar)?;
         constants(cursor)?;
@@ -179,11 +184,12 @@ impl<M: Fn(Global, &mut Cursor<'_>, u32) -> Result<List<Decl>, Failure>> Types<M
 
     fn struct_base(&self, cursor: &mut Cursor<'_>) -> Result<Base, Failure>
         requires { NestsMembers self.now.levels (M.pre self.now.members) (M.post self.now.members) }
-        ensures { Reads base_view (spec.base_by limits (nested limits self.now.levels) kind.Struct (seen cursor.old)) result (seen cursor.new) }
+        ensures { Reading base_view (within self.now.levels spec.base_by kind.Struct)
+            cursor.old result cursor.new }
     {
         cursor.expect(Kind::Struct)?;
         let base = self.tag_or_members(cursor)?;
-        constants(cursor)?;
+        let (base, ()) = beside(base, constants(cursor))?;
         Ok(base)
     }
 
@@ -191,7 +197,8 @@ impl<M: Fn(Global, &mut Cursor<'_>, u32) -> Result<List<Decl>, Failure>> Types<M
     #[tactic(auto, unfolding(ec_grammar::specs::ReadDeclarations::base))]
     fn base(&self, cursor: &mut Cursor<'_>) -> Result<Base, Failure>
         requires { NestsMembers self.now.levels (M.pre self.now.members) (M.post self.now.members) }
-        ensures { Reads base_view (spec.base limits (nested limits self.now.levels) (seen cursor.old)) result (seen cursor.new) }
+        ensures { Reading base_view (within self.now.levels spec.base)
+            cursor.old result cursor.new }
     {
         match cursor.peek() {
             Kind::TypeWord => self.words_base(cursor),
@@ -205,7 +212,8 @@ impl<M: Fn(Global, &mut Cursor<'_>, u32) -> Result<List<Decl>, Failure>> Types<M
     #[tactic(auto, unfolding(ec_grammar::specs::ReadDeclarations::specifiers))]
     pub fn specifiers(&self, cursor: &mut Cursor<'_>) -> Result<Base, Failure>
         requires { NestsMembers self.now.levels (M.pre self.now.members) (M.post self.now.members) }
-        ensures { Reads base_view (spec.specifiers limits (nested limits self.now.levels) (seen cursor.old)) result (seen cursor.new) }
+        ensures { Reading base_view (within self.now.levels spec.specifiers)
+            cursor.old result cursor.new }
     {
         constants(cursor)?;
         self.base(cursor)
@@ -215,24 +223,25 @@ impl<M: Fn(Global, &mut Cursor<'_>, u32) -> Result<List<Decl>, Failure>> Types<M
     #[tactic(auto, unfolding(ec_grammar::specs::ReadDeclarations::type_name))]
     fn type_name(&self, cursor: &mut Cursor<'_>) -> Result<(Base, u32), Failure>
         requires { NestsMembers self.now.levels (M.pre self.now.members) (M.post self.now.members) }
-        ensures { Reads type_view (spec.type_name limits (nested limits self.now.levels) (seen cursor.old)) result (seen cursor.new) }
+        ensures { Reading type_view (within self.now.levels spec.type_name)
+            cursor.old result cursor.new }
     {
         let base = self.specifiers(cursor)?;
-        let stars = stars(cursor)?;
-        Ok((base, stars))
+        beside(base, stars(cursor))
     }
 
     /// A type in parentheses. Its stars are counted by themselves.
     #[tactic(auto, unfolding(ec_grammar::specs::ReadDeclarations::type_in_parentheses, ec_grammar::specs::Input::own))]
     pub fn type_in_parentheses(&self, cursor: &mut Cursor<'_>) -> Result<(Base, u32), Failure>
         requires { NestsMembers self.now.levels (M.pre self.now.members) (M.post self.now.members) }
-        ensures { Reads type_view (spec.type_in_parentheses limits (nested limits self.now.levels) (seen cursor.old)) result (seen cursor.new) }
+        ensures { Reading type_view (within self.now.levels spec.type_in_parentheses)
+            cursor.old result cursor.new }
     {
         cursor.expect(Kind::Mark(Punct::LeftParen))?;
         let outside = cursor.begin_declarator();
         let found = self.type_name(cursor)?;
         cursor.end_declarator(outside);
-        cursor.expect(Kind::Mark(Punct::RightParen))?;
+        let (found, _mark) = beside(found, cursor.expect(Kind::Mark(Punct::RightParen)))?;
         Ok(found)
     }
 }

@@ -2,38 +2,40 @@
 
 ghost use Rattle.std.specs.Prelude.{◌≡◌};
 ghost use Rattle.ec_ctypes.specs.views.Exprs.{expr_view, expr_option_view};
-ghost use Rattle.ec_grammar.specs.Input.{Reads};
-ghost use Rattle.ec_grammar.specs.ReadDeclarations.{nested};
 ghost use Rattle.ec_grammar.specs.ReadExpressions as spec;
-ghost use Rattle.ec_language.specs.Syntax.{limits};
-ghost use Rattle.ec_declarations.specs.Nests.{NestsParts, NestsTypes};
-ghost use Rattle.ec_declarations.specs.States.{seen};
+ghost use Rattle.ec_declarations.specs.Nests.{SubexpressionsNest, TypesNest};
+ghost use Rattle.ec_declarations.specs.States.{Reading, within};
 
 use crate::cursor::Cursor;
 use crate::expressions::Expressions;
 use crate::expressions::making::assign;
 use crate::expressions::ranks::{Rank, assignment_operator_of};
-use crate::parts::Part;
+use crate::parts::Subexpression;
 use crate::starts::begins_expression;
+use ec_base::beside;
 use ec_ctypes::{Base, Expr};
 use ec_grammar::Failure;
 use std::alloc::Global;
 
 impl<
-    E: Fn(Global, &mut Cursor<'_>, u32, Part) -> Result<Expr, Failure>,
+    E: Fn(Global, &mut Cursor<'_>, u32, Subexpression) -> Result<Expr, Failure>,
     T: Fn(Global, &mut Cursor<'_>, u32) -> Result<(Base, u32), Failure>,
 > Expressions<E, T> {
     /// The right side of an assignment, or nothing.
     #[tactic(auto, unfolding(ec_grammar::specs::ReadExpressions::assignment_option))]
     fn assignment_option(&self, cursor: &mut Cursor<'_>, left: Expr) -> Result<Expr, Failure>
-        requires { NestsParts self.now.levels (E.pre self.now.part) (E.post self.now.part) }
-        ensures { Reads expr_view (spec.assignment_option limits (nested limits self.now.levels) (expr_view left) (seen cursor.old)) result (seen cursor.new) }
+        requires { SubexpressionsNest E.pre E.post self.now }
+        ensures { Reading expr_view (within self.now.levels spec.assignment_option (expr_view left))
+            cursor.old result cursor.new }
     {
         let kind = cursor.peek();
         match assignment_operator_of(kind) {
             Some(op) => {
-                cursor.expect(kind)?;
-                let right = self.part(cursor, Part::Assignment)?;
+                let (left, _mark) = beside(left, cursor.expect(kind))?;
+                let (left, right) = beside(
+                    left,
+                    self.subexpression(cursor, Subexpression::Assignment),
+                )?;
                 Ok(assign(self.alloc, op, left, right)?)
             }
             None => Ok(left),
@@ -43,9 +45,10 @@ impl<
     /// An assignment (6.5.16).
     #[tactic(auto, unfolding(ec_grammar::specs::ReadExpressions::assignment))]
     pub fn assignment(&self, cursor: &mut Cursor<'_>) -> Result<Expr, Failure>
-        requires parts { NestsParts self.now.levels (E.pre self.now.part) (E.post self.now.part) }
-        requires types { NestsTypes self.now.levels (T.pre self.now.type_in_parentheses) (T.post self.now.type_in_parentheses) }
-        ensures { Reads expr_view (spec.assignment limits (nested limits self.now.levels) (seen cursor.old)) result (seen cursor.new) }
+        requires subexpressions { SubexpressionsNest E.pre E.post self.now }
+        requires types { TypesNest T.pre T.post self.now }
+        ensures { Reading expr_view (within self.now.levels spec.assignment)
+            cursor.old result cursor.new }
     {
         let left = self.operators(cursor, Rank::Or)?;
         self.assignment_option(cursor, left)
@@ -54,9 +57,10 @@ impl<
     /// A whole expression, unless it is part of another.
     #[tactic(auto, unfolding(ec_grammar::specs::ReadExpressions::expression, ec_grammar::specs::Input::whole))]
     pub fn expression(&self, cursor: &mut Cursor<'_>) -> Result<Expr, Failure>
-        requires parts { NestsParts self.now.levels (E.pre self.now.part) (E.post self.now.part) }
-        requires types { NestsTypes self.now.levels (T.pre self.now.type_in_parentheses) (T.post self.now.type_in_parentheses) }
-        ensures { Reads expr_view (spec.expression limits (nested limits self.now.levels) (seen cursor.old)) result (seen cursor.new) }
+        requires subexpressions { SubexpressionsNest E.pre E.post self.now }
+        requires types { TypesNest T.pre T.post self.now }
+        ensures { Reading expr_view (within self.now.levels spec.expression)
+            cursor.old result cursor.new }
     {
         let outside = cursor.begin_expression();
         let found = self.assignment(cursor)?;
@@ -67,9 +71,10 @@ impl<
     /// The same, or none where the next token begins no expression.
     #[tactic(auto, unfolding(ec_grammar::specs::ReadExpressions::expression_option))]
     pub fn expression_option(&self, cursor: &mut Cursor<'_>) -> Result<Option<Expr>, Failure>
-        requires parts { NestsParts self.now.levels (E.pre self.now.part) (E.post self.now.part) }
-        requires types { NestsTypes self.now.levels (T.pre self.now.type_in_parentheses) (T.post self.now.type_in_parentheses) }
-        ensures { Reads expr_option_view (spec.expression_option limits (nested limits self.now.levels) (seen cursor.old)) result (seen cursor.new) }
+        requires subexpressions { SubexpressionsNest E.pre E.post self.now }
+        requires types { TypesNest T.pre T.post self.now }
+        ensures { Reading expr_option_view (within self.now.levels spec.expression_option)
+            cursor.old result cursor.new }
     {
         if !begins_expression(cursor.peek()) {
             return Ok(None);

@@ -19,7 +19,8 @@ use std::alloc::Global;
 /// The integer constant that a token is.
 #[tactic(auto, using(ec_ctypes::specs::declared::tree::expr::Expr::the_lemmas))]
 pub fn integer(alloc: Global, tok: &Tok) -> Result<Expr, OutOfMemory>
-    ensures { IfOk result (λ e. expr_view e ≡ tree.integer (number_in (tok_view tok.now)) (type_in (tok_view tok.now))) }
+    ensures { IfOk result (λ e. expr_view e
+        ≡ tree.integer (number_in (tok_view tok.now)) (type_in (tok_view tok.now))) }
 {
     match tok {
         Tok::Int(value, ty) => Ok(Expr::Int(*value, copy_ty(alloc, ty)?)),
@@ -51,8 +52,8 @@ pub fn string(alloc: Global, tok: &Tok) -> Result<Expr, OutOfMemory>
 #[tactic(auto, using(ec_ctypes::specs::declared::tree::expr::Expr::the_lemmas))]
 fn area_member(alloc: Global, member: &[u8]) -> Result<Primary, OutOfMemory>
     ensures { IfOk result (λ x. primary_view x ≡ record {
-        expression = tree.member (tree.identifier (codes "sqlca")) member.now;
-        is_name = false;
+      expression = tree.member (tree.identifier (codes "sqlca")) member.now;
+      is_name = false;
     }) }
 {
     let member = Name::from_slice(alloc, member)?;
@@ -87,14 +88,16 @@ pub fn unary(alloc: Global, op: UnOp, a: Expr) -> Result<Expr, OutOfMemory>
 pub fn binary(alloc: Global, op: BinOp, a: Expr, b: Expr) -> Result<Expr, OutOfMemory>
     ensures { IfOk result (λ e. expr_view e ≡ tree.binary op (expr_view a) (expr_view b)) }
 {
-    Ok(Expr::Binary(op, Boxed::new(alloc, a)?, Boxed::new(alloc, b)?))
+    let (b, a) = beside(b, Boxed::new(alloc, a))?;
+    Ok(Expr::Binary(op, a, Boxed::new(alloc, b)?))
 }
 
 #[tactic(auto, using(ec_ctypes::specs::declared::tree::expr::Expr::the_lemmas))]
 pub fn assign(alloc: Global, op: Option<BinOp>, a: Expr, b: Expr) -> Result<Expr, OutOfMemory>
     ensures { IfOk result (λ e. expr_view e ≡ tree.assign op (expr_view a) (expr_view b)) }
 {
-    Ok(Expr::Assign(op, Boxed::new(alloc, a)?, Boxed::new(alloc, b)?))
+    let (b, a) = beside(b, Boxed::new(alloc, a))?;
+    Ok(Expr::Assign(op, a, Boxed::new(alloc, b)?))
 }
 
 #[tactic(auto, using(ec_ctypes::specs::declared::tree::expr::Expr::the_lemmas))]
@@ -112,7 +115,8 @@ pub fn bump(alloc: Global, before: bool, up: bool, a: Expr) -> Result<Expr, OutO
 pub fn index(alloc: Global, a: Expr, b: Expr) -> Result<Expr, OutOfMemory>
     ensures { IfOk result (λ e. expr_view e ≡ tree.index (expr_view a) (expr_view b)) }
 {
-    Ok(Expr::Index(Boxed::new(alloc, a)?, Boxed::new(alloc, b)?))
+    let (b, a) = beside(b, Boxed::new(alloc, a))?;
+    Ok(Expr::Index(a, Boxed::new(alloc, b)?))
 }
 
 #[tactic(auto, using(ec_ctypes::specs::declared::tree::expr::Expr::the_lemmas))]
@@ -132,7 +136,8 @@ pub fn arrow(alloc: Global, a: Expr, name: Name) -> Result<Expr, OutOfMemory>
 /// A call, by its name where what is called is a bare name.
 #[tactic(auto, using(ec_ctypes::specs::declared::tree::expr::Expr::the_lemmas))]
 pub fn call(alloc: Global, called: Primary, arguments: List<Expr>) -> Result<Expr, OutOfMemory>
-    ensures { IfOk result (λ e. expr_view e ≡ called_by (primary_view called) (each_expr arguments)) }
+    ensures { IfOk result (λ e. expr_view e
+        ≡ called_by (primary_view called) (each_expr arguments)) }
 {
     match called {
         Primary::Name(name) => Ok(Expr::Call(name, Boxed::new(alloc, arguments)?)),

@@ -2,18 +2,15 @@
 
 ghost use Rattle.std.specs.Prelude.{◌≡◌};
 ghost use Rattle.ec_ctypes.specs.views.Exprs.{expr_view};
-ghost use Rattle.ec_grammar.specs.Input.{Reads};
-ghost use Rattle.ec_grammar.specs.ReadDeclarations.{nested};
 ghost use Rattle.ec_grammar.specs.ReadExpressions as spec;
-ghost use Rattle.ec_language.specs.Syntax.{limits};
-ghost use Rattle.ec_declarations.specs.Nests.{NestsParts};
+ghost use Rattle.ec_declarations.specs.Nests.{SubexpressionsNest};
 ghost use Rattle.ec_declarations.specs.Primaries.{primary_view};
-ghost use Rattle.ec_declarations.specs.States.{seen};
+ghost use Rattle.ec_declarations.specs.States.{Reading, within};
 
 use crate::cursor::Cursor;
 use crate::expressions::Expressions;
 use crate::expressions::making::{character, integer, named, string};
-use crate::parts::Part;
+use crate::parts::Subexpression;
 use ec_base::Name;
 use ec_ctypes::{Base, Expr, Punct};
 use ec_grammar::{Failure, Kind};
@@ -41,14 +38,15 @@ impl Primary {
 }
 
 impl<
-    E: Fn(Global, &mut Cursor<'_>, u32, Part) -> Result<Expr, Failure>,
+    E: Fn(Global, &mut Cursor<'_>, u32, Subexpression) -> Result<Expr, Failure>,
     T: Fn(Global, &mut Cursor<'_>, u32) -> Result<(Base, u32), Failure>,
 > Expressions<E, T> {
     /// A name, a constant, a string literal, or an expression in parentheses.
     #[tactic(auto, unfolding(ec_grammar::specs::ReadExpressions::primary))]
     pub fn primary(&self, cursor: &mut Cursor<'_>) -> Result<Primary, Failure>
-        requires { NestsParts self.now.levels (E.pre self.now.part) (E.post self.now.part) }
-        ensures { Reads primary_view (spec.primary limits (nested limits self.now.levels) (seen cursor.old)) result (seen cursor.new) }
+        requires { SubexpressionsNest E.pre E.post self.now }
+        ensures { Reading primary_view (within self.now.levels spec.primary)
+            cursor.old result cursor.new }
     {
         match cursor.peek() {
             Kind::Name => {
@@ -68,7 +66,7 @@ impl<
                 Ok(Primary::Other(string(self.alloc, &token.tok)?))
             }
             Kind::Mark(Punct::LeftParen) => {
-                Ok(Primary::Other(self.part(cursor, Part::Parenthesized)?))
+                Ok(Primary::Other(self.subexpression(cursor, Subexpression::Parenthesized)?))
             }
             _ => Err(cursor.refuse()),
         }

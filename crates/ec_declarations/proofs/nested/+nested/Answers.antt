@@ -31,10 +31,10 @@ nested_initializers-returns-then-levels-eq0 t c =
 pub nested_initializers-returns : goal.nested_initializers-returns
 nested_initializers-returns t c = rw (initializers_deeper c.args.levels (omega arith)) c.initializer_list.ensures
 
-pub nested_part-returns-then-levels-eq0 : goal.nested_part-returns-then-levels-eq0
-nested_part-returns-then-levels-eq0 t c _ =
+pub nested_subexpression-returns-then-levels-eq0 : goal.nested_subexpression-returns-then-levels-eq0
+nested_subexpression-returns-then-levels-eq0 t c _ =
     let none : c.args.levels ≡ 0 = omega arith in
-    rw (c.no_level.ensures, c.begins_part.ensures, c.peek.ensures) (no_part c.args.levels c.args.part (seen c.args.cursor.now) none)
+    rw (c.no_level.ensures, c.begins_subexpression.ensures) (no_part c.args.levels c.args.subexpression (seen c.args.cursor.now) none)
 
-pub nested_part-returns : goal.nested_part-returns
-nested_part-returns t c = rw (part_inside c.args.levels c.args.part (seen c.args.cursor.now) (omega arith)) c.part_here.ensures
+pub nested_subexpression-returns : goal.nested_subexpression-returns
+nested_subexpression-returns t c = rw (part_inside c.args.levels c.args.subexpression (seen c.args.cursor.now) (omega arith)) c.subexpression_here.ensures

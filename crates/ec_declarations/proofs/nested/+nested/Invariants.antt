@@ -9,5 +9,5 @@ decreases-nested_members l = l.levels
 abbrev pub decreases-nested_initializers : goal.decreases-nested_initializers
 decreases-nested_initializers l = l.levels
 
-abbrev pub decreases-nested_part : goal.decreases-nested_part
-decreases-nested_part l = l.levels
+abbrev pub decreases-nested_subexpression : goal.decreases-nested_subexpression
+decreases-nested_subexpression l = l.levels

@@ -11,9 +11,9 @@ pub loop-turn-init : goal.loop-turn-init
 unfolding stars
 loop-turn-init c = first_of (search rules, grind (arith, common_steps))
 
-pub returns-then-not-is_star : goal.returns-then-not-is_star
+pub returns-then-not-sees : goal.returns-then-not-sees
 unfolding stars_from
-returns-then-not-is_star c =
+returns-then-not-sees c =
     let e = one_more (λ n. stars_from limits n c.loop-turn.found (seen c.loop-turn.cursor)) _ c.loop-turn._turn c.loop-turn-test.true c.loop-turn.invariant.0 in
     first_of (search rules, grind (arith, common_steps))
 

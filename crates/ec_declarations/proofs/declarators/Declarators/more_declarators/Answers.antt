@@ -11,9 +11,9 @@ pub loop-turn-init : goal.loop-turn-init
 unfolding more_declarators
 loop-turn-init g c = first_of (search rules, grind (arith, common_steps))
 
-pub returns-then-not-is_comma : goal.returns-then-not-is_comma
+pub returns-then-not-sees : goal.returns-then-not-sees
 unfolding more_declarators_from
-returns-then-not-is_comma g c =
+returns-then-not-sees g c =
     let e = one_more (λ n. more_declarators_from limits (nested limits c.args.self.now.expressions.levels) n (each_declarator c.loop-turn.found) (seen c.loop-turn.cursor)) _ c.loop-turn._turn c.loop-turn-test.true c.loop-turn.invariant in
     first_of (search rules, grind (arith, common_steps))
 

@@ -33,15 +33,15 @@ operands-returns-in-None g t c =
     let e = one_more (λ n. operands_from limits (nested limits c.args.self.now.levels) (rank_view c.args.rank) (operand_of limits (nested limits c.args.self.now.levels) (rank_view c.args.rank)) n (expr_view c.loop-turn.left) (seen c.loop-turn.cursor)) _ c.loop-turn._turn c.loop-turn-test.true c.loop-turn.invariant in
     first_of (search rules, grind (arith, common_steps))
 
-pub operands-returns-in_err-expect_counted-in-Some : goal.operands-returns-in_err-expect_counted-in-Some
+pub operands-returns-in_err-before-in-Some : goal.operands-returns-in_err-before-in-Some
 unfolding operands_from
-operands-returns-in_err-expect_counted-in-Some g t c =
+operands-returns-in_err-before-in-Some g t c =
     let e = one_more (λ n. operands_from limits (nested limits c.args.self.now.levels) (rank_view c.args.rank) (operand_of limits (nested limits c.args.self.now.levels) (rank_view c.args.rank)) n (expr_view c.loop-turn.left) (seen c.loop-turn.cursor)) _ c.loop-turn._turn c.loop-turn-test.true c.loop-turn.invariant in
     first_of (search rules, grind (arith, common_steps))
 
-pub operands-returns-in_err-right-in-Some : goal.operands-returns-in_err-right-in-Some
+pub operands-returns-in_err-first-in-Some : goal.operands-returns-in_err-first-in-Some
 unfolding operands_from
-operands-returns-in_err-right-in-Some g t c =
+operands-returns-in_err-first-in-Some g t c =
     let e = one_more (λ n. operands_from limits (nested limits c.args.self.now.levels) (rank_view c.args.rank) (operand_of limits (nested limits c.args.self.now.levels) (rank_view c.args.rank)) n (expr_view c.loop-turn.left) (seen c.loop-turn.cursor)) _ c.loop-turn._turn c.loop-turn-test.true c.loop-turn.invariant in
     first_of (search rules, grind (arith, common_steps))
 
@@ -50,10 +50,13 @@ unfolding operands_from
 operands-loop-turn-preserved g t c =
     let e = one_more (λ n. operands_from limits (nested limits c.args.self.now.levels) (rank_view c.args.rank) (operand_of limits (nested limits c.args.self.now.levels) (rank_view c.args.rank)) n (expr_view c.loop-turn.left) (seen c.loop-turn.cursor)) _ c.loop-turn._turn c.loop-turn-test.true c.loop-turn.invariant in
     let kind = rw c.peek-kind.ensures at c.in-Some.ensures in
-    let counted = rw c.peek-kind.ensures at c.in_ok-expect_counted-in-Some.ensures in
+    let passed = rw c.in_ok-before-in-Some.ensures.value at c.expect_counted.ensures in
+    let counted = rw c.peek-kind.ensures at passed in
+    let operand = rw c.in_ok-first-in-Some.ensures.value at c.operand.ensures in
+    let made = rw (c.in_ok-first-in-Some.ensures.same, c.in_ok-before-in-Some.ensures.same) at c.in_ok-left-in-Some.ensures in
     e ∙ one_operator (nested limits c.args.self.now.levels) (rank_view c.args.rank) (operand_of limits (nested limits c.args.self.now.levels) (rank_view c.args.rank)) (c.left-turn-end.result - (c.loop-turn._turn + 1)) c.in-Some.op
-    (expr_view c.loop-turn.left) (expr_view c.in_ok-right-in-Some.right) counted.0 (seen c.loop-turn.cursor) (seen c.expect_counted.new.self) (seen c.operand.new.cursor) kind counted.1 c.in_ok-right-in-Some.ensures
-    ∙ ap (λ (x : ExprData). operands_from limits (nested limits c.args.self.now.levels) (rank_view c.args.rank) (operand_of limits (nested limits c.args.self.now.levels) (rank_view c.args.rank)) (c.left-turn-end.result - (c.loop-turn._turn + 1)) x (seen c.operand.new.cursor)) (sym c.in_ok-left-in-Some.ensures)
+    (expr_view c.loop-turn.left) (expr_view c.in_ok-first-in-Some.second) counted.0 (seen c.loop-turn.cursor) (seen c.expect_counted.new.self) (seen c.operand.new.cursor) kind counted.1 operand
+    ∙ ap (λ (x : ExprData). operands_from limits (nested limits c.args.self.now.levels) (rank_view c.args.rank) (operand_of limits (nested limits c.args.self.now.levels) (rank_view c.args.rank)) (c.left-turn-end.result - (c.loop-turn._turn + 1)) x (seen c.operand.new.cursor)) (sym made)
 
 pub operands-returns : goal.operands-returns
 unfolding operands_from
