@@ -13,4 +13,5 @@ mod written;
 
 pub use ending::{Ending, status};
 pub use laws::one_reading;
+pub use ec_words::{LinkSpec, links_named};
 pub use tool::ec_main;

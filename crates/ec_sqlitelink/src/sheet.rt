@@ -2,7 +2,7 @@
 
 use crate::bound::field;
 use crate::refusal::{Refusal, Stop};
-use ec_base::{Bytes, List};
+use ec_base::{List, Name};
 use ec_link::{Col, Row, Table};
 use sqlite::types::{self, ValueRef};
 use std::alloc::Global;
@@ -26,7 +26,7 @@ impl Sheet {
         let mut cols = List::new(alloc);
         for (at, name) in names.iter().enumerate() {
             cols.push(Col {
-                name: Bytes::from_slice(alloc, name.as_slice())?,
+                name: Name::from_slice(alloc, name.as_slice())?,
                 code: code(rows, at),
             })?;
         }
