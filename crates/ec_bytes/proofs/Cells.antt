@@ -7,6 +7,7 @@ use Rattle.std.specs.declared.vec.Vec.{Vec}
 use Rattle.std.proofs.lemmas.List.{with_items_is, length-take-le, length-replicate, take_all, drop-drop, take-append-drop}
 use Rattle.ec_objects.specs.Cells.{Cell, part_of, bytes_of, value_of, written, set_cells, unset_cells, filled_cells}
 use Rattle.ec_bytes.specs.Region.{cells_of}
+use Rattle.ec_bytes.specs.Scalars.{AreBytes, HoldBytes}
 
 -- there are as many cells as bytes
 pub length_cells : (bytes : List ℕ) (marks : List Bool) → length marks ≡ length bytes → length (cells_of bytes marks) ≡ length bytes
@@ -194,3 +195,7 @@ grown cells bytes marks n len j k after marked view e past jn kn a m =
     join_cells bytes marks (replicate n 0) (replicate n false) e
     ∙ ap (λ front. front ++ cells_of (replicate n 0) (replicate n false)) view
     ∙ ap (λ rest. cells ++ rest) (cells_unset (replicate n 0) n (sym (length-replicate n 0))))
+
+-- what was read are bytes
+pub held_bytes : (cells : List Cell) (at n size : ℕ) (bytes : List ℕ) → size ≡ n → Some bytes ≡ bytes_of (part_of cells at size) → AreBytes bytes → HoldBytes (part_of cells at n)
+held_bytes cells at n size bytes is e small others o = let same : bytes ≡ others = let both : Some bytes ≡ Some others = e ∙ ap (λ k. bytes_of (part_of cells at k)) is ∙ o in cc in rw (← same) small

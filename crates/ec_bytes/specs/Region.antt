@@ -1,5 +1,5 @@
 -- A region of memory is a list of cells, of which it keeps the bytes and the marks.
-use Rattle.std.specs.Prelude.{ℕ, Bool, true, false, None, Some, List, [], ◌∷◌}
+use Rattle.std.specs.Prelude.{ℕ, zero, suc, Bool, true, false, None, Some, List, [], ◌∷◌}
 use Rattle.ec_objects.specs.Cells.{Cell}
 
 -- the cells of bytes and of marks, which say of each byte whether it is set
@@ -8,3 +8,10 @@ cells_of [] marks = []
 cells_of (byte ∷ bytes) [] = []
 cells_of (byte ∷ bytes) (false ∷ marks) = None ∷ cells_of bytes marks
 cells_of (byte ∷ bytes) (true ∷ marks) = Some byte ∷ cells_of bytes marks
+
+-- the bytes of the cells from the first one on, up to a zero byte or a cell that is unset
+abbrev pub run_of : List Cell → List ℕ
+run_of [] = []
+run_of (None ∷ cells) = []
+run_of (Some zero ∷ cells) = []
+run_of (Some (suc b) ∷ cells) = suc b ∷ run_of cells

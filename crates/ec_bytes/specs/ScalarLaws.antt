@@ -1,11 +1,12 @@
 -- The laws of the bytes of numbers: each is below 256, and reading them gives the number back.
-use Rattle.std.proofs.Common.{◌≡◌, ◌∙◌, ap, ℕ, zero, suc, ◌<◌, ◌/◌, ◌^◌, ℤ, [], ◌∷◌, arith, refl, Bool, true, false}
+use Rattle.std.proofs.Common.{◌≡◌, ◌∙◌, ap, ℕ, zero, suc, ◌<◌, ◌/◌, ◌^◌, ℤ, List, [], ◌∷◌, length, arith, refl, Bool, true, false}
 use Rattle.std.specs.Int.{w8, w16, w32, w64, cast_signed, cast_unsigned, byte_at, bytes_low_first}
 use Rattle.std.specs.Int.RustNames.{FitsSigned}
 use Rattle.std.specs.List.{All}
+use Rattle.std.specs.Prelude.{slice_index}
 use Rattle.std.proofs.lemmas.List.Elements.{All-nil, All-cons}
 use Rattle.std.proofs.lemmas.Nat.{mod_below, from_le_bytes-to_le_bytes_2, from_le_bytes-to_le_bytes_4, from_le_bytes-to_le_bytes_8}
-use Rattle.std.proofs.Math.Facts.{to_z-of_z, Fits-of_z, Fits-lt-pow}
+use Rattle.std.proofs.Math.Facts.{sfits_to_z, to_z-of_z, Fits-of_z, Fits-lt-pow}
 use Rattle.ec_bytes.specs.Scalars.{unsigned_bytes, unsigned_of, signed_bytes, signed_of, truth_byte, truth_of}
 
 -- a byte of a number is below 256
@@ -48,3 +49,36 @@ signed_back_4 z fits = ap (cast_signed w32) (from_le_bytes-to_le_bytes_4 (cast_u
 
 pub signed_back_8 : (z : ℤ) → FitsSigned w64 z → signed_of w64 (signed_bytes w64 z) ≡ z
 signed_back_8 z fits = ap (cast_signed w64) (from_le_bytes-to_le_bytes_8 (cast_unsigned w64 z) (Fits-lt-pow (Fits-of_z fits))) ∙ to_z-of_z fits
+
+-- what bytes are as an unsigned number is in its range
+pub unsigned_fits_1 : (bytes : List ℕ) → length bytes ≡ 1 → ((i : ℕ) → slice_index bytes i < 256) → unsigned_of w8 bytes < 2 ^ 8
+unsigned_fits_1 (a ∷ []) all small = let s0 = small 0 in omega arith
+unsigned_fits_1 _ all small = absurd (omega arith)
+
+pub unsigned_fits_2 : (bytes : List ℕ) → length bytes ≡ 2 → ((i : ℕ) → slice_index bytes i < 256) → unsigned_of w16 bytes < 2 ^ 16
+unsigned_fits_2 (a ∷ b ∷ []) all small = let s0 = small 0 in let s1 = small 1 in omega arith
+unsigned_fits_2 _ all small = absurd (omega arith)
+
+pub unsigned_fits_4 : (bytes : List ℕ) → length bytes ≡ 4 → ((i : ℕ) → slice_index bytes i < 256) → unsigned_of w32 bytes < 2 ^ 32
+unsigned_fits_4 (a ∷ b ∷ c ∷ d ∷ []) all small =
+    let s0 = small 0 in let s1 = small 1 in let s2 = small 2 in let s3 = small 3 in omega arith
+unsigned_fits_4 _ all small = absurd (omega arith)
+
+pub unsigned_fits_8 : (bytes : List ℕ) → length bytes ≡ 8 → ((i : ℕ) → slice_index bytes i < 256) → unsigned_of w64 bytes < 2 ^ 64
+unsigned_fits_8 (a ∷ b ∷ c ∷ d ∷ e ∷ f ∷ g ∷ h ∷ []) all small =
+    let s0 = small 0 in let s1 = small 1 in let s2 = small 2 in let s3 = small 3 in
+    let s4 = small 4 in let s5 = small 5 in let s6 = small 6 in let s7 = small 7 in omega arith
+unsigned_fits_8 _ all small = absurd (omega arith)
+
+-- and so it is as a signed one
+pub signed_fits_1 : (bytes : List ℕ) → length bytes ≡ 1 → ((i : ℕ) → slice_index bytes i < 256) → FitsSigned w8 (signed_of w8 bytes)
+signed_fits_1 bytes all small = sfits_to_z (record { fits = unsigned_fits_1 bytes all small })
+
+pub signed_fits_2 : (bytes : List ℕ) → length bytes ≡ 2 → ((i : ℕ) → slice_index bytes i < 256) → FitsSigned w16 (signed_of w16 bytes)
+signed_fits_2 bytes all small = sfits_to_z (record { fits = unsigned_fits_2 bytes all small })
+
+pub signed_fits_4 : (bytes : List ℕ) → length bytes ≡ 4 → ((i : ℕ) → slice_index bytes i < 256) → FitsSigned w32 (signed_of w32 bytes)
+signed_fits_4 bytes all small = sfits_to_z (record { fits = unsigned_fits_4 bytes all small })
+
+pub signed_fits_8 : (bytes : List ℕ) → length bytes ≡ 8 → ((i : ℕ) → slice_index bytes i < 256) → FitsSigned w64 (signed_of w64 bytes)
+signed_fits_8 bytes all small = sfits_to_z (record { fits = unsigned_fits_8 bytes all small })

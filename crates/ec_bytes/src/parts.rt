@@ -3,6 +3,8 @@
 ghost use Rattle.std.specs.Prelude.{◌≡◌, ◌+◌, ◌≤◌, length, replicate, take, drop};
 ghost use Rattle.std.specs.List.{list_all};
 ghost use Rattle.ec_objects.specs.Cells.{written};
+ghost use Rattle.ec_bytes.specs.Region.{cells_of, run_of};
+ghost use Rattle.ec_bytes.specs.Scalars.{AreBytes};
 
 use crate::scalar::Scalar;
 
@@ -21,6 +23,19 @@ pub(crate) fn part<T>(items: &[T], at: usize, n: usize) -> &[T]
     ensures length { length result.now ≡ n }
 {
     &items[at..][..n]
+}
+
+/// How many bytes from the first one on are set and not 0.
+pub(crate) fn run_length(bytes: &[u8], marks: &[bool]) -> usize
+    requires { length marks.now ≡ length bytes.now }
+    ensures bound { result ≤ length bytes.now }
+    ensures run { take result bytes.now ≡ run_of (cells_of bytes.now marks.now) }
+{
+    let mut n = 0;
+    while n < bytes.len() && marks[n] && bytes[n] != 0 {
+        n += 1;
+    }
+    n
 }
 
 /// Makes each of the `n` marks from `at` on `set`.
@@ -45,6 +60,15 @@ pub(crate) fn put(bytes: &mut [u8], at: usize, piece: &[u8])
     ensures { bytes.new ≡ written bytes.old at piece.now }
 {
     bytes[at..at + piece.len()].copy_from_slice(piece);
+}
+
+/// The value of the first bytes.
+pub(crate) fn decode<T: Scalar>(bytes: &[u8]) -> T
+    requires { T.SIZE ≤ length bytes.now }
+    ensures value { result ≡ T.decode (take T.SIZE bytes.now) }
+    ensures bytes { AreBytes bytes.now }
+{
+    T::get_le(bytes)
 }
 
 /// Writes the bytes of `value` from `at` on.

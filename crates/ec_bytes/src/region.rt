@@ -2,9 +2,11 @@
 
 ghost use Rattle.std.specs.Prelude.{◌≡◌, ◌+◌, ◌*◌, ◌≤◌, [], ◌++◌, length, take, OnOk, OnErr, IfOk, IfSome};
 ghost use Rattle.std.specs.Option.{option_map};
+ghost use Rattle.ec_bytes.specs.Region.{run_of};
+ghost use Rattle.ec_bytes.specs.Scalars.{HoldBytes};
 ghost use Rattle.ec_objects.specs.Cells.{bytes_of, part_of, filled_cells, set_cells, unset_cells, value_of, written};
 
-use crate::parts::{all_set, encode, mark, part, put, shift, spread};
+use crate::parts::{all_set, decode, encode, mark, part, put, run_length, shift, spread};
 use crate::scalar::Scalar;
 use ec_base::OutOfMemory;
 use std::alloc::Global;
@@ -89,6 +91,16 @@ impl Region {
         }
     }
 
+    /// The bytes from `at` on, up to a zero byte or a cell that is unset, and at most `n`, which lie in the region.
+    pub fn run(&self, at: usize, n: usize) -> &[u8]
+        requires { at + n ≤ length self.now }
+        ensures { result.now ≡ run_of (part_of self.now at n) }
+    {
+        let bytes = part(&self.bytes, at, n);
+        let count = run_length(bytes, part(&self.set, at, n));
+        part(bytes, 0, count)
+    }
+
     /// Writes the bytes of `piece` from `at` on. They fit the region.
     pub fn write(&mut self, at: usize, piece: &[u8])
         requires { at + length piece.now ≤ length self.old }
@@ -144,10 +156,11 @@ impl Region {
     /// The value in the cells from `at` on, or `None` where one of them is unset.
     pub(crate) fn load<T: Scalar>(&self, at: usize) -> Option<T>
         requires { at + T.SIZE ≤ length self.now }
-        ensures { result ≡ value_of T.decode (part_of self.now at T.SIZE) }
+        ensures value { result ≡ value_of T.decode (part_of self.now at T.SIZE) }
+        ensures bytes { IfSome result (λ _. HoldBytes (part_of self.now at T.SIZE)) }
     {
         let piece = self.bytes(at, T::SIZE)?;
-        Some(T::get_le(piece))
+        Some(decode::<T>(piece))
     }
 
     /// Writes the bytes of `value` from `at` on.

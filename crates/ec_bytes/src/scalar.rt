@@ -1,6 +1,6 @@
 //! The scalars that an object holds, each with its bytes.
 
-ghost use Rattle.std.specs.Prelude.{◌≡◌, ℕ, ◌≤◌, ◌<◌, List, ◌++◌, length, take, drop};
+ghost use Rattle.std.specs.Prelude.{◌≡◌, ℕ, ◌≤◌, ◌<◌, List, ◌++◌, length, take, drop, slice_index};
 ghost use Rattle.std.specs.List.{All};
 
 mod address;
@@ -45,6 +45,8 @@ pub trait Scalar: Copy + Drop {
     ghost encode_length: { (v : Self) → length (encode v) ≡ SIZE };
 
     ghost encode_bytes: { (v : Self) → All (λ b. b < 256) (encode v) };
+
+    ghost decode_fits: { (bytes : List ℕ) → length bytes ≡ SIZE → ((i : ℕ) → slice_index bytes i < 256) → in_range (decode bytes) };
 
     ghost decode_encode: { (v : Self) → in_range v → decode (encode v) ≡ v };
 }

@@ -1,5 +1,6 @@
-ghost use Rattle.std.specs.Prelude.{◌≡◌, ◌+◌, ◌*◌, ◌≤◌, ◌<◌, ℕ, length};
+ghost use Rattle.std.specs.Prelude.{◌≡◌, ◌+◌, ◌*◌, ◌≤◌, ◌<◌, ℕ, length, IfSome};
 ghost use Rattle.ec_objects.specs.Cells.{part_of, set_cells, value_of, written};
+ghost use Rattle.ec_bytes.specs.Scalars.{HoldBytes};
 
 use crate::region::Region;
 use crate::scalar::Scalar;
@@ -94,7 +95,8 @@ impl<T: Scalar> View<'_, T> {
 
     /// The value, or `None` where one of its bytes is unset.
     pub fn get(&self) -> Option<T>
-        ensures { result ≡ value_of T.decode (part_of (view_cells self.now) (view_place self.now) T.SIZE) }
+        ensures value { result ≡ value_of T.decode (part_of (view_cells self.now) (view_place self.now) T.SIZE) }
+        ensures bytes { IfSome result (λ _. HoldBytes (part_of (view_cells self.now) (view_place self.now) T.SIZE)) }
     {
         self.region.load(self.at)
     }

@@ -1,16 +1,17 @@
 -- What stands at the beginning of C text, as the lexer sees it.
-use Rattle.std.specs.Prelude.{◌≡◌, ℕ, ◌-◌, Bool, true, false, ◌==◌, take, drop, codes, ⊤, Option, Some, None, Result, Ok, Err, if◌then◌else◌}
+use Rattle.std.specs.Prelude.{◌≡◌, ℕ, ◌-◌, Bool, true, false, ◌==◌, take, drop, codes, ⊤, Option, Some, None, option_map, Result, Ok, Err, if◌then◌else◌}
 use Rattle.ec_base.specs.declared.fault.FaultKind.{FaultKind}
+use Rattle.ec_base.specs.declared.fault.FaultKind.TheVariants.{F9}
 use Rattle.ec_base.specs.declared.stop.Stop.{Stop}
 use Rattle.ec_base.specs.declared.stop.Stop.TheVariants.{Refused, Limit, OutOfMemory}
 use Rattle.ec_ctypes.specs.declared.text.token.Tok.{Tok}
-use Rattle.ec_ctypes.specs.trees.Tokens.{TokData}
+use Rattle.ec_ctypes.specs.trees.Tokens.{TokData, word_token}
 use Rattle.ec_ctypes.specs.views.Tokens.{tok_view}
 use Rattle.ec_language.specs.Letters.{Text, single_quote, is_not_newline, begins_with}
 use Rattle.ec_language.specs.Constants.{unescaped, only_byte}
-use Rattle.ec_language.specs.Tokens.{Step, counted, numbered_line, character_tok, string_tok}
+use Rattle.ec_language.specs.Tokens.{Step, counted, numbered_line, is_left_out_word, character_tok, string_tok}
 use Rattle.ec_language.specs.ReadPieces.{passed, cut, endless, comment_end, quote_end, behind_all}
-use Rattle.ec_language.specs.ReadTokens.{ReadItem, read_hash}
+use Rattle.ec_language.specs.ReadTokens.{ReadItem, read_hash, lexeme, lexeme_item, with_front, mark_end, include_item, include_behind}
 use Rattle.ec_clex.specs.declared.items.Item.{Item}
 
 -- The answer is what is wanted, or there was no memory left.
@@ -70,3 +71,33 @@ comment_behind text = elim (begins_with (codes "/*") text) [
 -- what a line with `#` is, of which nothing but blanks may stand before
 abbrev pub hash_item : Bool → Bool → Text → Option ReadItem
 hash_item written fresh text = elim fresh [ true ↦ read_hash written text | false ↦ None ]
+
+-- ---- what functions say of their answers
+
+-- the text from an index on, if there is one
+abbrev pub text_from : Text → Option ℕ → Option Text
+text_from text index = option_map (λ i. drop i text) index
+
+-- The answer is this token, or its fault on this line.
+abbrev pub TellsTok : ℕ → Result Tok Stop → Result TokData FaultKind → Type 0
+TellsTok line answer tok = Told tok_view answer (at_line line tok)
+
+-- The answer is what is read at an index, or its fault on this line: this one where nothing is read.
+abbrev pub TellsItem : Text → ℕ → ℕ → Result Item Stop → FaultKind → Option ReadItem → Type 0
+TellsItem text at line answer kind read = Told (item_view text at) answer (item_of kind line read)
+
+abbrev pub word_tok : Text → Result TokData FaultKind
+word_tok text = if is_left_out_word text then Err F9 else Ok (word_token text)
+
+abbrev pub character_of : Text → Result TokData FaultKind
+character_of inside = character_tok (only_byte (unescaped inside))
+
+-- what the longest match is that stands at an index
+abbrev pub lexeme_at : Text → ℕ → Option ReadItem
+lexeme_at text at = option_map lexeme_item (lexeme (drop at text))
+
+abbrev pub mark_item_at : Text → ℕ → Option ReadItem
+mark_item_at text at = option_map lexeme_item (option_map (with_front (drop at text)) (mark_end 3 (drop at text)))
+
+abbrev pub include_at : Text → ℕ → Option ReadItem
+include_at text at = option_map (include_item (drop at text)) (include_behind (drop at text))

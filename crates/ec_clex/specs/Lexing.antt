@@ -1,5 +1,5 @@
 -- Tokens taken one after the other.
-use Rattle.std.specs.Prelude.{◌≡◌, ℕ, ◌+◌, Bool, true, false, ◌&&◌, nat_le, ◌==◌, List, [], ◌∷◌, ◌++◌, length, take, drop, max, ◌-◌, codes, ⊤, Option, Some, None, option_map, Result, Ok, Err, if◌then◌else◌}
+use Rattle.std.specs.Prelude.{◌≡◌, ℕ, ◌+◌, Bool, true, false, ◌&&◌, nat_le, ◌==◌, List, [], ◌∷◌, ◌++◌, length, take, drop, max, ◌-◌, ◌^◌, ◌≤◌, codes, ⊤, Option, Some, None, option_map, Result, Ok, Err, if◌then◌else◌}
 use Rattle.std.specs.List.{concat}
 use Rattle.ec_base.specs.declared.fault.FaultKind.{FaultKind}
 use Rattle.ec_base.specs.declared.fault.FaultKind.TheVariants.{F4, F9}
@@ -9,6 +9,7 @@ use Rattle.ec_base.specs.declared.stop.Stop.TheVariants.{Refused, Limit}
 use Rattle.ec_ctypes.specs.declared.text.piece.PieceKind.{PieceKind}
 use Rattle.ec_ctypes.specs.declared.text.piece.PieceKind.TheVariants.{C, Emb, InPlace, SectionStart, SectionEnd}
 use Rattle.ec_ctypes.specs.declared.text.piece.Piece.{Piece}
+use Rattle.ec_ctypes.specs.declared.text.token.Token.{Token}
 use Rattle.ec_ctypes.specs.trees.Tokens.{TokData, string_token, emb_token, section_start, section_end, end_token, TokenData}
 use Rattle.ec_ctypes.specs.views.Tokens.{tokens_view}
 use Rattle.ec_language.specs.Letters.{Text}
@@ -18,7 +19,7 @@ use Rattle.ec_language.specs.Lexemes.{is_fresh_after}
 use Rattle.ec_language.specs.Tokens.{Part, line_behind, is_include_of, max_tokens, token, bad_byte, lines_before, statements_behind}
 use Rattle.ec_language.specs.ReadTokens.{ReadItem, c_parts, read_item, statement_units, declaration_text, embedded_parts, is_c, piece_parts}
 use Rattle.ec_clex.specs.declared.lexer.Lexer.{Lexer}
-use Rattle.ec_clex.specs.Items.{step_view, item_of}
+use Rattle.ec_clex.specs.Items.{Told, step_view, item_of}
 
 -- the tokens that are taken, and whether the two lines at the head of written C may still be passed over
 pub record Taken : Type 0 where
@@ -206,3 +207,31 @@ total (p ∷ ps) = length p.bytes + total ps
 abbrev pub AllUnits : Bool → List Piece → Type 0
 AllUnits written [] = ⊤
 AllUnits written (p ∷ ps) = (written ≡ false → HasUnits p.kind p.bytes) × AllUnits written ps
+
+-- ---- what the steps of the lexer say of their answers
+
+-- The answer is that these tokens are taken, or why they aren't.
+abbrev pub TellsTaken : {A : Type 0} → Lexer → Result A Stop → Result Taken Stop → Type 0
+TellsTaken l answer taken = Told (λ _. taken_of l) answer taken
+
+abbrev pub TellsMid : {A : Type 0} → Lexer → Result A Stop → Result Mid Stop → Type 0
+TellsMid l answer mid = Told (λ _. mid_of l) answer mid
+
+-- The same, with the text from the index that is answered on.
+abbrev pub TellsMidAt : Text → Lexer → Result ℕ Stop → Result (Mid × Text) Stop → Type 0
+TellsMidAt text l answer mid = Told (λ end. (mid_of l, drop end text)) answer mid
+
+-- with the bytes of a string behind the last token, if that is one too
+abbrev pub joined_last : List Token → Text → Option (List TokenData)
+joined_last tokens more = join_last (tokens_view tokens) (string_token more)
+
+-- with no more than so many lines passed, of which a number may have stood for the first
+abbrev pub IsEarly : Lexer → Lexer → ℕ → Type 0
+IsEarly old new count = new.here.line ≤ max old.here.line (10 ^ 9) + count
+
+abbrev pub taken_at : Mid → Text → ℕ → ℕ → Option ℕ → Mid
+taken_at m text at end number = (moved m (passed_item text at end number) m.taken).0
+
+-- before the text of a declaration
+abbrev pub entered : Lexer → Text → Mid
+entered l front = record { taken = taken_of l; line = l.here.line + newlines front; fresh = false }

@@ -35,3 +35,7 @@ begins_pair text = begins_with (codes "::") text || begins_with (codes "->") tex
 -- all tokens of a statement of which these are taken, and this text is left
 abbrev pub all_tokens : SqlLexer → Text → List sql.SqlToken
 all_tokens l text = sql_views l.tokens ++ sql.sql_tokens_from l.gap l.line (sql_units text)
+
+-- the token of these bytes that comes next
+abbrev pub next_token : SqlLexer → SqlClass → Text → sql.SqlToken
+next_token l class bytes = record { class = class_view class; bytes = bytes; gap = l.gap; line = l.line }

@@ -35,8 +35,10 @@ pub fn simple_escape(byte: u8) -> Option<u8>
 pub fn numeric_escape(base: u8, most: usize, text: &[u8], from: usize) -> Option<Escaped>
     requires based { 1 ≤ base }
     requires inside { from ≤ length text.now }
-    ensures is { option_map (escaped_view text.now) result ≡ constants.numeric_escape base most (drop from text.now) }
-    ensures within { IfSome result (λ escaped. (from ≤ escaped.end) × (escaped.end ≤ length text.now)) }
+    ensures is { option_map (escaped_view text.now) result
+        ≡ constants.numeric_escape base most (drop from text.now) }
+    ensures within { IfSome result (λ escaped. (from ≤ escaped.end)
+        × (escaped.end ≤ length text.now)) }
 {
     let end = digits_end(base, most, text, from);
     if end == from {
@@ -61,7 +63,8 @@ pub fn numeric_escape(base: u8, most: usize, text: &[u8], from: usize) -> Option
 pub fn escape(text: &[u8], from: usize) -> Option<Escaped>
     requires { from ≤ length text.now }
     ensures is { option_map (escaped_view text.now) result ≡ constants.escape (drop from text.now) }
-    ensures within { IfSome result (λ escaped. (from ≤ escaped.end) × (escaped.end ≤ length text.now)) }
+    ensures within { IfSome result (λ escaped. (from ≤ escaped.end)
+        × (escaped.end ≤ length text.now)) }
 {
     if from == text.len() {
         return None;
@@ -86,7 +89,8 @@ pub fn escape(text: &[u8], from: usize) -> Option<Escaped>
 pub fn first_byte(text: &[u8], at: usize) -> Option<Escaped>
     requires { at < length text.now }
     ensures is { option_map (escaped_view text.now) result ≡ first_of (drop at text.now) }
-    ensures within { IfSome result (λ escaped. (at + 1 ≤ escaped.end) × (escaped.end ≤ length text.now)) }
+    ensures within { IfSome result (λ escaped. (at + 1 ≤ escaped.end)
+        × (escaped.end ≤ length text.now)) }
 {
     let byte = text[at];
     if byte == b'\\' {

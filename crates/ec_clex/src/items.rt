@@ -9,6 +9,7 @@ ghost use Rattle.ec_language.specs.Constants as constants;
 ghost use Rattle.ec_language.specs.Tokens as tokens;
 ghost use Rattle.ec_language.specs.ReadTokens as read;
 ghost use Rattle.ec_clex.specs.Items as items;
+ghost use Rattle.ec_clex.specs.Items.{text_from, TellsTok, TellsItem};
 
 use crate::escapes::{character, unescaped};
 use crate::lines::{directive_at, include_line_end, stands_at};
@@ -78,7 +79,7 @@ fn with_end(end: usize, tok: Result<Tok, Stop>) -> Result<Item, Stop>
 
 /// The token of a word.
 fn word(alloc: Global, here: Here, text: &[u8]) -> Result<Tok, Stop>
-    ensures { items.Told tok_view result (items.at_line here.line (if tokens.is_left_out_word text.now then Err faults.F9 else Ok (trees.word_token text.now))) }
+    ensures { TellsTok here.line result (items.word_tok text.now) }
 {
     if is_left_out_word(text) {
         return Err(refused(here, FaultKind::F9));
@@ -88,7 +89,7 @@ fn word(alloc: Global, here: Here, text: &[u8]) -> Result<Tok, Stop>
 
 /// The token of a number.
 fn number(here: Here, text: &[u8]) -> Result<Tok, Stop>
-    ensures { items.Told tok_view result (items.at_line here.line (tokens.integer_tok (constants.integer_constant text.now))) }
+    ensures { TellsTok here.line result (tokens.integer_tok (constants.integer_constant text.now)) }
 {
     match integer_constant(text) {
         Some((value, kind)) => Ok(Tok::Int(value, Ty::from(kind))),
@@ -98,7 +99,7 @@ fn number(here: Here, text: &[u8]) -> Result<Tok, Stop>
 
 /// The token of a character constant, without its quotes.
 fn character_token(here: Here, inside: &[u8]) -> Result<Tok, Stop>
-    ensures { items.Told tok_view result (items.at_line here.line (tokens.character_tok (constants.only_byte (constants.unescaped inside.now)))) }
+    ensures { TellsTok here.line result (items.character_of inside.now) }
 {
     match character(inside) {
         Some(value) => Ok(Tok::Char(value)),
@@ -108,7 +109,7 @@ fn character_token(here: Here, inside: &[u8]) -> Result<Tok, Stop>
 
 /// The token of a string, without its quotes.
 fn string_token(alloc: Global, here: Here, inside: &[u8]) -> Result<Tok, Stop>
-    ensures { items.Told tok_view result (items.at_line here.line (tokens.string_tok (constants.unescaped inside.now))) }
+    ensures { TellsTok here.line result (tokens.string_tok (constants.unescaped inside.now)) }
 {
     match unescaped(alloc, inside)? {
         Some(bytes) => Ok(Tok::Str(bytes)),
@@ -118,7 +119,7 @@ fn string_token(alloc: Global, here: Here, inside: &[u8]) -> Result<Tok, Stop>
 
 /// The token of quoted text, without its quotes.
 fn quoted_token(alloc: Global, here: Here, quote: u8, inside: &[u8]) -> Result<Tok, Stop>
-    ensures { items.Told tok_view result (items.at_line here.line (items.quoted_tok quote inside.now)) }
+    ensures { TellsTok here.line result (items.quoted_tok quote inside.now) }
 {
     if quote == b'\'' {
         character_token(here, inside)
@@ -130,7 +131,8 @@ fn quoted_token(alloc: Global, here: Here, quote: u8, inside: &[u8]) -> Result<T
 /// The index behind the quoted text at the index.
 fn quote_behind(text: &[u8], at: usize) -> Option<usize>
     requires { at < length text.now }
-    ensures is { option_map (λ end. drop end text.now) result ≡ items.quote_behind (slice_index text.now at) (drop (at + 1) text.now) }
+    ensures is { text_from text.now result
+        ≡ items.quote_behind (slice_index text.now at) (drop (at + 1) text.now) }
     ensures within { IfSome result (λ end. (at + 2 ≤ end) × (end ≤ length text.now)) }
 {
     match quote_end(text[at], text, at + 1) {
@@ -144,7 +146,7 @@ fn quote_behind(text: &[u8], at: usize) -> Option<usize>
 fn quoted(alloc: Global, here: Here, text: &[u8], at: usize) -> Result<Item, Stop>
     requires inside { at < length text.now }
     requires quote { letters.is_quote (slice_index text.now at) ≡ true }
-    ensures is { items.Told (items.item_view text.now at) result (items.item_of faults.F4 here.line (option_map read.lexeme_item (read.lexeme (drop at text.now)))) }
+    ensures is { TellsItem text.now at here.line result faults.F4 (items.lexeme_at text.now at) }
     ensures within { IfOk result (λ item. (at + 1 ≤ item.end) × (item.end ≤ length text.now)) }
     ensures small { IfOk result (λ item. IfSome item.number (λ number. number < 10 ^ 9)) }
 {
@@ -160,7 +162,7 @@ fn quoted(alloc: Global, here: Here, text: &[u8], at: usize) -> Result<Item, Sto
 /// The mark at the index.
 fn mark(here: Here, text: &[u8], at: usize) -> Result<Item, Stop>
     requires { at < length text.now }
-    ensures is { items.Told (items.item_view text.now at) result (items.item_of faults.F4 here.line (option_map read.lexeme_item (option_map (read.with_front (drop at text.now)) (read.mark_end 3 (drop at text.now))))) }
+    ensures is { TellsItem text.now at here.line result faults.F4 (items.mark_item_at text.now at) }
     ensures within { IfOk result (λ item. (at + 1 ≤ item.end) × (item.end ≤ length text.now)) }
     ensures small { IfOk result (λ item. IfSome item.number (λ number. number < 10 ^ 9)) }
 {
@@ -176,7 +178,7 @@ fn mark(here: Here, text: &[u8], at: usize) -> Result<Item, Stop>
 /// The index behind the comment at the index.
 fn comment_at(text: &[u8], at: usize) -> Option<usize>
     requires { at ≤ length text.now }
-    ensures is { option_map (λ end. drop end text.now) result ≡ items.comment_behind (drop at text.now) }
+    ensures is { text_from text.now result ≡ items.comment_behind (drop at text.now) }
     ensures within { IfSome result (λ end. (at + 1 ≤ end) × (end ≤ length text.now)) }
 {
     if begins_two(text, at, b'/', b'*') {
@@ -195,7 +197,7 @@ fn comment_at(text: &[u8], at: usize) -> Option<usize>
 /// The longest match at the index.
 fn lexeme(alloc: Global, here: Here, text: &[u8], at: usize) -> Result<Item, Stop>
     requires { at < length text.now }
-    ensures is { items.Told (items.item_view text.now at) result (items.item_of faults.F4 here.line (option_map read.lexeme_item (read.lexeme (drop at text.now)))) }
+    ensures is { TellsItem text.now at here.line result faults.F4 (items.lexeme_at text.now at) }
     ensures within { IfOk result (λ item. (at + 1 ≤ item.end) × (item.end ≤ length text.now)) }
     ensures small { IfOk result (λ item. IfSome item.number (λ number. number < 10 ^ 9)) }
 {
@@ -223,7 +225,7 @@ fn lexeme(alloc: Global, here: Here, text: &[u8], at: usize) -> Result<Item, Sto
 fn include(alloc: Global, here: Here, text: &[u8], at: usize) -> Result<Item, Stop>
     requires inside { at < length text.now }
     requires begin { letters.begins_with (codes "#include") (drop at text.now) ≡ true }
-    ensures is { items.Told (items.item_view text.now at) result (items.item_of faults.F9 here.line (option_map (read.include_item (drop at text.now)) (read.include_behind (drop at text.now)))) }
+    ensures is { TellsItem text.now at here.line result faults.F9 (items.include_at text.now at) }
     ensures within { IfOk result (λ item. (at + 1 ≤ item.end) × (item.end ≤ length text.now)) }
     ensures small { IfOk result (λ item. IfSome item.number (λ number. number < 10 ^ 9)) }
 {
@@ -239,7 +241,8 @@ fn include(alloc: Global, here: Here, text: &[u8], at: usize) -> Result<Item, St
 /// The `#line` line at the index. It numbers the line behind it, if there is one.
 fn directive(here: Here, text: &[u8], at: usize) -> Result<Item, Stop>
     requires { at ≤ length text.now }
-    ensures is { items.Told (items.item_view text.now at) result (items.item_of faults.F9 here.line (read.read_directive (drop at text.now))) }
+    ensures is { TellsItem text.now at here.line result faults.F9 (read.read_directive
+        (drop at text.now)) }
     ensures within { IfOk result (λ item. (at + 1 ≤ item.end) × (item.end ≤ length text.now)) }
     ensures small { IfOk result (λ item. IfSome item.number (λ number. number < 10 ^ 9)) }
 {
@@ -262,7 +265,9 @@ fn directive(here: Here, text: &[u8], at: usize) -> Result<Item, Stop>
 fn hash(alloc: Global, here: Here, text: &[u8], at: usize) -> Result<Item, Stop>
     requires inside { at < length text.now }
     requires hash { slice_index text.now at ≡ 35 }
-    ensures is { items.Told (items.item_view text.now at) result (items.item_of (tokens.bad_byte here.fresh (drop at text.now)) here.line (items.hash_item here.written here.fresh (drop at text.now))) }
+    ensures is { TellsItem text.now at here.line result (tokens.bad_byte here.fresh
+        (drop at text.now))
+        (items.hash_item here.written here.fresh (drop at text.now)) }
     ensures within { IfOk result (λ item. (at + 1 ≤ item.end) × (item.end ≤ length text.now)) }
     ensures small { IfOk result (λ item. IfSome item.number (λ number. number < 10 ^ 9)) }
 {
@@ -281,7 +286,9 @@ fn hash(alloc: Global, here: Here, text: &[u8], at: usize) -> Result<Item, Stop>
 /// What stands at the index.
 pub fn item_at(alloc: Global, here: Here, text: &[u8], at: usize) -> Result<Item, Stop>
     requires { at < length text.now }
-    ensures is { items.Told (items.item_view text.now at) result (items.item_of (tokens.bad_byte here.fresh (drop at text.now)) here.line (read.read_item here.written here.fresh (drop at text.now))) }
+    ensures is { TellsItem text.now at here.line result (tokens.bad_byte here.fresh
+        (drop at text.now))
+        (read.read_item here.written here.fresh (drop at text.now)) }
     ensures within { IfOk result (λ item. (at + 1 ≤ item.end) × (item.end ≤ length text.now)) }
     ensures small { IfOk result (λ item. IfSome item.number (λ number. number < 10 ^ 9)) }
 {

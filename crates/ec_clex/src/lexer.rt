@@ -8,10 +8,9 @@ ghost use Rattle.ec_language.specs.Line as lines;
 ghost use Rattle.ec_language.specs.SqlTokens as sql;
 ghost use Rattle.ec_language.specs.Lexemes as lexemes;
 ghost use Rattle.ec_language.specs.Tokens as tokens_of;
+ghost use Rattle.ec_language.specs.Tokens.{Tokens};
 ghost use Rattle.ec_language.specs.ReadTokens as read;
 ghost use Rattle.ec_language.specs.Syntax.{EndsOnce};
-ghost use Rattle.ec_base.specs.declared.stop.Stop.{Stop as TheStop};
-ghost use Rattle.ec_base.specs.declared.stop.Stop.TheVariants as stops;
 ghost use Rattle.ec_language.specs.Pieces.{Pieces};
 ghost use Rattle.ec_clex.specs.Answers as answers;
 ghost use Rattle.ec_clex.specs.Items as items;
@@ -63,8 +62,10 @@ fn is_head(tokens: &[Token]) -> bool
 
 /// Puts a token back, with the bytes behind its own if it is a string, and answers whether it is.
 fn join_last(tokens: &mut List<Token>, last: Token, more: &[u8]) -> Result<bool, OutOfMemory>
-    ensures joined { result ≡ Ok true → Some (tokens_view tokens.new) ≡ lexing.join_last (tokens_view (tokens.old ++ last ∷ [])) (trees.string_token more.now) }
-    ensures same { result ≡ Ok false → (tokens.new ≡ tokens.old ++ last ∷ []) × (None ≡ lexing.join_last (tokens_view (tokens.old ++ last ∷ [])) (trees.string_token more.now)) }
+    ensures joined { result ≡ Ok true
+        → Some (tokens_view tokens.new) ≡ lexing.joined_last (tokens.old ++ last ∷ []) more.now }
+    ensures same { result ≡ Ok false → (tokens.new ≡ tokens.old ++ last ∷ [])
+        × (None ≡ lexing.joined_last (tokens.old ++ last ∷ []) more.now) }
 {
     let Token { tok, line, place } = last;
     match tok {
@@ -90,8 +91,10 @@ fn join_last(tokens: &mut List<Token>, last: Token, more: &[u8]) -> Result<bool,
 
 /// Puts the bytes behind those of the last token, if it is a string, and answers whether it is.
 fn join(tokens: &mut List<Token>, more: &[u8]) -> Result<bool, OutOfMemory>
-    ensures joined { result ≡ Ok true → Some (tokens_view tokens.new) ≡ lexing.join_last (tokens_view tokens.old) (trees.string_token more.now) }
-    ensures same { result ≡ Ok false → (tokens.new ≡ tokens.old) × (None ≡ lexing.join_last (tokens_view tokens.old) (trees.string_token more.now)) }
+    ensures joined { result ≡ Ok true
+        → Some (tokens_view tokens.new) ≡ lexing.joined_last tokens.old more.now }
+    ensures same { result ≡ Ok false → (tokens.new ≡ tokens.old)
+        × (None ≡ lexing.joined_last tokens.old more.now) }
 {
     match tokens.pop() {
         Some(last) => join_last(tokens, last, more),
@@ -114,7 +117,8 @@ impl Lexer {
     /// The tokens, with the end behind them.
     fn finish(self) -> Result<List<Token>, Stop>
         requires { length self.tokens < 2 ^ 32 }
-        ensures { items.Told tokens_view result (Ok (lexing.with_end_token self.here.line (lexing.taken_of self))) }
+        ensures { items.Told tokens_view result (Ok (lexing.with_end_token self.here.line
+            (lexing.taken_of self))) }
     {
         let Lexer {
             mut tokens,
@@ -145,7 +149,8 @@ impl Lexer {
 
     /// Passes over the two lines at the head of written C, once they are read.
     fn pass_head(&mut self)
-        ensures is { lexing.taken_of self.new ≡ lexing.past_head self.old.head (tokens_view self.old.tokens) }
+        ensures is { lexing.taken_of self.new
+            ≡ lexing.past_head self.old.head (tokens_view self.old.tokens) }
         ensures here { self.new.here ≡ self.old.here }
         ensures keeps { lexing.Keeps self.old self.new }
     {
@@ -164,7 +169,8 @@ impl Lexer {
     /// Puts a token behind the others.
     #[inline(always)]
     fn add(&mut self, tok: Tok) -> Result<(), Stop>
-        ensures is { items.Told (λ _. lexing.taken_of self.new) result (lexing.added (lexing.taken_of self.old) self.old.here.line (tok_view tok)) }
+        ensures is { lexing.TellsTaken self.new result (
+            lexing.added (lexing.taken_of self.old) self.old.here.line (tok_view tok)) }
         ensures here { self.new.here ≡ self.old.here }
         ensures keeps { lexing.Keeps self.old self.new }
     {
@@ -181,10 +187,14 @@ impl Lexer {
         Ok(())
     }
 
-    /// Puts the bytes of a string behind those of the last token, if that is one too, and answers whether it is.
+    /// Puts the bytes of a string behind those of the last token, if that is one too, and answers
+    /// whether it is.
     fn join(&mut self, more: &[u8]) -> Result<bool, OutOfMemory>
-        ensures joined { result ≡ Ok true → (self.new.head ≡ self.old.head) × (Some (tokens_view self.new.tokens) ≡ lexing.join_last (tokens_view self.old.tokens) (trees.string_token more.now)) }
-        ensures same { result ≡ Ok false → (lexing.taken_of self.new ≡ lexing.taken_of self.old) × (None ≡ lexing.join_last (tokens_view self.old.tokens) (trees.string_token more.now)) }
+        ensures joined { result ≡ Ok true → (self.new.head ≡ self.old.head)
+            × (Some (tokens_view self.new.tokens) ≡ lexing.joined_last self.old.tokens more.now) }
+        ensures same { result ≡ Ok false
+            → (lexing.taken_of self.new ≡ lexing.taken_of self.old)
+            × (None ≡ lexing.joined_last self.old.tokens more.now) }
         ensures here { self.new.here ≡ self.old.here }
         ensures keeps { lexing.Keeps self.old self.new }
     {
@@ -193,7 +203,9 @@ impl Lexer {
 
     /// Takes the token of a string.
     fn push_string(&mut self, bytes: Bytes) -> Result<(), Stop>
-        ensures is { items.Told (λ _. lexing.taken_of self.new) result (lexing.pushed (lexing.taken_of self.old) self.old.here.line (trees.string_token bytes)) }
+        ensures is { lexing.TellsTaken self.new result (
+            lexing.pushed (lexing.taken_of self.old) self.old.here.line
+            (trees.string_token bytes)) }
         ensures here { self.new.here ≡ self.old.here }
         ensures keeps { lexing.Keeps self.old self.new }
     {
@@ -205,7 +217,8 @@ impl Lexer {
 
     /// Takes a token. A string behind another is one with it.
     fn push(&mut self, tok: Tok) -> Result<(), Stop>
-        ensures is { items.Told (λ _. lexing.taken_of self.new) result (lexing.pushed (lexing.taken_of self.old) self.old.here.line (tok_view tok)) }
+        ensures is { lexing.TellsTaken self.new result (
+            lexing.pushed (lexing.taken_of self.old) self.old.here.line (tok_view tok)) }
         ensures here { self.new.here ≡ self.old.here }
         ensures keeps { lexing.Keeps self.old self.new }
     {
@@ -217,7 +230,8 @@ impl Lexer {
 
     /// Takes a token, if it is one.
     fn push_some(&mut self, tok: Option<Tok>) -> Result<(), Stop>
-        ensures is { items.Told (λ _. lexing.taken_of self.new) result (lexing.pushed_some (lexing.taken_of self.old) self.old.here.line (items.some_tok tok)) }
+        ensures is { lexing.TellsTaken self.new result (
+            lexing.pushed_some (lexing.taken_of self.old) self.old.here.line (items.some_tok tok)) }
         ensures here { self.new.here ≡ self.old.here }
         ensures keeps { lexing.Keeps self.old self.new }
     {
@@ -232,8 +246,10 @@ impl Lexer {
         requires order { at ≤ end }
         requires inside { end ≤ length text.now }
         requires fits { self.old.here.line + (end - at) < 2 ^ 32 }
-        ensures is { lexing.mid_of self.new ≡ (lexing.moved (lexing.mid_of self.old) (lexing.passed_item text.now at end number) (lexing.taken_of self.old)).0 }
-        ensures late { self.new.here.line ≤ lexing.line_bound self.old.here.line number + (end - at) }
+        ensures is { lexing.mid_of self.new
+            ≡ lexing.taken_at (lexing.mid_of self.old) text.now at end number }
+        ensures late { self.new.here.line
+            ≤ lexing.line_bound self.old.here.line number + (end - at) }
         ensures keeps { lexing.Keeps self.old self.new }
     {
         self.pass(&text[at..end]);
@@ -247,9 +263,11 @@ impl Lexer {
         requires order { at ≤ item.end }
         requires inside { item.end ≤ length text.now }
         requires fits { self.old.here.line + (item.end - at) < 2 ^ 32 }
-        ensures is { items.Told (λ end. (lexing.mid_of self.new, drop end text.now)) result (lexing.took (lexing.mid_of self.old) (items.item_view text.now at item)) }
+        ensures is { lexing.TellsMidAt text.now self.new result (
+            lexing.took (lexing.mid_of self.old) (items.item_view text.now at item)) }
         ensures end { IfOk result (λ end. end ≡ item.end) }
-        ensures late { IfOk result (λ end. self.new.here.line ≤ lexing.line_bound self.old.here.line item.number + (end - at)) }
+        ensures late { IfOk result (λ end. self.new.here.line
+            ≤ lexing.line_bound self.old.here.line item.number + (end - at)) }
         ensures keeps { lexing.Keeps self.old self.new }
     {
         let Item { tok, number, end } = item;
@@ -276,9 +294,10 @@ impl Lexer {
     fn item(&mut self, alloc: Global, text: &[u8], at: usize) -> Result<usize, Stop>
         requires inside { at < length text.now }
         requires fits { max self.old.here.line (10 ^ 9) + (length text.now - at) < 2 ^ 32 }
-        ensures is { items.Told (λ end. (lexing.mid_of self.new, drop end text.now)) result (lexing.item_taken self.old.here.written (lexing.mid_of self.old) (drop at text.now)) }
+        ensures is { lexing.TellsMidAt text.now self.new result (
+            lexing.item_taken self.old.here.written (lexing.mid_of self.old) (drop at text.now)) }
         ensures within { IfOk result (λ end. (at + 1 ≤ end) × (end ≤ length text.now)) }
-        ensures late { IfOk result (λ end. self.new.here.line ≤ max self.old.here.line (10 ^ 9) + (end - at)) }
+        ensures late { IfOk result (λ end. lexing.IsEarly self.old self.new (end - at)) }
         ensures keeps { lexing.Keeps self.old self.new }
     {
         if is_blank(text[at]) {
@@ -294,8 +313,10 @@ impl Lexer {
         requires inside { from ≤ length text.now }
         requires small { length text.now ≤ 2 ^ 24 }
         requires early { self.old.here.line ≤ 2 ^ 31 }
-        ensures is { items.Told (λ _. lexing.mid_of self.new) result (lexing.c_rest self.old.here.written (lexing.mid_of self.old) (drop from text.now)) }
-        ensures late { IfOk result (λ _. self.new.here.line ≤ max self.old.here.line (10 ^ 9) + (length text.now - from)) }
+        ensures is { lexing.TellsMid self.new result (
+            lexing.c_rest self.old.here.written (lexing.mid_of self.old) (drop from text.now)) }
+        ensures late { IfOk result
+            (λ _. lexing.IsEarly self.old self.new (length text.now - from)) }
         ensures keeps { lexing.Keeps self.old self.new }
     {
         let mut at = from;
@@ -310,7 +331,8 @@ impl Lexer {
 
     /// Takes the mark at the end of a declaration.
     fn close(&mut self, fresh: bool) -> Result<(), Stop>
-        ensures is { items.Told (λ _. lexing.mid_of self.new) result (lexing.closed_rest fresh (lexing.mid_of self.old)) }
+        ensures is { lexing.TellsMid self.new result (
+            lexing.closed_rest fresh (lexing.mid_of self.old)) }
         ensures late { IfOk result (λ _. self.new.here.line ≤ self.old.here.line) }
         ensures keeps { lexing.Keeps self.old self.new }
     {
@@ -324,8 +346,11 @@ impl Lexer {
         requires inside { from ≤ length text.now }
         requires small { length text.now ≤ 2 ^ 24 }
         requires early { self.old.here.line ≤ 2 ^ 31 }
-        ensures is { items.Told (λ _. lexing.mid_of self.new) result (lexing.inner_rest self.old.here.written fresh (lexing.mid_of self.old) (drop from text.now)) }
-        ensures late { IfOk result (λ _. self.new.here.line ≤ max self.old.here.line (10 ^ 9) + (length text.now - from)) }
+        ensures is { lexing.TellsMid self.new result (
+            lexing.inner_rest self.old.here.written fresh (lexing.mid_of self.old)
+            (drop from text.now)) }
+        ensures late { IfOk result
+            (λ _. lexing.IsEarly self.old self.new (length text.now - from)) }
         ensures keeps { lexing.Keeps self.old self.new }
     {
         self.c_text(alloc, text, from)?;
@@ -335,7 +360,7 @@ impl Lexer {
     /// Goes behind the front of a declaration. What stands there is not the first of its line.
     fn enter(&mut self, front: &[u8])
         requires { self.old.here.line + length front.now < 2 ^ 32 }
-        ensures is { lexing.mid_of self.new ≡ record { taken = lexing.taken_of self.old; line = self.old.here.line + lines.newlines front.now; fresh = false } }
+        ensures is { lexing.mid_of self.new ≡ lexing.entered self.old front.now }
         ensures most { self.new.here.line ≤ self.old.here.line + length front.now }
         ensures keeps { lexing.Keeps self.old self.new }
     {
@@ -348,8 +373,9 @@ impl Lexer {
         requires small { length bytes.now ≤ 2 ^ 24 }
         requires early { self.old.here.line ≤ 2 ^ 30 }
         requires source { self.old.here.written ≡ false }
-        ensures is { items.Told (λ _. lexing.mid_of self.new) result (lexing.declared_rest (lexing.mid_of self.old) bytes.now) }
-        ensures late { IfOk result (λ _. self.new.here.line ≤ max self.old.here.line (10 ^ 9) + length bytes.now) }
+        ensures is { lexing.TellsMid self.new result (
+            lexing.declared_rest (lexing.mid_of self.old) bytes.now) }
+        ensures late { IfOk result (λ _. lexing.IsEarly self.old self.new (length bytes.now)) }
         ensures keeps { lexing.Keeps self.old self.new }
     {
         let fresh = fresh_after(self.here.fresh, bytes);
@@ -365,8 +391,10 @@ impl Lexer {
         requires early { self.old.here.line ≤ 2 ^ 30 }
         requires few { self.old.statements ≤ 2 ^ 24 }
         requires units { sql.StatementUnits bytes.now (read.statement_units bytes.now) }
-        ensures is { items.Told (λ _. lexing.mid_of self.new) result (lexing.stated_rest self.old.statements (lexing.mid_of self.old) bytes.now) }
-        ensures late { IfOk result (λ _. self.new.here.line ≤ self.old.here.line + length bytes.now) }
+        ensures is { lexing.TellsMid self.new result (
+            lexing.stated_rest self.old.statements (lexing.mid_of self.old) bytes.now) }
+        ensures late { IfOk result (λ _. self.new.here.line
+            ≤ self.old.here.line + length bytes.now) }
         ensures written { self.new.here.written ≡ self.old.here.written }
         ensures count { IfOk result (λ _. self.new.statements ≡ self.old.statements + 1) }
     {
@@ -387,8 +415,10 @@ impl Lexer {
     fn section(&mut self, tok: Tok, bytes: &[u8]) -> Result<(), Stop>
         requires small { length bytes.now ≤ 2 ^ 24 }
         requires early { self.old.here.line ≤ 2 ^ 30 }
-        ensures is { items.Told (λ _. lexing.mid_of self.new) result (lexing.section_rest (tok_view tok) (lexing.mid_of self.old) bytes.now) }
-        ensures late { IfOk result (λ _. self.new.here.line ≤ self.old.here.line + length bytes.now) }
+        ensures is { lexing.TellsMid self.new result (
+            lexing.section_rest (tok_view tok) (lexing.mid_of self.old) bytes.now) }
+        ensures late { IfOk result (λ _. self.new.here.line
+            ≤ self.old.here.line + length bytes.now) }
         ensures keeps { lexing.Keeps self.old self.new }
     {
         self.push(tok)?;
@@ -404,10 +434,12 @@ impl Lexer {
         requires source { self.old.here.written ≡ false }
         requires units { lexing.HasUnits kind bytes.now }
         requires other { read.is_c kind ≡ false }
-        ensures is { items.Told (λ _. lexing.mid_of self.new) result (lexing.embedded_told kind self.old.statements (lexing.mid_of self.old) bytes.now) }
-        ensures late { IfOk result (λ _. self.new.here.line ≤ max self.old.here.line (10 ^ 9) + length bytes.now) }
+        ensures is { lexing.TellsMid self.new result (
+            lexing.embedded_told kind self.old.statements (lexing.mid_of self.old) bytes.now) }
+        ensures late { IfOk result (λ _. lexing.IsEarly self.old self.new (length bytes.now)) }
         ensures written { self.new.here.written ≡ self.old.here.written }
-        ensures count { IfOk result (λ _. self.new.statements ≡ tokens_of.statements_behind self.old.statements kind) }
+        ensures count { IfOk result (λ _. self.new.statements
+            ≡ tokens_of.statements_behind self.old.statements kind) }
     {
         match kind {
             PieceKind::C => Ok(()),
@@ -423,11 +455,16 @@ impl Lexer {
         requires small { length piece.now.bytes ≤ 2 ^ 24 }
         requires early { self.old.here.line ≤ 2 ^ 30 }
         requires few { self.old.statements ≤ 2 ^ 24 }
-        requires units { self.old.here.written ≡ false → lexing.HasUnits piece.now.kind piece.now.bytes }
-        ensures is { items.Told (λ _. lexing.mid_of self.new) result (lexing.piece_told self.old.here.written self.old.statements (lexing.mid_of self.old) piece.now) }
-        ensures late { IfOk result (λ _. self.new.here.line ≤ max self.old.here.line (10 ^ 9) + length piece.now.bytes) }
+        requires units { self.old.here.written ≡ false
+            → lexing.HasUnits piece.now.kind piece.now.bytes }
+        ensures is { lexing.TellsMid self.new result (
+            lexing.piece_told self.old.here.written self.old.statements
+            (lexing.mid_of self.old) piece.now) }
+        ensures late { IfOk result
+            (λ _. lexing.IsEarly self.old self.new (length piece.now.bytes)) }
         ensures written { self.new.here.written ≡ self.old.here.written }
-        ensures count { IfOk result (λ _. self.new.statements ≡ tokens_of.statements_behind self.old.statements piece.now.kind) }
+        ensures count { IfOk result (λ _. self.new.statements
+            ≡ tokens_of.statements_behind self.old.statements piece.now.kind) }
     {
         let bytes = piece.bytes.as_slice();
         if piece.kind == PieceKind::C {
@@ -469,11 +506,11 @@ fn read_tokens(alloc: Global, pieces: &[Piece], written: bool) -> Result<List<To
 /// The tokens of the pieces of a source, or of written C.
 pub fn tokens(alloc: Global, pieces: &List<Piece>, written: bool) -> Result<List<Token>, Stop>
     requires { (text : Sequence ℕ) × (length text ≤ 2 ^ 24) × Pieces text pieces.now }
-    ensures tokens { IfOk result (λ tokens. tokens_of.Tokens written pieces.now (tokens_view tokens)) }
+    ensures tokens { IfOk result (λ tokens. Tokens written pieces.now (tokens_view tokens)) }
     ensures ends { IfOk result (λ tokens. EndsOnce (tokens_view tokens)) }
-    ensures only { (wanted : Sequence trees.TokenData) → tokens_of.Tokens written pieces.now wanted → answers.UnlessNoMemory result (answers.seen result ≡ Ok wanted) }
-    ensures stop { (stop : TheStop) → result ≡ Err stop → (stop ≡ stops.OutOfMemory → ⊥) → tokens_of.TokensOrStop written pieces.now (Err stop) }
-    ensures stops { (stop : TheStop) → tokens_of.TokensOrStop written pieces.now (Err stop) → answers.UnlessNoMemory result (result ≡ Err stop) }
+    ensures only { answers.FindsTokens written pieces.now result }
+    ensures stop { answers.TellsStop written pieces.now result }
+    ensures stops { answers.FindsStop written pieces.now result }
 {
     read_tokens(alloc, pieces.as_slice(), written)
 }

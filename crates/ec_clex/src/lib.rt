@@ -9,8 +9,6 @@ mod marks;
 mod numbers;
 mod sql;
 mod statements;
-#[cfg(test)]
-mod tests;
 mod words;
 
 pub use lexer::tokens;

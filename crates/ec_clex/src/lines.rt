@@ -25,8 +25,8 @@ pub fn stands_at(text: &[u8], at: usize, bytes: &[u8]) -> bool
     true
 }
 
-/// Whether nothing but blanks stands behind the bytes on their last line, if it is so before them. Their end tells it
-/// mostly, so they are looked at from there.
+/// Whether nothing but blanks stands behind the bytes on their last line, if it is so before them.
+/// Their end tells it mostly, so they are looked at from there.
 #[tactic(auto, using(crate::proofs::FreshLines::fresh_newline, crate::proofs::FreshLines::fresh_other, crate::proofs::FreshLines::fresh_blank))]
 pub fn fresh_after(fresh: bool, bytes: &[u8]) -> bool
     ensures { result ≡ lexemes.is_fresh_after fresh bytes.now }
@@ -59,7 +59,8 @@ pub fn ends_include(text: &[u8], at: usize) -> bool
 /// The index behind an `#include` line that goes on at the index.
 pub fn include_end(text: &[u8], from: usize) -> Option<usize>
     requires { from ≤ length text.now }
-    ensures is { option_map (λ end. drop end text.now) result ≡ read.include_behind (drop from text.now) }
+    ensures is { option_map (λ end. drop end text.now) result
+        ≡ read.include_behind (drop from text.now) }
     ensures within { IfSome result (λ end. (from ≤ end) × (end ≤ length text.now)) }
 {
     let mut at = from;
@@ -88,7 +89,8 @@ fn are_digits(bytes: &[u8]) -> bool
 pub fn include_line_end(text: &[u8], at: usize) -> Option<usize>
     requires inside { at < length text.now }
     requires begin { letters.begins_with (codes "#include") (drop at text.now) ≡ true }
-    ensures is { option_map (λ end. drop end text.now) result ≡ read.include_behind (drop at text.now) }
+    ensures is { option_map (λ end. drop end text.now) result
+        ≡ read.include_behind (drop at text.now) }
     ensures within { IfSome result (λ end. (at + 1 ≤ end) × (end ≤ length text.now)) }
 {
     include_end(text, at + 1)
@@ -119,7 +121,8 @@ pub struct Directive {
 /// The number that a `#line` line says, without its newline.
 fn directive_number(line: &[u8]) -> Option<u32>
     ensures is { MatchOption result (lexemes.is_line_directive line.now ≡ false)
-        (λ number. (lexemes.is_line_directive line.now ≡ true) × (number ≡ lexemes.directive_number line.now)) }
+        (λ number. (lexemes.is_line_directive line.now ≡ true)
+        × (number ≡ lexemes.directive_number line.now)) }
     ensures small { IfSome result (λ number. (number < 10 ^ 9) × (6 ≤ length line.now)) }
 {
     if !stands_at(line, 0, b"#line ") {
@@ -132,7 +135,8 @@ fn directive_number(line: &[u8]) -> Option<u32>
 pub fn directive_at(text: &[u8], at: usize) -> Option<Directive>
     requires { at ≤ length text.now }
     ensures is { MatchOption result (lexemes.is_line_directive (line_of (drop at text.now)) ≡ false)
-        (λ found. (lexemes.is_line_directive (line_of (drop at text.now)) ≡ true) × (found.number ≡ lexemes.directive_number (line_of (drop at text.now)))
+        (λ found. (lexemes.is_line_directive (line_of (drop at text.now)) ≡ true)
+        × (found.number ≡ lexemes.directive_number (line_of (drop at text.now)))
         × (drop found.end text.now ≡ pieces.behind_all letters.is_not_newline (drop at text.now))) }
     ensures within { IfSome result (λ found. (at + 1 ≤ found.end) × (found.end ≤ length text.now)) }
     ensures small { IfSome result (λ found. found.number < 10 ^ 9) }

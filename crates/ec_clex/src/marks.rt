@@ -29,7 +29,8 @@ fn of(punct: Punct, len: usize) -> Option<Mark>
 fn assigning(text: &[u8], behind: usize, alone: Punct, assigns: Punct) -> Option<Mark>
     requires { behind ≤ length text.now }
     ensures is { result ≡ marks.assigning (drop behind text.now) alone assigns }
-    ensures within { IfSome result (λ mark. (1 ≤ mark.len) × (behind + mark.len ≤ length text.now + 1)) }
+    ensures within { IfSome result (λ mark. (1 ≤ mark.len)
+        × (behind + mark.len ≤ length text.now + 1)) }
 {
     if byte_at(text, behind, b'=') {
         of(assigns, 2)
@@ -49,7 +50,8 @@ fn doubling(
 ) -> Option<Mark>
     requires { behind ≤ length text.now }
     ensures is { result ≡ marks.doubling (drop behind text.now) byte alone twice assigns }
-    ensures within { IfSome result (λ mark. (1 ≤ mark.len) × (behind + mark.len ≤ length text.now + 1)) }
+    ensures within { IfSome result (λ mark. (1 ≤ mark.len)
+        × (behind + mark.len ≤ length text.now + 1)) }
 {
     if byte_at(text, behind, byte) {
         of(twice, 2)
@@ -70,7 +72,8 @@ fn shifting(
 ) -> Option<Mark>
     requires { behind ≤ length text.now }
     ensures is { result ≡ marks.shifting (drop behind text.now) byte alone equal shift assigns }
-    ensures within { IfSome result (λ mark. (1 ≤ mark.len) × (behind + mark.len ≤ length text.now + 1)) }
+    ensures within { IfSome result (λ mark. (1 ≤ mark.len)
+        × (behind + mark.len ≤ length text.now + 1)) }
 {
     if !byte_at(text, behind, byte) {
         assigning(text, behind, alone, equal)
@@ -85,7 +88,8 @@ fn shifting(
 fn minus(text: &[u8], behind: usize) -> Option<Mark>
     requires { behind ≤ length text.now }
     ensures is { result ≡ marks.minus (drop behind text.now) }
-    ensures within { IfSome result (λ mark. (1 ≤ mark.len) × (behind + mark.len ≤ length text.now + 1)) }
+    ensures within { IfSome result (λ mark. (1 ≤ mark.len)
+        × (behind + mark.len ≤ length text.now + 1)) }
 {
     if byte_at(text, behind, b'>') {
         of(Punct::Arrow, 2)
@@ -105,7 +109,8 @@ fn minus(text: &[u8], behind: usize) -> Option<Mark>
 fn point(text: &[u8], behind: usize) -> Option<Mark>
     requires { behind ≤ length text.now }
     ensures is { result ≡ marks.point (drop behind text.now) }
-    ensures within { IfSome result (λ mark. (1 ≤ mark.len) × (behind + mark.len ≤ length text.now + 1)) }
+    ensures within { IfSome result (λ mark. (1 ≤ mark.len)
+        × (behind + mark.len ≤ length text.now + 1)) }
 {
     if !byte_at(text, behind, b'.') {
         of(Punct::Dot, 1)
@@ -147,7 +152,8 @@ fn lonely(byte: u8) -> Option<Mark>
 fn compared(byte: u8, text: &[u8], behind: usize) -> Option<Mark>
     requires { behind ≤ length text.now }
     ensures is { result ≡ marks.compared byte (drop behind text.now) }
-    ensures within { IfSome result (λ mark. (1 ≤ mark.len) × (behind + mark.len ≤ length text.now + 1)) }
+    ensures within { IfSome result (λ mark. (1 ≤ mark.len)
+        × (behind + mark.len ≤ length text.now + 1)) }
 {
     match byte {
         b'=' => assigning(text, behind, Punct::Assign, Punct::EqualEqual),
@@ -164,7 +170,8 @@ fn compared(byte: u8, text: &[u8], behind: usize) -> Option<Mark>
 fn mark_of(byte: u8, text: &[u8], behind: usize) -> Option<Mark>
     requires { behind ≤ length text.now }
     ensures is { result ≡ marks.mark_of byte (drop behind text.now) }
-    ensures within { IfSome result (λ mark. (1 ≤ mark.len) × (behind + mark.len ≤ length text.now + 1)) }
+    ensures within { IfSome result (λ mark. (1 ≤ mark.len)
+        × (behind + mark.len ≤ length text.now + 1)) }
 {
     match byte {
         b'-' => minus(text, behind),
@@ -211,7 +218,8 @@ fn mark_of(byte: u8, text: &[u8], behind: usize) -> Option<Mark>
 /// The longest mark that stands at the index.
 pub fn mark_at(text: &[u8], at: usize) -> Option<Mark>
     requires { at < length text.now }
-    ensures is { option_map (marks.mark_view (drop at text.now)) result ≡ read.mark_end 3 (drop at text.now) }
+    ensures is { option_map (marks.mark_view (drop at text.now)) result
+        ≡ read.mark_end 3 (drop at text.now) }
     ensures within { IfSome result (λ mark. (1 ≤ mark.len) × (at + mark.len ≤ length text.now)) }
 {
     mark_of(text[at], text, at + 1)

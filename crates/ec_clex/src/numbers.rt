@@ -58,7 +58,8 @@ pub fn digits_end(base: u8, most: usize, text: &[u8], from: usize) -> usize
 
 /// The number behind which a digit stands, with it, if it has no more than 64 bits.
 fn with_digit(number: u64, base: u8, digit: u8) -> Option<u64>
-    ensures { MatchOption result (2 ^ 64 ≤ number * base + digit) (λ more. more ≡ number * base + digit) }
+    ensures { MatchOption result (2 ^ 64 ≤ number * base + digit) (λ more. more
+        ≡ number * base + digit) }
 {
     match number.checked_mul(u64::from(base)) {
         Some(product) => product.checked_add(u64::from(digit)),
@@ -69,7 +70,8 @@ fn with_digit(number: u64, base: u8, digit: u8) -> Option<u64>
 /// The number that the digits stand for, if it has no more than 64 bits.
 pub fn digits_value(base: u8, digits: &[u8]) -> Option<u64>
     requires { 1 ≤ base }
-    ensures { MatchOption result (2 ^ 64 ≤ constants.digits_value base digits.now) (λ number. number ≡ constants.digits_value base digits.now) }
+    ensures { MatchOption result (2 ^ 64 ≤ constants.digits_value base digits.now)
+        (λ number. number ≡ constants.digits_value base digits.now) }
 {
     let mut number = 0u64;
     for byte in digits {
@@ -118,13 +120,15 @@ fn is_long_then_unsigned(text: &[u8]) -> bool
 }
 
 fn is_unsigned_long_suffix(text: &[u8]) -> bool
-    ensures { result ≡ is_among (codes "ul" ∷ codes "uL" ∷ codes "Ul" ∷ codes "UL" ∷ codes "lu" ∷ codes "lU" ∷ codes "Lu" ∷ codes "LU" ∷ []) text.now }
+    ensures { result ≡ is_among (codes "ul" ∷ codes "uL" ∷ codes "Ul" ∷ codes "UL"
+        ∷ codes "lu" ∷ codes "lU" ∷ codes "Lu" ∷ codes "LU" ∷ []) text.now }
 {
     is_unsigned_then_long(text) || is_long_then_unsigned(text)
 }
 
 fn is_unsigned_then_long_long(text: &[u8]) -> bool
-    ensures { result ≡ is_among (codes "ull" ∷ codes "uLL" ∷ codes "Ull" ∷ codes "ULL" ∷ []) text.now }
+    ensures { result ≡ is_among (codes "ull" ∷ codes "uLL" ∷ codes "Ull"
+        ∷ codes "ULL" ∷ []) text.now }
 {
     text == b"ull".as_slice()
         || text == b"uLL".as_slice()
@@ -133,7 +137,8 @@ fn is_unsigned_then_long_long(text: &[u8]) -> bool
 }
 
 fn is_long_long_then_unsigned(text: &[u8]) -> bool
-    ensures { result ≡ is_among (codes "llu" ∷ codes "llU" ∷ codes "LLu" ∷ codes "LLU" ∷ []) text.now }
+    ensures { result ≡ is_among (codes "llu" ∷ codes "llU" ∷ codes "LLu"
+        ∷ codes "LLU" ∷ []) text.now }
 {
     text == b"llu".as_slice()
         || text == b"llU".as_slice()
@@ -142,7 +147,8 @@ fn is_long_long_then_unsigned(text: &[u8]) -> bool
 }
 
 fn is_unsigned_long_long_suffix(text: &[u8]) -> bool
-    ensures { result ≡ is_among (codes "ull" ∷ codes "uLL" ∷ codes "Ull" ∷ codes "ULL" ∷ codes "llu" ∷ codes "llU" ∷ codes "LLu" ∷ codes "LLU" ∷ []) text.now }
+    ensures { result ≡ is_among (codes "ull" ∷ codes "uLL" ∷ codes "Ull" ∷ codes "ULL"
+        ∷ codes "llu" ∷ codes "llU" ∷ codes "LLu" ∷ codes "LLU" ∷ []) text.now }
 {
     is_unsigned_then_long_long(text) || is_long_long_then_unsigned(text)
 }

@@ -80,7 +80,8 @@ impl SqlLexer {
     /// Puts a token of these bytes behind the others.
     fn push(&mut self, alloc: Global, class: SqlClass, bytes: &[u8]) -> Result<(), OutOfMemory>
         requires { self.old.line + length bytes.now < 2 ^ 32 }
-        ensures tokens { IfOk result (λ _. view.sql_views self.new.tokens ≡ view.sql_views self.old.tokens ++ record { class = view.class_view class; bytes = bytes.now; gap = self.old.gap; line = self.old.line } ∷ []) }
+        ensures tokens { IfOk result (λ _. view.sql_views self.new.tokens
+            ≡ view.sql_views self.old.tokens ++ view.next_token self.old class bytes.now ∷ []) }
         ensures gap { IfOk result (λ _. self.new.gap ≡ false) }
         ensures line { IfOk result (λ _. self.new.line ≡ self.old.line + lines.newlines bytes.now) }
         ensures most { IfOk result (λ _. self.new.line ≤ self.old.line + length bytes.now) }
@@ -123,7 +124,8 @@ impl SqlLexer {
         requires behind { read.passed (drop end text.now) ≡ read.sql_end (drop at text.now) }
         requires solid { read.begins_gap (drop at text.now) ≡ false }
         requires escaped { read.begins_escaped (drop at text.now) ≡ true }
-        ensures all { IfOk result (λ _. view.all_tokens self.new (drop end text.now) ≡ view.all_tokens self.old (drop at text.now)) }
+        ensures all { IfOk result (λ _. view.all_tokens self.new (drop end text.now)
+            ≡ view.all_tokens self.old (drop at text.now)) }
         ensures most { IfOk result (λ _. self.new.line ≤ self.old.line + (end - at)) }
     {
         self.push(alloc, SqlClass::Word, &text[at..at + 1])?;
@@ -144,7 +146,8 @@ impl SqlLexer {
         requires fits { self.old.line + (length text.now - at) < 2 ^ 32 }
         requires more { read.begins_semicolon (drop at text.now) ≡ false }
         requires behind { read.passed (drop end text.now) ≡ read.sql_end (drop at text.now) }
-        ensures all { IfOk result (λ next. view.all_tokens self.new (drop next text.now) ≡ view.all_tokens self.old (drop at text.now)) }
+        ensures all { IfOk result (λ next. view.all_tokens self.new (drop next text.now)
+            ≡ view.all_tokens self.old (drop at text.now)) }
         ensures within { IfOk result (λ next. (at + 1 ≤ next) × (next ≤ length text.now)) }
         ensures most { IfOk result (λ next. self.new.line ≤ self.old.line + (next - at)) }
     {
@@ -174,7 +177,8 @@ fn tokens_from(
 ) -> Result<List<SqlToken>, OutOfMemory>
     requires inside { from ≤ length text.now }
     requires fits { line + (length text.now - from) < 2 ^ 32 }
-    ensures { IfOk result (λ tokens. view.sql_views tokens ≡ sql.sql_tokens_from false line (sql_units (drop from text.now))) }
+    ensures { IfOk result (λ tokens. view.sql_views tokens
+        ≡ sql.sql_tokens_from false line (sql_units (drop from text.now))) }
 {
     let mut lexer = SqlLexer {
         tokens: List::new(alloc),
@@ -195,10 +199,13 @@ fn tokens_from(
     Ok(lexer.tokens)
 }
 
-/// The tokens of an embedded statement, in order. The first byte that begins none is a fault (F4) on its line.
+/// The tokens of an embedded statement, in order. The first byte that begins none is a fault (F4)
+/// on its line.
 pub fn sql_tokens(alloc: Global, piece: &Piece) -> Result<List<SqlToken>, Stop>
     requires { piece.now.line.0 + length piece.now.bytes < 2 ^ 32 }
-    ensures { (answer : Answer (Sequence sql.SqlToken) TheStop) → SqlTokensOrStop piece.now.line.0 piece.now.bytes answer → Told view.sql_views result answer }
+    ensures { (answer : Answer (Sequence sql.SqlToken) TheStop)
+        → SqlTokensOrStop piece.now.line.0 piece.now.bytes answer
+        → Told view.sql_views result answer }
 {
     let text = piece.bytes.as_slice();
     let from = behind(text);

@@ -7,8 +7,6 @@ mod makers;
 mod nested;
 mod programs;
 mod statements;
-#[cfg(test)]
-mod tests;
 mod texts;
 mod units;
 

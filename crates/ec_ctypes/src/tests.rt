@@ -1,3 +1,2 @@
-mod arithmetic;
 mod copies;
 mod layout;

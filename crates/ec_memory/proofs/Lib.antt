@@ -1,6 +1,8 @@
+pub mod Numbers
+pub mod Pieces
+pub mod Line
 pub mod Objects
 pub mod Reading
-pub mod Copies
+pub mod Calls
 pub mod Counts
-pub mod Numbers
 pub mod Strides

@@ -1,110 +1,99 @@
 -- Reads of bytes and of texts.
-use Rattle.std.proofs.Common.{◌≡◌, ◌≢◌, ℕ, zero, suc, ◌+◌, ◌<◌, ◌≤◌, Bool, true, false, List, [], ◌∷◌, length, get_or, take, drop, Option, Some, None, Result, Ok, Err, refl, sym, ap, ◌∙◌, arith, length-drop, drop-cons, add-one}
+use Rattle.std.proofs.Common.{◌≡◌, ℕ, zero, suc, ◌+◌, ◌-◌, ◌<◌, ◌≤◌, Bool, true, false, List, [], ◌∷◌, length, take, drop, Option, Some, None, Result, Ok, Err, refl, sym, ap, ◌∙◌, arith, length-drop}
 use Rattle.std.specs.Option.{option_map}
 use Rattle.std.specs.Prelude.{nat_le, if◌then◌else◌}
-use Rattle.std.proofs.lemmas.List.{length-take-le}
+use Rattle.std.proofs.lemmas.List.{length-take-le, take-take, drop-take, drop-drop}
 use Rattle.std.proofs.lemmas.Bool.Decides.{nat_tests}
 use Rattle.ec_base.specs.declared.stop.Trap.{Trap}
-use Rattle.ec_base.specs.declared.stop.Trap.TheVariants.{Outside}
+use Rattle.ec_base.specs.declared.stop.Trap.TheVariants.{Outside, Unset}
+use Rattle.ec_bytes.specs.Region.{run_of}
+use Rattle.ec_memory.specs.declared.place.Place.{Place}
+use Rattle.ec_memory.specs.Objects.{memory_of, Kept, Holds, Placed}
+use Rattle.ec_memory.proofs.Objects.{read_at, read_placed, held_object}
+use Rattle.ec_memory.proofs.Pieces.{part_part}
 use Rattle.ec_objects.specs.Cells.{Cell, bytes_of, part_of}
-use Rattle.ec_objects.specs.Memory.{Memory, and_then, object_of, offset_of, object_cells, cells_at, or_unset, span, text_of, text_at}
-use Rattle.ec_memory.specs.Objects.{length_of_text}
-use Rattle.ec_memory.proofs.Objects.{read_at, read_fits}
+use Rattle.ec_objects.specs.Memory.{Memory, and_then, object_of, offset_of, object_cells, cells_at, or_unset, span, text_of, text_at, front_of}
 
 -- the bytes of cells, or that one of them is unset
 abbrev pub read_bytes : List Cell → Result (List ℕ) Trap
 read_bytes cells = or_unset (bytes_of cells)
 
--- one byte more
-one_byte_more : (b : ℕ) (o : Option (List ℕ)) → and_then (or_unset o) (λ bs. Ok (b ∷ bs)) ≡ or_unset (option_map (λ bs. b ∷ bs) o)
-one_byte_more b None = refl
-one_byte_more b (Some bs) = refl
-
--- the cells of an access that lies in its object
-pub inside_read : (m : Memory) (p n o : ℕ) (cells : List Cell) → Ok cells ≡ object_cells m (object_of p) → o ≡ offset_of p → o + n ≤ length cells → cells_at m p n ≡ Ok (take n (drop o cells))
-inside_read m p n o cells found is fits =
-    ap (λ o. read_at o n (object_cells m (object_of p))) (sym is) ∙ ap (read_at o n) (sym found) ∙ read_fits o n cells fits
-
 -- what a region reads, or that a cell is unset, is what the access gives
-pub spanned : (m : Memory) (p n o : ℕ) (cells : List Cell) (bytes : Option (List ℕ)) → Ok cells ≡ object_cells m (object_of p) → o ≡ offset_of p → o + n ≤ length cells → bytes ≡ bytes_of (part_of cells o n) → or_unset bytes ≡ span m p n
-spanned m p n o cells bytes found is fits read =
-    sym (ap (λ r. and_then r read_bytes) (inside_read m p n o cells found is fits) ∙ ap or_unset (sym read))
+pub span_placed : (made : ℕ) (cells : List Cell) (places : List Place) (p n at : ℕ) (bytes : Option (List ℕ)) → Kept made cells places → Placed places p n at → bytes ≡ bytes_of (part_of cells at n) → or_unset bytes ≡ span (memory_of made cells places) p n
+span_placed made cells places p n at bytes kept placed read =
+    sym (ap (λ r. and_then r read_bytes) (read_placed made cells places p n at kept placed) ∙ ap or_unset (sym read))
 
--- a text is the bytes before its end
-text_bytes : (cells : List Cell) → text_of cells ≡ and_then (length_of_text cells) (λ n. read_bytes (take n cells))
-text_bytes [] = refl
-text_bytes (None ∷ cells) = refl
-text_bytes (Some zero ∷ cells) = refl
-text_bytes (Some (suc b) ∷ cells) = ap (λ r. and_then r (λ bs. Ok (suc b ∷ bs))) (text_bytes cells) ∙ one_more (length_of_text cells)
-  where
-    one_more : (r : Result ℕ Trap) → and_then (and_then r (λ n. read_bytes (take n cells))) (λ bs. Ok (suc b ∷ bs)) ≡ and_then (and_then r (λ n. Ok (n + 1))) (λ n. read_bytes (take n (Some (suc b) ∷ cells)))
-    one_more (Err t) = refl
-    one_more (Ok n) = one_byte_more (suc b) (bytes_of (take n cells)) ∙ ap (λ k. read_bytes (take k (Some (suc b) ∷ cells))) (sym (add-one n))
+-- an access that traps gives no bytes
+pub span_trapped : (m : Memory) (p n : ℕ) (t : Trap) → cells_at m p n ≡ Err t → Err t ≡ span m p n
+span_trapped m p n t e = sym (ap (λ r. and_then r read_bytes) e)
 
--- the end of a text stands among the cells
-text_within : (cells : List Cell) (n : ℕ) → length_of_text cells ≡ Ok n → n < length cells
-text_within [] n e = cc
-text_within (None ∷ cells) n e = cc
-text_within (Some zero ∷ cells) n e = let none : 0 ≡ n = cc in omega arith
-text_within (Some (suc b) ∷ cells) n e = one_more (length_of_text cells) (λ k is. text_within cells k is) e
-  where
-    one_more : (r : Result ℕ Trap) → ((k : ℕ) → r ≡ Ok k → k < length cells) → and_then r (λ n. Ok (n + 1)) ≡ Ok n → n < length (Some (suc b) ∷ cells)
-    one_more (Err t) below e = cc
-    one_more (Ok k) below e = let same : k + 1 ≡ n = cc in let less = below k refl in omega arith
+-- a run that ends at a zero byte, or at a cell that is unset
+abbrev pub or_zero : List ℕ → Option (List ℕ) → Result (List ℕ) Trap
+or_zero run None = Err Unset
+or_zero run (Some byte) = Ok run
 
--- a text that has an end is read as one access
-pub text_spanned : (m : Memory) (p n o : ℕ) (cells : List Cell) → Ok cells ≡ object_cells m (object_of p) → o ≡ offset_of p → Ok n ≡ length_of_text (drop o cells) → span m p n ≡ text_at m p
-text_spanned m p n o cells found is ends =
-    let within : n < length (drop o cells) = text_within (drop o cells) n (sym ends) in
-    let fits : o + n ≤ length cells = omega (arith, length-drop o cells) in
-    ap (λ r. and_then r read_bytes) (inside_read m p n o cells found is fits)
-    ∙ sym (ap (λ o. and_then (object_cells m (object_of p)) (λ cells. text_of (drop o cells))) (sym is)
-    ∙ ap (λ r. and_then r (λ cells. text_of (drop o cells))) (sym found)
-    ∙ text_bytes (drop o cells)
-    ∙ ap (λ r. and_then r (λ n. read_bytes (take n (drop o cells)))) (sym ends))
+-- a text that fills the cells has no end
+pub text_all : (cells : List Cell) → length (run_of cells) ≡ length cells → text_of cells ≡ Err Outside
+text_all [] e = refl
+text_all (None ∷ cells) e = absurd (omega arith)
+text_all (Some zero ∷ cells) e = absurd (omega arith)
+text_all (Some (suc b) ∷ cells) e = ap (λ r. and_then r (λ bs. Ok (suc b ∷ bs))) (text_all cells (omega arith))
 
--- a text that has none traps
-pub text_trapped : (m : Memory) (p o : ℕ) (t : Trap) (cells : List Cell) → Ok cells ≡ object_cells m (object_of p) → o ≡ offset_of p → Err t ≡ length_of_text (drop o cells) → Err t ≡ text_at m p
-text_trapped m p o t cells found is ends =
-    sym (ap (λ o. and_then (object_cells m (object_of p)) (λ cells. text_of (drop o cells))) (sym is)
-    ∙ ap (λ r. and_then r (λ cells. text_of (drop o cells))) (sym found)
-    ∙ text_bytes (drop o cells)
-    ∙ ap (λ r. and_then r (λ n. read_bytes (take n (drop o cells)))) (sym ends))
+-- one that ends before a cell that is set ends at a zero byte
+pub text_zero : (cells : List Cell) (bytes : List ℕ) → length (run_of cells) < length cells → Some bytes ≡ bytes_of (part_of cells (length (run_of cells)) 1) → text_of cells ≡ Ok (run_of cells)
+text_zero [] bytes within e = absurd (omega arith)
+text_zero (None ∷ cells) bytes within e = cc
+text_zero (Some zero ∷ cells) bytes within e = refl
+text_zero (Some (suc b) ∷ cells) bytes within e = ap (λ r. and_then r (λ bs. Ok (suc b ∷ bs))) (text_zero cells bytes (omega arith) e)
 
--- the length of a text from a cell on, with that cell in sight
-at_cell : (cells : List Cell) (at : ℕ) → at < length cells → drop at cells ≡ get_or cells at None ∷ drop (at + 1) cells
-at_cell cells at within = drop-cons cells at None within ∙ ap (λ k. get_or cells at None ∷ drop k cells) (sym (add-one at))
+-- and else at one that is unset
+pub text_unset : (cells : List Cell) → length (run_of cells) < length cells → None ≡ bytes_of (part_of cells (length (run_of cells)) 1) → text_of cells ≡ Err Unset
+text_unset [] within e = absurd (omega arith)
+text_unset (None ∷ cells) within e = refl
+text_unset (Some zero ∷ cells) within e = cc
+text_unset (Some (suc b) ∷ cells) within e = ap (λ r. and_then r (λ bs. Ok (suc b ∷ bs))) (text_unset cells (omega arith) e)
 
--- a text ends at a zero byte
-pub text_ends : (cells : List Cell) (at : ℕ) (byte : List ℕ) → at < length cells → Some byte ≡ bytes_of (part_of cells at 1) → get_or byte 0 0 ≡ 0 → length_of_text (drop at cells) ≡ Ok 0
-text_ends cells at byte within read end = rw (at_cell cells at within) (of_cell (get_or cells at None) (read ∙ ap (λ c. bytes_of (take 1 c)) (at_cell cells at within)))
-  where
-    of_cell : (cell : Cell) → Some byte ≡ bytes_of (take 1 (cell ∷ drop (at + 1) cells)) → length_of_text (cell ∷ drop (at + 1) cells) ≡ Ok 0
-    of_cell None is = cc
-    of_cell (Some zero) is = refl
-    of_cell (Some (suc b)) is = let same : byte ≡ suc b ∷ [] = cc in absurd (omega (arith, ap (λ (l : List ℕ). get_or l 0 0) same))
+-- as many bytes as may be read
+pub front_full : (n : ℕ) (cells : List Cell) → length (run_of (take n cells)) ≡ n → front_of n cells ≡ Ok (run_of (take n cells))
+front_full zero cells e = refl
+front_full (suc n) [] e = absurd (omega arith)
+front_full (suc n) (None ∷ cells) e = absurd (omega arith)
+front_full (suc n) (Some zero ∷ cells) e = refl
+front_full (suc n) (Some (suc b) ∷ cells) e = ap (λ r. and_then r (λ bs. Ok (suc b ∷ bs))) (front_full n cells (omega arith))
 
--- and goes on behind any other
-pub text_goes_on : (cells : List Cell) (at : ℕ) (byte : List ℕ) → at < length cells → Some byte ≡ bytes_of (part_of cells at 1) → get_or byte 0 0 ≢ 0 → length_of_text (drop at cells) ≡ and_then (length_of_text (drop (at + 1) cells)) (λ n. Ok (n + 1))
-text_goes_on cells at byte within read more = rw (at_cell cells at within) (of_cell (get_or cells at None) (read ∙ ap (λ c. bytes_of (take 1 c)) (at_cell cells at within)))
-  where
-    of_cell : (cell : Cell) → Some byte ≡ bytes_of (take 1 (cell ∷ drop (at + 1) cells)) → length_of_text (cell ∷ drop (at + 1) cells) ≡ and_then (length_of_text (drop (at + 1) cells)) (λ n. Ok (n + 1))
-    of_cell None is = cc
-    of_cell (Some zero) is = let same : byte ≡ 0 ∷ [] = cc in absurd (more (ap (λ (l : List ℕ). get_or l 0 0) same))
-    of_cell (Some (suc b)) is = refl
+-- a limit beyond the cells is none
+pub front_far : (n : ℕ) (cells : List Cell) → length cells < n → text_of cells ≡ front_of n cells
+front_far zero cells far = absurd (omega arith)
+front_far (suc n) [] far = refl
+front_far (suc n) (None ∷ cells) far = refl
+front_far (suc n) (Some zero ∷ cells) far = refl
+front_far (suc n) (Some (suc b) ∷ cells) far = ap (λ r. and_then r (λ bs. Ok (suc b ∷ bs))) (front_far n cells (omega arith))
 
--- a cell read alone is one byte
-pub one_byte : (cells : List Cell) (at : ℕ) (byte : List ℕ) → at < length cells → Some byte ≡ bytes_of (part_of cells at 1) → 0 < length byte
-one_byte cells at byte within read = of_cell (get_or cells at None) (read ∙ ap (λ c. bytes_of (take 1 c)) (at_cell cells at within))
-  where
-    of_cell : (cell : Cell) → Some byte ≡ bytes_of (take 1 (cell ∷ drop (at + 1) cells)) → 0 < length byte
-    of_cell None is = cc
-    of_cell (Some b) is = let same : byte ≡ b ∷ [] = cc in omega (arith, ap (λ (l : List ℕ). length l) same)
+-- or a zero byte stands behind fewer
+pub front_zero : (n : ℕ) (cells : List Cell) (bytes : List ℕ) → length (run_of (take n cells)) < n → length (run_of (take n cells)) < length cells → Some bytes ≡ bytes_of (part_of cells (length (run_of (take n cells))) 1) → front_of n cells ≡ Ok (run_of (take n cells))
+front_zero zero cells bytes less within e = absurd (omega arith)
+front_zero (suc n) [] bytes less within e = absurd (omega arith)
+front_zero (suc n) (None ∷ cells) bytes less within e = cc
+front_zero (suc n) (Some zero ∷ cells) bytes less within e = refl
+front_zero (suc n) (Some (suc b) ∷ cells) bytes less within e = ap (λ r. and_then r (λ bs. Ok (suc b ∷ bs))) (front_zero n cells bytes (omega arith) (omega arith) e)
 
--- what is behind a cell that is no end
-pub text_step : (r s : Result ℕ Trap) (k j : ℕ) → r ≡ and_then s (λ n. Ok (n + 1)) → k + 1 ≡ j → and_then r (λ n. Ok (n + k)) ≡ and_then s (λ n. Ok (n + j))
-text_step r (Err t) k j e same = ap (λ r. and_then r (λ n. Ok (n + k))) e
-text_step r (Ok n) k j e same = let sum : n + 1 + k ≡ n + j = omega arith in ap (λ r. and_then r (λ n. Ok (n + k))) e ∙ ap Ok sum
+-- or an unset cell
+pub front_unset : (n : ℕ) (cells : List Cell) → length (run_of (take n cells)) < n → length (run_of (take n cells)) < length cells → None ≡ bytes_of (part_of cells (length (run_of (take n cells))) 1) → front_of n cells ≡ Err Unset
+front_unset zero cells less within e = absurd (omega arith)
+front_unset (suc n) [] less within e = absurd (omega arith)
+front_unset (suc n) (None ∷ cells) less within e = refl
+front_unset (suc n) (Some zero ∷ cells) less within e = cc
+front_unset (suc n) (Some (suc b) ∷ cells) less within e = ap (λ r. and_then r (λ bs. Ok (suc b ∷ bs))) (front_unset n cells (omega arith) (omega arith) e)
+
+-- the cells of an object from a pointer on
+pub left_cells : (cells : List Cell) (start size o : ℕ) → o ≤ size → drop o (part_of cells start size) ≡ part_of cells (start + o) (size - o)
+left_cells cells start size o within =
+    let sum : size ≡ o + (size - o) = omega arith in
+    ap (λ n. drop o (take n (drop start cells))) sum ∙ drop-take o (size - o) (drop start cells) ∙ ap (take (size - o)) (drop-drop o start cells)
+
+-- a text is that of the cells from its pointer on
+pub text_held : (made : ℕ) (cells : List Cell) (places : List Place) (p : ℕ) (q : Place) → Kept made cells places → Holds places (object_of p) q → text_at (memory_of made cells places) p ≡ text_of (drop (offset_of p) (part_of cells q.start q.size))
+text_held made cells places p q kept holds = ap (λ r. and_then r (λ cells. text_of (drop (offset_of p) cells))) (held_object made cells places (object_of p) q kept holds)
 
 -- as many bytes as cells
 bytes_length : (cells : List Cell) (bytes : List ℕ) → read_bytes cells ≡ Ok bytes → length bytes ≡ length cells
@@ -121,10 +110,10 @@ read_length : (o n : ℕ) (found : Result (List Cell) Trap) (cells : List Cell) 
 read_length o n (Err t) cells e = cc
 read_length o n (Ok those) cells e = either (nat_le (o + n) (length those)) refl e
   where
-    either : (b : Bool) → nat_le (o + n) (length those) ≡ b → (if b then Ok (take n (drop o those)) else Err Outside) ≡ Ok cells → length cells ≡ n
+    either : (b : Bool) → nat_le (o + n) (length those) ≡ b → (if b then Ok (part_of those o n) else Err Outside) ≡ Ok cells → length cells ≡ n
     either false test e = cc
     either true test e =
-        let is : take n (drop o those) ≡ cells = cc in
+        let is : part_of those o n ≡ cells = cc in
         let fits : o + n ≤ length those = grind (arith, nat_tests) in
         ap length (sym is) ∙ length-take-le n (drop o those) (omega (arith, length-drop o those))
 
@@ -135,3 +124,58 @@ span_length m p n bytes e = of_cells (cells_at m p n) (λ cells is. read_length 
     of_cells : (r : Result (List Cell) Trap) → ((cells : List Cell) → r ≡ Ok cells → length cells ≡ n) → and_then r read_bytes ≡ Ok bytes → length bytes ≡ n
     of_cells (Err t) same e = cc
     of_cells (Ok cells) same e = bytes_length cells bytes e ∙ same cells refl
+
+-- the cell behind the bytes that were read
+pub cell_behind : (cells : List Cell) (at left r : ℕ) → r < left → part_of cells (at + r) 1 ≡ part_of (part_of cells at left) r 1
+cell_behind cells at left r within = sym (part_part cells at left r 1 (omega arith))
+
+-- a part has as many cells as are asked for
+pub part_length : (cells : List Cell) (at n : ℕ) → at + n ≤ length cells → length (part_of cells at n) ≡ n
+part_length cells at n fits = length-take-le n (drop at cells) (omega (arith, length-drop at cells))
+
+-- a run is no longer than its cells
+pub run_bound : (cells : List Cell) → length (run_of cells) ≤ length cells
+run_bound [] = omega arith
+run_bound (None ∷ cells) = omega arith
+run_bound (Some zero ∷ cells) = omega arith
+run_bound (Some (suc b) ∷ cells) = omega (arith, run_bound cells)
+
+-- a text by its run and the cell behind it
+pub text_by_run : (cells : List Cell) (at left : ℕ) (run : List ℕ) (byte : Option (List ℕ)) → at + left ≤ length cells → run ≡ run_of (part_of cells at left) → length run < left → byte ≡ bytes_of (part_of cells (at + length run) 1) → or_zero run byte ≡ text_of (part_of cells at left)
+text_by_run cells at left run byte fits is less e = of_byte byte e
+  where
+    there : part_of cells (at + length run) 1 ≡ part_of (part_of cells at left) (length (run_of (part_of cells at left))) 1
+    there = cell_behind cells at left (length run) less ∙ ap (λ r. part_of (part_of cells at left) (length r) 1) is
+
+    within : length (run_of (part_of cells at left)) < length (part_of cells at left)
+    within = omega (arith, ap length is, part_length cells at left fits)
+
+    of_byte : (b : Option (List ℕ)) → b ≡ bytes_of (part_of cells (at + length run) 1) → or_zero run b ≡ text_of (part_of cells at left)
+    of_byte None e = sym (text_unset (part_of cells at left) within (e ∙ ap bytes_of there))
+    of_byte (Some b) e = ap Ok is ∙ sym (text_zero (part_of cells at left) b within (e ∙ ap bytes_of there))
+
+-- the same with a limit
+pub front_by_run : (cells : List Cell) (at left limit : ℕ) (run : List ℕ) (byte : Option (List ℕ)) → at + left ≤ length cells → limit ≤ left → run ≡ run_of (part_of cells at limit) → length run < limit → byte ≡ bytes_of (part_of cells (at + length run) 1) → or_zero run byte ≡ front_of limit (part_of cells at left)
+front_by_run cells at left limit run byte fits few is less e = of_byte byte e
+  where
+    front : run ≡ run_of (take limit (part_of cells at left))
+    front = is ∙ ap run_of (sym (take-take limit left (drop at cells) few))
+
+    there : part_of cells (at + length run) 1 ≡ part_of (part_of cells at left) (length (run_of (take limit (part_of cells at left)))) 1
+    there = cell_behind cells at left (length run) (omega arith) ∙ ap (λ r. part_of (part_of cells at left) (length r) 1) front
+
+    short : length (run_of (take limit (part_of cells at left))) < limit
+    short = omega (arith, ap length front)
+
+    within : length (run_of (take limit (part_of cells at left))) < length (part_of cells at left)
+    within = omega (arith, ap length front, part_length cells at left fits)
+
+    of_byte : (b : Option (List ℕ)) → b ≡ bytes_of (part_of cells (at + length run) 1) → or_zero run b ≡ front_of limit (part_of cells at left)
+    of_byte None e = sym (front_unset limit (part_of cells at left) short within (e ∙ ap bytes_of there))
+    of_byte (Some b) e = ap Ok front ∙ sym (front_zero limit (part_of cells at left) b short within (e ∙ ap bytes_of there))
+
+-- and where the limit ends it
+pub front_filled : (cells : List Cell) (at left limit : ℕ) (run : List ℕ) → limit ≤ left → run ≡ run_of (part_of cells at limit) → length run ≡ limit → Ok run ≡ front_of limit (part_of cells at left)
+front_filled cells at left limit run few is all =
+    let front : run ≡ run_of (take limit (part_of cells at left)) = is ∙ ap run_of (sym (take-take limit left (drop at cells) few)) in
+    ap Ok front ∙ sym (front_full limit (part_of cells at left) (ap length (sym front) ∙ all))

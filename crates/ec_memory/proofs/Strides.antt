@@ -1,17 +1,17 @@
 -- Elements of an object.
-use Rattle.std.proofs.Common.{◌≡◌, ℕ, ◌+◌, ◌-◌, ◌*◌, ◌^◌, ◌<◌, ◌≤◌, Bool, true, false, List, length, take, drop, Option, Some, None, Result, Ok, Err, MatchOption, refl, sym, ap, ◌∙◌, arith}
+use Rattle.std.proofs.Common.{◌≡◌, ℕ, ◌+◌, ◌-◌, ◌*◌, ◌^◌, ◌<◌, ◌≤◌, Bool, true, false, List, length, Option, Some, None, Result, Ok, Err, MatchOption, refl, sym, ap, ◌∙◌, arith}
 use Rattle.std.specs.Prelude.{nat_le, if◌then◌else◌}
 use Rattle.std.specs.Result.{result_err, result_ok, is_ok}
 use Rattle.std.proofs.Math.Nat.{mul-le-mul_right}
 use Rattle.std.proofs.lemmas.Bool.Decides.{nat_tests}
 use Rattle.ec_base.specs.declared.stop.Trap.{Trap}
 use Rattle.ec_base.specs.declared.stop.Trap.TheVariants.{Outside, Unset}
-use Rattle.ec_objects.specs.Cells.{Cell, bytes_of}
+use Rattle.ec_objects.specs.Cells.{Cell, bytes_of, part_of}
 use Rattle.ec_objects.specs.Memory.{Memory, and_then, object_of, offset_of, object_cells, cells_at, or_unset, span, extent, live_bytes}
 use Rattle.ec_memory.specs.Objects.{Reaches, cells_or_none, cells_of_pointer}
 use Rattle.ec_memory.specs.Store.{seen}
-use Rattle.ec_memory.proofs.Objects.{read_at}
-use Rattle.ec_memory.proofs.Reading.{inside_read, read_bytes}
+use Rattle.ec_memory.proofs.Objects.{read_at, read_fits}
+use Rattle.ec_memory.proofs.Reading.{read_bytes}
 use Rattle.ec_memory.proofs.Counts.{few_cells}
 
 -- an access that does not trap lies in its object
@@ -19,7 +19,7 @@ inside_found : (o n live : ℕ) (found : Result (List Cell) Trap) → ((cells : 
 inside_found o n live (Err t) few e = cc
 inside_found o n live (Ok cells) few e = (refl, either (nat_le (o + n) (length cells)) refl e, few cells refl)
   where
-    either : (b : Bool) → nat_le (o + n) (length cells) ≡ b → None ≡ result_err (if b then Ok (take n (drop o cells)) else Err Outside) → o + n ≤ length cells
+    either : (b : Bool) → nat_le (o + n) (length cells) ≡ b → None ≡ result_err (if b then Ok (part_of cells o n) else Err Outside) → o + n ≤ length cells
     either true test e = grind (arith, nat_tests)
     either false test e = cc
 
@@ -57,8 +57,8 @@ element_unset m p count step size i reaches within t e =
     let there = element_inside m p count step size i reaches within in
     let cells = cells_of_pointer m p in
     let found : Ok cells ≡ object_cells m (object_of (p + i * step)) = found_cells (object_cells m (object_of p)) reaches.lives ∙ ap (object_cells m) (sym there.0) in
-    let read = inside_read m (p + i * step) size (offset_of p + i * step) cells found (sym there.1) there.2 in
-    only_unset (take size (drop (offset_of p + i * step) cells)) t (sym (ap (λ r. and_then r read_bytes) read) ∙ e)
+    let read : cells_at m (p + i * step) size ≡ Ok (part_of cells (offset_of p + i * step) size) = ap (λ o. read_at o size (object_cells m (object_of (p + i * step)))) there.1 ∙ ap (read_at (offset_of p + i * step) size) (sym found) ∙ read_fits (offset_of p + i * step) size cells there.2 in
+    only_unset (part_of cells (offset_of p + i * step) size) t (sym (ap (λ r. and_then r read_bytes) read) ∙ e)
 
 -- an element that was read, or that one of its bytes is unset
 pub got : {A : Type 0} (decode : List ℕ → A) (bytes : Result (List ℕ) Trap) (r : Result A Trap) (o : Option A) → o ≡ result_ok r → r ≡ seen decode bytes → ((t : Trap) → bytes ≡ Err t → t ≡ Unset) → MatchOption o (bytes ≡ Err Unset) (λ value. seen decode bytes ≡ Ok value)

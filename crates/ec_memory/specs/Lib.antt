@@ -1,4 +1,5 @@
 pub mod Objects
+pub mod Moves
 pub mod Store
 pub mod Values
 pub mod Elements

@@ -1,57 +1,76 @@
--- The objects of a memory, as its definition sees them.
-use Rattle.std.specs.Prelude.{◌≡◌, ℕ, zero, suc, ◌+◌, ◌^◌, ◌≤◌, ◌<◌, List, [], ◌∷◌, map, length, take, drop, slice_get, slice_set, Option, Some, None, Result, Ok, Err, is_ok, true}
+-- The memory that a region is, with the places of the objects that are alive.
+use Rattle.std.specs.Prelude.{◌≡◌, ◌≢◌, ℕ, zero, suc, ◌+◌, ◌^◌, ◌≤◌, ◌<◌, ◌==◌, if◌then◌else◌, List, [], ◌∷◌, length, take, drop, slice_get, get_or, Some, Result, Ok, Err, is_ok, true}
 use Rattle.ec_base.specs.declared.stop.Trap.{Trap}
-use Rattle.ec_base.specs.declared.stop.Trap.TheVariants.{Outside, Unset}
-use Rattle.ec_memory.specs.declared.object.Object.{Object}
-use Rattle.ec_memory.specs.declared.object.Object.TheVariants.{Alive, Ended}
-use Rattle.ec_objects.specs.Cells.{Cell, written}
-use Rattle.ec_objects.specs.Memory.{ObjectData, alive, ended, Memory, object_of, offset_of, and_then, object_cells, live_bytes, extent}
+use Rattle.ec_memory.specs.declared.place.Place.{Place}
+use Rattle.ec_objects.specs.Cells.{Cell}
+use Rattle.ec_objects.specs.Memory.{alive, ended, Memory, object_of, offset_of, object_cells, extent}
 
-abbrev pub object_view : Object → ObjectData
-object_view (Alive region) = alive region
-object_view Ended = ended
+-- the objects from a number on, of which so many are left: each has the next place and its cells, or has ended
+abbrev pub objects_of : ℕ → ℕ → List Cell → List Place → Memory
+objects_of zero number cells places = []
+objects_of (suc left) number cells [] = ended ∷ objects_of left (suc number) cells []
+objects_of (suc left) number cells (p ∷ places) = if p.number == number then alive (take p.size cells) ∷ objects_of left (suc number) (drop p.size cells) places else ended ∷ objects_of left (suc number) cells (p ∷ places)
 
-abbrev pub objects_view : List Object → Memory
-objects_view objects = map object_view objects
+-- all objects that were made
+abbrev pub memory_of : ℕ → List Cell → List Place → Memory
+memory_of made cells places = objects_of made 1 cells places
 
--- n bytes at a pointer lie in the object at this index, from this offset on
-pub record Placed (m : Memory) (p n index offset : ℕ) : Type 0 where
-  pub cells : List Cell
-  pub found : slice_get m index ≡ Some (alive cells)
-  pub number : suc index ≡ object_of p
-  pub offset_is : offset ≡ offset_of p
-  pub inside : offset + n ≤ length cells
+-- a place begins where the one before ends, and has a higher number
+pub record Follows (number start : ℕ) (p : Place) (Rest : Type 0) : Type 0 where
+  pub rising : number ≤ p.number
+  pub begins : p.start ≡ start
+  pub rest : Rest
 
--- the cells of the object at this index, if it is alive
-abbrev pub cells_of : Option ObjectData → List Cell
-cells_of None = []
-cells_of (Some (alive cells)) = cells
-cells_of (Some ended) = []
+-- the last place ends at the end, and its number was given
+pub record Ends (number start made end : ℕ) : Type 0 where
+  pub given : number ≤ suc made
+  pub all : start ≡ end
 
-abbrev pub cells_in : Memory → ℕ → List Cell
-cells_in m index = cells_of (slice_get m index)
+-- the places lie one behind the other, by rising numbers from a number on
+abbrev pub InLine : ℕ → ℕ → List Place → ℕ → ℕ → Type 0
+InLine number start [] made end = Ends number start made end
+InLine number start (p ∷ places) made end = Follows number start p (InLine (suc p.number) (start + p.size) places made end)
 
--- the object at this index is alive, and n cells from an offset on lie in it
-pub record Lies (m : Memory) (n index offset : ℕ) : Type 0 where
-  pub found : slice_get m index ≡ Some (alive (cells_in m index))
-  pub inside : offset + n ≤ length (cells_in m index)
+-- the places fill the region, and neither bytes nor objects are too many
+pub record Kept (made : ℕ) (cells : List Cell) (places : List Place) : Type 0 where
+  pub line : InLine 1 0 places made (length cells)
+  pub few_bytes : length cells ≤ 2 ^ 28
+  pub few_objects : made < 2 ^ 32
 
--- the memory with n cells copied from one place to another
-abbrev pub with_copied : Memory → ℕ → ℕ → ℕ → ℕ → ℕ → Memory
-with_copied m from from_offset to to_offset n = slice_set m to (alive (written (cells_in m to) to_offset (take n (drop from_offset (cells_in m from)))))
+-- the number of the object at an index
+abbrev pub number_at : List Place → ℕ → ℕ
+number_at places k = (get_or places k (record { number = 0; start = 0; size = 0 })).number
 
--- how many bytes stand before the first zero byte, each read as an access of its own
-abbrev pub length_of_text : List Cell → Result ℕ Trap
-length_of_text [] = Err Outside
-length_of_text (None ∷ cells) = Err Unset
-length_of_text (Some zero ∷ cells) = Ok 0
-length_of_text (Some (suc b) ∷ cells) = and_then (length_of_text cells) (λ n. Ok (n + 1))
+-- later places have higher numbers
+abbrev pub IsRising : List Place → Type 0
+IsRising places = (i j : ℕ) → i < j → j < length places → number_at places i < number_at places j
 
--- the count of the bytes that are alive is right, and neither they nor the objects are too many
-pub record Counted (m : Memory) (live : ℕ) : Type 0 where
-  pub bytes : live ≡ live_bytes m
-  pub few_bytes : live ≤ 2 ^ 28
-  pub few_objects : length m < 2 ^ 32
+-- the object with this number is the one at this index
+abbrev pub IsAt : List Place → ℕ → ℕ → Type 0
+IsAt places number k = (k < length places) × (number_at places k ≡ number)
+
+-- no object with this number is alive
+abbrev pub IsMissing : List Place → ℕ → Type 0
+IsMissing places number = (k : ℕ) → k < length places → number_at places k ≢ number
+
+-- an object is alive, and this is its place
+pub record Holds (places : List Place) (number : ℕ) (p : Place) : Type 0 where
+  pub index : ℕ
+  pub found : slice_get places index ≡ Some p
+  pub same : p.number ≡ number
+
+-- n bytes at a pointer lie in an object, and begin at this place of the region
+pub record Placed (places : List Place) (p n at : ℕ) : Type 0 where
+  pub place : Place
+  pub holds : Holds places (object_of p) place
+  pub begins : at ≡ place.start + offset_of p
+  pub inside : offset_of p + n ≤ place.size
+
+-- the objects behind a mark begin at this index
+pub record Behind (places : List Place) (mark k : ℕ) : Type 0 where
+  pub bound : k ≤ length places
+  pub before : (i : ℕ) → i < k → number_at places i ≤ mark
+  pub after : (i : ℕ) → k ≤ i → i < length places → mark < number_at places i
 
 -- the cells of a pointer's object, if it is alive
 abbrev pub cells_or_none : Result (List Cell) Trap → List Cell

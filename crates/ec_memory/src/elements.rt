@@ -65,7 +65,7 @@ impl<T: Scalar> Elements<'_, T> {
         requires { i < elements_count self.now }
         ensures { MatchOption result (span (elements_memory self.now) (element_at self.now i) T.SIZE ≡ Err trap.Unset) (λ value. seen T.decode (span (elements_memory self.now) (element_at self.now i) T.SIZE) ≡ Ok value) }
     {
-        self.store.read_scalar(place(self.ptr, i, self.step)).ok()
+        self.store.read(place(self.ptr, i, self.step)).ok()
     }
 
     /// Writes the bytes of `value` as element `i`, the first being 0, and no other byte. There are more than `i`.
@@ -75,9 +75,7 @@ impl<T: Scalar> Elements<'_, T> {
         ensures memory { put (elements_memory self.old) (element_at self.old i) (T.encode value) ≡ Ok (elements_memory self.new) }
     {
         // Each element lies in the object, so no write traps.
-        let _ = self
-            .store
-            .write_scalar(place(self.ptr, i, self.step), value);
+        let _ = self.store.write(place(self.ptr, i, self.step), value);
     }
 }
 

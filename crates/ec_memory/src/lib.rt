@@ -1,11 +1,12 @@
 //! The memory of a C program: objects that are made and end, pointers into them, and accesses that are tested.
 #![tactic(auto)]
 
-mod between;
 mod elements;
-mod object;
+mod moves;
+mod place;
 mod scalars;
 mod store;
+mod texts;
 mod value;
 
 pub use elements::Elements;

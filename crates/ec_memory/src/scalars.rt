@@ -1,16 +1,20 @@
 //! Loads and stores of scalars.
 
-ghost use Rattle.std.specs.Prelude.{◌≡◌, ℕ, length, OnErr, IsSome, Some};
+ghost use Rattle.std.specs.Prelude.{◌≡◌, ℕ, List, IfOk, OnErr, IsSome, Some, Ok};
 ghost use Rattle.ec_ctypes.specs.views.Types.{ty_view};
-ghost use Rattle.ec_objects.specs.Memory.{ScalarType, scalar_type, Fits, decoded, span, put, load, store};
+ghost use Rattle.ec_objects.specs.Memory.{ScalarType, scalar_type, Fits, span, put, load, store};
+ghost use Rattle.ec_objects.specs.Kinds.{kind_type};
+ghost use Rattle.ec_bytes.specs.Scalars.{AreBytes};
 ghost use Rattle.ec_memory.specs.Store.{outcome, seen};
 ghost use Rattle.ec_memory.specs.Values.{value_view};
 
+use crate::place::reach;
 use crate::store::Store;
 use crate::value::{Held, Value};
 use ec_base::Trap;
 use ec_bytes::{Flag, I8, I16, I32, I64, Ptr, Scalar, U8, U16, U32, U64};
 use ec_ctypes::Ty;
+use ec_objects::Kind;
 
 impl Store {
     /// The value at a pointer, read as one access (ISO/IEC 9899:1999, 6.2.6, 6.3.2.1). `ty` is its type: an integer type or a
@@ -20,20 +24,28 @@ impl Store {
         requires { IsSome (scalar_type (ty_view ty.now)) }
         ensures { (s : ScalarType) → scalar_type (ty_view ty.now) ≡ Some s → seen value_view result ≡ load self.now ptr.0 s }
     {
-        match ty {
-            Ty::Bool => self.load_scalar::<Flag>(ptr),
-            Ty::Char => self.load_scalar::<I8>(ptr),
-            Ty::UChar => self.load_scalar::<U8>(ptr),
-            Ty::Short => self.load_scalar::<I16>(ptr),
-            Ty::UShort => self.load_scalar::<U16>(ptr),
-            Ty::Int => self.load_scalar::<I32>(ptr),
-            Ty::UInt => self.load_scalar::<U32>(ptr),
-            Ty::Long => self.load_scalar::<I64>(ptr),
-            Ty::ULong => self.load_scalar::<U64>(ptr),
-            Ty::LLong => self.load_scalar::<I64>(ptr),
-            Ty::ULLong => self.load_scalar::<U64>(ptr),
-            Ty::Ptr(_) => self.load_scalar::<Ptr>(ptr),
-            Ty::Void | Ty::Array(_, _) | Ty::Struct(_) => unreachable!(),
+        match Kind::of(ty) {
+            Some(kind) => self.load_kind(ptr, kind),
+            None => unreachable!(),
+        }
+    }
+
+    /// The same by the kind of the type.
+    #[inline(always)]
+    pub fn load_kind(&self, ptr: Ptr, kind: Kind) -> Result<Value, Trap>
+        ensures { seen value_view result ≡ load self.now ptr.0 (kind_type kind) }
+    {
+        match kind {
+            Kind::Bool => self.load_scalar::<Flag>(ptr),
+            Kind::Char => self.load_scalar::<I8>(ptr),
+            Kind::UChar => self.load_scalar::<U8>(ptr),
+            Kind::Short => self.load_scalar::<I16>(ptr),
+            Kind::UShort => self.load_scalar::<U16>(ptr),
+            Kind::Int => self.load_scalar::<I32>(ptr),
+            Kind::UInt => self.load_scalar::<U32>(ptr),
+            Kind::Long | Kind::LLong => self.load_scalar::<I64>(ptr),
+            Kind::ULong | Kind::ULLong => self.load_scalar::<U64>(ptr),
+            Kind::Ptr => self.load_scalar::<Ptr>(ptr),
         }
     }
 
@@ -45,63 +57,77 @@ impl Store {
         ensures outcome { (s : ScalarType) → scalar_type (ty_view ty.now) ≡ Some s → outcome result self.new ≡ store self.old ptr.0 s (value_view value) }
         ensures unchanged { OnErr result (self.new ≡ self.old) }
     {
-        match ty {
-            Ty::Bool => self.store_scalar::<Flag>(ptr, value),
-            Ty::Char => self.store_scalar::<I8>(ptr, value),
-            Ty::UChar => self.store_scalar::<U8>(ptr, value),
-            Ty::Short => self.store_scalar::<I16>(ptr, value),
-            Ty::UShort => self.store_scalar::<U16>(ptr, value),
-            Ty::Int => self.store_scalar::<I32>(ptr, value),
-            Ty::UInt => self.store_scalar::<U32>(ptr, value),
-            Ty::Long => self.store_scalar::<I64>(ptr, value),
-            Ty::ULong => self.store_scalar::<U64>(ptr, value),
-            Ty::LLong => self.store_scalar::<I64>(ptr, value),
-            Ty::ULLong => self.store_scalar::<U64>(ptr, value),
-            Ty::Ptr(_) => self.store_scalar::<Ptr>(ptr, value),
-            Ty::Void | Ty::Array(_, _) | Ty::Struct(_) => unreachable!(),
+        match Kind::of(ty) {
+            Some(kind) => self.store_kind(ptr, kind, value),
+            None => unreachable!(),
+        }
+    }
+
+    /// The same by the kind of the type.
+    #[inline(always)]
+    pub fn store_kind(&mut self, ptr: Ptr, kind: Kind, value: Value) -> Result<(), Trap>
+        requires { Fits (kind_type kind) (value_view value) }
+        ensures outcome { outcome result self.new ≡ store self.old ptr.0 (kind_type kind) (value_view value) }
+        ensures unchanged { OnErr result (self.new ≡ self.old) }
+    {
+        match kind {
+            Kind::Bool => self.store_scalar::<Flag>(ptr, value),
+            Kind::Char => self.store_scalar::<I8>(ptr, value),
+            Kind::UChar => self.store_scalar::<U8>(ptr, value),
+            Kind::Short => self.store_scalar::<I16>(ptr, value),
+            Kind::UShort => self.store_scalar::<U16>(ptr, value),
+            Kind::Int => self.store_scalar::<I32>(ptr, value),
+            Kind::UInt => self.store_scalar::<U32>(ptr, value),
+            Kind::Long => self.store_scalar::<I64>(ptr, value),
+            Kind::ULong => self.store_scalar::<U64>(ptr, value),
+            Kind::LLong => self.store_scalar::<I64>(ptr, value),
+            Kind::ULLong => self.store_scalar::<U64>(ptr, value),
+            Kind::Ptr => self.store_scalar::<Ptr>(ptr, value),
         }
     }
 
     /// The value at a pointer that a scalar stands for.
+    #[inline(always)]
     fn load_scalar<T: Held>(&self, ptr: Ptr) -> Result<Value, Trap>
         ensures { seen value_view result ≡ load self.now ptr.0 T.kind }
     {
-        let bytes = self.span(ptr, T::SIZE as u64)?;
-        Ok(value_of::<T>(bytes))
+        match self.read::<T>(ptr) {
+            Ok(scalar) => Ok(scalar.value()),
+            Err(trap) => Err(trap),
+        }
     }
 
     /// Stores the scalar that stands for a value.
+    #[inline(always)]
     fn store_scalar<T: Held>(&mut self, ptr: Ptr, value: Value) -> Result<(), Trap>
         requires { Fits T.kind (value_view value) }
         ensures outcome { outcome result self.new ≡ store self.old ptr.0 T.kind (value_view value) }
         ensures unchanged { OnErr result (self.new ≡ self.old) }
     {
-        self.write_scalar(ptr, T::of(value))
+        self.write(ptr, T::of(value))
     }
 
-    /// The scalar at a pointer.
-    pub(crate) fn read_scalar<T: Scalar>(&self, ptr: Ptr) -> Result<T, Trap>
-        ensures { result ≡ seen T.decode (span self.now ptr.0 T.SIZE) }
+    /// The scalar at a pointer, read as one access. The traps are `Null`, `Dead`, `Outside` and `Unset`.
+    #[inline(always)]
+    pub fn read<T: Scalar>(&self, ptr: Ptr) -> Result<T, Trap>
+        ensures value { result ≡ seen T.decode (span self.now ptr.0 T.SIZE) }
+        ensures bytes { IfOk result (λ _. (bytes : List ℕ) → span self.now ptr.0 T.SIZE ≡ Ok bytes → AreBytes bytes) }
     {
-        let bytes = self.span(ptr, T::SIZE as u64)?;
-        Ok(T::get_le(bytes))
+        let at = reach(&self.alive, ptr, T::SIZE as u128)?;
+        match self.cells.view::<T>(at).get() {
+            Some(value) => Ok(value),
+            None => Err(Trap::Unset),
+        }
     }
 
-    /// Puts the bytes of a scalar at a pointer.
-    pub(crate) fn write_scalar<T: Scalar>(&mut self, ptr: Ptr, value: T) -> Result<(), Trap>
+    /// Puts the bytes of a scalar at a pointer, as one access. The traps are `Null`, `Dead` and `Outside`.
+    #[inline(always)]
+    pub fn write<T: Scalar>(&mut self, ptr: Ptr, value: T) -> Result<(), Trap>
         ensures outcome { outcome result self.new ≡ put self.old ptr.0 (T.encode value) }
         ensures unchanged { OnErr result (self.new ≡ self.old) }
     {
-        let mut bytes = [0; 8];
-        value.put_le(&mut bytes);
-        self.put(ptr, &bytes[..T::SIZE])
+        let at = reach(&self.alive, ptr, T::SIZE as u128)?;
+        self.cells.view_mut::<T>(at).set(value);
+        Ok(())
     }
-}
-
-/// The value that a scalar's bytes stand for.
-fn value_of<T: Held>(bytes: &[u8]) -> Value
-    requires { length bytes.now ≡ T.SIZE }
-    ensures { value_view result ≡ decoded T.kind bytes.now }
-{
-    T::get_le(bytes).value()
 }

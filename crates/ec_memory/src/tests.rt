@@ -1,10 +1,13 @@
 ghost use Rattle.std.specs.Prelude.{◌≡◌, ◌+◌, ◌^◌, ◌≤◌, [], ◌∷◌, Ok, MatchResult};
-ghost use Rattle.ec_objects.specs.Memory.{and_then, put};
+ghost use Rattle.ec_objects.specs.Kinds.{kind_type};
+ghost use Rattle.ec_objects.specs.Memory.{Fits, and_then, put};
+ghost use Rattle.ec_memory.specs.Values.{value_view};
 
 use crate::*;
 use ec_base::Trap;
 use ec_bytes::{I16, Ptr};
 use ec_ctypes::{Arith, Ty};
+use ec_objects::Kind;
 use std::process::Abort;
 
 /// The pointers to the first bytes of the first objects.
@@ -72,6 +75,40 @@ fn copies(
 /// Writes two of three elements at a pointer.
 fn writes(rt: &impl Abort, store: &mut Store, at: u64, outcome: Result<(), Trap>) {
     assert_eq!(rt; write_two_of_three(store, Ptr(at)), outcome);
+}
+
+/// Stores a value, which is loaded again by its kind.
+fn holds(rt: &impl Abort, store: &mut Store, kind: Kind, value: Value)
+    requires { Fits (kind_type kind) (value_view value) }
+{
+    assert_eq!(rt; store.store_kind(Ptr(FIRST), kind, value), Ok(()));
+    assert_eq!(rt; store.load_kind(Ptr(FIRST), kind), Ok(value));
+}
+
+/// Reads a text of at most so many bytes.
+fn front(rt: &impl Abort, store: &Store, at: u64, limit: u64, outcome: Result<&[u8], Trap>) {
+    assert_eq!(rt; store.text_up_to(Ptr(at), limit), outcome);
+}
+
+/// Reads the elements of two bytes each.
+fn reads_elements(
+    rt: &impl Abort,
+    store: &mut Store,
+    at: u64,
+    first: Option<I16>,
+    second: Option<I16>,
+) -> Result<(), Trap> {
+    let elements = store.elements::<I16>(Ptr(at), 2, 2)?;
+    assert_eq!(rt; (elements.get(0), elements.get(1)), (first, second));
+    Ok(())
+}
+
+/// Makes an object of zero bytes, and ends it.
+fn make_and_end(rt: &impl Abort, store: &mut Store, at: u64) {
+    let mark = store.mark();
+    assert_eq!(rt; store.make_zeroed(8), Ok(Ptr(at)));
+    assert_eq!(rt; store.load_kind(Ptr(at), Kind::Long), Ok(Value::Int(0)));
+    store.end_to(mark);
 }
 
 /// Ends every object behind a mark.
@@ -185,4 +222,78 @@ fn bytes_are_spent(rt: HostRuntime) {
     end(&mut store, 15);
     make(&rt, &mut store, 1 << 24, 17 << 32);
     assert_eq!(rt; store.make(1), Err(MakeStop::Spent));
+}
+
+#[test]
+fn numbers_are_not_used_again(rt: HostRuntime) {
+    let mut store = Store::new(rt.alloc());
+    make(&rt, &mut store, 4, FIRST);
+    for number in 2..1002 {
+        make_and_end(&rt, &mut store, number << 32);
+    }
+    loads(&rt, &store, SECOND, Arith::Char, Err(Trap::Dead));
+    loads(&rt, &store, FIRST, Arith::Char, Err(Trap::Unset));
+    make(&rt, &mut store, 1, 1002 << 32);
+    make(&rt, &mut store, 1, 1003 << 32);
+    put(&rt, &mut store, 1002 << 32, b"x");
+    loads(&rt, &store, 1002 << 32, Arith::Char, Ok(Value::Int(120)));
+    loads(&rt, &store, 1003 << 32, Arith::Char, Err(Trap::Unset));
+    loads(&rt, &store, 500 << 32, Arith::Char, Err(Trap::Dead));
+}
+
+#[test]
+fn each_scalar_is_held(rt: HostRuntime) {
+    let mut store = Store::new(rt.alloc());
+    make(&rt, &mut store, 8, FIRST);
+    holds(&rt, &mut store, Kind::Bool, Value::Int(1));
+    holds(&rt, &mut store, Kind::Char, Value::Int(-128));
+    holds(&rt, &mut store, Kind::UChar, Value::Int(255));
+    holds(&rt, &mut store, Kind::Short, Value::Int(-32768));
+    holds(&rt, &mut store, Kind::UShort, Value::Int(65535));
+    holds(&rt, &mut store, Kind::Int, Value::Int(-2));
+    holds(&rt, &mut store, Kind::UInt, Value::Int(4294967295));
+    holds(&rt, &mut store, Kind::Long, Value::Int(-3));
+    holds(
+        &rt,
+        &mut store,
+        Kind::ULong,
+        Value::Int(18446744073709551615),
+    );
+    holds(&rt, &mut store, Kind::LLong, Value::Int(4));
+    holds(&rt, &mut store, Kind::ULLong, Value::Int(5));
+    holds(&rt, &mut store, Kind::Ptr, Value::Ptr(Ptr(THIRD)));
+}
+
+#[test]
+fn bytes_are_filled_and_unset(rt: HostRuntime) {
+    let mut store = Store::new(rt.alloc());
+    make(&rt, &mut store, 4, FIRST);
+    assert_eq!(rt; store.fill(Ptr(FIRST), 4, 1), Ok(()));
+    assert_eq!(rt; store.unset(Ptr(FIRST + 3), 1), Ok(()));
+    assert_eq!(rt;
+        reads_elements(&rt, &mut store, FIRST, Some(I16(257)), None),
+        Ok(())
+    );
+    assert_eq!(rt; store.fill(Ptr(FIRST), 5, 1), Err(Trap::Outside));
+    assert_eq!(rt; store.unset(Ptr(0), 1), Err(Trap::Null));
+}
+
+#[test]
+fn fronts_end(rt: HostRuntime) {
+    let mut store = Store::new(rt.alloc());
+    make(&rt, &mut store, 4, FIRST);
+    make(&rt, &mut store, 4, SECOND);
+    put(&rt, &mut store, SECOND, b"rest");
+    put(&rt, &mut store, FIRST, b"hi");
+    put(&rt, &mut store, FIRST + 3, b"!");
+    front(&rt, &store, FIRST, 2, Ok(b"hi"));
+    front(&rt, &store, FIRST, 3, Err(Trap::Unset));
+    front(&rt, &store, FIRST + 3, 1, Ok(b"!"));
+    front(&rt, &store, FIRST + 3, 2, Err(Trap::Outside));
+    front(&rt, &store, 0, 0, Ok(&[]));
+    front(&rt, &store, 0, 1, Err(Trap::Null));
+    front(&rt, &store, THIRD, 1, Err(Trap::Dead));
+    put(&rt, &mut store, FIRST + 2, &[0]);
+    front(&rt, &store, FIRST, 9, Ok(b"hi"));
+    text(&rt, &store, SECOND, Err(Trap::Outside));
 }

@@ -5,7 +5,5 @@ mod embedded;
 mod parts;
 mod scan;
 pub mod scanning;
-#[cfg(test)]
-mod tests;
 
 pub use scan::split;

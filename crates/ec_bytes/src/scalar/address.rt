@@ -2,7 +2,7 @@ ghost use Rattle.std.specs.Prelude.{◌≡◌, ◌<◌, ◌^◌, refl};
 ghost use Rattle.std.specs.Int.{w64};
 ghost use Rattle.std.proofs.Common.{arith, ap};
 ghost use Rattle.std.proofs.lemmas.Nat.{from_le_bytes-to_le_bytes_8};
-ghost use Rattle.ec_bytes.specs.ScalarLaws.{bytes_below};
+ghost use Rattle.ec_bytes.specs.ScalarLaws.{bytes_below, unsigned_fits_8};
 ghost use Rattle.ec_bytes.specs.Scalars.{unsigned_bytes, unsigned_of};
 
 use super::Scalar;
@@ -37,6 +37,8 @@ impl Scalar for Ptr {
     ghost encode_length = { λ v. refl };
 
     ghost encode_bytes = { λ v. bytes_below 0 8 v.0 };
+
+    ghost decode_fits = { unsigned_fits_8 };
 
     ghost decode_encode = { λ v fits. ap (λ n. record { 0 = n }) (from_le_bytes-to_le_bytes_8 v.0 fits) };
 }

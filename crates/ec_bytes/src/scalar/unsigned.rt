@@ -2,7 +2,7 @@ ghost use Rattle.std.specs.Prelude.{◌≡◌, ◌<◌, ◌^◌, refl};
 ghost use Rattle.std.specs.Int.{w8, w16, w32, w64};
 ghost use Rattle.std.proofs.Common.{arith, ap};
 ghost use Rattle.std.proofs.lemmas.Nat.{from_le_bytes-to_le_bytes_2, from_le_bytes-to_le_bytes_4, from_le_bytes-to_le_bytes_8};
-ghost use Rattle.ec_bytes.specs.ScalarLaws.{bytes_below, back_1};
+ghost use Rattle.ec_bytes.specs.ScalarLaws.{bytes_below, unsigned_fits_1, unsigned_fits_2, unsigned_fits_4, unsigned_fits_8, back_1};
 ghost use Rattle.ec_bytes.specs.Scalars.{unsigned_bytes, unsigned_of};
 
 use super::Scalar;
@@ -48,6 +48,8 @@ impl Scalar for U8 {
 
     ghost encode_bytes = { λ v. bytes_below 0 1 v.0 };
 
+    ghost decode_fits = { unsigned_fits_1 };
+
     ghost decode_encode = { λ v fits. ap (λ n. record { 0 = n }) (back_1 v.0 fits) };
 }
 
@@ -76,6 +78,8 @@ impl Scalar for U16 {
 
     ghost encode_bytes = { λ v. bytes_below 0 2 v.0 };
 
+    ghost decode_fits = { unsigned_fits_2 };
+
     ghost decode_encode = { λ v fits. ap (λ n. record { 0 = n }) (from_le_bytes-to_le_bytes_2 v.0 fits) };
 }
 
@@ -103,6 +107,8 @@ impl Scalar for U32 {
     ghost encode_length = { λ v. refl };
 
     ghost encode_bytes = { λ v. bytes_below 0 4 v.0 };
+
+    ghost decode_fits = { unsigned_fits_4 };
 
     ghost decode_encode = { λ v fits. ap (λ n. record { 0 = n }) (from_le_bytes-to_le_bytes_4 v.0 fits) };
 }
@@ -133,6 +139,8 @@ impl Scalar for U64 {
     ghost encode_length = { λ v. refl };
 
     ghost encode_bytes = { λ v. bytes_below 0 8 v.0 };
+
+    ghost decode_fits = { unsigned_fits_8 };
 
     ghost decode_encode = { λ v fits. ap (λ n. record { 0 = n }) (from_le_bytes-to_le_bytes_8 v.0 fits) };
 }

@@ -1,11 +1,15 @@
--- The count of bytes stays right.
-use Rattle.std.proofs.Common.{ap, rules, replicate, None}
-use Rattle.std.proofs.lemmas.List.{with_items_is}
-use Rattle.ec_memory.specs.Objects.{objects_view}
-use Rattle.ec_memory.proofs.Counts.{counted_written}
+-- The memory behind the call.
+use Rattle.std.proofs.Common.{replicate, None}
+use Rattle.std.proofs.lemmas.List.{length-replicate}
+use Rattle.ec_memory.proofs.Calls.{rising_of, room_of, wrote}
 use Rattle.ec_memory.proofs.store.Store.unset.Goals as goal
 
-pub invariant_of-self : goal.invariant_of-self
-invariant_of-self c =
-    let items = with_items_is c.self.inside.objects c.unset_bytes.new.objects (search rules) in
-    counted_written c.unset_bytes.result _ _ (objects_view c.unset_bytes.new.objects) _ _ c.args.ptr.0 (replicate c.args.n None) c.self.invariant (ap objects_view c.deref_mut.ensures.value) (ap objects_view items) c.unset_bytes.ensures.outcome c.unset_bytes.ensures.unchanged
+pub reach-requires : goal.reach-requires
+reach-requires c = rising_of _ _ _ _ c.self.invariant c.deref.ensures.value
+
+pub unset-requires : goal.unset-requires
+unset-requires c = room_of _ _ _ _ _ _ _ c.self.invariant c.deref.ensures.value c.in_ok-at.ensures
+
+pub returns-clause-outcome : goal.returns-clause-outcome
+returns-clause-outcome c =
+    wrote _ _ _ _ _ c.args.ptr.0 _ _ (replicate c.args.n None) _ c.self.view_is c.self.invariant c.deref.ensures.value c.in_ok-at.ensures (length-replicate c.args.n None) c.unset.ensures.cells

@@ -1,0 +1,55 @@
+//! Pointers that move within an object.
+
+ghost use Rattle.std.specs.Prelude.{◌≡◌, ◌≤◌, ℤ, pos, ◌+ℤ◌, ◌*ℤ◌, int_le, ◌&&◌, false, MatchOption, ◌^◌};
+ghost use Rattle.ec_objects.specs.Memory.{pointer_to, object_of, offset_of};
+ghost use Rattle.ec_memory.specs.Store.{seen};
+ghost use Rattle.ec_memory.specs.Moves.{moved_within};
+
+use crate::place::offset_in;
+use ec_base::Trap;
+use ec_bytes::Ptr;
+
+/// The pointer that is `by` elements of `size` bytes further on in an object of `len` bytes.
+#[inline(always)]
+pub(crate) fn moved_to(len: u32, ptr: Ptr, by: i64, size: u64) -> Result<Ptr, Trap>
+    requires { len ≤ 2 ^ 28 }
+    ensures { seen (λ to. to.0) result ≡ moved_within len ptr.0 by size }
+{
+    match offset_up_to(len as usize, offset_behind(ptr, by, size)) {
+        Some(offset) => Ok(with_offset(ptr, offset)),
+        None => Err(Trap::Outside),
+    }
+}
+
+/// An offset of at most `len`, or `None` if it is none.
+fn offset_up_to(len: usize, offset: i128) -> Option<usize>
+    ensures { MatchOption result ((int_le (pos 0) offset && int_le offset (pos len)) ≡ false) (λ it. (offset ≡ pos it) × (it ≤ len)) }
+{
+    if 0 <= offset && offset <= len as i128 {
+        Some(offset as usize)
+    } else {
+        None
+    }
+}
+
+/// The offset that is `by` elements of `size` bytes behind that of a pointer.
+fn offset_behind(ptr: Ptr, by: i64, size: u64) -> i128
+    ensures { result ≡ pos (offset_of ptr.0) +ℤ (by *ℤ pos size) }
+{
+    offset_in(ptr) as i128 + distance(by, size)
+}
+
+/// How many bytes `by` elements of `size` bytes take.
+fn distance(by: i64, size: u64) -> i128
+    ensures { result ≡ by *ℤ pos size }
+{
+    by as i128 * size as i128
+}
+
+/// The pointer to another offset of the same object.
+fn with_offset(ptr: Ptr, offset: usize) -> Ptr
+    requires { offset ≤ 2 ^ 28 }
+    ensures { result.0 ≡ pointer_to (object_of ptr.0) offset }
+{
+    Ptr(ptr.0 / (1 << 32) * (1 << 32) + offset as u64)
+}

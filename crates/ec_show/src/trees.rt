@@ -1,0 +1,6 @@
+//! How trees are printed.
+
+mod expressions;
+mod programs;
+mod statements;
+mod types;
