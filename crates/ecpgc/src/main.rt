@@ -36,7 +36,11 @@ fn add(rt: &HostRuntime, rack: &mut Rack, spec: &LinkSpec) -> Result<(), OutOfMe
             ready,
             target,
             path,
-        } => (SqliteLink::file(rt, alloc, path.as_slice())?, target, *ready),
+        } => (
+            SqliteLink::file(rt, alloc, path.as_slice())?,
+            target,
+            *ready,
+        ),
     };
     let target = target.clone()?;
     let link = Box::new(alloc, link)?;
