@@ -74,10 +74,6 @@ hash_item written fresh text = elim fresh [ true ↦ read_hash written text | fa
 
 -- ---- what functions say of their answers
 
--- the text from an index on, if there is one
-abbrev pub text_from : Text → Option ℕ → Option Text
-text_from text index = option_map (λ i. drop i text) index
-
 -- The answer is this token, or its fault on this line.
 abbrev pub TellsTok : ℕ → Result Tok Stop → Result TokData FaultKind → Type 0
 TellsTok line answer tok = Told tok_view answer (at_line line tok)

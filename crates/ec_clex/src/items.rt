@@ -9,7 +9,8 @@ ghost use Rattle.ec_language.specs.Constants as constants;
 ghost use Rattle.ec_language.specs.Tokens as tokens;
 ghost use Rattle.ec_language.specs.ReadTokens as read;
 ghost use Rattle.ec_clex.specs.Items as items;
-ghost use Rattle.ec_clex.specs.Items.{text_from, TellsTok, TellsItem};
+ghost use Rattle.ec_clex.specs.Items.{TellsTok, TellsItem};
+ghost use Rattle.ec_split.specs.Places.{text_from};
 
 use crate::escapes::{character, unescaped};
 use crate::lines::{directive_at, include_line_end, stands_at};

@@ -5,6 +5,7 @@ ghost use Rattle.ec_language.specs.Lexemes as lexemes;
 ghost use Rattle.ec_language.specs.ReadPieces as pieces;
 ghost use Rattle.ec_language.specs.ReadTokens as read;
 ghost use Rattle.ec_clex.specs.Lines.{line_of, number_of};
+ghost use Rattle.ec_split.specs.Places.{text_from};
 
 use crate::numbers::digits_value;
 use ec_split::scanning::bytes::{ByteClass, begins_two, behind_all, is_blank, is_digit};
@@ -59,8 +60,7 @@ pub fn ends_include(text: &[u8], at: usize) -> bool
 /// The index behind an `#include` line that goes on at the index.
 pub fn include_end(text: &[u8], from: usize) -> Option<usize>
     requires { from ≤ length text.now }
-    ensures is { option_map (λ end. drop end text.now) result
-        ≡ read.include_behind (drop from text.now) }
+    ensures is { text_from text.now result ≡ read.include_behind (drop from text.now) }
     ensures within { IfSome result (λ end. (from ≤ end) × (end ≤ length text.now)) }
 {
     let mut at = from;
@@ -89,8 +89,7 @@ fn are_digits(bytes: &[u8]) -> bool
 pub fn include_line_end(text: &[u8], at: usize) -> Option<usize>
     requires inside { at < length text.now }
     requires begin { letters.begins_with (codes "#include") (drop at text.now) ≡ true }
-    ensures is { option_map (λ end. drop end text.now) result
-        ≡ read.include_behind (drop at text.now) }
+    ensures is { text_from text.now result ≡ read.include_behind (drop at text.now) }
     ensures within { IfSome result (λ end. (at + 1 ≤ end) × (end ≤ length text.now)) }
 {
     include_end(text, at + 1)

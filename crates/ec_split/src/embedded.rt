@@ -160,8 +160,8 @@ pub fn is_type_word(word: &[u8]) -> bool
     TYPE_WORDS[place_of(word)] == word
 }
 
-/// The index behind the word, if it stands behind blanks and comments from the index on, in any case
-/// of letters.
+/// The index behind the word, if it stands behind blanks and comments from the index on, in any
+/// case of letters.
 pub fn behind_word(text: &[u8], from: usize, word: &[u8]) -> Option<usize>
     requires inside { from ≤ length text.now }
     requires some { 0 < length word.now }

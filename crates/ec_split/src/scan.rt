@@ -39,8 +39,8 @@ pub fn all_parts(alloc: Global, text: &[u8]) -> Result<List<Piece>, Stop>
     Ok(pieces)
 }
 
-/// The pieces of a text: C text, and what is embedded in it. A text that has none is refused for its
-/// first fault.
+/// The pieces of a text: C text, and what is embedded in it. A text that has none is refused for
+/// its first fault.
 pub fn split(alloc: Global, text: &[u8]) -> Result<List<Piece>, Stop>
     requires { length text.now ≤ 2 ^ 24 }
     ensures pieces { IfOk result (λ pieces. Pieces text.now pieces) }

@@ -12,9 +12,9 @@ pub fn same_word(word: &[u8], other: &[u8]) -> bool
     word.len() == other.len() && word_at(word, 0, other)
 }
 
-/// The place of a word in a table of 24 words, by its length and its first and last byte. The factors
-/// are chosen so that no two words of a table have one place: then the word that stands there is the
-/// only one to look at.
+/// The place of a word in a table of 24 words, by its length and its first and last byte. The
+/// factors are chosen so that no two words of a table have one place: then the word that stands
+/// there is the only one to look at.
 pub fn place_of(word: &[u8]) -> usize
     ensures { result ≡ tables.place_of word.now }
 {
