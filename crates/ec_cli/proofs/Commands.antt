@@ -32,7 +32,7 @@ use Rattle.ec_cli.specs.declared.ending.Ending.{Ending}
 use Rattle.ec_cli.specs.declared.ending.Ending.TheVariants.{Wrote, Exited, Trapped, TurnsSpent, Usage, Refused, Limit, ReadFault, WriteFault, OutOfMemory}
 use Rattle.ec_cli.specs.declared.machine.stop.RunEnd.{RunEnd}
 use Rattle.ec_cli.specs.declared.machine.stop.RunEnd.TheVariants as ends
-use Rattle.ec_cli.specs.Answers.{IsRun, IsRefusal, IsOfRun, IsOfText, IsOwn, Decides, Whole, Part, Ran, Led, RanPart, Answers, ending_of}
+use Rattle.ec_cli.specs.Answers.{IsRun, IsCrowded, IsRefusal, IsOfRun, IsOfText, IsOwn, Decides, Whole, Part, Ran, Led, RanPart, Answers, ending_of}
 use Rattle.ec_cli.specs.Machine.{RunsOver}
 use Rattle.ec_cli.specs.Statements.{StoresInt}
 
@@ -200,10 +200,10 @@ module _ {I O X : Type 0} {F : X → Type 0} (left : I → Option (List ℕ)) (r
   decided text out out' rack rack' ReadFault within led calm = absurd led.ends
 
   -- the input was read to its end, and its text led on
-  pub Answers-led : (words : List (String Allocator)) (input input' : I) (out out' : O) (rack rack' : Rack X F) (ending : Ending) (text : List ℕ) → IsRun words
+  pub Answers-led : (words : List (String Allocator)) (input input' : I) (out out' : O) (rack rack' : Rack X F) (ending : Ending) (text : List ℕ) → IsRun words → (IsCrowded rack → ⊥)
       → ReadsAll left reads input input' (2 ^ 24) text → Led held puts talk text out out' rack rack' ending
       → Answers left reads held puts talk words input input' out out' rack rack' ending
-  Answers-led words input input' out out' rack rack' ending text named r led = record {
+  Answers-led words input input' out out' rack rack' ending text named room r led = record {
     whole = λ status h. (let w = led.ran.whole status h in record { text = text; read = record { taken = r.reads.taken; ended = r.ended; within = r.within }; program = w.program; source = w.is; whole = w.whole });
     part = λ h. part_of input input' out out' rack rack' text r (led.ran.part h);
     want = λ h. elim (led.ran.want h) [ inl u ↦ inl u | inr w ↦ inr (part_of input input' out out' rack rack' text r w) ];
@@ -215,9 +215,11 @@ module _ {I O X : Type 0} {F : X → Type 0} (left : I → Option (List ℕ)) (r
     own = text_is_own ending led.ends;
     usage = λ h. absurd (subst (λ e. IsOfText e) h led.ends);
     unread = λ h. absurd (subst (λ e. IsOfText e) h led.ends);
+    crowded = λ h. absurd (subst (λ e. IsOfText e) h led.ends);
+    full = λ named' crowd. absurd (room crowd);
     run = λ no'. absurd (no' named);
     refused = λ kind line h. (let x = led.refused kind line h in record { text = text; read = record { taken = r.reads.taken; ended = r.ended; within = r.within }; fault = x });
-    limit = λ kind h. absurd (subst (λ e. IsOfText e) h led.ends);
+    limit = λ h. absurd (subst (λ e. IsOfText e) h led.ends);
     read_fault = λ h. absurd (subst (λ e. IsOfText e) h led.ends);
     write_fault = led.ran.fault;
     reads_later = omega (arith, r.reads.steady);
@@ -225,5 +227,5 @@ module _ {I O X : Type 0} {F : X → Type 0} (left : I → Option (List ℕ)) (r
     within = record { bytes = text; taken = r.reads.taken; bounded = omega (arith, r.within) };
     reads_steady = λ other. r.reads.steady;
     puts_steady = led.ran.steady;
-    decides = λ told named' e calm calm'. subst (λ w. Decides w ending) (ReadsAll-text e r) (decided text out out' rack rack' ending r.within led calm');
+    decides = λ told named' room' e calm calm'. subst (λ w. Decides w ending) (ReadsAll-text e r) (decided text out out' rack rack' ending r.within led calm');
   }

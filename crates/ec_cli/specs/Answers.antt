@@ -1,5 +1,5 @@
 -- What a call of the tool answers, and what it leaves.
-use Rattle.std.specs.Prelude.{◌≡◌, ℕ, ◌^◌, ◌<◌, ◌≤◌, ◌⊎◌, ◌%◌, List, [], ◌∷◌, ◌++◌, map, codes, length, Option, Some}
+use Rattle.std.specs.Prelude.{◌≡◌, ℕ, ◌^◌, ◌<◌, ◌≤◌, ◌⊎◌, ◌%◌, List, [], ◌∷◌, ◌++◌, map, length, Option, Some, IsTrue, is_some}
 use Rattle.std.specs.Prelude.{String}
 use Rattle.std.specs.String.{string_bytes}
 use Rattle.std.specs.declared.alloc.Global.{Global as Allocator}
@@ -8,7 +8,7 @@ use Rattle.ec_base.specs.declared.fault.FaultKind.{FaultKind}
 use Rattle.ec_base.specs.declared.fault.FaultKind.TheVariants.{F9}
 use Rattle.ec_base.specs.declared.line.Line.{Line}
 use Rattle.ec_base.specs.declared.fault.LimitKind.{LimitKind}
-use Rattle.ec_base.specs.declared.fault.LimitKind.TheVariants.{L6}
+use Rattle.ec_base.specs.declared.fault.LimitKind.TheVariants.{L6, L7}
 use Rattle.ec_base.specs.declared.stop.Stop.{Stop}
 use Rattle.ec_base.specs.declared.stop.Stop.TheVariants as stops
 use Rattle.ec_base.specs.Causes.{Rose}
@@ -30,11 +30,16 @@ use Rattle.ec_cli.specs.declared.ending.Ending.{Ending}
 use Rattle.ec_cli.specs.declared.ending.Ending.TheVariants.{Wrote, Exited, Trapped, TurnsSpent, Usage, Refused, Limit, ReadFault, WriteFault, OutOfMemory}
 use Rattle.ec_cli.specs.declared.machine.stop.RunEnd.{RunEnd}
 use Rattle.ec_cli.specs.declared.machine.stop.RunEnd.TheVariants as ends
+use Rattle.ec_words.specs.Words.{words_of}
 use Rattle.ec_cli.specs.Machine.{RunsOver}
 
--- the words name the one command that there is
+-- the words name a run
 abbrev pub IsRun : List (String Allocator) → Type 0
-IsRun words = map string_bytes words ≡ codes "run" ∷ []
+IsRun words = IsTrue (is_some (words_of (map string_bytes words)))
+
+-- the rack has more slots than the tool takes
+abbrev pub IsCrowded : {X : Type 0} {F : X → Type 0} → Rack X F → Type 0
+IsCrowded rack = 64 < length (slots_of rack)
 
 -- nothing was run, by the ending alone
 abbrev pub IsRefusal : Ending → Type 0
@@ -95,7 +100,7 @@ IsOwn TurnsSpent = ⊥
 IsOwn (Exited status) = Unit {0}
 IsOwn Usage = Unit {0}
 IsOwn (Refused kind line) = Unit {0}
-IsOwn (Limit kind) = kind ≡ L6
+IsOwn (Limit kind) = (kind ≡ L6) ⊎ (kind ≡ L7)
 IsOwn ReadFault = Unit {0}
 IsOwn WriteFault = Unit {0}
 IsOwn OutOfMemory = Unit {0}
@@ -140,9 +145,11 @@ module _ {I O X : Type 0} {F : X → Type 0} (left : I → Option (List ℕ)) (r
     pub own : IsOwn ending
     pub usage : ending ≡ Usage → IsRun words → ⊥
     pub unread : ending ≡ Usage → input' ≡ input
+    pub crowded : ending ≡ Limit L7 → IsRun words × IsCrowded rack × (input' ≡ input)
+    pub full : IsRun words → IsCrowded rack → ending ≡ Limit L7
     pub run : (IsRun words → ⊥) → ending ≡ Usage
     pub refused : (kind : FaultKind) (line : Line) → ending ≡ Refused kind line → RefusesAt IsFault (left input) (left input') kind line.0
-    pub limit : (kind : LimitKind) → ending ≡ Limit kind → IsTooLong (left input) (left input')
+    pub limit : ending ≡ Limit L6 → IsTooLong (left input) (left input')
     pub read_fault : ending ≡ ReadFault → Rose (reads input) (reads input')
     pub write_fault : ending ≡ WriteFault → Rose (puts out) (puts out')
     pub reads_later : reads input ≤ reads input'
@@ -150,7 +157,7 @@ module _ {I O X : Type 0} {F : X → Type 0} (left : I → Option (List ℕ)) (r
     pub within : ReadsWithin (left input) (left input')
     pub reads_steady : (ending ≡ ReadFault → ⊥) → reads input' ≡ reads input
     pub puts_steady : (ending ≡ WriteFault → ⊥) → puts out' ≡ puts out
-    pub decides : (text : List ℕ) → IsRun words → left input ≡ Some text → (Rose (reads input) (reads input') → ⊥) → (Rose (puts out) (puts out') → ⊥) → Decides text ending
+    pub decides : (text : List ℕ) → IsRun words → (IsCrowded rack → ⊥) → left input ≡ Some text → (Rose (reads input) (reads input') → ⊥) → (Rose (puts out) (puts out') → ⊥) → Decides text ending
 
 module _ {O X : Type 0} {F : X → Type 0} (held : O → Option (List ℕ)) (puts : O → ℕ) (talk : DynBox X Allocator F → Option Talk) where
   -- what a source means, over the slots and the log of the rack

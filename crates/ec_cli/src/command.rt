@@ -1,10 +1,9 @@
 //! The command `run`: a source is read, written as C, read back and run.
-ghost use Rattle.std.specs.Prelude.{◌≡◌, ◌+◌, ◌≤◌, ◌<◌, ◌^◌, ◌↔◌, IsTrue, codes, length, IfOk, IfErr};
-ghost use Rattle.std.specs.String.{string_bytes};
+ghost use Rattle.std.specs.Prelude.{◌≡◌, ◌+◌, ◌≤◌, ◌<◌, ◌^◌, ◌↔◌, IsTrue, length, IfOk, IfErr};
 ghost use Rattle.ec_firstpath.specs.Source.{IsValid, IsSource};
 ghost use Rattle.ec_firstpath.specs.Written.{written};
 ghost use Rattle.ec_cli.specs.Refusals as text_refusal;
-ghost use Rattle.ec_cli.specs.Answers.{IsRun, IsOfRun, Answers, Ran, Led, refusal_of, ending_of};
+ghost use Rattle.ec_cli.specs.Answers.{IsRun, IsCrowded, IsOfRun, Answers, Ran, Led, refusal_of, ending_of};
 ghost use Rattle.ec_link.specs.Links.{talk_by};
 
 use crate::ending::Ending;
@@ -15,23 +14,27 @@ use crate::written::write::write;
 use ec_base::{Bytes, InputStop, LimitKind, OutOfMemory, Sink, Source as Input, Stop, read_all};
 use ec_firstpath::{Source, Written};
 use ec_link::{Link, Rack};
+use ec_words::read_words;
 use std::alloc::Global;
 
 /// The most bytes that an input has.
 pub const INPUT_LIMIT: usize = 1 << 24;
 
-// Whether the words are those of the command.
+/// The most slots that a rack has.
+pub const SLOT_LIMIT: usize = 64;
+
+// Whether the words name a run.
 fn names_run(words: &[String]) -> bool
     ensures { IsTrue result ↔ IsRun words.now }
 {
-    words.len() == 1 && is_run(&words[0])
+    read_words(words).is_some()
 }
 
-// Whether the word is that of the command.
-fn is_run(word: &String) -> bool
-    ensures { IsTrue result ↔ (string_bytes word.now ≡ codes "run") }
+// Whether the rack has more slots than are taken.
+fn is_crowded(rack: &Rack) -> bool
+    ensures { IsTrue result ↔ IsCrowded rack.now }
 {
-    word.as_str() == "run"
+    rack.slots().len() > SLOT_LIMIT
 }
 
 // The source in a text, which is let go.
@@ -118,6 +121,9 @@ pub fn command<I: Input, O: Sink>(
 {
     if !names_run(words) {
         return Ending::Usage;
+    }
+    if is_crowded(rack) {
+        return Ending::Limit(LimitKind::L7);
     }
     match read_all(alloc, input, INPUT_LIMIT) {
         Ok(text) => run_text(alloc, text, out, rack),

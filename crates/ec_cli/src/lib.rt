@@ -11,6 +11,7 @@ mod source;
 mod tool;
 mod written;
 
+pub use ec_words::{LinkSpec, links_named};
 pub use ending::{Ending, status};
 pub use laws::one_reading;
 pub use tool::ec_main;

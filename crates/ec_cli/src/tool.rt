@@ -2,7 +2,7 @@
 ghost use Rattle.std.specs.Prelude.{◌≡◌, ◌⊎◌, ◌↔◌, ◌++◌, ℕ, List, Some};
 ghost use Rattle.ec_base.specs.declared.fault.FaultKind.{FaultKind};
 ghost use Rattle.ec_base.specs.declared.fault.LimitKind.{LimitKind};
-ghost use Rattle.ec_base.specs.declared.fault.LimitKind.TheVariants.{L6};
+ghost use Rattle.ec_base.specs.declared.fault.LimitKind.TheVariants.{L6, L7};
 ghost use Rattle.ec_base.specs.declared.line.Line.{Line};
 ghost use Rattle.ec_base.specs.Causes.{Rose};
 ghost use Rattle.ec_link.specs.Rack.{slots_of, log_of};
@@ -12,7 +12,7 @@ ghost use Rattle.ec_observed.specs.Headline.{RunsWhole, RefusesAt, IsTooLong, Re
 ghost use Rattle.ec_firstpath.specs.Direct.{direct_meaning};
 ghost use Rattle.ec_firstpath.specs.Faults.{IsFault};
 ghost use Rattle.ec_firstpath.specs.Source.{IsSource};
-ghost use Rattle.ec_cli.specs.Answers.{IsRun, IsRefusal, IsOwn, Decides, Announces, RanPart, grown};
+ghost use Rattle.ec_cli.specs.Answers.{IsRun, IsCrowded, IsRefusal, IsOwn, Decides, Announces, RanPart, grown};
 ghost use Rattle.ec_cli.specs.Ending.{last_line};
 ghost use Rattle.ec_cli.specs.Machine.{RunsOver};
 ghost use Rattle.ec_link.specs.Links.{talk_by};
@@ -26,8 +26,9 @@ use std::alloc::Global;
 
 /// Does what the words name, and puts a last line on `err` where the ending has one.
 ///
-/// The one command is `run`, without further words: the source that `input` gives is written as C, read back, and run
-/// over the first ready slot of the rack, if it has one. The program prints on `out`.
+/// The one command is `run`, with its options and links: the source that `input` gives is written as C, read back, and run
+/// over the first ready slot of the rack, if it has one. The program prints on `out`. More than 64 slots are a limit, which
+/// is tested before the input is read.
 ///
 /// A fault while the last line is put changes no ending.
 pub fn ec_main<I: Source, O: Sink, E: Sink>(
@@ -65,19 +66,20 @@ pub fn ec_main<I: Source, O: Sink, E: Sink>(
     ensures logged { log_of rack.new ≡ log_of rack.old ++ grown rack.old rack.new }
 
     // A refusal touches nothing, and wrong words read nothing. No call reads far beyond the limit.
-    ensures unread { result ≡ Ending.Usage → input.new ≡ input.old }
+    ensures unread { (result ≡ Ending.Usage) ⊎ (result ≡ Ending.Limit L7) → input.new ≡ input.old }
     ensures untouched { IsRefusal result → (rack.new ≡ rack.old) × (out.new ≡ out.old) }
     ensures within { ReadsWithin (I.left input.old) (I.left input.new) }
 
     // When each answer comes.
     ensures own { IsOwn result }
     ensures usage { (result ≡ Ending.Usage) ↔ (IsRun words.now → ⊥) }
+    ensures crowded { (result ≡ Ending.Limit L7) ↔ IsRun words.now × IsCrowded rack.old }
     ensures refused { (kind : FaultKind) (line : Line) → result ≡ Ending.Refused kind line →
         RefusesAt IsFault (I.left input.old) (I.left input.new) kind line.0 }
     ensures limit { result ≡ Ending.Limit L6 → IsTooLong (I.left input.old) (I.left input.new) }
     ensures read_fault { result ≡ Ending.ReadFault → Rose (I.faults input.old) (I.faults input.new) }
     ensures write_fault { result ≡ Ending.WriteFault → Rose (O.faults out.old) (O.faults out.new) }
-    ensures decides { (text : List ℕ) → IsRun words.now → I.left input.old ≡ Some text
+    ensures decides { (text : List ℕ) → IsRun words.now → (IsCrowded rack.old → ⊥) → I.left input.old ≡ Some text
         → (Rose (I.faults input.old) (I.faults input.new) → ⊥)
         → (Rose (O.faults out.old) (O.faults out.new) → ⊥) → Decides text result }
 
