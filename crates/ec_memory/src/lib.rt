@@ -4,12 +4,14 @@
 mod elements;
 mod moves;
 mod place;
+mod pointers;
 mod scalars;
 mod store;
 mod texts;
 mod value;
 
 pub use elements::Elements;
+pub use pointers::{difference, order};
 pub use store::{MakeStop, Store};
 pub use value::Value;
 
