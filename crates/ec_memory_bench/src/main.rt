@@ -19,10 +19,7 @@ const OBJECTS: u64 = 10_000_000;
 /// The value at a pointer is an int of bytes that are all 1.
 #[inline(always)]
 fn is_loaded(store: &Store, ptr: Ptr) -> bool {
-    matches!(
-        store.load_kind(ptr, Kind::Int),
-        Ok(Value::Int(0x0101_0101))
-    )
+    matches!(store.load_kind(ptr, Kind::Int), Ok(Value::Int(0x0101_0101)))
 }
 
 #[inline(always)]
