@@ -9,7 +9,7 @@ ghost use Rattle.ec_grammar.specs.ReadStatements as spec;
 ghost use Rattle.ec_language.specs.Productions as places;
 ghost use Rattle.ec_csyntax.specs.Views.{each_stmt, stmt_option};
 
-use ec_base::{Boxed, Line, List, OutOfMemory, beside};
+use ec_base::{Boxed, Line, List, OutOfMemory};
 use ec_ctypes::{Decl, Expr, ForParts, Stmt, StmtKind};
 use ec_declarations::{ForHead, ForStart, Start, list_of};
 use std::alloc::Global;
@@ -131,9 +131,8 @@ pub fn for_loop(
     match first {
         ForStart::Expression(first) => loop_of(alloc, start, first, condition, step, inner),
         ForStart::Declaration(declaration) => {
-            let inner = loop_of(alloc, start, None, condition, step, inner);
-            let (declaration, repeated) = beside(declaration, inner)?;
-            let (repeated, items) = beside(repeated, declared(alloc, declaration))?;
+            let items = declared(alloc, declaration)?;
+            let repeated = loop_of(alloc, start, None, condition, step, inner)?;
             block_with(start, items, repeated)
         }
     }
