@@ -1,41 +1,15 @@
-//! The program `ecpgc`: the tool over standard input, output and error.
-//!
-//! Its rack has one ready slot `db`, over a link in memory whose one reply is one row with the number 7.
+//! The program `ecpgc`: the tool over standard input, output and error, and over the links that its words name.
 #![tactic(auto)]
 
-use ec_base::{Bytes, List, Name, OutOfMemory, StdSink, StdSource};
-use ec_cli::{Ending, ec_main, status};
-use ec_link::{Col, MemLink, Rack, Reply, Row, Table, Tx};
-use std::alloc::Global;
+use ec_base::{Name, OutOfMemory, StdSink, StdSource};
+use ec_cli::{Ending, LinkSpec, ec_main, links_named, status};
+use ec_link::Rack;
+use ec_sqlitelink::SqliteLink;
 use std::env;
 use std::process::ExitCode;
 
-// The one reply of the link: a column `a`, and a row with the field `7`.
-fn stored_reply(alloc: Global) -> Result<Reply, OutOfMemory> {
-    let mut cols = List::new(alloc);
-    cols.push(Col {
-        name: Name::from_slice(alloc, b"a")?,
-        code: 4,
-    })?;
-    let mut row = Row::new(alloc);
-    row.push(Some(Bytes::from_slice(alloc, b"7")?))?;
-    let mut rows = List::new(alloc);
-    rows.push(row)?;
-    match Table::new(cols, rows) {
-        Some(table) => Ok(Reply::Rows {
-            table,
-            tx: Tx::Idle,
-        }),
-        None => Ok(Reply::Broken),
-    }
-}
-
-// The link of the ready slot.
-fn stored_link(alloc: Global) -> Result<MemLink, OutOfMemory> {
-    let mut replies = List::new(alloc);
-    replies.push(stored_reply(alloc)?)?;
-    MemLink::new(alloc, replies, &[])
-}
+/// So many slots are more than the tool takes, so no link beyond them is made.
+const ENOUGH_SLOTS: usize = 65;
 
 // The words behind the program's name. Where one of them is no text there are none, so that they name no command.
 fn words(rt: &HostRuntime) -> Result<Vec<String>, OutOfMemory> {
@@ -48,21 +22,47 @@ fn words(rt: &HostRuntime) -> Result<Vec<String>, OutOfMemory> {
     Ok(words)
 }
 
-// Runs the tool.
+// The link that a word names.
+fn link(rt: &HostRuntime, spec: &LinkSpec) -> Result<SqliteLink, OutOfMemory> {
+    match spec {
+        LinkSpec::Memory { .. } => SqliteLink::memory(rt.alloc()),
+        LinkSpec::File { path, .. } => SqliteLink::file(rt, rt.alloc(), path.as_slice()),
+    }
+}
+
+// The name of a link, and whether its connection is ready at the start.
+fn target(spec: &LinkSpec) -> Result<(Name, bool), OutOfMemory> {
+    match spec {
+        LinkSpec::Memory { ready, target } | LinkSpec::File { ready, target, .. } => Ok((target.clone()?, *ready)),
+    }
+}
+
+// Runs the tool over the links that the words name.
 fn run(rt: &HostRuntime) -> Result<Ending, OutOfMemory> {
-    let alloc = rt.alloc();
     let words = words(rt)?;
-    let mut rack = Rack::new(alloc);
-    let target = Name::from_slice(alloc, b"db")?;
-    let link = Box::new(alloc, stored_link(alloc)?)?;
-    if rack.add_ready(target, link).is_err() {
-        return Err(OutOfMemory);
+    let specs = links_named(rt.alloc(), words.as_slice())?;
+    let mut rack = Rack::new(rt.alloc());
+    for spec in specs.as_slice() {
+        if rack.slots().len() >= ENOUGH_SLOTS {
+            break;
+        }
+        let (target, ready) = target(spec)?;
+        let link = Box::new(rt.alloc(), link(rt, spec)?)?;
+        // A second ready one is added as a free one.
+        let added = if ready && !rack.has_ready() {
+            rack.add_ready(target, link)
+        } else {
+            rack.add(target, link)
+        };
+        if added.is_err() {
+            return Err(OutOfMemory);
+        }
     }
     let mut input = StdSource::new(rt.stdin());
     let mut out = StdSink::new(rt.stdout());
     let mut err = StdSink::new(rt.stderr());
     Ok(ec_main(
-        alloc,
+        rt.alloc(),
         words.as_slice(),
         &mut input,
         &mut out,
