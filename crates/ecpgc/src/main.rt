@@ -33,7 +33,10 @@ fn link(rt: &HostRuntime, spec: &LinkSpec) -> Result<SqliteLink, OutOfMemory> {
 // The name of a link, and whether its connection is ready at the start.
 fn target(spec: &LinkSpec) -> Result<(Name, bool), OutOfMemory> {
     match spec {
-        LinkSpec::Memory { ready, target } | LinkSpec::File { ready, target, .. } => Ok((target.clone()?, *ready)),
+        LinkSpec::Memory { ready, target } | LinkSpec::File { ready, target, .. } => Ok((
+            target.clone()?,
+            *ready,
+        )),
     }
 }
 
