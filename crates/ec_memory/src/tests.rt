@@ -61,6 +61,18 @@ fn moves(rt: &impl Abort, store: &Store, at: u64, by: i64, size: u64, outcome: R
     assert_eq!(rt; store.move_ptr(Ptr(at), by, size), outcome);
 }
 
+/// Moves a pointer by an index of 128 bits.
+fn moves_wide(
+    rt: &impl Abort,
+    store: &Store,
+    at: u64,
+    by: i128,
+    size: u64,
+    outcome: Result<Ptr, Trap>,
+) {
+    assert_eq!(rt; store.move_ptr_wide(Ptr(at), by, size), outcome);
+}
+
 /// Counts the elements of four bytes from one pointer to another.
 fn counts(rt: &impl Abort, to: u64, from: u64, outcome: Result<i64, Trap>) {
     assert_eq!(rt; difference(Ptr(to), Ptr(from), 4), outcome);
@@ -187,6 +199,27 @@ fn pointers_outlive_objects(rt: HostRuntime) {
     make(&rt, &mut store, 1, SECOND);
     loads(&rt, &store, FIRST, Arith::Char, Err(Trap::Dead));
     moves(&rt, &store, FIRST, 0, 1, Err(Trap::Dead));
+}
+
+#[test]
+fn pointers_move_by_any_index(rt: HostRuntime) {
+    let mut store = Store::new(rt.alloc());
+    make(&rt, &mut store, 8, FIRST);
+    for (at, by, size, outcome) in [
+        (FIRST, 2, 4, Ok(Ptr(FIRST + 8))),
+        (FIRST + 8, -2, 4, Ok(Ptr(FIRST))),
+        (FIRST, 3, 4, Err(Trap::Outside)),
+        (FIRST, 1 << 63, 1, Err(Trap::Outside)),
+        (FIRST, 1 << 64, 1 << 63, Err(Trap::Outside)),
+        (FIRST, i128::MAX, 1, Err(Trap::Outside)),
+        (FIRST + 8, i128::MAX, 1, Err(Trap::Outside)),
+        (FIRST, i128::MIN, u64::MAX, Err(Trap::Outside)),
+        (FIRST + 8, i128::MIN, 0, Ok(Ptr(FIRST + 8))),
+        (0, i128::MAX, 1, Err(Trap::Null)),
+        (SECOND, i128::MIN, 1, Err(Trap::Dead)),
+    ] {
+        moves_wide(&rt, &store, at, by, size, outcome);
+    }
 }
 
 #[test]
