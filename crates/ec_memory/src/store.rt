@@ -7,7 +7,7 @@ ghost use Rattle.ec_memory.specs.declared.store.MakeStop.TheVariants as stops;
 ghost use Rattle.ec_objects.specs.Memory.{cells_at, live_bytes, span, text_at, text_up_to, moved, pointer_to, put, fill, unset, copy, make, make_zeroed, with_object, last_number, end_to};
 ghost use Rattle.ec_memory.specs.Store.{first_cells, outcome, seen};
 
-use crate::moves::moved_to;
+use crate::moves::{moved_to, moved_wide_to};
 use crate::place::{Place, count_up_to, object, offset_in, reach};
 use crate::texts::{front_in, text_in};
 use ec_base::{OutOfMemory, Trap};
@@ -151,6 +151,15 @@ impl Store {
     {
         let place = object(&self.alive, ptr)?;
         moved_to(place.size, ptr, by, size)
+    }
+
+    /// The same by an index of any 128-bit number, as an evaluated expression has it: no index wraps. The traps are those
+    /// of `move_ptr`.
+    pub fn move_ptr_wide(&self, ptr: Ptr, by: i128, size: u64) -> Result<Ptr, Trap>
+        ensures { seen (λ to. to.0) result ≡ moved self.now ptr.0 by size }
+    {
+        let place = object(&self.alive, ptr)?;
+        moved_wide_to(place.size, ptr, by, size)
     }
 
     /// Whether `n` bytes at a pointer lie in an object: else `Null`, `Dead` or `Outside`. None of them is read.

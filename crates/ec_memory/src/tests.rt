@@ -8,6 +8,7 @@ use ec_base::Trap;
 use ec_bytes::{I16, Ptr};
 use ec_ctypes::{Arith, Ty};
 use ec_objects::Kind;
+use std::cmp::Ordering;
 use std::process::Abort;
 
 /// The pointers to the first bytes of the first objects.
@@ -58,6 +59,28 @@ fn loads(rt: &impl Abort, store: &Store, at: u64, ty: Arith, outcome: Result<Val
 /// Moves a pointer.
 fn moves(rt: &impl Abort, store: &Store, at: u64, by: i64, size: u64, outcome: Result<Ptr, Trap>) {
     assert_eq!(rt; store.move_ptr(Ptr(at), by, size), outcome);
+}
+
+/// Moves a pointer by an index of 128 bits.
+fn moves_wide(
+    rt: &impl Abort,
+    store: &Store,
+    at: u64,
+    by: i128,
+    size: u64,
+    outcome: Result<Ptr, Trap>,
+) {
+    assert_eq!(rt; store.move_ptr_wide(Ptr(at), by, size), outcome);
+}
+
+/// Counts the elements of four bytes from one pointer to another.
+fn counts(rt: &impl Abort, to: u64, from: u64, outcome: Result<i64, Trap>) {
+    assert_eq!(rt; difference(Ptr(to), Ptr(from), 4), outcome);
+}
+
+/// Compares two pointers.
+fn compares(rt: &impl Abort, one: u64, other: u64, outcome: Ordering) {
+    assert_eq!(rt; order(Ptr(one), Ptr(other)), outcome);
 }
 
 /// Copies bytes from one pointer to another.
@@ -176,6 +199,43 @@ fn pointers_outlive_objects(rt: HostRuntime) {
     make(&rt, &mut store, 1, SECOND);
     loads(&rt, &store, FIRST, Arith::Char, Err(Trap::Dead));
     moves(&rt, &store, FIRST, 0, 1, Err(Trap::Dead));
+}
+
+#[test]
+fn pointers_move_by_any_index(rt: HostRuntime) {
+    let mut store = Store::new(rt.alloc());
+    make(&rt, &mut store, 8, FIRST);
+    for (at, by, size, outcome) in [
+        (FIRST, 2, 4, Ok(Ptr(FIRST + 8))),
+        (FIRST + 8, -2, 4, Ok(Ptr(FIRST))),
+        (FIRST, 3, 4, Err(Trap::Outside)),
+        (FIRST, 1 << 63, 1, Err(Trap::Outside)),
+        (FIRST, 1 << 64, 1 << 63, Err(Trap::Outside)),
+        (FIRST, i128::MAX, 1, Err(Trap::Outside)),
+        (FIRST + 8, i128::MAX, 1, Err(Trap::Outside)),
+        (FIRST, i128::MIN, u64::MAX, Err(Trap::Outside)),
+        (FIRST + 8, i128::MIN, 0, Ok(Ptr(FIRST + 8))),
+        (0, i128::MAX, 1, Err(Trap::Null)),
+        (SECOND, i128::MIN, 1, Err(Trap::Dead)),
+    ] {
+        moves_wide(&rt, &store, at, by, size, outcome);
+    }
+}
+
+#[test]
+fn pointers_are_compared(rt: HostRuntime) {
+    for (to, from, outcome) in [
+        (FIRST + 8, FIRST, Ok(2)),
+        (FIRST, FIRST + 8, Ok(-2)),
+        (FIRST, FIRST + 7, Ok(-1)),
+        (FIRST, SECOND, Err(Trap::Outside)),
+        (0, 0, Ok(0)),
+    ] {
+        counts(&rt, to, from, outcome);
+    }
+    compares(&rt, FIRST, FIRST + 1, Ordering::Less);
+    compares(&rt, SECOND, FIRST + 1, Ordering::Greater);
+    compares(&rt, 0, 0, Ordering::Equal);
 }
 
 #[test]

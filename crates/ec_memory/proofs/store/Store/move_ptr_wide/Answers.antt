@@ -1,0 +1,21 @@
+-- The pointer moves within its object, whatever the index is.
+use Rattle.std.proofs.Common.{◌∙◌, ap, rules, arith}
+use Rattle.std.specs.Int.{w128}
+use Rattle.std.proofs.Math.Facts.{to_z-of_z}
+use mir.Val.{SFits}
+use Rattle.ec_objects.specs.Memory.{moved}
+use Rattle.ec_memory.proofs.Calls.{rising_of, object_room, moved_of}
+use Rattle.ec_memory.proofs.store.Store.move_ptr_wide.Goals as goal
+
+pub object-requires : goal.object-requires
+object-requires c = rising_of _ _ _ _ c.self.invariant c.deref.ensures.value
+
+pub moved_wide_to-requires : goal.moved_wide_to-requires
+moved_wide_to-requires c = omega (arith, object_room _ _ _ _ _ _ c.self.invariant c.deref.ensures.value c.in_ok-place.ensures, c.self.invariant.few_bytes)
+
+pub returns : goal.returns
+returns c =
+    let fits : SFits w128 c.args.by = search rules in
+    c.moved_wide_to.ensures
+    ∙ moved_of _ _ _ _ _ c.args.ptr.0 _ _ c.args.size c.self.view_is c.self.invariant c.deref.ensures.value c.in_ok-place.ensures
+    ∙ ap (λ by. moved c.args.self.now c.args.ptr.0 by c.args.size) (to_z-of_z fits)
