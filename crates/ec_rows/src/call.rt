@@ -1,6 +1,5 @@
 //! A call of the tool, as a row gives it.
 
-use crate::place::Place;
 use crate::setup::{Given, Stop};
 use crate::show::{put_log, put_number, put_quoted, put_slots};
 use ec_base::{
@@ -8,7 +7,7 @@ use ec_base::{
     read_all,
 };
 use ec_cli::{Ending, ec_main, status};
-use ec_link::{Link, Rack};
+use ec_link::Rack;
 use std::alloc::Global;
 use std::{mem, str};
 
@@ -26,24 +25,6 @@ fn words(alloc: Global, line: &[u8]) -> Result<Vec<String>, Stop> {
         }
     }
     Ok(words)
-}
-
-// Adds a slot to the rack. Only one is ready.
-fn add(alloc: Global, rack: &mut Rack, place: Place) -> Result<(), Stop> {
-    if rack.slots().len() >= MOST_SLOTS {
-        return Err(Stop::Form);
-    }
-    let ready = place.ready;
-    let (name, link) = place.link(alloc)?;
-    let link: Box<dyn Link> = Box::new(alloc, link).map_err(|_| Stop::OutOfMemory)?;
-    let added = if !ready {
-        rack.add(name, link)
-    } else if rack.has_ready() {
-        return Err(Stop::Form);
-    } else {
-        rack.add_ready(name, link)
-    };
-    added.map_err(|_| Stop::OutOfMemory)
 }
 
 // The bytes that a source still gives, behind a read that may fail.
@@ -106,51 +87,87 @@ fn put_text(shown: &mut Bytes, name: &[u8], text: &[u8]) -> Result<(), OutOfMemo
     shown.push(b'\n')
 }
 
-// Makes the call over the objects, and shows what they hold.
-fn call_over(
-    alloc: Global,
-    source: &Bytes,
-    given: &Given,
-    rack: &mut Rack,
-    shown: &mut Bytes,
-) -> Result<(), Stop> {
+// What the call is given beside the rack.
+#[derive(Drop)]
+struct Objects {
+    words: Vec<String>,
+    input: MemSource,
+    out: MemSink,
+    err: MemSink,
+}
+
+// Makes what the call is given beside the rack.
+fn make_objects(alloc: Global, source: &Bytes, given: &Given) -> Result<Objects, Stop> {
     let chunk = given.chunk.max(1);
-    let words = words(alloc, given.words.as_slice())?;
-    let mut input = MemSource::new(alloc, source.as_slice(), chunk, given.reads.as_slice())?;
-    let mut out = MemSink::new(alloc, given.room, chunk, given.puts.as_slice())?;
-    let mut err = MemSink::new(alloc, 4096, 4096, given.last.as_slice())?;
-    let ending = ec_main(
-        alloc,
-        words.as_slice(),
-        &mut input,
-        &mut out,
-        &mut err,
-        rack,
-    );
-    put_ending(shown, &ending)?;
-    put_text(shown, b"out ", out.held())?;
-    put_text(shown, b"err ", err.held())?;
+    Ok(Objects {
+        words: words(alloc, given.words.as_slice())?,
+        input: MemSource::new(alloc, source.as_slice(), chunk, given.reads.as_slice())?,
+        out: MemSink::new(alloc, given.room, chunk, given.puts.as_slice())?,
+        err: MemSink::new(alloc, 4096, 4096, given.last.as_slice())?,
+    })
+}
+
+// Shows the ending, and what the objects hold.
+fn put_objects(
+    alloc: Global,
+    shown: &mut Bytes,
+    ending: &Ending,
+    objects: &mut Objects,
+) -> Result<(), Stop> {
+    put_ending(shown, ending)?;
+    put_text(shown, b"out ", objects.out.held())?;
+    put_text(shown, b"err ", objects.err.held())?;
     shown.extend_from_slice(b"left ")?;
-    put_number(shown, left(alloc, &mut input)?.len() as u64)?;
+    put_number(shown, left(alloc, &mut objects.input)?.len() as u64)?;
     shown.push(b'\n')?;
     Ok(())
 }
 
-/// Makes the call, and shows what it leaves. The slots are used up.
+// Shows the title of a row.
+fn put_title(shown: &mut Bytes, given: &Given) -> Result<(), OutOfMemory> {
+    shown.extend_from_slice(b"row ")?;
+    shown.extend_from_slice(given.title.as_slice())?;
+    shown.push(b'\n')
+}
+
+/// Makes the call, and shows what it leaves. The slots are used up. The rack and its links are made here, since no caller
+/// has them.
 pub fn make_call(
     alloc: Global,
     source: &Bytes,
     given: &mut Given,
     shown: &mut Bytes,
 ) -> Result<(), Stop> {
+    let mut objects = make_objects(alloc, source, given)?;
     let mut rack = Rack::new(alloc);
     for place in mem::replace(&mut given.places, List::new(alloc)) {
-        add(alloc, &mut rack, place)?;
+        if rack.slots().len() >= MOST_SLOTS {
+            return Err(Stop::Form);
+        }
+        let ready = place.ready;
+        let (name, link) = place.link(alloc)?;
+        let link = Box::new(alloc, link).map_err(|_| Stop::OutOfMemory)?;
+        let added = if !ready {
+            rack.add(name, link)
+        } else if rack.has_ready() {
+            return Err(Stop::Form);
+        } else {
+            rack.add_ready(name, link)
+        };
+        if added.is_err() {
+            return Err(Stop::OutOfMemory);
+        }
     }
-    shown.extend_from_slice(b"row ")?;
-    shown.extend_from_slice(given.title.as_slice())?;
-    shown.push(b'\n')?;
-    call_over(alloc, source, given, &mut rack, shown)?;
+    let ending = ec_main(
+        alloc,
+        objects.words.as_slice(),
+        &mut objects.input,
+        &mut objects.out,
+        &mut objects.err,
+        &mut rack,
+    );
+    put_title(shown, given)?;
+    put_objects(alloc, shown, &ending, &mut objects)?;
     put_log(shown, rack.log())?;
     put_slots(shown, rack.slots())?;
     shown.push(b'\n')?;
