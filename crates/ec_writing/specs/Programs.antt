@@ -72,10 +72,15 @@ abbrev pub more_params_chunks : List ParamData → Chunks
 more_params_chunks [] = []
 more_params_chunks (q ∷ qs) = mark p.Comma ∷ blank ∷ param_chunks q ++ more_params_chunks qs
 
+abbrev pub some_params_chunks : List ParamData → Chunks
+some_params_chunks [] = []
+some_params_chunks (q ∷ qs) = param_chunks q ++ more_params_chunks qs
+
 -- a function without parameters has `(void)`
 abbrev pub params_chunks : List ParamData → Chunks
 params_chunks [] = mark p.LeftParen ∷ word (codes "void") ∷ mark p.RightParen ∷ []
-params_chunks (q ∷ qs) = mark p.LeftParen ∷ (param_chunks q ++ more_params_chunks qs) ++ mark p.RightParen ∷ []
+params_chunks (q ∷ qs) =
+    mark p.LeftParen ∷ some_params_chunks (q ∷ qs) ++ mark p.RightParen ∷ []
 
 abbrev pub body_chunks : Option StmtList → Chunks
 body_chunks None = mark p.Semicolon ∷ []

@@ -9,7 +9,7 @@ use Rattle.ec_ctypes.specs.trees.Exprs.{ExprData, integer, character, string, id
 use Rattle.ec_ctypes.specs.trees.Embedded.{EmbData}
 use Rattle.ec_ctypes.specs.trees.Stmts.{StmtData, stmt, StmtKindData, empty_stmt, expr_stmt, block_stmt, if_stmt, while_stmt, do_stmt, for_stmt, break_stmt, continue_stmt, return_stmt, goto_stmt, label_stmt, decl_stmt, emb_stmt, mark_stmt, StmtList, no_stmts, stmts, StmtOption, no_stmt, some_stmt}
 use Rattle.ec_ctypes.specs.trees.Units.{ParamData, FuncData, TopData, include_top, directive_top, decl_top, func_top, mark_top, UnitData}
-use Rattle.ec_language.specs.Letters.{Text, each, is_among, same_word}
+use Rattle.ec_language.specs.Letters.{Text, each, is_among, same_text, same_word}
 use Rattle.ec_language.specs.CText.{is_word}
 use Rattle.ec_language.specs.Keywords.{type_words, is_name}
 use Rattle.ec_language.specs.Tokens.{is_left_out_word}
@@ -24,12 +24,12 @@ abbrev pub is_plain_name : Text → Bool
 is_plain_name x = is_word x && (not (is_left_out_word x) && is_name x)
 
 -- These two stand for members of the communication area where an expression begins with them.
-abbrev pub area_words : List Text
-area_words = codes "SQLCODE" ∷ codes "SQLSTATE" ∷ []
+abbrev pub is_area_word : Text → Bool
+is_area_word x = same_text x (codes "SQLCODE") || same_text x (codes "SQLSTATE")
 
 -- a name that an expression can begin with
 abbrev pub is_free_name : Text → Bool
-is_free_name x = is_plain_name x && not (is_among area_words x)
+is_free_name x = is_plain_name x && not (is_area_word x)
 
 -- the types of integer constants
 abbrev pub is_constant_type : TyData → Bool
