@@ -3,6 +3,7 @@
 
 mod elements;
 mod moves;
+mod padded;
 mod place;
 mod pointers;
 mod scalars;
