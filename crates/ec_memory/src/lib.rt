@@ -15,6 +15,3 @@ pub use elements::Elements;
 pub use pointers::{difference, order};
 pub use store::{MakeStop, Store};
 pub use value::Value;
-
-#[cfg(test)]
-mod tests;
