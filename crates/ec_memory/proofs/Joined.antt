@@ -1,5 +1,5 @@
 -- Pieces that are written one behind the other.
-use Rattle.std.proofs.Common.{◌≡◌, ◌∙◌, sym, ap, refl, ℕ, zero, suc, ◌+◌, ◌≤◌, List, [], ◌∷◌, ◌++◌, length, take, drop, map, replicate, Some, arith, length-append, append_assoc}
+use Rattle.std.proofs.Common.{◌≡◌, ◌∙◌, sym, ap, refl, ℕ, zero, suc, ◌+◌, ◌≤◌, List, [], ◌∷◌, ◌++◌, length, take, drop, replicate, Some, arith, length-append, append_assoc}
 use Rattle.std.proofs.lemmas.List.{drop-drop, length-take-le, take_at, drop_at, map-append, length-replicate}
 use Rattle.ec_objects.specs.Cells.{Cell, written, set_cells, filled_cells}
 

@@ -1,5 +1,5 @@
 -- The memory behind the call.
-use Rattle.std.proofs.Common.{◌∙◌, ◌++◌, map, replicate, Some, arith}
+use Rattle.std.proofs.Common.{◌∙◌, ◌++◌, map, replicate, Some}
 use Rattle.std.proofs.lemmas.List.{length-map}
 use Rattle.ec_memory.proofs.Calls.{rising_of, room_of, wrote}
 use Rattle.ec_memory.proofs.Joined.{parts_length}
