@@ -87,6 +87,11 @@ is_tag_option (Some t) = is_tag t
 
 -- ---- expressions and declarations
 
+-- The call of a name is a call by that name.
+abbrev pub is_no_name : ExprData → Bool
+is_no_name (identifier x) = false
+is_no_name _ = true
+
 -- Each stands on this line: a member of a struct has the line on which it stands.
 abbrev mutual
   pub is_written_expr : ℕ → ExprData → Bool
@@ -100,7 +105,8 @@ abbrev mutual
       is_assignable o && (is_written_expr n a && is_written_expr n b)
   is_written_expr n (bump before up a) = is_written_expr n a
   is_written_expr n (call f es) = is_free_name f && are_written_exprs n es
-  is_written_expr n (call_other f es) = false
+  is_written_expr n (call_other f es) =
+      is_no_name f && (is_written_expr n f && are_written_exprs n es)
   is_written_expr n (index a b) = is_written_expr n a && is_written_expr n b
   is_written_expr n (member a m) = is_plain_name m && is_written_expr n a
   is_written_expr n (arrow a m) = is_plain_name m && is_written_expr n a
