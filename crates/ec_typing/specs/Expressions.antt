@@ -1,5 +1,5 @@
 -- What is found out about expressions, and about the types and declarators in them: in which order the parts are looked at, and which rule each form has.
-use Rattle.std.specs.Prelude.{ℕ, zero, suc, Bool, true, false, not, ◌&&◌, pos, List, [], ◌∷◌, ◌++◌, length, Option, Some, None, is_some, option_and_then}
+use Rattle.std.specs.Prelude.{ℕ, zero, suc, Bool, true, false, not, pos, List, [], ◌∷◌, ◌++◌, length, Option, Some, None, is_some, option_and_then}
 use Rattle.ec_base.specs.declared.fault.FaultKind.TheVariants.{F10, F11, F14, F16}
 use Rattle.ec_base.specs.declared.fault.LimitKind.TheVariants.{L1}
 use Rattle.ec_ctypes.specs.declared.types.sizes.Shape.{Shape}
@@ -10,7 +10,7 @@ use Rattle.ec_ctypes.specs.Layout.{struct_shape}
 use Rattle.ec_language.specs.Letters.{Text}
 use Rattle.ec_typing.specs.Tables.{Named, find, put}
 use Rattle.ec_typing.specs.Types.{int_type, words_type}
-use Rattle.ec_typing.specs.Known.{is_identifier, is_stream, takes_stream}
+use Rattle.ec_typing.specs.Known.{ArgumentsData, all_expressions, is_identifier, is_no_expression, behind_first_argument, arguments_of}
 use Rattle.ec_typing.specs.Worlds.{Place, MembersData, unlisted, begun, listed, StructInfo, World, Rule, ◌>>=◌, ◌>>◌, pure, ask, change, note, demand, keep_within, free_name, free_tag, tag_up, with_tag, place, struct_named, new_struct, set_struct, members_of, shapes_in, is_within}
 use Rattle.ec_typing.specs.Operands.{OperandData, unknown, integer_operand, literal_operand, name_rule, value_rule, address_rule, unary_rule, binary_rule, index_rule, assign_rule, compound_rule, bump_rule, call_rule, member_rule, arrow_rule, cast_rule, size_rule, declared_type, length_rule, within_rule, complete_rule}
 
@@ -134,12 +134,13 @@ abbrev mutual
     compound_rule at op x y
   expr at (bump before up e) = expr at e >>= bump_rule at
   expr at (call f es) = do
-    os ← args at (takes_stream f) es
+    forms ← ask (λ w. arguments_of w.written f)
+    os ← args at forms es
     call_rule at f es os
   -- The function of a call is a name, or F16. A name in parentheses is not looked up.
   expr at (call_other f es) = do
     elim (is_identifier f) [ true ↦ pure unknown | false ↦ expr at f ]
-    args at false es
+    args at all_expressions es
     note at F16
     pure unknown
   expr at (index a b) = do
@@ -163,12 +164,12 @@ abbrev mutual
     o ← expr at e
     size_rule at o.type
 
-  -- the arguments of a call, the first of which may be a stream
-  pub args : Place → Bool → ExprList → Rule (List OperandData)
-  args at stream no_exprs = pure []
-  args at stream (exprs e es) = do
-    o ← elim (stream && is_stream e) [ true ↦ pure unknown | false ↦ expr at e >>= value_rule at ]
-    os ← args at false es
+  -- the arguments of a call
+  pub args : Place → ArgumentsData → ExprList → Rule (List OperandData)
+  args at forms no_exprs = pure []
+  args at forms (exprs e es) = do
+    o ← elim (is_no_expression forms e) [ true ↦ pure unknown | false ↦ expr at e >>= value_rule at ]
+    os ← args at (behind_first_argument forms) es
     pure (o ∷ os)
 
   -- the type that a declaration begins with

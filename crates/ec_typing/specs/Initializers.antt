@@ -171,8 +171,12 @@ abbrev pub completed : TyData → InitList → Option Frames → Option TyData
 completed (array t zero) is fs = with_length t is fs
 completed t is fs = Some t
 
+abbrev pub literal_array : TyData → Option ℕ → Option TyData
+literal_array t None = None
+literal_array t (Some n) = Some (array t (n + 1))
+
 abbrev pub completed_by : TyData → OperandData → Option TyData
-completed_by (array t zero) o = elim o.literal [ None ↦ None | Some n ↦ Some (array t (n + 1)) ]
+completed_by (array t zero) o = if is_char_array (array t zero) then literal_array t o.literal else None
 completed_by t o = Some t
 
 -- ---- initializers in their order

@@ -1,5 +1,8 @@
 -- The names that are known without a declaration, and those that may not be declared.
 use Rattle.std.specs.Prelude.{ℕ, zero, suc, ◌-◌, Bool, true, false, ◌&&◌, ◌||◌, not, nat_le, List, [], ◌∷◌, map, Option, Some, None, if◌then◌else◌, codes, length, take}
+use Rattle.ec_ctypes.specs.Texts.{symbol_text, library_text}
+use Rattle.ec_ctypes.specs.declared.checked.library.Sym.TheVariants as symbol
+use Rattle.ec_ctypes.specs.declared.checked.library.LibName.TheVariants as library
 use Rattle.ec_ctypes.specs.trees.Types.{TyData, void, pointer}
 use Rattle.ec_ctypes.specs.trees.Exprs.{ExprData, string, identifier, ExprList, no_exprs, exprs}
 use Rattle.ec_language.specs.Letters.{Text, same_text}
@@ -80,9 +83,42 @@ abbrev pub is_stream : ExprData → Bool
 is_stream (identifier x) = is_one_of (codes "stdout" ∷ codes "stderr" ∷ []) x
 is_stream _ = false
 
+-- the calls of the library
+abbrev pub library_calls : List Text
+library_calls = map library_text (library.Do ∷ library.Connect ∷ library.Disconnect ∷ library.SetConn ∷ library.SetCommit ∷ library.Trans ∷ library.Prepare ∷ library.Deallocate ∷ library.AllocateDesc ∷ library.DeallocateDesc ∷ library.GetDescHeader ∷ library.SetDescHeader ∷ library.GetDesc ∷ library.SetDesc ∷ [])
+
+-- the symbols of the library
+abbrev pub library_symbols : List Text
+library_symbols = map symbol_text (symbol.Char ∷ symbol.UnsignedChar ∷ symbol.Short ∷ symbol.UnsignedShort ∷ symbol.Int ∷ symbol.UnsignedInt ∷ symbol.Long ∷ symbol.UnsignedLong ∷ symbol.LongLong ∷ symbol.UnsignedLongLong ∷ symbol.Bool ∷ symbol.Varchar ∷ symbol.Const ∷ symbol.Descriptor ∷ symbol.NoIndicator ∷ symbol.EndOfInputs ∷ symbol.EndOfOutputs ∷ symbol.StatementNormal ∷ symbol.StatementExecute ∷ symbol.StatementExecImmediate ∷ symbol.StatementOpen ∷ symbol.ItemData ∷ symbol.ItemIndicator ∷ symbol.ItemName ∷ symbol.ItemType ∷ symbol.ItemOctets ∷ symbol.EndOfItems ∷ [])
+
+abbrev pub is_symbol : ExprData → Bool
+is_symbol (identifier x) = is_one_of library_symbols x
+is_symbol _ = false
+
+-- which arguments of a call are no expressions: none, the first, if it is a stream, or those of a call of the library that are its symbols
+pub data ArgumentsData : Type 0 where
+  all_expressions : ArgumentsData
+  stream_first : ArgumentsData
+  with_symbols : ArgumentsData
+
+abbrev pub is_no_expression : ArgumentsData → ExprData → Bool
+is_no_expression all_expressions e = false
+is_no_expression stream_first e = is_stream e
+is_no_expression with_symbols e = is_symbol e
+
+-- behind the first argument
+abbrev pub behind_first_argument : ArgumentsData → ArgumentsData
+behind_first_argument all_expressions = all_expressions
+behind_first_argument stream_first = all_expressions
+behind_first_argument with_symbols = with_symbols
+
 -- whether the first argument of this function is a stream
 abbrev pub takes_stream : Text → Bool
 takes_stream name = same_text name (codes "fprintf")
+
+-- The symbols of the library are known in written C alone, as arguments of its calls.
+abbrev pub arguments_of : Bool → Text → ArgumentsData
+arguments_of written name = if takes_stream name then stream_first else (if written && is_one_of library_calls name then with_symbols else all_expressions)
 
 abbrev pub has_stream : ExprList → Bool
 has_stream no_exprs = false

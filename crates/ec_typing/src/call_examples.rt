@@ -3,7 +3,7 @@
 
 ghost use Rattle.std.specs.Prelude.{◌≡◌};
 ghost use Rattle.ec_base.specs.declared.fault.FaultKind.TheVariants.{F11, F14, F16, F17, F18, F20};
-ghost use Rattle.ec_typing.specs.Examples.{verdict, in_main, refused, fine};
+ghost use Rattle.ec_typing.specs.Examples.{verdict, written_verdict, in_main, refused, fine};
 
 /// F16, and F14 of arguments (6.5.2.2).
 pub fn argument_examples()
@@ -28,6 +28,10 @@ pub fn argument_examples()
     ensures unknown_in_parentheses { verdict "int f(int a, char *b) { return a; } void g(void) { } int h(long); int main(void) { int i; long l; char *c; unsigned char *u; void *v; struct s { int m; } x; (k)(1); }" ≡ refused F16 1 }
     ensures name_in_what_is_called { verdict "int f(int a, char *b) { return a; } void g(void) { } int h(long); int main(void) { int i; long l; char *c; unsigned char *u; void *v; struct s { int m; } x; c[k](1); }" ≡ refused F11 1 }
     ensures library_call { verdict "int f(int a, char *b) { return a; } void g(void) { } int h(long); int main(void) { int i; long l; char *c; unsigned char *u; void *v; struct s { int m; } x; ECPGdisconnect(1, \"x\"); }" ≡ refused F16 1 }
+    ensures library_call_in_written_c { written_verdict "int main(void) {\nECPGdo(2, NULL, ECPGst_normal, \"SELECT\", ECPGt_EOIT, ECPGt_EORT);\nECPGt_int; }" ≡ refused F16 2 }
+    ensures unknown_name_in_a_library_call { written_verdict "int main(void) { ECPGdo(1, NULL, k); }" ≡ refused F11 1 }
+    ensures symbol_alone_in_written_c { written_verdict "int main(void) { ECPGt_int; }" ≡ refused F11 1 }
+    ensures symbol_in_a_source { verdict "int f(int a, char *b) { return a; } void g(void) { } int h(long); int main(void) { int i; long l; char *c; unsigned char *u; void *v; struct s { int m; } x; ECPGdo(1, NULL, ECPGst_normal); }" ≡ refused F11 1 }
     ensures known { verdict "int f(int a, char *b) { return a; } void g(void) { } int h(long); int main(void) { int i; long l; char *c; unsigned char *u; void *v; struct s { int m; } x; puts(c); putchar(i); i = strcmp(c, \"x\"); i = strncmp(c, c, 2); i = memcmp(&x, u, sizeof x); c = strcpy(c, c); c = strncpy(c, c, i); c = strcat(c, c); v = memcpy(&x, &i, 4); u = memset(v, 0, 1); exit(l); sqlprint(); }" ≡ fine }
     ensures unsigned_text { verdict "int f(int a, char *b) { return a; } void g(void) { } int h(long); int main(void) { int i; long l; char *c; unsigned char *u; void *v; struct s { int m; } x; strlen(u); }" ≡ refused F14 1 }
     ensures unsigned_array_as_text { verdict "int f(int a, char *b) { return a; } void g(void) { } int h(long); int main(void) { int i; long l; char *c; unsigned char *u; void *v; struct s { int m; } x; unsigned char a[3]; puts(a); }" ≡ refused F14 1 }

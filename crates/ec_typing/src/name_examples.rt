@@ -75,6 +75,8 @@ pub fn reserved_examples()
     ensures member { with_main "struct s {\nint true; };" ≡ refused F12 2 }
     ensures label { in_main "stdout: ;" ≡ refused F12 1 }
     ensures tag { with_main "struct ECPGs;" ≡ refused F12 1 }
+    ensures code { with_main "long SQLCODE;" ≡ refused F12 1 }
+    ensures state { in_main "SQLSTATE: ;" ≡ refused F12 1 }
     ensures beginning { with_main "int ECPGx;" ≡ refused F12 1 }
     ensures library_call { with_main "int ECPGdo(void);" ≡ refused F12 1 }
     ensures other_letters { with_main "int ecpgx, xECPG, Null, TRUE, SqlCode;" ≡ fine }

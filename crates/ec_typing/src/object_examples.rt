@@ -91,6 +91,7 @@ pub fn initializer_examples()
     ensures braces_behind_the_end { in_main "int a[1] = {1, {2}};" ≡ refused F14 1 }
     ensures length_is_told { in_main "int a[] = {1, 2, 3}; int b[sizeof a == 12], c[][2] = {1, 2, 3}, d[sizeof c == 16]; char e[] = \"xy\", f[sizeof e == 3], g[] = {\"xy\"}, h[sizeof g == 3], i[][4] = {\"x\", \"y\"}, j[sizeof i == 8];" ≡ fine }
     ensures no_length_in_itself { in_main "int a[] = {sizeof a};" ≡ refused F14 1 }
+    ensures no_length_from_another_literal { in_main "int a[] = \"x\"; int b[sizeof a];" ≡ refused F14 1 }
     ensures element_of_itself { in_main "int a[] = {1, a[0]};" ≡ fine }
     ensures nothing_is_said_of_what_has_no_type { in_main "int a[1] = {\nk(), 1, 2};" ≡ refused F16 1 }
 {}
