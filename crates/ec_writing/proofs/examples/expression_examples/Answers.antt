@@ -1,0 +1,7 @@
+use Rattle.std.proofs.Common.{refl}
+use Rattle.std.specs.Fmt.{digits}
+use Rattle.ec_writing.proofs.examples.expression_examples.Goals as goal
+
+pub returns-clause-suffixes : goal.returns-clause-suffixes
+unfolding digits
+returns-clause-suffixes c = refl
