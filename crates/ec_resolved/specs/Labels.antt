@@ -1,6 +1,6 @@
 -- Whether a label stands in a statement, however deep (6.8.1).
 use Rattle.std.specs.Prelude.{ℕ, Bool, false, ◌||◌, nat_eq}
-use Rattle.ec_resolved.specs.Trees.{Stm, on_line, nothing, evaluate, declare, initialize, block, choose, loop, leave, next, return, goto, label, atom, Stms, no_stms, stms}
+use Rattle.ec_resolved.specs.Resolved.{Stm, on_line, nothing, evaluate, declare, initialize, block, choose, loop, leave, next, return, goto, label, atom, Stms, no_stms, stms}
 
 abbrev mutual
   pub holds : ℕ → Stm → Bool

@@ -6,7 +6,7 @@ ghost use Rattle.ec_objects.specs.Cells.{part_of};
 ghost use Rattle.ec_objects.specs.Memory.{number, little_endian};
 ghost use Rattle.ec_resolved.specs.Labels.{holds};
 ghost use Rattle.ec_resolved.specs.Programs.{sqlca_bytes, global_bytes, literal_bytes, opening_objects};
-ghost use Rattle.ec_resolved.specs.Trees.{constant, on_line, nothing, block, choose, loop, goto, label, atom, embedded, no_stms, stms};
+ghost use Rattle.ec_resolved.specs.Resolved.{constant, on_line, nothing, block, choose, loop, goto, label, atom, embedded, no_stms, stms};
 
 /// Object 1 is `sqlca` with its opening values, then come the globals, then the string literals.
 pub fn opening_examples()
