@@ -8,11 +8,11 @@ use Rattle.ec_objects.specs.Memory.{Memory, ValueData, number, address, ScalarTy
 use Rattle.ec_resolved.specs.Labels.{holds, holds_any}
 use Rattle.ec_resolved.specs.Operations.{is_true, value_as, negated, number_worked, Worked, gives, traps, misfit, worked}
 use Rattle.ec_resolved.specs.Programs.{Function, Program, opening_objects}
-use Rattle.ec_resolved.specs.Resolved.{Update, Exp, object, slot, member, constant, load, whole as all_of, store, copy, put, update, convert, negate, flip, not, operate, both, either, call, known, faulty, Exps, no_exps, exps, embedded, library, Stm, on_line, nothing, evaluate, declare, initialize, block, choose, loop, leave, next, return, goto, label, atom, Stms, no_stms, stms}
+use Rattle.ec_resolved.specs.Resolved.{Update, Exp, object, slot, member, constant, load, whole as all_of, store, copy, put, update, convert, negate, flip, not, operate, both, either, call, known, library_call, faulty, Exps, no_exps, exps, Stm, on_line, nothing, evaluate, declare, initialize, block, choose, loop, leave, next, return, goto, label, embedded_statement, Stms, no_stms, stms}
 use Rattle.ec_evaluation.specs.State.{Answer, State, Ending, turns_spent}
-use Rattle.ec_evaluation.specs.Results.{Res, over, on_value, on_done, after_body, tried, changed, worked_out, at_address, on_number, present, done_there, turn, made, given, ended_to, closing, function_end, without_value, answered, exits_with, returned, finished}
-use Rattle.ec_evaluation.specs.Evaluate.{Context, Task, calls, turn_of, look_for, World, updated, eval, collect}
-use Rattle.ec_evaluation.specs.Execute.{Step, tested, again, settle, inside, enter, declared, initialized, returning, run, run_all, look, look_all, body_run, in_function, called, act, meaning}
+use Rattle.ec_evaluation.specs.Results.{Res, over, on_value, on_done, after_body, tried, changed, worked_out, at_address, on_number, present, done_there, turn, made, given, ended_to, closing, function_end, without_value, without_answer, answered, exits_with, returned, finished}
+use Rattle.ec_evaluation.specs.Evaluate.{Context, Task, calls, turn_of, look_for, World, Step, updated, eval, collect}
+use Rattle.ec_evaluation.specs.Execute.{tested, again, settle, inside, enter, declared, initialized, returning, run, run_all, look, look_all, body_run, in_function, called, act, meaning}
 use Rattle.ec_evaluation.specs.Whole.{opened, main_run, whole_within}
 use Rattle.ec_evaluation.specs.Expanded.{written, written_all, written_function, written_program, written_task}
 use Rattle.ec_evaluation.specs.Agree.{richer, before_goto, Beside, beside, Same, same_value, same_on, same_broke, same_continued, same_went, same_back, same_over, stops_first, Kept, before, Related, Agree}
@@ -38,8 +38,7 @@ module _ (text : ℕ → Stm) (no_label : (l n : ℕ) → holds l (text n) ≡ f
     holds_written l (return e) = refl
     holds_written l (goto m) = refl
     holds_written l (label m x) = ap (λ b. nat_eq m l || b) (holds_written l x)
-    holds_written l (atom (embedded n)) = no_label l n
-    holds_written l (atom (library n)) = refl
+    holds_written l (embedded_statement n) = no_label l n
 
     any_written : (l : ℕ) (x : Stms) → holds_any l (written_all text x) ≡ holds_any l x
     any_written l no_stms = refl
@@ -118,6 +117,16 @@ module _ (P : State → Type 0) (E : Ending → Type 0) (d : ℕ) (more : List A
   answered_same line used (same_back {v = Some v} p) = same_value p
   answered_same line used (same_over p) = same_over p
   answered_same line used (stops_first p e) = stops_first p e
+
+  pub without_answer_same : {o o' : Res} → Like o o' → Like (without_answer o) (without_answer o')
+  without_answer_same (same_value p) = same_over p
+  without_answer_same (same_on p) = same_value p
+  without_answer_same (same_broke p) = same_over p
+  without_answer_same (same_continued p) = same_over p
+  without_answer_same (same_went p) = same_over (after_goto p)
+  without_answer_same (same_back p) = same_over p
+  without_answer_same (same_over p) = same_over p
+  without_answer_same (stops_first p e) = stops_first p e
 
   pub closing_same : (n : ℕ) {o o' : Res} → Like o o' → Like (closing n o) (closing n o')
   closing_same n (same_value p) = same_value p
@@ -267,7 +276,7 @@ module _ (P : State → Type 0) (E : Ending → Type 0) (d : ℕ) (more : List A
       updated_same line u a old new p = changed_same line (λ m. stored m a u.kind (value_as u.kind new)) p (λ t t' q. same_value q)
 
       mutual
-        pub eval_same : (c : Context) (e : Exp) (s s' : State) → Near s s' → Like (eval w c e s) (eval w' c e s')
+        pub eval_same : (c : Context) (e : Exp) (s s' : State) → Near s s' → Like (eval step w c e s) (eval step' w' c e s')
         eval_same c (object n) s s' p = same_value p
         eval_same c (slot i) s s' p = present_same (slice_get c.objects i) p (λ a. same_value p)
         eval_same c (member offset e) s s' p =
@@ -304,18 +313,19 @@ module _ (P : State → Type 0) (E : Ending → Type 0) (d : ℕ) (more : List A
         eval_same c (call f used es) s s' p =
             collect_same c [] es s s' p (λ vs t t' q. answered_same c.line used (related (calls c.line f vs) t t' q))
         eval_same c (known f es) s s' p = collect_same c [] es s s' p (λ vs t t' q. effect_same c.line (λ m. effect_of f m vs) q)
+        eval_same c (library_call n) s s' p = without_answer_same (agree.libraries w w' related c n s s' p)
         eval_same c faulty s s' p = same_over p
 
-        pub collect_same : (c : Context) (vs : List ValueData) (es : Exps) (s s' : State) → Near s s' → {k k' : List ValueData → State → Res} → ((vs : List ValueData) (t t' : State) → Near t t' → Like (k vs t) (k' vs t')) → Like (collect w c vs es s k) (collect w' c vs es s' k')
+        pub collect_same : (c : Context) (vs : List ValueData) (es : Exps) (s s' : State) → Near s s' → {k k' : List ValueData → State → Res} → ((vs : List ValueData) (t t' : State) → Near t t' → Like (k vs t) (k' vs t')) → Like (collect step w c vs es s k) (collect step' w' c vs es s' k')
         collect_same c vs no_exps s s' p h = h vs s s' p
         collect_same c vs (exps e es) s s' p h = value_same (eval_same c e s s' p) (λ v t t' q. collect_same c (vs ++ v ∷ []) es t t' q h)
 
-      tested_same : (c : Context) (test behind : Option Exp) (x : Stm) (s s' : State) → Near s s' → Like (tested w c test behind x s) (tested w' c test behind (written text x) s')
+      tested_same : (c : Context) (test behind : Option Exp) (x : Stm) (s s' : State) → Near s s' → Like (tested step w c test behind x s) (tested step' w' c test behind (written text x) s')
       tested_same c None behind x s s' p = related (turn_of c None behind x) s s' p
       tested_same c (Some e) behind x s s' p =
           value_same (eval_same c e s s' p) (λ v t t' q. bool_same (is_true v) (related (turn_of c (Some e) behind x) t t' q) (same_on q))
 
-      pub again_same : (c : Context) (test behind : Option Exp) (x : Stm) (s s' : State) → Near s s' → Like (again w c test behind x s) (again w' c test behind (written text x) s')
+      pub again_same : (c : Context) (test behind : Option Exp) (x : Stm) (s s' : State) → Near s s' → Like (again step w c test behind x s) (again step' w' c test behind (written text x) s')
       again_same c test None x s s' p = tested_same c test None x s s' p
       again_same c test (Some e) x s s' p = value_same (eval_same c e s s' p) (λ v t t' q. tested_same c test (Some e) x t t' q)
 
@@ -338,11 +348,11 @@ module _ (P : State → Type 0) (E : Ending → Type 0) (d : ℕ) (more : List A
       declared_same c i size s s' p =
           present_same (slice_get c.objects i) p (λ a. changed_same c.line (λ m. unset m a size) p (λ t t' q. same_on q))
 
-      initialized_same : (c : Context) (i size : ℕ) (es : Exps) (s s' : State) → Near s s' → Like (initialized w c i size es s) (initialized w' c i size es s')
+      initialized_same : (c : Context) (i size : ℕ) (es : Exps) (s s' : State) → Near s s' → Like (initialized step w c i size es s) (initialized step' w' c i size es s')
       initialized_same c i size es s s' p =
           present_same (slice_get c.objects i) p (λ a. changed_same c.line (λ m. fill m a size 0) p (λ t t' q. collect_same c [] es t t' q (λ vs u u' r. same_on r)))
 
-      returning_same : (c : Context) (e : Option Exp) (s s' : State) → Near s s' → Like (returning w c e s) (returning w' c e s')
+      returning_same : (c : Context) (e : Option Exp) (s s' : State) → Near s s' → Like (returning step w c e s) (returning step' w' c e s')
       returning_same c None s s' p = returned_same c.first None p
       returning_same c (Some e) s s' p = value_same (eval_same c e s s' p) (λ v t t' q. returned_same c.first (Some v) q)
 
@@ -363,8 +373,7 @@ module _ (P : State → Type 0) (E : Ending → Type 0) (d : ℕ) (more : List A
         run_same c (return e) s s' p = returning_same c e s s' p
         run_same c (goto l) s s' p = turn_same p (λ t t' e q. same_went (goto_near p e q))
         run_same c (label l x) s s' p = run_same c x s s' p
-        run_same c (atom (embedded n)) s s' p = agree.embeds w w' related c n s s' p
-        run_same c (atom (library n)) s s' p = agree.libraries w w' related c n s s' p
+        run_same c (embedded_statement n) s s' p = agree.embeds w w' related c n s s' p
 
         pub run_all_same : (c : Context) (x : Stms) (s s' : State) → Near s s' → Like (run_all step w c x s) (run_all step' w' c (written_all text x) s')
         run_all_same c no_stms s s' p = same_on p
@@ -388,8 +397,7 @@ module _ (P : State → Type 0) (E : Ending → Type 0) (d : ℕ) (more : List A
         look_same l c (goto m) s s' h p = same_on p
         look_same l c (label m x) s s' h p =
             pick_same (nat_eq m l) (nat_eq m l) refl (λ i. run_same c x s s' p) (λ i. look_same l c x s s' (the_other (nat_eq m l) (holds l x) h i) p)
-        look_same l c (atom (embedded n)) s s' h p = cc
-        look_same l c (atom (library n)) s s' h p = same_on p
+        look_same l c (embedded_statement n) s s' h p = cc
 
         pub look_all_same : (l : ℕ) (c : Context) (x : Stms) (s s' : State) → Near s s' → Like (look_all step w l c x s) (look_all step' w' l c (written_all text x) s')
         look_all_same l c no_stms s s' p = same_on p

@@ -2,11 +2,11 @@
 use Rattle.std.proofs.Common.{◌≡◌, ℕ, zero, suc, ◌+◌, ◌≤◌, inl, inr, List, [], ◌∷◌, ◌++◌, map, refl, sym, ap, ◌∙◌, subst, arith, append_assoc, append-nil}
 use Rattle.std.specs.Prelude.{slice_get}
 use Rattle.ec_resolved.specs.Programs.{Function, Program, opening_objects}
-use Rattle.ec_resolved.specs.Resolved.{embedded, library, Stm, on_line, nothing, evaluate, declare, initialize, block, choose, loop, leave, next, return, goto, label, atom, Stms, no_stms, stms}
+use Rattle.ec_resolved.specs.Resolved.{Stm, on_line, nothing, evaluate, declare, initialize, block, choose, loop, leave, next, return, goto, label, embedded_statement, Stms, no_stms, stms}
 use Rattle.ec_evaluation.specs.State.{Answer, State, Ending, turns_spent}
 use Rattle.ec_evaluation.specs.Results.{Res, value, on, broke, continued, went, back, over, turn}
-use Rattle.ec_evaluation.specs.Evaluate.{Task, calls, turn_of, look_for, World}
-use Rattle.ec_evaluation.specs.Execute.{Step, act, meaning}
+use Rattle.ec_evaluation.specs.Evaluate.{Task, calls, turn_of, look_for, World, Step}
+use Rattle.ec_evaluation.specs.Execute.{act, meaning}
 use Rattle.ec_evaluation.specs.Whole.{opened, main_run, whole_within, whole, without_atoms}
 use Rattle.ec_evaluation.specs.Expanded.{written, written_all, written_function, written_program, written_task, itself}
 use Rattle.ec_evaluation.specs.Agree.{richer, before_goto, Beside, beside, Same, same_value, same_on, same_broke, same_continued, same_went, same_back, same_over, stops_first, Kept, before, Related, Agree, Always, Never, IsSpent, IsWaiting, IsNot, Below, Extends, state_of, richer_result, CountsTurns, OnlyAdds, TakesMoreTurns, TakesMoreAnswers}
@@ -67,8 +67,7 @@ mutual
   unwritten (return e) = refl
   unwritten (goto l) = refl
   unwritten (label l x) = ap (label l) (unwritten x)
-  unwritten (atom (embedded n)) = refl
-  unwritten (atom (library n)) = refl
+  unwritten (embedded_statement n) = refl
 
   all_unwritten : (x : Stms) → written_all itself x ≡ x
   all_unwritten no_stms = refl

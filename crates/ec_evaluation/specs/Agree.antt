@@ -6,8 +6,8 @@ use Rattle.ec_resolved.specs.Labels.{holds}
 use Rattle.ec_resolved.specs.Resolved.{embedded, library, Stm}
 use Rattle.ec_evaluation.specs.State.{Answer, State, Ending, exited, trapped, turns_spent, waits, stuck}
 use Rattle.ec_evaluation.specs.Results.{Res, value, on, broke, continued, went, back, over}
-use Rattle.ec_evaluation.specs.Evaluate.{Context, Task, calls, turn_of, look_for, World}
-use Rattle.ec_evaluation.specs.Execute.{Step, run}
+use Rattle.ec_evaluation.specs.Evaluate.{Context, Task, calls, turn_of, look_for, World, Step}
+use Rattle.ec_evaluation.specs.Execute.{run}
 use Rattle.ec_evaluation.specs.Expanded.{written_task, itself}
 
 -- a state with more turns and further answers

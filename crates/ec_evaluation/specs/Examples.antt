@@ -11,7 +11,7 @@ use Rattle.ec_resolved.specs.Programs.{Function, Program}
 use Rattle.ec_resolved.specs.Resolved.{Exp, object, constant, load, store, update, convert, operate, known, Exps, no_exps, exps, Stm, on_line, evaluate, block, loop, return, Stms, no_stms, stms}
 use Rattle.ec_evaluation.specs.State.{Answer, State, Ending, waits}
 use Rattle.ec_evaluation.specs.Results.{Res, on, over, turn}
-use Rattle.ec_evaluation.specs.Execute.{Step}
+use Rattle.ec_evaluation.specs.Evaluate.{Step}
 use Rattle.ec_evaluation.specs.Whole.{Observed, program_meaning, without_atoms}
 
 -- ---- expressions

@@ -1,7 +1,7 @@
 -- A program with a statement in the place of each embedded one.
 use Rattle.std.specs.Prelude.{ℕ, map}
 use Rattle.ec_resolved.specs.Programs.{Function, Program}
-use Rattle.ec_resolved.specs.Resolved.{embedded, library, Stm, on_line, nothing, evaluate, declare, initialize, block, choose, loop, leave, next, return, goto, label, atom, Stms, no_stms, stms}
+use Rattle.ec_resolved.specs.Resolved.{Stm, on_line, nothing, evaluate, declare, initialize, block, choose, loop, leave, next, return, goto, label, embedded_statement, Stms, no_stms, stms}
 use Rattle.ec_evaluation.specs.Evaluate.{Task, calls, turn_of, look_for}
 
 module _ (text : ℕ → Stm) where
@@ -20,8 +20,7 @@ module _ (text : ℕ → Stm) where
     written (return e) = return e
     written (goto l) = goto l
     written (label l x) = label l (written x)
-    written (atom (embedded n)) = text n
-    written (atom (library n)) = atom (library n)
+    written (embedded_statement n) = text n
 
     pub written_all : Stms → Stms
     written_all no_stms = no_stms
@@ -41,4 +40,4 @@ module _ (text : ℕ → Stm) where
 
 -- each embedded statement as itself
 abbrev pub itself : ℕ → Stm
-itself n = atom (embedded n)
+itself n = embedded_statement n

@@ -92,6 +92,16 @@ done_there line (traps_there trap) s = over (trapped trap line) s
 done_there line (ends status) s = over (exited status) s
 done_there line no_call s = over stuck s
 
+-- what a call of the library does: it has no value
+abbrev pub without_answer : Res → Res
+without_answer (value v s) = over stuck s
+without_answer (on s) = value no_value s
+without_answer (broke s) = over stuck s
+without_answer (continued s) = over stuck s
+without_answer (went l s) = over stuck s
+without_answer (back v s) = over stuck s
+without_answer (over e s) = over e s
+
 -- one turn is taken
 abbrev pub turn : State → (State → Res) → Res
 turn s k = elim s.turns [ zero ↦ over turns_spent s | suc n ↦ k (record s { turns = n }) ]

@@ -7,8 +7,8 @@ use Rattle.ec_objects.specs.Memory.{Memory, with_object}
 use Rattle.ec_resolved.specs.Programs.{Function, Program, opening_objects}
 use Rattle.ec_evaluation.specs.State.{Answer, Connection, State, Ending, stuck}
 use Rattle.ec_evaluation.specs.Results.{Res, value, on, broke, continued, went, back, over, tried, made, finished}
-use Rattle.ec_evaluation.specs.Evaluate.{World}
-use Rattle.ec_evaluation.specs.Execute.{Step, body_run, in_function, meaning}
+use Rattle.ec_evaluation.specs.Evaluate.{World, Step}
+use Rattle.ec_evaluation.specs.Execute.{body_run, in_function, meaning}
 
 -- objects with these bytes are made, in order, on line 1
 abbrev pub opened : List (List ℕ) → State → (State → Res) → Res
@@ -77,6 +77,6 @@ observed (over e s) = seen e s
 abbrev pub program_meaning : Step → Program → ℕ → Option (ℕ × List ℕ) → List Answer → Observed
 program_meaning step p turns ready answers = observed (whole step p (opening_state ready answers turns))
 
--- the step of programs that have none of these statements
+-- the step of programs that have none of these
 abbrev pub without_atoms : Step
 without_atoms w c a s = over stuck s

@@ -5,7 +5,7 @@ ghost use Rattle.std.specs.Prelude.{◌≡◌, ℕ, ◌≤◌, List, []};
 ghost use Rattle.ec_resolved.specs.Programs.{Program};
 ghost use Rattle.ec_resolved.specs.Resolved.{Stm};
 ghost use Rattle.ec_evaluation.specs.State.{Answer, State};
-ghost use Rattle.ec_evaluation.specs.Execute.{Step};
+ghost use Rattle.ec_evaluation.specs.Evaluate.{Step};
 ghost use Rattle.ec_evaluation.specs.Whole.{whole, whole_within, without_atoms};
 ghost use Rattle.ec_evaluation.specs.Expanded.{written_program};
 ghost use Rattle.ec_evaluation.specs.Agree.{Agree, Always, Never, IsSpent, IsWaiting, IsNot, Extends, state_of, richer, richer_result, CountsTurns, OnlyAdds, TakesMoreTurns, TakesMoreAnswers};

@@ -6,11 +6,11 @@ ghost use Rattle.ec_functions.specs.Functions.{exit};
 ghost use Rattle.ec_objects.specs.Cells.{set_cells, unset_cells};
 ghost use Rattle.ec_objects.specs.Memory.{ScalarType, ValueData, number, alive, ended, make, scalar_size, with_object};
 ghost use Rattle.ec_resolved.specs.Programs.{Function, sqlca_bytes};
-ghost use Rattle.ec_resolved.specs.Resolved.{Stms, slot, call, known, on_line, nothing, block, choose, return, atom, embedded};
+ghost use Rattle.ec_resolved.specs.Resolved.{Stms, slot, call, known, on_line, nothing, block, choose, loop, not, return, embedded_statement, library_call};
 ghost use Rattle.ec_evaluation.specs.State.{State, exited, trapped, turns_spent, waits, stuck};
 ghost use Rattle.ec_evaluation.specs.Results.{Res, over};
-ghost use Rattle.ec_evaluation.specs.Evaluate.{Context, World};
-ghost use Rattle.ec_evaluation.specs.Execute.{Step, run, called};
+ghost use Rattle.ec_evaluation.specs.Evaluate.{Context, Step, World};
+ghost use Rattle.ec_evaluation.specs.Execute.{run, called};
 ghost use Rattle.ec_evaluation.specs.Whole.{opened, opening_state, program_meaning, without_atoms};
 ghost use Rattle.ec_evaluation.specs.Examples.{int, lit, below, get, set, add, is_less, increase, args, put, print_int, all, at, does, gives, while, braces, program, with_functions, main_with, function, global, run_of, shows, ends, leaves, asking_run, broken};
 ghost use Rattle.ec_link.specs.declared.reply.Reply.TheVariants.{Broken};
@@ -119,18 +119,27 @@ pub fn spent_examples()
         (trapped trap.Spent 1) s }
 {}
 
-/// A statement that a step knows: here each takes a turn, makes a request, and takes its answer or waits for it.
+/// Embedded statements and calls of the library: here each takes a turn, makes a request, and takes its answer or waits for
+/// it.
 pub fn step_examples()
-    ensures answered { (asking_run (program [] (atom (embedded 0) ∷ gives (lit 3) ∷ [])) 1 (broken
+    ensures answered { (asking_run (program [] (embedded_statement 0 ∷ gives (lit 3) ∷ [])) 1 (broken
         ∷ [])).ending
         ≡ exited 3 }
-    ensures said { (asking_run (program [] (atom (embedded 0) ∷ [])) 1 (broken ∷ [])).conversation
+    ensures said { (asking_run (program [] (embedded_statement 0 ∷ [])) 1 (broken ∷ [])).conversation
         ≡ record { slot = None; request = Close; reply = Broken } ∷ [] }
-    ensures waits { (asking_run (program [] (atom (embedded 0) ∷ atom (embedded 1) ∷ [])) 2
+    ensures waits { (asking_run (program [] (embedded_statement 0 ∷ embedded_statement 1 ∷ [])) 2
         (broken ∷ [])).ending
         ≡ waits None Close }
-    ensures without_a_turn { (asking_run (program [] (atom (embedded 0) ∷ [])) 0 (broken ∷
+    ensures without_a_turn { (asking_run (program [] (embedded_statement 0 ∷ [])) 0 (broken ∷
         [])).ending
         ≡ turns_spent }
-    ensures without_the_step { ends 9 (program [] (atom (embedded 0) ∷ [])) ≡ stuck }
+    ensures library_call { (asking_run (program [] (does (library_call 0) ∷ gives (lit 3) ∷ [])) 1
+        (broken ∷ [])).ending
+        ≡ exited 3 }
+    ensures behind_a_body { (asking_run (program [] (loop true (Some (not (get global))) (Some
+        (library_call 0)) (does (set global (lit 1))) ∷ [])) 2 []).ending
+        ≡ waits None Close }
+    ensures library_call_without_the_step { ends 9 (program [] (does (library_call 0) ∷ []))
+        ≡ stuck }
+    ensures without_the_step { ends 9 (program [] (embedded_statement 0 ∷ [])) ≡ stuck }
 {}
