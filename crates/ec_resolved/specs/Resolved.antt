@@ -46,6 +46,8 @@ mutual
     -- of the function of this number, and whether its value is used
     call : ℕ → Bool → Exps → Exp
     known : Known → Exps → Exp
+    -- of the library, which only a step knows, by its number among such calls. It has no value
+    library_call : ℕ → Exp
     -- what stands for an expression with a fault
     faulty : Exp
 
@@ -53,7 +55,7 @@ mutual
     no_exps : Exps
     exps : Exp → Exps → Exps
 
--- a statement that only a step knows, by its number among its kind: an embedded one, or a call of the library
+-- what only a step knows, by its number among its kind: an embedded statement, or a call of the library
 pub data Atom : Type 0 where
   embedded : ℕ → Atom
   library : ℕ → Atom
@@ -78,7 +80,8 @@ mutual
     return : Option Exp → Stm
     goto : ℕ → Stm
     label : ℕ → Stm → Stm
-    atom : Atom → Stm
+    -- an embedded statement, which only a step knows, by its number among these
+    embedded_statement : ℕ → Stm
 
   pub data Stms : Type 0 where
     no_stms : Stms
