@@ -25,7 +25,7 @@ digits_from : (ds : List ℕ) → are_digits ds ≡ true → IsNumeral 10 ds
 digits_from [] h = absurd (false≢true h)
 digits_from (d ∷ ds) h = (omega arith, model.to (d ∷ ds) h)
 
-digits_to : (ds : List ℕ) → IsNumeral 10 ds → are_digits ds ≡ true
+pub digits_to : (ds : List ℕ) → IsNumeral 10 ds → are_digits ds ≡ true
 digits_to [] h = absurd (omega (arith, h.0))
 digits_to (d ∷ ds) h = model.from (d ∷ ds) h.1
 
@@ -63,7 +63,7 @@ fits_value t z h =
     (at_most (least t) z halves.0, at_most z (greatest t) halves.1)
 
 -- each type is within 128 bits
-wide : (t : Arith) (z : ℤ) → IsValue t z → FitsSigned w128 z
+pub wide : (t : Arith) (z : ℤ) → IsValue t z → FitsSigned w128 z
 wide Boolean z v = omega (arith, ints, v.0, v.1)
 wide Char z v = omega (arith, ints, v.0, v.1)
 wide UChar z v = omega (arith, ints, v.0, v.1)

@@ -47,7 +47,8 @@ pub(crate) struct Host {
 /// The host that is given, or `None` where a symbol is no type or not one that an indicator may have.
 pub(crate) fn host_of(given: &HostPlace) -> Option<Host>
     ensures host { option_map host_view result ≡ given_host given.now }
-    ensures bounded { given.now.size ≤ 2 ^ 24 → IfSome result (λ it. IsBounded (held_by it.element)) }
+    ensures bounded { given.now.size ≤ 2 ^ 24
+        → IfSome result (λ it. IsBounded (held_by it.element)) }
     ensures told { IfSome result (λ it. IsTold it.indicator) }
 {
     let element = element_of(given.sym, given.size)?;

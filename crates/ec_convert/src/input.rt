@@ -79,7 +79,8 @@ fn element_text(alloc: Global, store: &Store, at: Ptr, element: Element) -> Resu
 
 /// The text that a char pointer leads to.
 fn pointed_text(store: &Store, at: Ptr) -> Result<&[u8], Trap>
-    ensures { seen (λ bytes. bytes.now) result ≡ and_then (address_at store.now at.0) (λ q. text_at store.now q) }
+    ensures { seen (λ bytes. bytes.now) result
+        ≡ and_then (address_at store.now at.0) (λ q. text_at store.now q) }
 {
     match pointer_at(store, at) {
         Ok(to) => store.text(to),
@@ -89,7 +90,8 @@ fn pointed_text(store: &Store, at: Ptr) -> Result<&[u8], Trap>
 
 /// The text of a VARCHAR of `n` bytes.
 fn counted_text(store: &Store, at: Ptr, n: u64) -> Result<&[u8], Trap>
-    ensures { seen (λ bytes. bytes.now) result ≡ and_then (number_at store.now at.0 Int) (λ z. counted_text store.now at.0 n z) }
+    ensures { seen (λ bytes. bytes.now) result
+        ≡ and_then (number_at store.now at.0 Int) (λ z. counted_text store.now at.0 n z) }
 {
     match number_at(store, at, Arith::Int) {
         Ok(length) => front_behind(store, at, n, length),

@@ -5,6 +5,7 @@
 mod element;
 mod host;
 mod input;
+mod law;
 mod numbers;
 mod output;
 mod piece;
@@ -12,5 +13,6 @@ mod stop;
 
 pub use host::{HostPlace, is_typed};
 pub use input::to_text;
+pub use law::numbers_come_back;
 pub use output::from_text;
 pub use stop::ConvStop;

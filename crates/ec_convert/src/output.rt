@@ -61,7 +61,8 @@ fn store_field(
     requires row { row < 2 ^ 24 }
     requires size { IsBounded (held_by host.element) }
     requires told { IsTold host.indicator }
-    ensures { leaves result store.new ≡ Some (field_stored store.old (host_view host) row (option_copied field.entry)) }
+    ensures { leaves result store.new
+        ≡ Some (field_stored store.old (host_view host) row (option_copied field.entry)) }
 {
     match field {
         Some(bytes) => store_bytes(store, host, row, bytes),
@@ -73,7 +74,8 @@ fn store_field(
 fn store_null(store: &mut Store, host: Host, row: u64) -> Result<bool, ConvStop>
     requires row { row < 2 ^ 24 }
     requires told { IsTold host.indicator }
-    ensures { leaves result store.new ≡ Some (null_stored store.old (host_view host) row (host_view host).indicator) }
+    ensures { leaves result store.new
+        ≡ Some (null_stored store.old (host_view host) row (host_view host).indicator) }
 {
     match host.indicator {
         Some(indicator) => match set_indicator(store, indicator, row, -1) {
@@ -88,7 +90,9 @@ fn store_null(store: &mut Store, host: Host, row: u64) -> Result<bool, ConvStop>
 fn store_bytes(store: &mut Store, host: Host, row: u64, field: &[u8]) -> Result<bool, ConvStop>
     requires row { row < 2 ^ 24 }
     requires size { IsBounded (held_by host.element) }
-    ensures { leaves result store.new ≡ Some (bytes_stored store.old (host_view host) row field.now (field_bytes (held_by host.element) field.now)) }
+    ensures { leaves result store.new
+        ≡ Some (bytes_stored store.old (host_view host) row field.now
+        (field_bytes (held_by host.element) field.now)) }
 {
     match piece_of(host.element, field) {
         Ok(piece) => match put_value(store, host, row, piece, field) {
@@ -112,7 +116,8 @@ fn put_value(
 ) -> Result<(), Trap>
     requires row { row < 2 ^ 24 }
     requires piece { IsPiece field.now piece }
-    ensures outcome { outcome result store.new ≡ with_bytes store.old (host_view host) row (piece_bytes field.now piece) }
+    ensures outcome { outcome result store.new
+        ≡ with_bytes store.old (host_view host) row (piece_bytes field.now piece) }
     ensures unchanged { OnErr result (store.new ≡ store.old) }
 {
     match store.move_ptr(host.at, row as i64, host.step) {
@@ -146,7 +151,8 @@ fn tell(
     length: usize,
 ) -> Result<bool, ConvStop>
     requires { row < 2 ^ 24 }
-    ensures { leaves result store.new ≡ Some (told store.old (option_map indicator_view indicator) row cut length) }
+    ensures { leaves result store.new
+        ≡ Some (told store.old (option_map indicator_view indicator) row cut length) }
 {
     match indicator {
         Some(it) => match set_indicator(store, it, row, told_length(it.kind, cut, length)) {
@@ -180,7 +186,8 @@ fn set_indicator(
 ) -> Result<(), Trap>
     requires row { row < 2 ^ 24 }
     requires number { IsValue indicator.kind number }
-    ensures outcome { outcome result store.new ≡ with_indicator store.old (indicator_view indicator) row number }
+    ensures outcome { outcome result store.new
+        ≡ with_indicator store.old (indicator_view indicator) row number }
     ensures unchanged { OnErr result (store.new ≡ store.old) }
 {
     match store.move_ptr(indicator.at, row as i64, indicator.step) {

@@ -109,7 +109,8 @@ pub(crate) fn is_cut(element: Element, field: &[u8]) -> bool
 /// Puts a piece at a pointer, as one access.
 pub(crate) fn put_piece(store: &mut Store, at: Ptr, piece: Piece, field: &[u8]) -> Result<(), Trap>
     requires { IsPiece field.now piece }
-    ensures outcome { outcome result store.new ≡ put store.old at.0 (piece_bytes field.now piece) }
+    ensures outcome { outcome result store.new
+        ≡ put store.old at.0 (piece_bytes field.now piece) }
     ensures unchanged { OnErr result (store.new ≡ store.old) }
 {
     match piece {

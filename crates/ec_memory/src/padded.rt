@@ -21,7 +21,8 @@ impl Store {
         piece: &[u8],
         zeros: u64,
     ) -> Result<(), Trap>
-        ensures outcome { outcome result self.new ≡ put self.old ptr.0 (head.now ++ piece.now ++ replicate zeros 0) }
+        ensures outcome { outcome result self.new
+            ≡ put self.old ptr.0 (head.now ++ piece.now ++ replicate zeros 0) }
         ensures unchanged { OnErr result (self.new ≡ self.old) }
     {
         let count = head.len() as u128 + piece.len() as u128 + zeros as u128;
@@ -34,7 +35,8 @@ impl Store {
 /// Writes bytes, other bytes behind them, and zero bytes behind these. They fit the region.
 fn write_parts(cells: &mut Region, at: usize, head: &[u8], piece: &[u8], zeros: usize)
     requires { at + (length head.now + length piece.now + zeros) ≤ length cells.old }
-    ensures cells { cells.new ≡ written cells.old at (set_cells (head.now ++ piece.now ++ replicate zeros 0)) }
+    ensures cells { cells.new
+        ≡ written cells.old at (set_cells (head.now ++ piece.now ++ replicate zeros 0)) }
     ensures length { length cells.new ≡ length cells.old }
 {
     let _ = cells.len();

@@ -53,7 +53,8 @@ pub(crate) fn put_long(store: &mut Store, offset: u64, value: i64)
 pub(crate) fn put_count(store: &mut Store, offset: u64, count: u64)
     requires area { IsArea store.old }
     requires inside { offset + 8 ≤ 256 }
-    ensures member { store.new ≡ with_member store.old (at offset (integer_bytes Long (pos count))) }
+    ensures member { store.new
+        ≡ with_member store.old (at offset (integer_bytes Long (pos count))) }
     ensures kept { IsArea store.new }
 {
     let _ = store.store_kind(place(offset), Kind::ULong, Value::Int(count as i128));
@@ -64,7 +65,8 @@ pub(crate) fn put_int(store: &mut Store, offset: u64, length: u32)
     requires area { IsArea store.old }
     requires inside { offset + 4 ≤ 256 }
     requires small { length < 2 ^ 31 }
-    ensures member { store.new ≡ with_member store.old (at offset (integer_bytes Int (pos length))) }
+    ensures member { store.new
+        ≡ with_member store.old (at offset (integer_bytes Int (pos length))) }
     ensures kept { IsArea store.new }
 {
     let _ = store.store_kind(place(offset), Kind::Int, Value::Int(length as i128));

@@ -1,9 +1,10 @@
 //! The message of a code, in the room that `sqlerrmc` has.
 
-ghost use Rattle.std.specs.Prelude.{◌≡◌, ◌+◌, ◌-◌, ◌≤◌, ◌++◌, ℕ, List, length, take};
+ghost use Rattle.std.specs.Prelude.{◌≡◌, ◌+◌, ◌≤◌, length};
 ghost use Rattle.std.specs.Fmt.{decimal};
 ghost use Rattle.ec_objects.specs.Cells.{written};
-ghost use Rattle.ec_transfer.specs.Area.{in_sqlerrmc, kept_front, message_on, text_length};
+ghost use Rattle.ec_sqlca.specs.Fronts.{Adds, Reaches};
+ghost use Rattle.ec_transfer.specs.Area.{in_sqlerrmc, message_on, text_length};
 
 use ec_base::Line;
 use itoa::Buffer;
@@ -23,7 +24,7 @@ pub(crate) fn text_on(message: &[u8], line: Line) -> [u8; 150]
 fn append_number(text: &mut [u8], at: usize, number: u32)
     requires room { length text.old ≡ 150 }
     requires before { at ≤ 149 }
-    ensures { (front : List ℕ) → text.old ≡ in_sqlerrmc front → at ≡ length (kept_front front) → text.new ≡ in_sqlerrmc (front ++ decimal number) }
+    ensures { Adds text.old at (decimal number) text.new }
 {
     let mut digits = Buffer::new();
     let digits = digits.format(number);
@@ -35,8 +36,8 @@ fn append_number(text: &mut [u8], at: usize, number: u32)
 fn append(text: &mut [u8], at: usize, more: &[u8]) -> usize
     requires room { length text.old ≡ 150 }
     requires before { at ≤ 149 }
-    ensures text { (front : List ℕ) → text.old ≡ in_sqlerrmc front → at ≡ length (kept_front front) → text.new ≡ in_sqlerrmc (front ++ more.now) }
-    ensures count { (front : List ℕ) → at ≡ length (kept_front front) → result ≡ length (kept_front (front ++ more.now)) }
+    ensures text { Adds text.old at more.now text.new }
+    ensures count { Reaches at more.now result }
     ensures bound { result ≤ 149 }
 {
     let count = more.len().min(149 - at);

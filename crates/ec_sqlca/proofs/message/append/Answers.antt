@@ -1,6 +1,6 @@
 -- As many bytes as there is room for.
 use Rattle.std.proofs.Common.{arith}
-use Rattle.ec_sqlca.proofs.Fronts.{message_more, count_more}
+use Rattle.ec_sqlca.proofs.FrontLemmas.{message_more, count_more}
 use Rattle.ec_sqlca.proofs.message.append.Goals as goal
 
 pub returns-clause-text : goal.returns-clause-text
