@@ -1,22 +1,29 @@
 #!/usr/bin/env python3
 """Compares the rows of crates/ec_sqliterows with what SQLite itself answers, by Python's module sqlite3.
 
-Where the library refuses a statement the state is compared and not the message. A prepared statement that is executed is
+Where the library refuses a statement its state is compared and not its message. A prepared statement that is executed is
 compared by its text. Rows about cursors, files and places that are no file are answered by the link and not by SQLite:
 they are passed over. It prints the rows that differ, and ends with 1 where one does.
 """
-import os
 import re
 import sqlite3
 import sys
-import tempfile
+from pathlib import Path
 
-ROWS = os.path.join(os.path.dirname(os.path.abspath(__file__)), "..", "crates", "ec_sqliterows")
+ROWS = Path(__file__).resolve().parent.parent / "crates" / "ec_sqliterows"
 LINK_ONLY = re.compile(r"(?i)^(prepare|deallocate|connect|close)\b|^text (declare|fetch|close)\b")
+SKIPPED = re.compile(r"('[^']*'|\"[^\"]*\"|/\*.*?\*/|--[^\n]*)|\$(\d)")
+FIRST_WORD = re.compile(r"(?is)(\s|/\*.*?\*/|--[^\n]*\n?)*(\w*)")
+COUNTED = ("INSERT", "UPDATE", "DELETE", "REPLACE")
 
 
-def marks(text):
-    return re.sub(r"('[^']*'|\"[^\"]*\"|/\*.*?\*/|--[^\n]*)|\$(\d)", lambda m: m.group(1) or "?" + m.group(2), text)
+def new_connection():
+    return sqlite3.connect(":memory:", isolation_level=None)
+
+
+def with_marks(text):
+    """The text with ?n for each $n that stands in no quote and no comment."""
+    return SKIPPED.sub(lambda match: match.group(1) or "?" + match.group(2), text)
 
 
 def field(value):
@@ -26,86 +33,106 @@ def field(value):
 
 
 def code(values):
-    kinds = {type(v) for v in values if v is not None}
-    return 4 if kinds == {int} else 12
+    """The code of a column: 4 where it has whole numbers and NULLs alone, else 12."""
+    return 4 if {type(value) for value in values if value is not None} == {int} else 12
 
 
-def answer(conn, text, params):
-    tx = lambda: "A" if conn.in_transaction else "I"
+def state(connection):
+    return "A" if connection.in_transaction else "I"
+
+
+def printed_rows(connection, names, rows):
+    columns = "".join(f" {name}:{code([row[at] for row in rows])}" for at, name in enumerate(names))
+    lines = "".join("\n |" + "".join(f" {field(value)} |" for value in row) for row in rows)
+    return f" rows {state(connection)}{columns}{lines}"
+
+
+def answer(connection, text, params):
+    """What SQLite answers, as the rows have it. Of a refusal that is its state, without a message."""
     try:
-        cursor = conn.execute(marks(text), params)
+        cursor = connection.execute(with_marks(text), params)
         rows = cursor.fetchall()
     except sqlite3.IntegrityError as error:
-        return " refused %s %s" % (tx(), "23505" if "UNIQUE" in str(error) else "XX000")
+        return f" refused {state(connection)} {'23505' if 'UNIQUE' in str(error) else 'XX000'}"
     except (sqlite3.Error, sqlite3.Warning):
-        return " refused %s XX000" % tx()
+        return f" refused {state(connection)} XX000"
     if cursor.description is None:
-        word = re.match(r"(?is)(\s|/\*.*?\*/|--[^\n]*\n?)*(\w*)", text).group(2).upper()
-        count = " %d" % cursor.rowcount if word in ("INSERT", "UPDATE", "DELETE", "REPLACE") else ""
-        return " done %s%s" % (tx(), count)
-    if any(isinstance(v, float) for row in rows for v in row):
-        return " refused %s XX000" % tx()
-    names = [d[0] for d in cursor.description]
-    head = "".join(" %s:%d" % (n, code([row[i] for row in rows])) for i, n in enumerate(names))
-    return " rows %s%s" % (tx(), head) + "".join(
-        "\n |" + "".join(" %s |" % field(v) for v in row) for row in rows)
+        is_counted = FIRST_WORD.match(text).group(2).upper() in COUNTED
+        return f" done {state(connection)}" + (f" {cursor.rowcount}" if is_counted else "")
+    if any(isinstance(value, float) for row in rows for value in row):
+        return f" refused {state(connection)} XX000"
+    return printed_rows(connection, [column[0] for column in cursor.description], rows)
 
 
 def stored():
     """The lines of the input, each with what stands below it in the output."""
-    lines = open(os.path.join(ROWS, "stdin")).read().split("\n")[:-1]
-    output = open(os.path.join(ROWS, "stdout")).read().split("\n")[:-1]
+    output = (ROWS / "stdout").read_text().splitlines()
     at = 0
-    for number, line in enumerate(lines):
+    for line in (ROWS / "stdin").read_text().splitlines():
         assert output[at] == line, (output[at], line)
-        at += 1
-        below = []
-        while at < len(output) and output[at].startswith(" "):
-            below.append(output[at])
-            at += 1
-        yield line, "\n".join(below)
+        end = at + 1
+        while end < len(output) and output[end].startswith(" "):
+            end += 1
+        yield line, "\n".join(output[at + 1 : end])
+        at = end
 
 
-def is_unknown(rest, prepared):
-    """Whether it executes a name that isn't prepared, which the link refuses by itself."""
-    return rest.startswith("exec ") and rest.partition(" <- ")[0][5:] not in prepared
+class Compared:
+    """The links in memory by their names, with what is prepared over the one that is compared, `m`."""
+
+    def __init__(self):
+        self.links, self.prepared = {}, {}
+        self.compared, self.passed, self.differ = 0, 0, 0
+
+    def is_unknown(self, rest):
+        """Whether it executes a name that isn't prepared, which the link refuses by itself."""
+        return rest.startswith("exec ") and rest.partition(" <- ")[0][5:] not in self.prepared
+
+    def pass_over(self, name, rest, got):
+        self.passed += 1
+        words = rest.split(" ", 2)
+        if name != "m":
+            return
+        if words[0] == "prepare" and got.startswith(" done"):
+            self.prepared[words[1]] = words[2]
+        elif words[0] == "deallocate":
+            self.prepared.pop(words[1], None)
+        elif words[0] in ("connect", "close"):
+            self.prepared.clear()
+            if words[0] == "close":
+                self.links[name] = new_connection()
+            elif self.links[name].in_transaction:
+                self.links[name].execute("ROLLBACK")
+
+    def compare(self, line, name, rest, got):
+        self.compared += 1
+        text, _, given = rest.partition(" <- ")
+        kind, _, text = text.partition(" ")
+        if kind == "exec":
+            text = self.prepared[text]
+        params = [None if param == "NULL" else param for param in given.split(" | ")] if given else []
+        want = answer(self.links[name], text, params)
+        if not (got.startswith(want) if want.startswith(" refused") else got == want):
+            self.differ += 1
+            print(f"{line}\n  stored: {got!r}\n  SQLite: {want!r}")
+
+    def take(self, line, got):
+        name, _, rest = line.partition(" ")
+        if rest == "= memory":
+            self.links[name] = new_connection()
+        elif name != "m" or LINK_ONLY.match(rest) or self.is_unknown(rest):
+            self.pass_over(name, rest, got)
+        else:
+            self.compare(line, name, rest, got)
 
 
 def main():
-    links, prepared, differ, compared, passed = {}, {}, 0, 0, 0
-    os.chdir(tempfile.mkdtemp())
+    compared = Compared()
     for line, got in stored():
-        name, _, rest = line.partition(" ")
-        if not line or line.startswith("#"):
-            continue
-        if rest == "= memory":
-            links[name] = sqlite3.connect(":memory:", isolation_level=None)
-        elif name != "m" or LINK_ONLY.match(rest) or is_unknown(rest, prepared):
-            passed += 1
-            word = rest.split(" ", 2)
-            if name == "m" and word[0] == "prepare" and got.startswith(" done"):
-                prepared[word[1]] = word[2]
-            if name == "m" and word[0] == "deallocate":
-                prepared.pop(word[1], None)
-            if name == "m" and word[0] in ("connect", "close"):
-                prepared.clear()
-            if rest == "connect" and name in links and links[name].in_transaction:
-                links[name].execute("ROLLBACK")
-            if rest == "close" and name in links:
-                links[name] = sqlite3.connect(":memory:", isolation_level=None)
-        else:
-            text, _, given = rest.partition(" <- ")
-            if text.startswith("exec "):
-                text = "text " + prepared[text[5:]]
-            params = [None if p == "NULL" else p for p in given.split(" | ")] if given else []
-            want = answer(links[name], text[5:], params)
-            compared += 1
-            same = got.startswith(want) if want.startswith(" refused") else got == want
-            if not same:
-                differ += 1
-                print("%s\n  stored: %r\n  SQLite: %r" % (line, got, want))
-    print("%d rows compared, %d left to the link, %d differ" % (compared, passed, differ))
-    return 1 if differ else 0
+        if line and not line.startswith("#"):
+            compared.take(line, got)
+    print(f"{compared.compared} rows compared, {compared.passed} left to the link, {compared.differ} differ")
+    return 1 if compared.differ else 0
 
 
 sys.exit(main())
