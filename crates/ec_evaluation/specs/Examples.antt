@@ -8,7 +8,7 @@ use Rattle.ec_link.specs.declared.request.Request.TheVariants.{Close}
 use Rattle.ec_objects.specs.Memory.{Memory, number, address, ScalarType, integer_type}
 use Rattle.ec_resolved.specs.Operations.{Operation, plus, divided, compare, less, integers, pointer_plus}
 use Rattle.ec_resolved.specs.Programs.{Function, Program}
-use Rattle.ec_resolved.specs.Resolved.{Exp, object, constant, load, store, update, convert, operate, known, Exps, no_exps, exps, Stm, on_line, evaluate, block, loop, return, Stms, no_stms, stms}
+use Rattle.ec_resolved.specs.Resolved.{Exp, object, constant, load, store, update, convert, operate, known, library_call, Exps, no_exps, exps, Stm, on_line, evaluate, block, loop, return, Stms, no_stms, stms}
 use Rattle.ec_evaluation.specs.State.{Answer, State, Ending, waits}
 use Rattle.ec_evaluation.specs.Results.{Res, on, over, turn}
 use Rattle.ec_evaluation.specs.Evaluate.{Step}
@@ -168,3 +168,7 @@ broken = (None, Broken)
 
 abbrev pub asking_run : Program → ℕ → List Answer → Observed
 asking_run p turns answers = program_meaning asking p turns None answers
+
+-- an embedded statement as a call of the library
+abbrev pub as_call : ℕ → Stm
+as_call n = evaluate (library_call n)

@@ -11,7 +11,7 @@ pub use expressions::{
     struct_examples, update_examples,
 };
 pub use laws::{
-    further_answers_change_nothing, more_turns_change_nothing, plain_programs,
+    asking_programs, further_answers, more_turns_change_nothing, plain_programs,
     runs_end_within_their_turns, runs_only_add, steps_that_agree,
 };
 pub use runs::{

@@ -122,10 +122,11 @@ pub fn spent_examples()
 /// Embedded statements and calls of the library: here each takes a turn, makes a request, and takes its answer or waits for
 /// it.
 pub fn step_examples()
-    ensures answered { (asking_run (program [] (embedded_statement 0 ∷ gives (lit 3) ∷ [])) 1 (broken
-        ∷ [])).ending
+    ensures answered { (asking_run (program [] (embedded_statement 0 ∷ gives (lit 3) ∷ [])) 1
+        (broken ∷ [])).ending
         ≡ exited 3 }
-    ensures said { (asking_run (program [] (embedded_statement 0 ∷ [])) 1 (broken ∷ [])).conversation
+    ensures said { (asking_run (program [] (embedded_statement 0 ∷ [])) 1 (broken ∷
+        [])).conversation
         ≡ record { slot = None; request = Close; reply = Broken } ∷ [] }
     ensures waits { (asking_run (program [] (embedded_statement 0 ∷ embedded_statement 1 ∷ [])) 2
         (broken ∷ [])).ending
