@@ -1,0 +1,16 @@
+-- That what is read token by token is what the definition has.
+use Rattle.std.specs.Prelude.{◌≡◌, true, List, [], ◌∷◌}
+use Rattle.ec_ctypes.specs.trees.Exprs.{ExprData}
+use Rattle.ec_language.specs.SqlTokens.{SqlToken}
+use Rattle.ec_embedded.specs.ServerText.{Tokens, suffixes, begins_host, host_at, server_at}
+use Rattle.ec_embedded.specs.Terminals.{Counts, Begins}
+use Rattle.ec_server_text.specs.Readers.{long_suffixes, long_host, sending}
+
+abbrev pub SuffixesAreLongest : Type 0
+SuffixesAreLongest = (e : ExprData) (n : Counts) (w : Tokens) → suffixes n e w ≡ long_suffixes e n w
+
+abbrev pub HostsAreLongest : Type 0
+HostsAreLongest = (b : Begins) (n : Counts) (w : Tokens) → begins_host w ≡ true → host_at b n w ≡ long_host b n w
+
+abbrev pub StatementsAreSent : Type 0
+StatementsAreSent = (n : Counts) (w : Tokens) → server_at n w ≡ sending n w
