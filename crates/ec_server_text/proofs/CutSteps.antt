@@ -1,19 +1,19 @@
 -- Hosts, INTO lists and cuts of a statement for the server are read by the readers.
 use Rattle.std.proofs.Common.{◌≡◌, ℕ, zero, suc, Bool, true, false, List, [], ◌∷◌, ◌++◌, length, drop, refl, ap, sym, ◌∙◌, codes, Option, Some, None, ◌⊎◌, inl, inr, append_assoc, append-nil}
 use Rattle.std.specs.Prelude.{◌&&◌, ◌||◌, ◌==◌}
-use Rattle.ec_ctypes.specs.trees.Embedded.{HostData, TextArgData, word_arg, OutsData, no_outs, listed_outs, area_outs, PartData, bytes_part, host_part, server_text}
+use Rattle.ec_ctypes.specs.trees.Embedded.{HostData, TextArgData, word_arg, OutsData, no_outs, listed_outs, area_outs, PartData, bytes_part, host_part, server_text, trans, declare_cursor}
 use Rattle.ec_ctypes.specs.trees.Exprs.{ExprData, identifier}
 use Rattle.ec_shapes.specs.ReadShapes.{done, stopped, stuck, over_limit, and_then, counting, taking, read_one}
 use Rattle.ec_shapes.proofs.Made.{made, same_next, made_first}
 use Rattle.ec_language.specs.Letters.{Text}
 use Rattle.ec_language.specs.SqlTokens.{SqlToken}
 use Rattle.ec_embedded.specs.References.{unquoted, text_of_host}
-use Rattle.ec_embedded.specs.ServerText.{Tokens, Reading, begins_host, begins_indicator, begins_area, begins_into, begins_more, suffixes, reference_at, with_indicator, host_at, more_hosts, text_at, into_list, Cut, token, host, into, cons_cut, cuts, blank, put, parts, outs_in, depth_behind, server_at}
+use Rattle.ec_embedded.specs.ServerText.{Tokens, Reading, begins_host, begins_indicator, begins_area, begins_into, begins_more, suffixes, reference_at, with_indicator, host_at, more_hosts, text_at, into_list, Cut, token, host, into, cons_cut, cuts, blank, put, parts, outs_in, depth_behind, server_at, plain_cuts, transaction_at, bytes_in}
 use Rattle.ec_embedded.specs.Terminals.{alphabet, Counts, Terminal, step_by, Begins, input, reference, is, keyword, any_word, glued_word, sign, colon, plain_quote}
 use Rattle.ec_references.specs.Readers.{Reader, returns, ◌>>=◌, ◌>>◌, taken, if_next, turns_from}
 use Rattle.ec_server_text.proofs.Longest.{both_true, taken_there, first_way, other_way, long_is}
 use Rattle.ec_server_text.specs.Readers as r
-use Rattle.ec_server_text.specs.Readers.{Writing, Cutting, goes_on, one_cut, cuts_within, is_into, into_cut, host_cut, token_cut, with_token, with_host, with_into, with_bytes, if_host}
+use Rattle.ec_server_text.specs.Readers.{Writing, Cutting, goes_on, one_cut, cuts_within, is_into, into_cut, host_cut, token_cut, with_token, with_host, with_into, with_bytes, if_host, one_plain, plain_within}
 
 passed : {A : Type 0} (t : Terminal) (n : Counts) (a : SqlToken) (w : Tokens) (f : SqlToken → Counts → Tokens → Reading A) → is t a ≡ true → and_then (read_one alphabet t n (a ∷ w)) f ≡ and_then (counting alphabet t a w (step_by t.begins n)) f
 passed t n a w f e = ap (λ o. and_then o f) (taken_there t n a w e)
@@ -38,7 +38,6 @@ reference_is b n (a ∷ c ∷ w) h = go (step_by b n) ∙ sym (passed (colon b) 
 
 abbrev with : ExprData → Option ExprData → Counts → Tokens → Reading HostData
 with e i m q = done (record { value = e; indicator = i }) m q
-
 
 indicated_is : (e : ExprData) (o p : Reading ExprData) → o ≡ p → and_then o (λ i m q. with e (Some i) m q) ≡ and_then (and_then p (λ i m q. done (Some i) m q)) (with e)
 indicated_is e (done v m q) p h = ap (λ x. and_then (and_then x (λ i m q. done (Some i) m q)) (with e)) h
@@ -160,9 +159,9 @@ outputs_is n w h = go (begins_area w) refl
     host_there false t e f = sym f ∙ e
 
     go : (t : Bool) → begins_area w ≡ t → elim t as (λ _. Reading OutsData) [
-          | true ↦ and_then (text_at n (drop 2 w)) (λ a m q. done (area_outs a) m q)
-          | false ↦ and_then (host_at reference n w) (λ h m q. and_then (more_hosts (length q) m q) (λ hs i u. done (listed_outs (h ∷ hs)) i u))
-        ]
+      | true ↦ and_then (text_at n (drop 2 w)) (λ a m q. done (area_outs a) m q)
+      | false ↦ and_then (host_at reference n w) (λ h m q. and_then (more_hosts (length q) m q) (λ hs i u. done (listed_outs (h ∷ hs)) i u))
+    ]
         ≡ elim t as (λ _. Reading OutsData) [
           | true ↦ and_then (r.long_area n w) (λ a m q. done (area_outs a) m q)
           | false ↦ and_then (r.long_host reference n w) (λ h m q. and_then (r.further_hosts (h ∷ []) m q) (λ hs i u. done (listed_outs hs) i u))
@@ -303,3 +302,30 @@ outs_end (Some o) = refl
 pub server_is : (n : Counts) (w : Tokens) → server_at n w ≡ r.sending n w
 unfolding server_at r.sending r.all_cuts
 server_is n w = cuts_are server_text (length w) (r.cutting_from true) (λ e. refl) n w ∙ same_next (cuts_within (length w) (r.cutting_from true) n w) _ _ (λ s i u. let e = put_end s.writing.parts s.writing.bytes in let o = outs_end s.writing.outs in λ j. done (server_text (e j) (o j)) i u)
+
+-- ---- transaction control
+
+plain_step : {B : Type 0} (F : List PartData → OutsData → B) (w : Tokens) → ((s : Cutting) (n : Counts) → made (finish F s.writing) (plain_cuts w n) ≡ made (λ t. finish F t.writing []) (plain_within (length w) s n w))
+    → (s : Cutting) (n : Counts) (t : SqlToken) (x : Bool)
+    → made (finish F s.writing) (elim x as (λ _. Reading (List Cut)) [ true ↦ stuck (t ∷ w) | false ↦ cons_cut (token t) (plain_cuts w n) ])
+    ≡ made (λ u. finish F u.writing []) (and_then (elim x as (λ _. Reading Cutting) [ true ↦ stuck (t ∷ w) | false ↦ done (token_cut s t) n w ]) (λ u m q. plain_within (length w) u m q))
+plain_step F w again s n t true = refl
+plain_step F w again s n t false =
+    made_cut (finish F s.writing) (token t) (plain_cuts w n)
+    ∙ same_next (plain_cuts w n) _ _ (λ cs i u. ap (λ x. done x i u) (finish_token F s.writing t cs))
+    ∙ again (token_cut s t) n
+
+plain_are : {B : Type 0} (F : List PartData → OutsData → B) (w : Tokens) (s : Cutting) (n : Counts) → made (finish F s.writing) (plain_cuts w n) ≡ made (λ t. finish F t.writing []) (plain_within (length w) s n w)
+unfolding one_plain
+plain_are F [] s n = refl
+plain_are F (t ∷ w) s n = plain_step F w (plain_are F w) s n t (begins_host (t ∷ w))
+
+pub control_is : (n : Counts) (w : Tokens) → transaction_at n w ≡ r.controlling n w
+unfolding transaction_at r.controlling r.all_plain
+control_is n w = plain_are (λ ps os. trans (bytes_in ps)) w (r.cutting_from true) n ∙ same_next (plain_within (length w) (r.cutting_from true) n w) _ _ (λ s i u. ap (λ ps. done (trans (bytes_in ps)) i u) (put_end s.writing.parts s.writing.bytes))
+
+-- ---- DECLARE
+
+pub declare_is : (name : Text) (n : Counts) (w : Tokens) → made (λ cs. declare_cursor name (parts true false cs) None) (cuts (length w) 0 false n w) ≡ r.declaring name n w
+unfolding r.declaring r.all_cuts
+declare_is name n w = cuts_are (λ ps os. declare_cursor name ps None) (length w) (r.cutting_from false) (λ e. absurd (cc)) n w ∙ same_next (cuts_within (length w) (r.cutting_from false) n w) _ _ (λ s i u. ap (λ ps. done (declare_cursor name ps None) i u) (put_end s.writing.parts s.writing.bytes))

@@ -1,12 +1,12 @@
 -- Statements for the server, read token by token: the same as their definition, in the steps that code takes.
 use Rattle.std.specs.Prelude.{ℕ, zero, suc, ◌-◌, Bool, true, false, not, ◌&&◌, ◌||◌, ◌==◌, List, [], ◌∷◌, ◌++◌, drop, length, codes, Option, Some, None, if◌then◌else◌}
-use Rattle.ec_ctypes.specs.trees.Embedded.{HostData, TextArgData, word_arg, OutsData, no_outs, listed_outs, area_outs, PartData, bytes_part, host_part, EmbKindData, server_text}
+use Rattle.ec_ctypes.specs.trees.Embedded.{HostData, TextArgData, word_arg, OutsData, no_outs, listed_outs, area_outs, PartData, bytes_part, host_part, EmbKindData, server_text, trans, declare_cursor}
 use Rattle.ec_ctypes.specs.trees.Exprs.{ExprData, identifier}
 use Rattle.ec_shapes.specs.ReadShapes.{done, stuck}
 use Rattle.ec_language.specs.Letters.{Text}
 use Rattle.ec_language.specs.SqlTokens.{SqlToken}
 use Rattle.ec_embedded.specs.References.{unquoted, text_of_host}
-use Rattle.ec_embedded.specs.ServerText.{Tokens, begins_host, begins_indicator, begins_area, begins_into, begins_more, is_member, is_arrow, is_index, depth_behind, blank, put, parts, Cut, outs_in}
+use Rattle.ec_embedded.specs.ServerText.{Tokens, begins_host, begins_indicator, begins_area, begins_into, begins_more, is_member, is_arrow, is_index, depth_behind, blank, put, parts, bytes_in, Cut, outs_in}
 use Rattle.ec_embedded.specs.Terminals.{Begins, input, reference, keyword, any_word, glued_word, sign, colon, plain_quote}
 use Rattle.ec_references.specs.Readers.{Reader, returns, ◌>>=◌, ◌>>◌, taken, if_next, turns_from, suffix_behind}
 
@@ -155,3 +155,29 @@ sent_by s = server_text (parts_of s.writing) (outs_or_none s.writing.outs)
 unfoldable pub sending : Reader EmbKindData
 sending = all_cuts (cutting_from true) >>= (λ s. returns (sent_by s))
 
+-- ---- transaction control: no hosts
+
+unfoldable pub one_plain : Cutting → Reader Cutting
+one_plain s n [] = done s n []
+one_plain s n (t ∷ w) = elim (begins_host (t ∷ w)) [ true ↦ stuck (t ∷ w) | false ↦ done (token_cut s t) n w ]
+
+abbrev pub plain_within : ℕ → Cutting → Reader Cutting
+plain_within k s = turns_from goes_on one_plain k s
+
+unfoldable pub all_plain : Cutting → Reader Cutting
+all_plain s = λ n w. plain_within (length w) s n w
+
+abbrev pub controlled_by : Cutting → EmbKindData
+controlled_by s = trans (bytes_in (parts_of s.writing))
+
+unfoldable pub controlling : Reader EmbKindData
+controlling = all_plain (cutting_from true) >>= (λ s. returns (controlled_by s))
+
+-- ---- DECLARE, from its first token
+
+abbrev pub declared_by : Text → Cutting → EmbKindData
+declared_by name s = declare_cursor name (parts_of s.writing) None
+
+-- for a statement
+unfoldable pub declaring : Text → Reader EmbKindData
+declaring name = all_cuts (cutting_from false) >>= (λ s. returns (declared_by name s))

@@ -5,13 +5,13 @@ ghost use Rattle.ec_clex.specs.Sql.{sql_view, sql_views};
 ghost use Rattle.ec_ctypes.specs.views.Embedded.{emb_kind_view, host_view, outs_view, part_view};
 ghost use Rattle.ec_references.specs.Readers.{ReadsBy};
 ghost use Rattle.ec_references.specs.States.{seen};
-ghost use Rattle.ec_embedded.specs.ServerText.{depth_behind};
+ghost use Rattle.ec_embedded.specs.ServerText.{bytes_in, depth_behind};
 ghost use Rattle.ec_server_text.specs.Readers as spec;
 ghost use Rattle.ec_server_text.specs.Views.{cutting_view};
 
 use crate::hosts::{input_host, outputs};
 use crate::lookahead::{begins_host, begins_into};
-use ec_base::{Boxed, Bytes, List, OutOfMemory};
+use ec_base::{Boxed, Bytes, List, Name, OutOfMemory};
 use ec_clex::SqlToken;
 use ec_ctypes::{EmbKind, Host, Outs, Part};
 use ec_references::{Cursor, is_mark};
@@ -129,11 +129,7 @@ fn with_host(
 }
 
 /// Cuts the list of an INTO.
-fn into_cut(
-    alloc: Global,
-    cursor: &mut Cursor<'_>,
-    cutting: Cutting,
-) -> Result<Cutting, Failure>
+fn into_cut(alloc: Global, cursor: &mut Cursor<'_>, cutting: Cutting) -> Result<Cutting, Failure>
     ensures is { ReadsBy cutting_view (spec.into_cut (cutting_view cutting)) (seen cursor.old) result (seen cursor.new) }
     ensures most { IfOk result (λ more. more.depth ≡ cutting.depth) }
 {
@@ -175,11 +171,7 @@ fn is_into(depth: u64, tokens: &[SqlToken]) -> bool
 
 /// Cuts what stands next.
 #[tactic(auto, unfolding(crate::specs::Readers::one_cut))]
-fn one_cut(
-    alloc: Global,
-    cursor: &mut Cursor<'_>,
-    cutting: Cutting,
-) -> Result<Cutting, Failure>
+fn one_cut(alloc: Global, cursor: &mut Cursor<'_>, cutting: Cutting) -> Result<Cutting, Failure>
     requires { cutting.depth + 1 < 2 ^ 64 }
     ensures is { ReadsBy cutting_view (spec.one_cut (cutting_view cutting)) (seen cursor.old) result (seen cursor.new) }
     ensures most { IfOk result (λ more. more.depth ≤ cutting.depth + 1) }
@@ -261,4 +253,86 @@ pub fn server(alloc: Global, cursor: &mut Cursor<'_>) -> Result<EmbKind, Failure
 {
     let cutting = all_cuts(alloc, cursor, cutting_from(alloc, true))?;
     Ok(sent_by(cutting)?)
+}
+
+/// Takes the next token, which begins no host.
+#[tactic(auto, unfolding(crate::specs::Readers::one_plain))]
+fn one_plain(cursor: &mut Cursor<'_>, cutting: Cutting) -> Result<Cutting, Failure>
+    requires { cutting.depth + 1 < 2 ^ 64 }
+    ensures is { ReadsBy cutting_view (spec.one_plain (cutting_view cutting)) (seen cursor.old) result (seen cursor.new) }
+    ensures most { IfOk result (λ more. more.depth ≤ cutting.depth + 1) }
+{
+    let tokens = cursor.rest();
+    match tokens {
+        [token, ..] => {
+            if begins_host(tokens) {
+                return Err(Failure::Dead(tokens.len()));
+            }
+            cursor.next();
+            Ok(with_token(cutting, token)?)
+        }
+        [] => Ok(cutting),
+    }
+}
+
+/// Takes all tokens.
+fn all_plain(cursor: &mut Cursor<'_>, mut cutting: Cutting) -> Result<Cutting, Failure>
+    requires { cutting.depth ≡ 0 }
+    ensures { ReadsBy cutting_view (spec.all_plain (cutting_view cutting)) (seen cursor.old) result (seen cursor.new) }
+{
+    for _turn in 0..cursor.left() {
+        if cursor.left() == 0 {
+            return Ok(cutting);
+        }
+        cutting = one_plain(cursor, cutting)?;
+    }
+    Ok(cutting)
+}
+
+/// The bytes of the first part.
+fn bytes_in(alloc: Global, parts: &List<Part>) -> Result<Bytes, OutOfMemory>
+    ensures { IfOk result (λ bytes. bytes ≡ bytes_in (map part_view parts.now)) }
+{
+    match parts.as_slice() {
+        [Part::Bytes(bytes), ..] => List::from_slice(alloc, bytes.as_slice()),
+        [Part::Host(_), ..] => Ok(List::new(alloc)),
+        [] => Ok(List::new(alloc)),
+    }
+}
+
+/// The transaction control that is written so.
+fn controlled_by(alloc: Global, cutting: Cutting) -> Result<EmbKind, OutOfMemory>
+    ensures { IfOk result (λ kind. emb_kind_view kind ≡ spec.controlled_by (cutting_view cutting)) }
+{
+    let parts = with_bytes(cutting.parts, cutting.bytes)?;
+    Ok(EmbKind::Trans(bytes_in(alloc, &parts)?))
+}
+
+/// Transaction control.
+#[tactic(auto, unfolding(crate::specs::Readers::controlling))]
+pub fn transaction(alloc: Global, cursor: &mut Cursor<'_>) -> Result<EmbKind, Failure>
+    ensures { ReadsBy emb_kind_view spec.controlling (seen cursor.old) result (seen cursor.new) }
+{
+    let cutting = all_plain(cursor, cutting_from(alloc, true))?;
+    Ok(controlled_by(alloc, cutting)?)
+}
+
+/// The declaration of a cursor that is written so.
+fn declared_by(cutting: Cutting, name: Name) -> Result<EmbKind, OutOfMemory>
+    ensures { IfOk result (λ kind. emb_kind_view kind ≡ spec.declared_by name (cutting_view cutting)) }
+{
+    Ok(EmbKind::Declare {
+        cursor: name,
+        parts: with_bytes(cutting.parts, cutting.bytes)?,
+        prepared: None,
+    })
+}
+
+/// DECLARE of a cursor for a statement, from its first token on. No list is cut out of it.
+#[tactic(auto, unfolding(crate::specs::Readers::declaring))]
+pub fn declare(alloc: Global, cursor: &mut Cursor<'_>, name: Name) -> Result<EmbKind, Failure>
+    ensures { ReadsBy emb_kind_view (spec.declaring name) (seen cursor.old) result (seen cursor.new) }
+{
+    let cutting = all_cuts(alloc, cursor, cutting_from(alloc, false))?;
+    Ok(declared_by(cutting, name)?)
 }

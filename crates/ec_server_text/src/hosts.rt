@@ -11,9 +11,7 @@ ghost use Rattle.ec_server_text.specs.Readers as spec;
 use crate::lookahead::{begins_area, begins_host, begins_indicator, begins_more, begins_suffix};
 use ec_base::{Boxed, List};
 use ec_ctypes::{Expr, Host, Outs, TextArg};
-use ec_references::{
-    Class, Cursor, copy_bytes, name, suffix_behind, text_of_host, unquoted,
-};
+use ec_references::{Class, Cursor, copy_bytes, name, suffix_behind, text_of_host, unquoted};
 use ec_shapes::Failure;
 use std::alloc::Global;
 

@@ -89,9 +89,7 @@ pub fn begins_suffix(tokens: &[SqlToken]) -> bool
 {
     match tokens {
         [first, second, third, ..] => {
-            is_member(first, second)
-                || is_arrow(first, second)
-                || is_index(first, second, third)
+            is_member(first, second) || is_arrow(first, second) || is_index(first, second, third)
         }
         [first, second] => is_member(first, second) || is_arrow(first, second),
         [_] => false,
