@@ -57,6 +57,11 @@ Reads view o (Err e) new = e ≢ OutOfMemory → o ≡ stopped e
 abbrev pub ReadsBy : {A B : Type 0} → (B → A) → Reader A → State → Result B Failure → State → Type 0
 ReadsBy view p old result new = Reads view (p old.counts old.tokens) result new
 
+-- The next token is taken, whatever it is, and nothing is counted; of none, all stays.
+abbrev pub TakesAny : State → Option SqlToken → State → Type 0
+TakesAny old (Some t) new = (old.tokens ≡ t ∷ new.tokens) × (new.counts ≡ old.counts)
+TakesAny old None new = (old.tokens ≡ []) × (new ≡ old)
+
 -- ---- numbers
 
 -- the constant of this value, of the first type that has it

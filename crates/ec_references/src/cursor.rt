@@ -4,7 +4,7 @@ ghost use Rattle.std.specs.Prelude.{◌≡◌, IfOk, codes, option_map, length};
 ghost use Rattle.ec_clex.specs.Sql.{sql_view, sql_views};
 ghost use Rattle.ec_embedded.specs.Terminals as spec;
 ghost use Rattle.ec_embedded.specs.Terminals.{Begins};
-ghost use Rattle.ec_references.specs.Readers.{FitsLong, ReadsBy, taken, next_is};
+ghost use Rattle.ec_references.specs.Readers.{FitsLong, ReadsBy, TakesAny, taken, next_is};
 ghost use Rattle.ec_references.specs.States.{counts_view, seen, terminal_view};
 
 use crate::class::Class;
@@ -155,6 +155,20 @@ impl<'a> Cursor<'a> {
         match self.rest {
             [first, ..] => is_class(first, class),
             [] => false,
+        }
+    }
+
+    /// Takes the next token, whatever it is.
+    #[tactic(auto, unfolding(crate::specs::States::seen))]
+    pub fn next(&mut self) -> Option<&'a SqlToken>
+        ensures { TakesAny (seen self.old) (option_map (λ t. sql_view t.now) result) (seen self.new) }
+    {
+        match self.rest {
+            [first, rest @ ..] => {
+                self.rest = rest;
+                Some(first)
+            }
+            [] => None,
         }
     }
 

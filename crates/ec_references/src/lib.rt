@@ -20,7 +20,7 @@ pub use names::{
 };
 pub use references::{
     copy_name, decimal, hosted, indicator, input_reference, name, named_place, referenced,
-    spelled_host,
+    spelled_host, suffix_behind,
 };
 pub use tests_of_tokens::{
     character_of, is_any_word, is_class, is_glued_mark, is_keyword, is_mark,

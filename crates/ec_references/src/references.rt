@@ -116,7 +116,7 @@ fn index_behind(alloc: Global, cursor: &mut Cursor<'_>, of: Boxed<Expr>) -> Resu
 
 /// A member, a member of what is pointed to, or an element.
 #[tactic(auto, unfolding(crate::specs::Readers::suffix_behind))]
-fn suffix_behind(alloc: Global, cursor: &mut Cursor<'_>, of: Expr) -> Result<Expr, Failure>
+pub fn suffix_behind(alloc: Global, cursor: &mut Cursor<'_>, of: Expr) -> Result<Expr, Failure>
     ensures { ReadsBy expr_view (spec.suffix_behind (expr_view of)) (seen cursor.old) result (seen cursor.new) }
 {
     let of = Boxed::new(alloc, of)?;
