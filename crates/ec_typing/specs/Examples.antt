@@ -30,14 +30,19 @@ with_main text = verdict_by false (read_text false (codes text ++ codes " int ma
 abbrev pub in_main : String → Verdict
 in_main text = verdict_by false (read_text false (codes "int main(void) { " ++ codes text ++ codes " }"))
 
--- of statements, where these are declared: int i; int *p; char *c; void *v; int a[3]; struct s { int m; struct s *n; } x, *q; struct u *w;
-abbrev pub among_declarations : String → Verdict
-among_declarations text = in_main_by (codes "int i; int *p; char *c; void *v; int a[3]; struct s { int m; struct s *n; } x, *q; struct u; struct u *w; ") text
-  where
-    in_main_by : List ℕ → String → Verdict
-    in_main_by declarations text = verdict_by false (read_text false (codes "int main(void) { " ++ declarations ++ codes text ++ codes " }"))
+-- of statements behind these declarations
+abbrev pub verdict_behind : String → String → Verdict
+verdict_behind declarations text = verdict_by false (read_text false (codes declarations ++ codes text ++ codes " }"))
 
--- the same of a text of written C
+-- of statements among objects of the types of C
+abbrev pub among_declarations : String → Verdict
+among_declarations text = verdict_behind "int main(void) { int i; int *p; char *c; void *v; int a[3]; struct s { int m; struct s *n; } x, *q; struct u; struct u *w; " text
+
+-- of statements where functions are declared and defined
+abbrev pub among_functions : String → Verdict
+among_functions text = verdict_behind "int f(int a, char *b) { return a; } void g(void) { } int h(long); int main(void) { int i; long l; char *c; unsigned char *u; void *v; struct s { int m; } x; " text
+
+-- what they say of a text of written C
 abbrev pub written_verdict : String → Verdict
 written_verdict text = verdict_by true (read_text true (codes text))
 

@@ -43,8 +43,8 @@ known_functions =
 abbrev pub known_function : Text → Option KnownData
 known_function name = find name known_functions
 
-abbrev pub names_of : {V : Type 0} → Named V → List Text
-names_of es = map (λ e. e.0) es
+abbrev pub names_in : {V : Type 0} → Named V → List Text
+names_in es = map (λ e. e.0) es
 
 -- ---- reserved names
 
@@ -56,7 +56,7 @@ begins_with front t = same_text front (take (length front) t)
 
 -- an object, a parameter, a function, a member or a label may not have this name
 abbrev pub is_reserved : Text → Bool
-is_reserved t = is_one_of reserved_words t || is_one_of (names_of known_functions) t || begins_with (codes "ECPG") t || begins_with (codes "varchar_") t
+is_reserved t = is_one_of reserved_words t || is_one_of (names_in known_functions) t || begins_with (codes "ECPG") t || begins_with (codes "varchar_") t
 
 -- a letter in upper case
 abbrev pub raised : ℕ → ℕ
@@ -66,7 +66,7 @@ raised b = if nat_le 97 b && nat_le b 122 then b - 32 else b
 abbrev pub is_reserved_tag : Bool → Text → Bool
 is_reserved_tag written t =
     is_one_of reserved_words t
-    || is_one_of (names_of known_functions) t
+    || is_one_of (names_in known_functions) t
     || begins_with (codes "ECPG") t
     || (not written && begins_with (codes "varchar_") t)
     || same_text (map raised t) (codes "EXEC")

@@ -16,22 +16,32 @@ pub fn redeclared_examples()
     ensures two_parameters { with_main "int f(int x,\nint x);" ≡ refused F10 1 }
     ensures object_named_as_its_function { with_main "int f(int f) { return f; }" ≡ fine }
     ensures function_and_object { with_main "int f;\nint f(void);" ≡ refused F10 2 }
-    ensures function_again { with_main "int f(int x); int f(int y) { return y; } int f(int);" ≡ fine }
+    ensures function_again { with_main
+        "int f(int x); int f(int y) { return y; } int f(int);"
+        ≡ fine }
     ensures function_of_another_type { with_main "int f(int x);\nint f(long x);" ≡ refused F10 2 }
     ensures function_of_another_result { with_main "int f(int x);\nlong f(int x);" ≡ refused F10 2 }
-    ensures function_with_other_parameters { with_main "int f(int x);\nint f(void);" ≡ refused F10 2 }
+    ensures function_with_other_parameters { with_main
+        "int f(int x);\nint f(void);"
+        ≡ refused F10 2 }
     ensures array_and_pointer_parameters { with_main "int f(int a[3]); int f(int *b);" ≡ fine }
-    ensures function_twice_defined { with_main "int f(void) { return 1; }\nint f(void) { return 1; }" ≡ refused F10 2 }
+    ensures function_twice_defined { with_main
+        "int f(void) { return 1; }\nint f(void) { return 1; }"
+        ≡ refused F10 2 }
     ensures tag { with_main "struct s { int m; };\nstruct s { int m; };" ≡ refused F10 2 }
     ensures tag_in_itself { with_main "struct s {\nstruct s { int m; } x; };" ≡ refused F10 2 }
-    ensures tag_declared_and_listed { with_main "struct s; struct s; struct s { int m; }; struct s;" ≡ fine }
+    ensures tag_declared_and_listed { with_main
+        "struct s; struct s; struct s { int m; }; struct s;"
+        ≡ fine }
     ensures inner_tag { in_main "struct s { int m; }; { struct s { long m; }; }" ≡ fine }
     ensures tag_and_object { in_main "struct s { int s; } s;" ≡ fine }
     ensures member { with_main "struct s {\nint m;\nlong m; };" ≡ refused F10 3 }
     ensures members_of_two_structs { with_main "struct s { int m; }; struct t { int m; };" ≡ fine }
     ensures label { in_main "\nl: ;\nl: ;" ≡ refused F10 3 }
     ensures label_in_another_block { in_main "{ l: ; } { l: ; }" ≡ refused F10 1 }
-    ensures labels_of_two_functions { verdict "int f(void) { l: return 1; } int main(void) { l: ; }" ≡ fine }
+    ensures labels_of_two_functions { verdict
+        "int f(void) { l: return 1; } int main(void) { l: ; }"
+        ≡ fine }
     ensures label_and_object { in_main "int l; l: ;" ≡ fine }
 {}
 
@@ -40,25 +50,43 @@ pub fn undeclared_examples()
     ensures name { in_main "x;" ≡ refused F11 1 }
     ensures name_declared_below { in_main "x; int x;" ≡ refused F11 1 }
     ensures name_of_a_block_that_was_left { in_main "{ int x; } x;" ≡ refused F11 1 }
-    ensures name_of_another_function { verdict "int f(int x) { return x; } int main(void) { return x; }" ≡ refused F11 1 }
+    ensures name_of_another_function { verdict
+        "int f(int x) { return x; } int main(void) { return x; }"
+        ≡ refused F11 1 }
     ensures name_in_its_own_initializer { in_main "int x = x;" ≡ fine }
     ensures name_in_a_declarator_before_it { in_main "int x = y, y;" ≡ refused F11 1 }
     ensures name_of_a_loop { in_main "for (int i = 0; i < 3; i++) ; i;" ≡ refused F11 1 }
     ensures tag { in_main "struct s *p;" ≡ refused F11 1 }
     ensures tag_declared { in_main "struct s; struct s *p;" ≡ fine }
     ensures tag_in_its_own_members { in_main "struct s { struct s *p; };" ≡ fine }
-    ensures tag_of_a_block_that_was_left { in_main "{ struct s { int m; }; } struct s *p;" ≡ refused F11 1 }
-    ensures tag_of_a_condition { in_main "if (sizeof(struct s { int m; })) ; struct s *p;" ≡ refused F11 1 }
-    ensures tag_of_a_condition_within { in_main "if (sizeof(struct s { int m; })) { struct s *p; }" ≡ fine }
-    ensures tag_of_a_body { in_main "while (0) sizeof(struct s { int m; }); struct s *p;" ≡ refused F11 1 }
-    ensures tag_of_parameters { with_main "int f(struct s { int m; } *p) { struct s x; return 0; }" ≡ fine }
-    ensures tag_of_parameters_behind { with_main "int f(struct s { int m; } *p);\nstruct s *q;" ≡ refused F11 2 }
+    ensures tag_of_a_block_that_was_left { in_main
+        "{ struct s { int m; }; } struct s *p;"
+        ≡ refused F11 1 }
+    ensures tag_of_a_condition { in_main
+        "if (sizeof(struct s { int m; })) ; struct s *p;"
+        ≡ refused F11 1 }
+    ensures tag_of_a_condition_within { in_main
+        "if (sizeof(struct s { int m; })) { struct s *p; }"
+        ≡ fine }
+    ensures tag_of_a_body { in_main
+        "while (0) sizeof(struct s { int m; }); struct s *p;"
+        ≡ refused F11 1 }
+    ensures tag_of_parameters { with_main
+        "int f(struct s { int m; } *p) { struct s x; return 0; }"
+        ≡ fine }
+    ensures tag_of_parameters_behind { with_main
+        "int f(struct s { int m; } *p);\nstruct s *q;"
+        ≡ refused F11 2 }
     ensures tag_of_a_result { with_main "struct s { int m; } *f(void); struct s x;" ≡ fine }
     ensures member { among_declarations "x.k;" ≡ refused F11 1 }
     ensures member_of_a_pointer { among_declarations "q->k;" ≡ refused F11 1 }
-    ensures member_of_another_struct { among_declarations "struct t { int k; } y; x.k;" ≡ refused F11 1 }
+    ensures member_of_another_struct { among_declarations
+        "struct t { int k; } y; x.k;"
+        ≡ refused F11 1 }
     ensures member_of_an_incomplete_struct { among_declarations "w->m;" ≡ refused F11 1 }
-    ensures members_there { among_declarations "x.m; q->n->m; sqlca.sqlcode; SQLCODE; SQLSTATE[4]; sqlca.sqlerrm.sqlerrmc;" ≡ fine }
+    ensures members_there { among_declarations
+        "x.m; q->n->m; sqlca.sqlcode; SQLCODE; SQLSTATE[4]; sqlca.sqlerrm.sqlerrmc;"
+        ≡ fine }
     ensures no_member_of_sqlca { in_main "sqlca.sqltext;" ≡ refused F11 1 }
     ensures stream { in_main "stdout;" ≡ refused F11 1 }
     ensures stream_as_an_argument { among_declarations "printf(\"%p\", stdout);" ≡ refused F11 1 }
@@ -82,8 +110,12 @@ pub fn reserved_examples()
     ensures other_letters { with_main "int ecpgx, xECPG, Null, TRUE, SqlCode;" ≡ fine }
     ensures varchar_name { with_main "int varchar_v;" ≡ refused F12 1 }
     ensures varchar_tag { with_main "struct varchar_v { int m; };" ≡ refused F12 1 }
-    ensures varchar_tag_in_written_c { written_verdict "struct varchar_v { int m; }; int main(void) { }" ≡ fine }
-    ensures varchar_name_in_written_c { written_verdict "int varchar_v; int main(void) { }" ≡ refused F12 1 }
+    ensures varchar_tag_in_written_c { written_verdict
+        "struct varchar_v { int m; }; int main(void) { }"
+        ≡ fine }
+    ensures varchar_name_in_written_c { written_verdict
+        "int varchar_v; int main(void) { }"
+        ≡ refused F12 1 }
     ensures exec { with_main "struct eXec { int m; };" ≡ refused F12 1 }
     ensures exec_as_an_object { with_main "int EXEC;" ≡ fine }
     ensures in_use { with_main "int x = true; char *p = NULL;" ≡ fine }

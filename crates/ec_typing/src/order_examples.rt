@@ -12,16 +12,34 @@ ghost use Rattle.ec_typing.specs.Examples.{verdict, violations_in, typed_in, tag
 
 /// All violations of a text, in the order in which the parts are looked at, with their places: functions, declarations, declarations of members and statements, counted from 0 in the order of the text (the end is the last).
 pub fn place_examples()
-    ensures jump_alone { violations_in "int f(void) { goto z; }" ≡ fault_at 1 F18 1 ∷ fault_at 2 F20 1 ∷ [] }
+    ensures jump_alone { violations_in
+        "int f(void) { goto z; }"
+        ≡ fault_at 1 F18 1 ∷ fault_at 2 F20 1 ∷ [] }
     ensures nothing { violations_in "int main(void) { return 0; }" ≡ [] }
-    ensures two_in_a_declaration { violations_in "int x, x, y = z; int main(void) { }" ≡ fault_at 0 F10 1 ∷ fault_at 0 F11 1 ∷ [] }
-    ensures two_in_a_statement { violations_in "int main(void) {\n1 = 1(x); }" ≡ fault_at 1 F11 2 ∷ fault_at 1 F16 2 ∷ fault_at 1 F15 2 ∷ [] }
-    ensures both_of_an_assignment { violations_in "int main(void) { 1 = \"x\"; }" ≡ fault_at 1 F15 1 ∷ fault_at 1 F14 1 ∷ [] }
-    ensures condition_of_do { violations_in "int main(void) {\ndo {\ny;\n} while (x); }" ≡ fault_at 3 F11 3 ∷ fault_at 1 F11 2 ∷ [] }
-    ensures members_are_places { violations_in "struct {\nint m;\nvoid m; } x[0]; int main(void) { }" ≡ fault_at 2 F14 3 ∷ fault_at 2 F10 3 ∷ fault_at 0 F19 1 ∷ [] }
-    ensures parameters_belong_to_their_function { violations_in "int f(int a,\nint a,\nvoid b); int main(void) { }" ≡ fault_at 0 F10 1 ∷ fault_at 0 F14 1 ∷ [] }
-    ensures blocks_loops_and_labels { violations_in "int main(void) { { x; } while (x) x; l: x; for (int i = x; ; ) ; x; }" ≡ fault_at 2 F11 1 ∷ fault_at 3 F11 1 ∷ fault_at 4 F11 1 ∷ fault_at 6 F11 1 ∷ fault_at 9 F11 1 ∷ fault_at 12 F11 1 ∷ [] }
-    ensures struct_and_member_too_large { violations_in "struct s {\nchar a[16777217]; }; int main(void) { }" ≡ limit_at 1 L1 ∷ limit_at 0 L1 ∷ [] }
+    ensures two_in_a_declaration { violations_in
+        "int x, x, y = z; int main(void) { }"
+        ≡ fault_at 0 F10 1 ∷ fault_at 0 F11 1 ∷ [] }
+    ensures two_in_a_statement { violations_in
+        "int main(void) {\n1 = 1(x); }"
+        ≡ fault_at 1 F11 2 ∷ fault_at 1 F16 2 ∷ fault_at 1 F15 2 ∷ [] }
+    ensures both_of_an_assignment { violations_in
+        "int main(void) { 1 = \"x\"; }"
+        ≡ fault_at 1 F15 1 ∷ fault_at 1 F14 1 ∷ [] }
+    ensures condition_of_do { violations_in
+        "int main(void) {\ndo {\ny;\n} while (x); }"
+        ≡ fault_at 3 F11 3 ∷ fault_at 1 F11 2 ∷ [] }
+    ensures members_are_places { violations_in
+        "struct {\nint m;\nvoid m; } x[0]; int main(void) { }"
+        ≡ fault_at 2 F14 3 ∷ fault_at 2 F10 3 ∷ fault_at 0 F19 1 ∷ [] }
+    ensures parameters_belong_to_their_function { violations_in
+        "int f(int a,\nint a,\nvoid b); int main(void) { }"
+        ≡ fault_at 0 F10 1 ∷ fault_at 0 F14 1 ∷ [] }
+    ensures blocks_loops_and_labels { violations_in
+        "int main(void) { { x; } while (x) x; l: x; for (int i = x; ; ) ; x; }"
+        ≡ fault_at 2 F11 1 ∷ fault_at 3 F11 1 ∷ fault_at 4 F11 1 ∷ fault_at 6 F11 1 ∷ fault_at 9 F11 1 ∷ fault_at 12 F11 1 ∷ [] }
+    ensures struct_and_member_too_large { violations_in
+        "struct s {\nchar a[16777217]; }; int main(void) { }"
+        ≡ limit_at 1 L1 ∷ limit_at 0 L1 ∷ [] }
     ensures end { violations_in "int x;\n\n" ≡ fault_at 1 F20 3 ∷ [] }
 {}
 
@@ -29,12 +47,18 @@ pub fn place_examples()
 pub fn first_examples()
     ensures jump_before_main { verdict "int f(void) { goto z; }" ≡ refused F18 1 }
     ensures two_declarations { verdict "int f(void) { return x; }\nint f;" ≡ refused F11 1 }
-    ensures condition_of_do_before_its_body { verdict "int main(void) {\ndo {\ny;\n} while (x); }" ≡ refused F11 2 }
+    ensures condition_of_do_before_its_body { verdict
+        "int main(void) {\ndo {\ny;\n} while (x); }"
+        ≡ refused F11 2 }
     ensures lower_number { verdict "int main(void) { 1 = \"x\"; }" ≡ refused F14 1 }
     ensures fault_before_limit { verdict "char a[16777217], b[0];" ≡ refused F19 1 }
     ensures limit_before_fault { verdict "char a[16777217];\nchar b[0];" ≡ limited L1 }
-    ensures struct_before_its_members { verdict "struct s {\nchar a[16777217]; void b; };" ≡ limited L1 }
-    ensures parameters_before_body { verdict "int main(void) { x; }\nint f(int a, int a) { goto l; }" ≡ refused F11 1 }
+    ensures struct_before_its_members { verdict
+        "struct s {\nchar a[16777217]; void b; };"
+        ≡ limited L1 }
+    ensures parameters_before_body { verdict
+        "int main(void) { x; }\nint f(int a, int a) { goto l; }"
+        ≡ refused F11 1 }
     ensures later_declaration_stands { verdict "long x;\nint *x;\nint *y = &x;" ≡ refused F10 2 }
 {}
 
@@ -42,16 +66,36 @@ pub fn first_examples()
 pub fn silent_examples()
     ensures operand { violations_in "int main(void) { x + sqlca; }" ≡ fault_at 1 F11 1 ∷ [] }
     ensures assignment { violations_in "int main(void) { x = sqlca; }" ≡ fault_at 1 F11 1 ∷ [] }
-    ensures left_side_alone { violations_in "int main(void) { 1 = x; }" ≡ fault_at 1 F11 1 ∷ fault_at 1 F15 1 ∷ [] }
-    ensures argument { violations_in "int f(int a) { return a; } int main(void) { f(x); f(x, 1); }" ≡ fault_at 3 F11 1 ∷ fault_at 4 F11 1 ∷ fault_at 4 F16 1 ∷ [] }
-    ensures parameter { violations_in "int f(struct s *a) { return 1; } int main(void) { f(1); }" ≡ fault_at 0 F11 1 ∷ [] }
-    ensures object { violations_in "int main(void) { struct s *a; a->m; *a; a = 1; a; }" ≡ fault_at 2 F11 1 ∷ [] }
-    ensures length { violations_in "int main(void) { int a[x]; a[0] = 1; sizeof a; }" ≡ fault_at 2 F11 1 ∷ [] }
-    ensures result { violations_in "struct s *f(void) { return 1; } int main(void) { }" ≡ fault_at 0 F11 1 ∷ [] }
-    ensures member { violations_in "struct s { struct t m; } a; int b[sizeof a]; int c[sizeof a.m]; int main(void) { a.m = 1; }" ≡ fault_at 1 F11 1 ∷ [] }
-    ensures initializer { violations_in "int a = x, b[] = {x}, c[sizeof b]; int main(void) { }" ≡ fault_at 0 F11 1 ∷ fault_at 0 F11 1 ∷ [] }
-    ensures condition { violations_in "int main(void) { if (x) ; return x; }" ≡ fault_at 1 F11 1 ∷ fault_at 3 F11 1 ∷ [] }
-    ensures incomplete_object_in_its_initializer { violations_in "struct s; struct s a = a; int main(void) { a; }" ≡ fault_at 1 F14 1 ∷ [] }
+    ensures left_side_alone { violations_in
+        "int main(void) { 1 = x; }"
+        ≡ fault_at 1 F11 1 ∷ fault_at 1 F15 1 ∷ [] }
+    ensures argument { violations_in
+        "int f(int a) { return a; } int main(void) { f(x); f(x, 1); }"
+        ≡ fault_at 3 F11 1 ∷ fault_at 4 F11 1 ∷ fault_at 4 F16 1 ∷ [] }
+    ensures parameter { violations_in
+        "int f(struct s *a) { return 1; } int main(void) { f(1); }"
+        ≡ fault_at 0 F11 1 ∷ [] }
+    ensures object { violations_in
+        "int main(void) { struct s *a; a->m; *a; a = 1; a; }"
+        ≡ fault_at 2 F11 1 ∷ [] }
+    ensures length { violations_in
+        "int main(void) { int a[x]; a[0] = 1; sizeof a; }"
+        ≡ fault_at 2 F11 1 ∷ [] }
+    ensures result { violations_in
+        "struct s *f(void) { return 1; } int main(void) { }"
+        ≡ fault_at 0 F11 1 ∷ [] }
+    ensures member { violations_in
+        "struct s { struct t m; } a; int b[sizeof a]; int c[sizeof a.m]; int main(void) { a.m = 1; }"
+        ≡ fault_at 1 F11 1 ∷ [] }
+    ensures initializer { violations_in
+        "int a = x, b[] = {x}, c[sizeof b]; int main(void) { }"
+        ≡ fault_at 0 F11 1 ∷ fault_at 0 F11 1 ∷ [] }
+    ensures condition { violations_in
+        "int main(void) { if (x) ; return x; }"
+        ≡ fault_at 1 F11 1 ∷ fault_at 3 F11 1 ∷ [] }
+    ensures incomplete_object_in_its_initializer { violations_in
+        "struct s; struct s a = a; int main(void) { a; }"
+        ≡ fault_at 1 F14 1 ∷ [] }
 {}
 
 /// The structs of a program by the places where their members close, and the types of its declarations in the order of the text. Two structs, those of `sqlca`, stand before all others.
