@@ -1,0 +1,16 @@
+//! Values between the variables of a program and its statements: what a host gives as a parameter, and what a field of
+//! an answer stores in a host.
+#![tactic(auto)]
+
+mod element;
+mod host;
+mod input;
+mod numbers;
+mod output;
+mod piece;
+mod stop;
+
+pub use host::{HostPlace, is_typed};
+pub use input::to_text;
+pub use output::from_text;
+pub use stop::ConvStop;

@@ -1,0 +1,14 @@
+mod Apart
+mod ApartPrograms
+mod Derivations
+mod Expressions
+mod Lexing
+mod Lists
+mod Marks
+mod Numbers
+mod Parts
+mod Programs
+mod Quotes
+mod ReadBack
+mod Starts
+mod Statements
