@@ -190,7 +190,7 @@ pub fn show(list: &List<u8>, out: &mut Bytes) -> Result<(), OutOfMemory> {
     end_line(out)
 }
 
-/// A row of fields, which are texts or NULL.
+/// NULL, a text, or a row of fields, each of them a text or NULL.
 #[derive(Clone, Debug, PartialEq, Eq, Drop)]
 enum Cell {
     Null,
