@@ -222,7 +222,7 @@ def declaration_shown(tree):
 
 def parameter_shown(tree):
     base_tree, stars, name, dims = tree
-    return f"(parameter plain {base_shown(base_tree)} {stars} {name or '-'} {lengths_shown(dims)})"
+    return f"(parameter plain {base_shown(base_tree)} {name or '-'} {stars} {lengths_shown(dims)})"
 
 
 def statement_shown(tree):
