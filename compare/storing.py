@@ -21,11 +21,11 @@ def reached(memory, pointer, count):
     """The cells and the offset of an access of so many bytes."""
     number, offset = pointer >> 32, pointer & 0xFFFFFFFF
     if number == 0:
-        raise Trap("null")
+        raise Trap("Null")
     if number not in memory:
-        raise Trap("dead")
+        raise Trap("Dead")
     if offset + count > len(memory[number]):
-        raise Trap("outside")
+        raise Trap("Outside")
     return memory[number], offset
 
 
@@ -33,7 +33,7 @@ def load(memory, pointer, count):
     cells, offset = reached(memory, pointer, count)
     found = cells[offset:offset + count]
     if None in found:
-        raise Trap("unset")
+        raise Trap("Unset")
     return bytes(found)
 
 
@@ -47,7 +47,7 @@ def moved(memory, pointer, distance):
     number, offset = pointer >> 32, pointer & 0xFFFFFFFF
     reached(memory, number << 32, 0)
     if not 0 <= offset + distance <= len(memory[number]):
-        raise Trap("outside")
+        raise Trap("Outside")
     return pointer + distance
 
 
@@ -57,7 +57,7 @@ def text(memory, pointer, most=None):
     while most is None or len(out) < most:
         number, offset = pointer >> 32, pointer & 0xFFFFFFFF
         if number in memory and number and offset + len(out) > 0xFFFFFFFF:
-            raise Trap("outside")
+            raise Trap("Outside")
         byte = load(memory, pointer + len(out), 1)
         if byte == b"\0":
             break
@@ -88,7 +88,7 @@ def to_text(memory, host):
         return text(memory, int.from_bytes(load(memory, pointer, 8), "little"))
     length = number_at(memory, pointer, "int")
     if not 0 <= length <= size:
-        raise Trap("bad-len")
+        raise Trap("BadLen")
     return text(memory, moved(memory, pointer, 4), length)
 
 
