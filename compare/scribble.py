@@ -23,8 +23,8 @@ class Source:
         """Tokens with a gap behind each; the line of the first of them."""
         line = self.line
         for text in texts:
-            self.put(text)
-            self.put(self.random.choice(GAPS))
+            gap = self.random.choice(GAPS)
+            self.put(text + " " * (text == "/" and gap[0] == "/") + gap)
         return line
 
     # -- expressions
