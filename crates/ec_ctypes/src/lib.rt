@@ -27,6 +27,3 @@ pub use types::{
     member, one_conversion, promote, type_shape, usual,
 };
 pub use views_law::{list_views_lose_nothing, views_keep_order, views_lose_nothing};
-
-#[cfg(test)]
-mod tests;

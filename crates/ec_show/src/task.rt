@@ -20,6 +20,8 @@ enum Part {
     Pieces,
     Tokens,
     Syntax,
+    // Copies of what stands in the tree.
+    Copies,
     // Whether it has a tree.
     Verdict,
     // Questions on types and numbers, and no source.
@@ -35,12 +37,13 @@ pub struct Task {
 }
 
 // The name of each task, its part, and whether the text is written C.
-const TASKS: [(&str, Part, bool); 8] = [
+const TASKS: [(&str, Part, bool); 9] = [
     ("pieces", Part::Pieces, false),
     ("tokens", Part::Tokens, false),
     ("tokens written", Part::Tokens, true),
     ("syntax", Part::Syntax, false),
     ("syntax written", Part::Syntax, true),
+    ("copies", Part::Copies, false),
     ("verdict", Part::Verdict, false),
     ("verdict written", Part::Verdict, true),
     ("arithmetic", Part::Arithmetic, false),
@@ -120,6 +123,9 @@ fn show_read(alloc: Global, printer: &mut Printer, task: Task, text: &[u8]) -> R
     let unit = parse(alloc, &found)?;
     if matches!(task.part, Part::Syntax) {
         return Ok(printer.program(&unit)?);
+    }
+    if matches!(task.part, Part::Copies) {
+        return Ok(printer.copies(alloc, &unit)?);
     }
     Ok(printer.plain(b"read\n")?)
 }

@@ -1,5 +1,6 @@
 //! How trees are printed.
 
+mod copies;
 mod expressions;
 mod programs;
 mod statements;

@@ -5,8 +5,8 @@ use ec_base::{List, OutOfMemory};
 use ec_ctypes::{Func, Param, Top, Unit};
 
 impl Printer {
-    // Prints a parameter.
-    fn parameter(&mut self, parameter: &Param) -> Result<(), OutOfMemory> {
+    /// Prints a parameter.
+    pub fn parameter(&mut self, parameter: &Param) -> Result<(), OutOfMemory> {
         self.open("parameter")?;
         self.section(parameter.section)?;
         self.base(&parameter.base)?;
