@@ -75,17 +75,24 @@ start = λ i. Ok (start_of i.tokens, i)
 
 abbrev expect_at : Kind → PlacedTokens → Counts → Outcome Placed
 expect_at k [] c = Err (Dead 0)
-expect_at k (t ∷ w) c = if same_kind (kind_of t.token.tok) k then Ok (t, state w c) else Err (Dead (length (t ∷ w)))
+expect_at k (t ∷ w) c =
+    if same_kind (kind_of t.token.tok) k
+    then Ok (t, state w c)
+    else Err (Dead (length (t ∷ w)))
 
 -- a token of this kind
 unfoldable pub expect : Kind → Parser Placed
 expect k = λ i. expect_at k i.tokens i.counts
 
 abbrev within_at : Limits → Counted → PlacedTokens → Placed → State → Outcome Placed
-within_at limits n w t i = if is_within limits n i.counts then Ok (t, i) else Err (TooDeep (length w))
+within_at limits n w t i =
+    if is_within limits n i.counts
+    then Ok (t, i)
+    else Err (TooDeep (length w))
 
 abbrev count_at : Limits → Counted → PlacedTokens → Outcome Placed → Outcome Placed
-count_at limits n w (Ok p) = within_at limits n w p.0 (state p.1.tokens (behind_counted n p.1.counts))
+count_at limits n w (Ok p) =
+    within_at limits n w p.0 (state p.1.tokens (behind_counted n p.1.counts))
 count_at limits n w (Err e) = Err e
 
 -- a token of this kind that is counted

@@ -18,9 +18,20 @@ keyword text kind = record { text = text; kind = kind }
 
 abbrev pub keywords : List Keyword
 keywords =
-    keyword (codes "static") k.Static ∷ keyword (codes "const") k.Const ∷ keyword (codes "struct") k.Struct ∷ keyword (codes "if") k.If ∷ keyword (codes "else") k.Else
-    ∷ keyword (codes "while") k.While ∷ keyword (codes "do") k.Do ∷ keyword (codes "for") k.For ∷ keyword (codes "break") k.Break ∷ keyword (codes "continue") k.Continue
-    ∷ keyword (codes "return") k.Return ∷ keyword (codes "goto") k.Goto ∷ keyword (codes "sizeof") k.Sizeof ∷ []
+    keyword (codes "static") k.Static
+    ∷ keyword (codes "const") k.Const
+    ∷ keyword (codes "struct") k.Struct
+    ∷ keyword (codes "if") k.If
+    ∷ keyword (codes "else") k.Else
+    ∷ keyword (codes "while") k.While
+    ∷ keyword (codes "do") k.Do
+    ∷ keyword (codes "for") k.For
+    ∷ keyword (codes "break") k.Break
+    ∷ keyword (codes "continue") k.Continue
+    ∷ keyword (codes "return") k.Return
+    ∷ keyword (codes "goto") k.Goto
+    ∷ keyword (codes "sizeof") k.Sizeof
+    ∷ []
 
 -- the kind of the first keyword with this text, or a name
 abbrev pub kind_among : List Keyword → Text → Kind
@@ -28,7 +39,10 @@ kind_among [] w = k.Name
 kind_among (x ∷ xs) w = elim (same_text w x.text) [ true ↦ x.kind | false ↦ kind_among xs w ]
 
 abbrev pub word_kind : Text → Kind
-word_kind w = elim (is_among type_words w) [ true ↦ k.TypeWord | false ↦ elim (is_among varchar_words w) [ true ↦ k.Varchar | false ↦ kind_among keywords w ] ]
+word_kind w = elim (is_among type_words w) [
+  | true ↦ k.TypeWord
+  | false ↦ elim (is_among varchar_words w) [ true ↦ k.Varchar | false ↦ kind_among keywords w ]
+]
 
 abbrev pub emb_kind : Bool → Kind
 emb_kind true = k.Executable

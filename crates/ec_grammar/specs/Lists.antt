@@ -10,7 +10,9 @@ unfoldable pub separated_from : {A : Type 0} → Parser A → ℕ → List A →
 separated_from item zero found = pure found
 separated_from item (suc m) found = do
   j ← peek
-  if is_comma j then (do expect (k.Mark p.Comma); x ← item; separated_from item m (found ++ x ∷ [])) else pure found
+  if is_comma j
+      then (do expect (k.Mark p.Comma); x ← item; separated_from item m (found ++ x ∷ []))
+      else pure found
 
 unfoldable pub separated : {A : Type 0} → Parser A → List A → Parser (List A)
 separated item found = λ i. separated_from item (length i.tokens) found i

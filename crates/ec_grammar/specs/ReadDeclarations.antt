@@ -43,7 +43,9 @@ module _ (most : Limits) where
   stars_from zero n = pure n
   stars_from (suc m) n = do
     j ← peek
-    if is_star j then (do expect_counted most derivations (k.Mark p.Star); constants; stars_from m (n + 1)) else pure n
+    if is_star j
+        then (do expect_counted most derivations (k.Mark p.Star); constants; stars_from m (n + 1))
+        else pure n
 
   unfoldable pub stars : Parser ℕ
   stars = λ i. stars_from (length i.tokens) 0 i
@@ -61,8 +63,13 @@ module _ (most : Limits) (inner : Nested) where
     if is_left_brace j then (do ms ← inner.members; pure (Some ms)) else pure None
 
   abbrev pub tag_or_members_by : Kind → Parser BaseData
-  tag_or_members_by k.Name = do t ← expect k.Name; ms ← members_option; pure (tag_base (text_of t) ms)
-  tag_or_members_by (k.Mark p.LeftBrace) = do ms ← inner.members; pure (struct_base None (decls_of ms))
+  tag_or_members_by k.Name = do
+    t ← expect k.Name
+    ms ← members_option
+    pure (tag_base (text_of t) ms)
+  tag_or_members_by (k.Mark p.LeftBrace) = do
+    ms ← inner.members
+    pure (struct_base None (decls_of ms))
   tag_or_members_by _ = refuse
 
   unfoldable pub tag_or_members : Parser BaseData
@@ -84,23 +91,35 @@ module _ (most : Limits) (inner : Nested) where
   type_name = do b ← specifiers; n ← stars most; pure (b, n)
 
   unfoldable pub type_in_parentheses : Parser (BaseData × ℕ)
-  type_in_parentheses = do expect (k.Mark p.LeftParen); t ← own type_name; expect (k.Mark p.RightParen); pure t
+  type_in_parentheses = do
+    expect (k.Mark p.LeftParen)
+    t ← own type_name
+    expect (k.Mark p.RightParen)
+    pure t
 
   -- ---- declarators
 
   unfoldable pub length_option : Parser (Option ExprData)
   length_option = do
     j ← peek
-    if begins_expression j then (do e ← whole (operators most inner or_rank); pure (Some e)) else pure None
+    if begins_expression j
+        then (do e ← whole (operators most inner or_rank); pure (Some e))
+        else pure None
 
   unfoldable pub length_part : Parser (Option ExprData)
-  length_part = do expect_counted most derivations (k.Mark p.LeftBracket); d ← length_option; expect (k.Mark p.RightBracket); pure d
+  length_part = do
+    expect_counted most derivations (k.Mark p.LeftBracket)
+    d ← length_option
+    expect (k.Mark p.RightBracket)
+    pure d
 
   unfoldable pub lengths_from : ℕ → List (Option ExprData) → Parser (List (Option ExprData))
   lengths_from zero found = pure found
   lengths_from (suc m) found = do
     j ← peek
-    if is_left_bracket j then (do d ← inner.length_part; lengths_from m (found ++ d ∷ [])) else pure found
+    if is_left_bracket j
+        then (do d ← inner.length_part; lengths_from m (found ++ d ∷ []))
+        else pure found
 
   unfoldable pub lengths : Parser (List (Option ExprData))
   lengths = λ i. lengths_from (length i.tokens) [] i
@@ -113,21 +132,32 @@ module _ (most : Limits) (inner : Nested) where
   initializer = peek >>= initializer_by
 
   -- behind a comma, which may stand behind the last
-  abbrev pub one_more_initializer : (List InitData → Parser (List InitData)) → List InitData → Kind → Parser (List InitData)
-  one_more_initializer more found j = if begins_initializer j then (do x ← initializer; more (found ++ x ∷ [])) else pure found
+  abbrev pub one_more_initializer : (List InitData → Parser (List InitData)) → List InitData → Kind
+      → Parser (List InitData)
+  one_more_initializer more found j =
+      if begins_initializer j
+      then (do x ← initializer; more (found ++ x ∷ []))
+      else pure found
 
   unfoldable pub more_initializers_from : ℕ → List InitData → Parser (List InitData)
   more_initializers_from zero found = pure found
   more_initializers_from (suc m) found = do
     j ← peek
     l ← peek_next
-    if is_comma j then (do expect (k.Mark p.Comma); one_more_initializer (more_initializers_from m) found l) else pure found
+    if is_comma j
+        then (do expect (k.Mark p.Comma); one_more_initializer (more_initializers_from m) found l)
+        else pure found
 
   unfoldable pub more_initializers : List InitData → Parser (List InitData)
   more_initializers found = λ i. more_initializers_from (length i.tokens) found i
 
   unfoldable pub initializer_list : Parser (List InitData)
-  initializer_list = do expect (k.Mark p.LeftBrace); x ← initializer; xs ← more_initializers (x ∷ []); expect (k.Mark p.RightBrace); pure xs
+  initializer_list = do
+    expect (k.Mark p.LeftBrace)
+    x ← initializer
+    xs ← more_initializers (x ∷ [])
+    expect (k.Mark p.RightBrace)
+    pure xs
 
   unfoldable pub initializer_option : Parser (Option InitData)
   initializer_option = do
@@ -135,7 +165,12 @@ module _ (most : Limits) (inner : Nested) where
     if is_assign j then (do expect (k.Mark p.Assign); x ← initializer; pure (Some x)) else pure None
 
   unfoldable pub declarator_part : Parser DeclaratorData
-  declarator_part = do n ← stars most; t ← expect k.Name; ds ← lengths; x ← initializer_option; pure (declarator n (text_of t) (dims_of ds) (init_of x))
+  declarator_part = do
+    n ← stars most
+    t ← expect k.Name
+    ds ← lengths
+    x ← initializer_option
+    pure (declarator n (text_of t) (dims_of ds) (init_of x))
 
   -- further ones, each behind a comma
   abbrev pub more_declarators : List DeclaratorData → Parser (List DeclaratorData)
@@ -149,23 +184,41 @@ module _ (most : Limits) (inner : Nested) where
   -- ---- declarations
 
   unfoldable pub declaration : Parser DeclData
-  declaration = do at ← start; b ← specifiers; xs ← declarators_option; expect (k.Mark p.Semicolon); pure (declared at b (declarators_of xs))
+  declaration = do
+    at ← start
+    b ← specifiers
+    xs ← declarators_option
+    expect (k.Mark p.Semicolon)
+    pure (declared at b (declarators_of xs))
 
   -- a declaration with one declarator at least: of members, and in a `for`
   unfoldable pub member_declaration : Parser DeclData
-  member_declaration = do at ← start; b ← specifiers; x ← own declarator_part; xs ← more_declarators (x ∷ []); expect (k.Mark p.Semicolon); pure (declared at b (declarators_of xs))
+  member_declaration = do
+    at ← start
+    b ← specifiers
+    x ← own declarator_part
+    xs ← more_declarators (x ∷ [])
+    expect (k.Mark p.Semicolon)
+    pure (declared at b (declarators_of xs))
 
   unfoldable pub more_members_from : ℕ → List DeclData → Parser (List DeclData)
   more_members_from zero found = pure found
   more_members_from (suc m) found = do
     j ← peek
-    if begins_type j then (do x ← member_declaration; more_members_from m (found ++ x ∷ [])) else pure found
+    if begins_type j
+        then (do x ← member_declaration; more_members_from m (found ++ x ∷ []))
+        else pure found
 
   unfoldable pub more_members : List DeclData → Parser (List DeclData)
   more_members found = λ i. more_members_from (length i.tokens) found i
 
   unfoldable pub members : Parser (List DeclData)
-  members = do expect (k.Mark p.LeftBrace); x ← member_declaration; xs ← more_members (x ∷ []); expect (k.Mark p.RightBrace); pure xs
+  members = do
+    expect (k.Mark p.LeftBrace)
+    x ← member_declaration
+    xs ← more_members (x ∷ [])
+    expect (k.Mark p.RightBrace)
+    pure xs
 
   -- ---- parameters
 
@@ -192,17 +245,26 @@ module _ (most : Limits) (inner : Nested) where
     if begins_type j then (do x ← own parameter; more_parameters (x ∷ [])) else pure []
 
   unfoldable pub parameter_part : Parser (List ParamData)
-  parameter_part = do expect (k.Mark p.LeftParen); xs ← parameters; expect (k.Mark p.RightParen); pure (without_void xs)
+  parameter_part = do
+    expect (k.Mark p.LeftParen)
+    xs ← parameters
+    expect (k.Mark p.RightParen)
+    pure (without_void xs)
 
   -- ---- the head of a `for`
 
   abbrev pub first_expression : Parser ForStart
-  first_expression = do e ← expression_option most inner; expect (k.Mark p.Semicolon); pure (for_expression e)
+  first_expression = do
+    e ← expression_option most inner
+    expect (k.Mark p.Semicolon)
+    pure (for_expression e)
 
   unfoldable pub for_start : Parser ForStart
   for_start = do
     j ← peek
-    if begins_type j then (do x ← member_declaration; pure (for_declaration x)) else first_expression
+    if begins_type j
+        then (do x ← member_declaration; pure (for_declaration x))
+        else first_expression
 
   unfoldable pub for_head : Parser ForHead
   for_head = do

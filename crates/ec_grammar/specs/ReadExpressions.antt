@@ -1,5 +1,5 @@
 -- Expressions, read from the front: one function for each symbol of the grammar. A loop has so many turns at most, and what it has found so far.
-use Rattle.std.specs.Prelude.{ℕ, zero, suc, Bool, true, false, List, [], ◌∷◌, ◌++◌, length, Option, Some, None, if◌then◌else◌}
+use Rattle.std.specs.Prelude.{ℕ, zero, suc, Bool, true, false, List, [], ◌∷◌, length, Option, Some, None, if◌then◌else◌}
 use Rattle.ec_ctypes.specs.declared.text.token.Punct.TheVariants as p
 use Rattle.ec_ctypes.specs.declared.tree.expr.UnOp.{UnOp}
 use Rattle.ec_ctypes.specs.declared.tree.expr.UnOp.TheVariants as un
@@ -14,7 +14,7 @@ use Rattle.ec_grammar.specs.declared.kind.Kind.TheVariants as k
 use Rattle.ec_grammar.specs.Input.{Parser, ◌>>=◌, ◌>>◌, pure, refuse, peek, peek_next, expect, expect_counted, whole}
 use Rattle.ec_grammar.specs.Lists.{separated}
 use Rattle.ec_grammar.specs.Nested.{Nested}
-use Rattle.ec_grammar.specs.Starts.{is_comma, begins_type, begins_postfix_part, begins_expression}
+use Rattle.ec_grammar.specs.Starts.{begins_type, begins_postfix_part, begins_expression}
 
 -- ---- operators
 
@@ -69,15 +69,22 @@ primary_of e = record { expression = e; is_name = false }
 
 -- A call of a bare name is a call by that name.
 abbrev pub called_by : Primary → List ExprData → ExprData
-called_by x es = if x.is_name then call (bare_name x) (exprs_of es) else call_other x.expression (exprs_of es)
+called_by x es =
+    if x.is_name
+    then call (bare_name x) (exprs_of es)
+    else call_other x.expression (exprs_of es)
 
 module _ (most : Limits) (inner : Nested) where
   -- ---- primary expressions and what stands behind them
 
   abbrev pub primary_by : Kind → Parser Primary
   primary_by k.Name = do t ← expect k.Name; pure (named (text_of t))
-  primary_by k.Integer = do t ← expect k.Integer; pure (primary_of (integer (number_of t) (type_in t.token.tok)))
-  primary_by k.Character = do t ← expect k.Character; pure (primary_of (character (character_in t.token.tok)))
+  primary_by k.Integer = do
+    t ← expect k.Integer
+    pure (primary_of (integer (number_of t) (type_in t.token.tok)))
+  primary_by k.Character = do
+    t ← expect k.Character
+    pure (primary_of (character (character_in t.token.tok)))
   primary_by k.Text = do t ← expect k.Text; pure (primary_of (string (text_of t)))
   primary_by (k.Mark p.LeftParen) = do e ← inner.parenthesized; pure (primary_of e)
   primary_by _ = refuse
@@ -86,12 +93,26 @@ module _ (most : Limits) (inner : Nested) where
   primary = peek >>= primary_by
 
   abbrev pub postfix_part_by : Primary → Kind → Parser Primary
-  postfix_part_by left (k.Mark p.LeftBracket) = do i ← inner.index_part; pure (primary_of (index left.expression i))
-  postfix_part_by left (k.Mark p.Dot) = do expect_counted most operations (k.Mark p.Dot); t ← expect k.Name; pure (primary_of (member left.expression (text_of t)))
-  postfix_part_by left (k.Mark p.Arrow) = do expect_counted most operations (k.Mark p.Arrow); t ← expect k.Name; pure (primary_of (arrow left.expression (text_of t)))
-  postfix_part_by left (k.Mark p.PlusPlus) = do expect_counted most operations (k.Mark p.PlusPlus); pure (primary_of (bump false true left.expression))
-  postfix_part_by left (k.Mark p.MinusMinus) = do expect_counted most operations (k.Mark p.MinusMinus); pure (primary_of (bump false false left.expression))
-  postfix_part_by left (k.Mark p.LeftParen) = do es ← inner.argument_part; pure (primary_of (called_by left es))
+  postfix_part_by left (k.Mark p.LeftBracket) = do
+    i ← inner.index_part
+    pure (primary_of (index left.expression i))
+  postfix_part_by left (k.Mark p.Dot) = do
+    expect_counted most operations (k.Mark p.Dot)
+    t ← expect k.Name
+    pure (primary_of (member left.expression (text_of t)))
+  postfix_part_by left (k.Mark p.Arrow) = do
+    expect_counted most operations (k.Mark p.Arrow)
+    t ← expect k.Name
+    pure (primary_of (arrow left.expression (text_of t)))
+  postfix_part_by left (k.Mark p.PlusPlus) = do
+    expect_counted most operations (k.Mark p.PlusPlus)
+    pure (primary_of (bump false true left.expression))
+  postfix_part_by left (k.Mark p.MinusMinus) = do
+    expect_counted most operations (k.Mark p.MinusMinus)
+    pure (primary_of (bump false false left.expression))
+  postfix_part_by left (k.Mark p.LeftParen) = do
+    es ← inner.argument_part
+    pure (primary_of (called_by left es))
   postfix_part_by left _ = refuse
 
   unfoldable pub postfix_part : Primary → Parser Primary
@@ -116,8 +137,14 @@ module _ (most : Limits) (inner : Nested) where
   applied None j = postfix
 
   abbrev pub unary_part_by : Kind → Parser ExprData
-  unary_part_by (k.Mark p.PlusPlus) = do expect (k.Mark p.PlusPlus); e ← inner.unary_part; pure (bump true true e)
-  unary_part_by (k.Mark p.MinusMinus) = do expect (k.Mark p.MinusMinus); e ← inner.unary_part; pure (bump true false e)
+  unary_part_by (k.Mark p.PlusPlus) = do
+    expect (k.Mark p.PlusPlus)
+    e ← inner.unary_part
+    pure (bump true true e)
+  unary_part_by (k.Mark p.MinusMinus) = do
+    expect (k.Mark p.MinusMinus)
+    e ← inner.unary_part
+    pure (bump true false e)
   unary_part_by k.Sizeof = do expect k.Sizeof; inner.size_operand
   unary_part_by j = applied (unary_operator j) j
 
@@ -132,19 +159,27 @@ module _ (most : Limits) (inner : Nested) where
   cast_part = do
     j ← peek
     l ← peek_next
-    if is_type_in_parentheses j l then (do t ← inner.type_in_parentheses; e ← inner.cast_part; pure (cast t.0 t.1 e)) else unary_part
+    if is_type_in_parentheses j l
+        then (do t ← inner.type_in_parentheses; e ← inner.cast_part; pure (cast t.0 t.1 e))
+        else unary_part
 
   unfoldable pub size_operand : Parser ExprData
   size_operand = do
     j ← peek
     l ← peek_next
-    if is_type_in_parentheses j l then (do t ← inner.type_in_parentheses; pure (size_type t.0 t.1)) else (do e ← unary_part; pure (size_expr e))
+    if is_type_in_parentheses j l
+        then (do t ← inner.type_in_parentheses; pure (size_type t.0 t.1))
+        else (do e ← unary_part; pure (size_expr e))
 
   -- ---- binary operators, to the left
 
   -- Behind an operand of a rank, operators of that rank and further operands.
-  abbrev pub operated : Parser ExprData → (ExprData → Parser ExprData) → ExprData → Kind → Option BinOp → Parser ExprData
-  operated operand more left j (Some op) = do expect_counted most operations j; right ← operand; more (binary op left right)
+  abbrev pub operated : Parser ExprData → (ExprData → Parser ExprData) → ExprData → Kind
+      → Option BinOp → Parser ExprData
+  operated operand more left j (Some op) = do
+    expect_counted most operations j
+    right ← operand
+    more (binary op left right)
   operated operand more left j None = pure left
 
   unfoldable pub operands_from : Rank → Parser ExprData → ℕ → ExprData → Parser ExprData
@@ -230,10 +265,18 @@ module _ (most : Limits) (inner : Nested) where
   -- ---- in parentheses and brackets
 
   unfoldable pub parenthesized : Parser ExprData
-  parenthesized = do expect (k.Mark p.LeftParen); e ← expression; expect (k.Mark p.RightParen); pure e
+  parenthesized = do
+    expect (k.Mark p.LeftParen)
+    e ← expression
+    expect (k.Mark p.RightParen)
+    pure e
 
   unfoldable pub index_part : Parser ExprData
-  index_part = do expect_counted most operations (k.Mark p.LeftBracket); e ← expression; expect (k.Mark p.RightBracket); pure e
+  index_part = do
+    expect_counted most operations (k.Mark p.LeftBracket)
+    e ← expression
+    expect (k.Mark p.RightBracket)
+    pure e
 
   abbrev pub more_arguments : List ExprData → Parser (List ExprData)
   more_arguments = separated expression
@@ -244,4 +287,8 @@ module _ (most : Limits) (inner : Nested) where
     if begins_expression j then (do e ← expression; more_arguments (e ∷ [])) else pure []
 
   unfoldable pub argument_part : Parser (List ExprData)
-  argument_part = do expect_counted most operations (k.Mark p.LeftParen); es ← arguments; expect (k.Mark p.RightParen); pure es
+  argument_part = do
+    expect_counted most operations (k.Mark p.LeftParen)
+    es ← arguments
+    expect (k.Mark p.RightParen)
+    pure es

@@ -20,7 +20,9 @@ use Rattle.ec_grammar.specs.Starts.{is_else, is_left_brace, begins_statement, be
 -- A `for` with a declaration is a block that holds the declaration and the loop.
 abbrev pub loop_from : Start → ForStart → Option ExprData → Option ExprData → StmtData → StmtData
 loop_from x (for_expression e) condition step s = at x (for_stmt e condition step s)
-loop_from x (for_declaration d) condition step s = at x (block_stmt (stmts_of (stmt (line_of d) (decl_stmt d) ∷ at x (for_stmt None condition step s) ∷ [])))
+loop_from x (for_declaration d) condition step s =
+    at x (block_stmt (stmts_of
+    (stmt (line_of d) (decl_stmt d) ∷ at x (for_stmt None condition step s) ∷ [])))
 
 abbrev pub for_loop : Start → ForHead → StmtData → StmtData
 for_loop x head s = loop_from x head.first head.condition head.step s
@@ -34,24 +36,63 @@ module _ (most : Limits) (inner : Nested) (deeper : NestedStatements) where
   -- ---- statements, by the next two tokens
 
   abbrev pub named : Start → Kind → Parser StmtData
-  named x (k.Mark p.Colon) = do t ← expect k.Name; expect (k.Mark p.Colon); s ← deeper.statement; pure (at x (label_stmt (text_of t) s))
+  named x (k.Mark p.Colon) = do
+    t ← expect k.Name
+    expect (k.Mark p.Colon)
+    s ← deeper.statement
+    pure (at x (label_stmt (text_of t) s))
   named x _ = do e ← expression most inner; expect (k.Mark p.Semicolon); pure (at x (expr_stmt e))
 
   abbrev pub statement_by : Start → Kind → Kind → Parser StmtData
   statement_by x (k.Mark p.Semicolon) l = do expect (k.Mark p.Semicolon); pure (at x empty_stmt)
-  statement_by x (k.Mark p.LeftBrace) l = do ss ← deeper.block; pure (at x (block_stmt (stmts_of ss)))
+  statement_by x (k.Mark p.LeftBrace) l = do
+    ss ← deeper.block
+    pure (at x (block_stmt (stmts_of ss)))
   statement_by x k.Executable l = do t ← expect k.Executable; pure (at x (emb_stmt (number_of t)))
   statement_by x k.Directive l = do t ← expect k.Directive; pure (at x (emb_stmt (number_of t)))
-  statement_by x k.If l = do expect k.If; e ← inner.parenthesized; s ← deeper.statement; o ← else_option; pure (at x (if_stmt e s (stmt_of o)))
-  statement_by x k.While l = do expect k.While; e ← inner.parenthesized; s ← deeper.statement; pure (at x (while_stmt e s))
-  statement_by x k.Do l = do expect k.Do; s ← deeper.statement; expect k.While; e ← inner.parenthesized; expect (k.Mark p.Semicolon); pure (at x (do_stmt s e))
-  statement_by x k.For l = do expect k.For; head ← inner.for_head; s ← deeper.statement; pure (for_loop x head s)
+  statement_by x k.If l = do
+    expect k.If
+    e ← inner.parenthesized
+    s ← deeper.statement
+    o ← else_option
+    pure (at x (if_stmt e s (stmt_of o)))
+  statement_by x k.While l = do
+    expect k.While
+    e ← inner.parenthesized
+    s ← deeper.statement
+    pure (at x (while_stmt e s))
+  statement_by x k.Do l = do
+    expect k.Do
+    s ← deeper.statement
+    expect k.While
+    e ← inner.parenthesized
+    expect (k.Mark p.Semicolon)
+    pure (at x (do_stmt s e))
+  statement_by x k.For l = do
+    expect k.For
+    head ← inner.for_head
+    s ← deeper.statement
+    pure (for_loop x head s)
   statement_by x k.Break l = do expect k.Break; expect (k.Mark p.Semicolon); pure (at x break_stmt)
-  statement_by x k.Continue l = do expect k.Continue; expect (k.Mark p.Semicolon); pure (at x continue_stmt)
-  statement_by x k.Return l = do expect k.Return; e ← expression_option most inner; expect (k.Mark p.Semicolon); pure (at x (return_stmt e))
-  statement_by x k.Goto l = do expect k.Goto; t ← expect k.Name; expect (k.Mark p.Semicolon); pure (at x (goto_stmt (text_of t)))
+  statement_by x k.Continue l = do
+    expect k.Continue
+    expect (k.Mark p.Semicolon)
+    pure (at x continue_stmt)
+  statement_by x k.Return l = do
+    expect k.Return
+    e ← expression_option most inner
+    expect (k.Mark p.Semicolon)
+    pure (at x (return_stmt e))
+  statement_by x k.Goto l = do
+    expect k.Goto
+    t ← expect k.Name
+    expect (k.Mark p.Semicolon)
+    pure (at x (goto_stmt (text_of t)))
   statement_by x k.Name l = named x l
-  statement_by x _ l = do e ← expression most inner; expect (k.Mark p.Semicolon); pure (at x (expr_stmt e))
+  statement_by x _ l = do
+    e ← expression most inner
+    expect (k.Mark p.Semicolon)
+    pure (at x (expr_stmt e))
 
   unfoldable pub statement : Parser StmtData
   statement = do
@@ -78,7 +119,9 @@ module _ (most : Limits) (inner : Nested) (deeper : NestedStatements) where
   block_items_from zero found = pure found
   block_items_from (suc m) found = do
     j ← peek
-    if begins_block_item j then (do s ← block_item; block_items_from m (found ++ s ∷ [])) else pure found
+    if begins_block_item j
+        then (do s ← block_item; block_items_from m (found ++ s ∷ []))
+        else pure found
 
   unfoldable pub block_items : Parser (List StmtData)
   block_items = λ i. block_items_from (length i.tokens) [] i
@@ -89,7 +132,10 @@ module _ (most : Limits) (inner : Nested) (deeper : NestedStatements) where
 module _ (most : Limits) where
   -- with so many levels left where they stand
   unfoldable pub nested_statements : ℕ → NestedStatements
-  nested_statements zero = record { block = no_level is_left_brace; statement = no_level begins_statement }
+  nested_statements zero = record {
+    block = no_level is_left_brace;
+    statement = no_level begins_statement;
+  }
   nested_statements (suc levels) = record {
     block = block most (nested most levels) (nested_statements levels);
     statement = statement most (nested most levels) (nested_statements levels);
@@ -111,7 +157,10 @@ module _ (most : Limits) (inner : Nested) (deeper : NestedStatements) where
   body_of (Some ss) = Some (stmts_of ss)
 
   abbrev pub behind_name_by : Kind → Parser BehindName
-  behind_name_by (k.Mark p.LeftParen) = do ps ← inner.parameter_part; b ← body; pure (function ps (body_of b))
+  behind_name_by (k.Mark p.LeftParen) = do
+    ps ← inner.parameter_part
+    b ← body
+    pure (function ps (body_of b))
   behind_name_by _ = do
     ds ← lengths most inner
     x ← initializer_option most inner
@@ -124,7 +173,11 @@ module _ (most : Limits) (inner : Nested) (deeper : NestedStatements) where
 
   abbrev pub external_tail_by : Kind → Parser (Option (ℕ × Text × BehindName))
   external_tail_by (k.Mark p.Semicolon) = do expect (k.Mark p.Semicolon); pure None
-  external_tail_by _ = do n ← stars most; t ← expect k.Name; x ← behind_name; pure (Some (n, text_of t, x))
+  external_tail_by _ = do
+    n ← stars most
+    t ← expect k.Name
+    x ← behind_name
+    pure (Some (n, text_of t, x))
 
   unfoldable pub external_tail : Parser (Option (ℕ × Text × BehindName))
   external_tail = peek >>= external_tail_by
@@ -154,4 +207,7 @@ module _ (most : Limits) (inner : Nested) (deeper : NestedStatements) where
   items = λ i. items_from (length i.tokens) [] i
 
   unfoldable pub unit : Parser UnitData
-  unit = do xs ← items; t ← expect k.End; pure (record { tops = xs; embs = []; last = t.token.line })
+  unit = do
+    xs ← items
+    t ← expect k.End
+    pure (record { tops = xs; embs = []; last = t.token.line })

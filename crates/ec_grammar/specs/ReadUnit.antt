@@ -17,7 +17,9 @@ use Rattle.ec_grammar.specs.ReadDeclarations.{nested}
 use Rattle.ec_grammar.specs.ReadStatements.{nested_statements, unit}
 
 unfoldable pub reading : PlacedTokens → Outcome UnitData
-reading w = unit limits (nested limits limits.nesting) (nested_statements limits limits.nesting) (state w no_counts)
+reading w =
+    unit limits (nested limits limits.nesting) (nested_statements limits limits.nesting)
+    (state w no_counts)
 
 -- the line of the token at which so many are left, itself among them
 abbrev pub line_at : PlacedTokens → ℕ → Line

@@ -1,4 +1,4 @@
-use Rattle.std.proofs.Common.{◌≡◌, rules, arith, map, Ok, sym, ap, ◌∙◌}
+use Rattle.std.proofs.Common.{rules, arith, map, Ok, sym, ap, ◌∙◌}
 use Rattle.std.proofs.lemmas.Grind.{common_steps}
 use Rattle.std.proofs.lemmas.Result.{err_from_is_err_and}
 use Rattle.ec_grammar.specs.Lists.{separated, separated_from}
