@@ -1,5 +1,5 @@
-ghost use Rattle.std.specs.Prelude.{◌≡◌, ◌≤◌, ◌<◌, ℕ, List as Sequence, Option, Some, length, IfOk, MatchResult};
-ghost use Rattle.std.specs.Io.KnownBytes.{WriteAppends};
+ghost use Rattle.std.specs.Prelude.{◌≡◌, ◌≤◌, ◌<◌, ℕ, List as Sequence, Option, Some, length, IfOk, IsOk, MatchResult};
+ghost use Rattle.std.specs.Io.KnownBytes.{Keeps, WriteAppends};
 ghost use Rattle.ec_base.specs.Causes.{HasCause};
 ghost use Rattle.ec_base.specs.MemSink.{new_store, Takes, FailsToTake};
 
@@ -9,7 +9,8 @@ use crate::stop::{Failed, OutOfMemory};
 use std::alloc::Global;
 use std::marker::Model;
 
-/// A sink in memory, which takes pieces until it is full and fails where it is told to. A put takes no memory.
+/// A sink in memory, which takes pieces until it is full and fails where it is told to. A put takes no memory. It
+/// keeps nothing back, so that a flush does nothing.
 #[derive(Debug, Drop)]
 pub struct MemSink {
     held: Vec<u8>,
@@ -80,5 +81,14 @@ impl Sink for MemSink {
             Ok(()) => Ok(count),
             Err(_) => unreachable!("`new` has taken the memory"),
         }
+    }
+
+    fn flush(&mut self) -> Result<(), Failed>
+        ensures bytes { Keeps (Some self.old.held) (Some self.new.held) }
+        ensures cause { HasCause self.old.faults self.new.faults result }
+        ensures done { IsOk result }
+        ensures same { self.new ≡ self.old }
+    {
+        Ok(())
     }
 }

@@ -1,5 +1,5 @@
 ghost use Rattle.std.specs.Prelude.{◌≡◌, ◌≤◌, ◌<◌, length, IfOk, MatchResult};
-ghost use Rattle.std.specs.Io.KnownBytes.{WriteAppends};
+ghost use Rattle.std.specs.Io.KnownBytes.{Keeps, WriteAppends};
 ghost use Rattle.ec_base.specs.Causes.{HasCause, one_more};
 
 use crate::sink::Sink;
@@ -11,7 +11,8 @@ use std::marker::Model;
 /// counts as a fault.
 ///
 /// It tells what the writer tells. Of a file or a pipe that is nothing: what becomes of the bytes there is outside what is
-/// proved. The writer is never flushed, so it is to be one that keeps nothing back.
+/// proved. A `BufWriter` serves where many small pieces are put: `flush` writes what it keeps back, and a write that fails
+/// is counted there or at the put for which room was to be made.
 #[derive(Drop)]
 pub struct StdSink<W: Write + Drop> {
     writer: W,
@@ -57,6 +58,20 @@ impl<W: Write + Drop> Sink for StdSink<W> {
                 Err(Failed)
             }
             Ok(count) => Ok(count),
+        }
+    }
+
+    fn flush(&mut self) -> Result<(), Failed>
+        ensures bytes { Keeps (W.contents self.old.0) (W.contents self.new.0) }
+        ensures cause { HasCause self.old.1 self.new.1 result }
+        ensures exact { MatchResult result (λ _. self.new.1 ≡ self.old.1) (λ _. self.new.1 ≡ one_more self.old.1) }
+    {
+        match self.writer.flush() {
+            Ok(()) => Ok(()),
+            Err(_) => {
+                self.faults = self.faults.saturating_add(1);
+                Err(Failed)
+            }
         }
     }
 }

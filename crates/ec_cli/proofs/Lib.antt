@@ -5,6 +5,7 @@ pub mod Commands
 pub mod Effects
 pub mod FaultLemmas
 pub mod Fields
+pub mod Flushes
 pub mod FrontLemmas
 pub mod Library
 pub mod LineLemmas

@@ -27,8 +27,8 @@ use std::alloc::Global;
 /// Does what the words name, and puts a last line on `err` where the ending has one.
 ///
 /// The one command is `run`, with its options and links: the source that `input` gives is written as C, read back, and run
-/// over the first ready slot of the rack, if it has one. The program prints on `out`. More than 64 slots are a limit, which
-/// is tested before the input is read.
+/// over the first ready slot of the rack, if it has one. The program prints on `out`, which is flushed at its end, before
+/// the ending is decided. More than 64 slots are a limit, which is tested before the input is read.
 ///
 /// A fault while the last line is put changes no ending.
 pub fn ec_main<I: Source, O: Sink, E: Sink>(

@@ -1,7 +1,17 @@
 -- Structs whose layout is worked out, by their numbers in the list.
-use Rattle.std.specs.Prelude.{List, [], ◌∷◌, true, false, None, codes}
+use Rattle.std.specs.Prelude.{ℕ, List, [], ◌∷◌, true, false, Option, Some, None, codes}
+use Rattle.ec_ctypes.specs.declared.types.arith.Arith.{Arith}
 use Rattle.ec_ctypes.specs.declared.types.arith.Arith.TheVariants.{Bool, Char, Short, Int, Long}
-use Rattle.ec_ctypes.specs.trees.Types.{arithmetic, pointer, array, structure, MemberData, StructData}
+use Rattle.ec_ctypes.specs.declared.types.sizes.Shape.{Shape}
+use Rattle.ec_ctypes.specs.trees.Types.{TyData, arithmetic, pointer, array, structure, MemberData, StructData}
+
+-- an array of so many numbers
+abbrev pub row : Arith → ℕ → TyData
+row t count = array (arithmetic t) count
+
+-- a shape of this size and alignment
+abbrev pub sized : ℕ → ℕ → Option Shape
+sized size align = Some (record { size = size; align = align })
 
 -- a struct with these members
 abbrev pub struct : List MemberData → StructData

@@ -24,7 +24,7 @@ pub use tree::{
 };
 pub use types::{
     Arith, Shape, StructDef, Structs, Ty, conversion_examples, convert, layout, layout_examples,
-    member, one_conversion, promote, usual,
+    member, one_conversion, promote, type_shape, usual,
 };
 pub use views_law::{list_views_lose_nothing, views_keep_order, views_lose_nothing};
 

@@ -12,6 +12,6 @@ pub use arith::Arith;
 pub use arithmetic::{convert, promote, usual};
 pub use examples::layout_examples;
 pub use laws::{conversion_examples, one_conversion};
-pub use sizes::{Shape, layout, member};
+pub use sizes::{Shape, layout, member, type_shape};
 pub use structs::Structs;
 pub use ty::{StructDef, Ty};

@@ -1,18 +1,13 @@
 //! What holds of every tree and of every list of trees, as the contracts of functions that do nothing.
-ghost use Rattle.std.specs.Prelude.{◌≡◌, Bool, List, Option, Some, option_map};
-ghost use Rattle.ec_ctypes.specs.declared.embedded.emb.EmbKind.TheVariants as emb_kind;
-ghost use Rattle.ec_ctypes.specs.declared.embedded.host.TextArg.TheVariants as text_arg;
+ghost use Rattle.std.specs.Prelude.{◌≡◌, Bool, List, Option};
+ghost use Rattle.ec_ctypes.specs.Order.{Holds, HoldsBranches, HoldsParts, HoldsIndicator, HoldsArguments};
 ghost use Rattle.ec_ctypes.specs.declared.tree.decl.Base.TheOpen.{Expr-F};
 ghost use Rattle.ec_ctypes.specs.declared.tree.expr.BinOp.{BinOp};
 ghost use Rattle.ec_ctypes.specs.declared.tree.stmt.ForParts.{ForParts};
-ghost use Rattle.ec_ctypes.specs.declared.tree.stmt.StmtKind.TheOpen.{StmtKind-F};
-ghost use Rattle.ec_ctypes.specs.trees.Embedded as embedded;
 ghost use Rattle.ec_ctypes.specs.trees.Exprs as trees;
-ghost use Rattle.ec_ctypes.specs.trees.Stmts as stmts;
-ghost use Rattle.ec_ctypes.specs.trees.Exprs.{ExprData};
+ghost use Rattle.ec_ctypes.specs.trees.Exprs.{ExprData, bump};
 ghost use Rattle.ec_ctypes.specs.trees.Stmts.{StmtData};
 ghost use Rattle.ec_ctypes.specs.views.Exprs.{expr_step};
-ghost use Rattle.ec_ctypes.specs.views.Stmts.{kind_step};
 ghost use Rattle.ec_ctypes.specs.declared.types.ty.Ty.{Ty};
 ghost use Rattle.ec_ctypes.specs.declared.types.ty.StructDef.{StructDef};
 ghost use Rattle.ec_ctypes.specs.declared.text.token.Tok.{Tok};
@@ -90,7 +85,7 @@ pub fn list_views_lose_nothing()
     ensures array_lengths { (a b : List (Option Expr)) → dims_view a ≡ dims_view b → a ≡ b }
     ensures initializers { (a b : List Init) → inits_view a ≡ inits_view b → a ≡ b }
     ensures initializer { (a b : Option Init) → init_option_view a ≡ init_option_view b → a ≡ b }
-    ensures declarators { (a b : List Declarator) → declarators_view a ≡ declarators_view b → a ≡ b }
+    ensures declared { (a b : List Declarator) → declarators_view a ≡ declarators_view b → a ≡ b }
     ensures declarations { (a b : List Decl) → decls_view a ≡ decls_view b → a ≡ b }
     ensures statements { (a b : List Stmt) → stmts_view a ≡ stmts_view b → a ≡ b }
     ensures statement { (a b : Option Stmt) → stmt_option_view a ≡ stmt_option_view b → a ≡ b }
@@ -98,12 +93,12 @@ pub fn list_views_lose_nothing()
 
 /// Children of one type stand in a tree's data in the order in which they stand in the tree.
 pub fn views_keep_order()
-    ensures binary { (op : BinOp) (a b : ExprData) → expr_step (Expr-F.Binary op a b) ≡ trees.binary op a b }
-    ensures assign { (op : Option BinOp) (a b : ExprData) → expr_step (Expr-F.Assign op a b) ≡ trees.assign op a b }
-    ensures index { (a b : ExprData) → expr_step (Expr-F.Index a b) ≡ trees.index a b }
-    ensures bump { (before up : Bool) (a : ExprData) → expr_step (Expr-F.Bump before up a) ≡ trees.bump before up a }
-    ensures branches { (e : Expr) (then_part else_part : StmtData) → kind_step (StmtKind-F.If e then_part (Some else_part)) ≡ stmts.if_stmt (expr_view e) then_part (stmts.some_stmt else_part) }
-    ensures for_loop { (parts : ForParts) (s : StmtData) → kind_step (StmtKind-F.For parts s) ≡ stmts.for_stmt (expr_option_view parts.first) (expr_option_view parts.condition) (expr_option_view parts.step) s }
-    ensures argument { (e i : Expr) → text_arg_view (text_arg.HostWithIndicator e i) ≡ embedded.host_with_indicator (expr_view e) (expr_view i) }
-    ensures connect { (target : TextArg) (name user password : Option TextArg) → emb_kind_view (emb_kind.Connect target name user password) ≡ embedded.connect (text_arg_view target) (option_map text_arg_view name) (option_map text_arg_view user) (option_map text_arg_view password) }
+    ensures binary { (op : BinOp) → Holds (λ a b. Expr-F.Binary op a b) (trees.binary op) }
+    ensures assign { (op : Option BinOp) → Holds (λ a b. Expr-F.Assign op a b) (trees.assign op) }
+    ensures index { Holds (λ a b. Expr-F.Index a b) trees.index }
+    ensures bump { (b u : Bool) (a : ExprData) → expr_step (Expr-F.Bump b u a) ≡ bump b u a }
+    ensures branches { (e : Expr) (s t : StmtData) → HoldsBranches e s t }
+    ensures for_loop { (parts : ForParts) (s : StmtData) → HoldsParts parts s }
+    ensures argument { (e i : Expr) → HoldsIndicator e i }
+    ensures connect { (t : TextArg) (n u p : Option TextArg) → HoldsArguments t n u p }
 {}

@@ -56,8 +56,8 @@ fn act_all<O: Sink>(
     Ok(())
 }
 
-// Runs a program over a connection, if there is one.
-fn execute<O: Sink>(
+// Does what a program says over a connection, if there is one.
+fn carry_out<O: Sink>(
     alloc: alloc::Global,
     program: &Written,
     rack: &mut Rack,
@@ -84,6 +84,27 @@ fn execute<O: Sink>(
         out,
     )?;
     Ok((program.status % 256) as u8)
+}
+
+// Runs a program over a connection, if there is one. However it ends, what it printed is passed on.
+fn execute<O: Sink>(
+    alloc: alloc::Global,
+    program: &Written,
+    rack: &mut Rack,
+    conn: &mut Option<Conn>,
+    out: &mut O,
+) -> Result<u8, RunStop>
+    requires few { length program.now.globals < 2 ^ 31 }
+    requires ints { All (λ (s : WrittenStatement). StoresInt s.action) program.now.body }
+    requires open { IsOpen rack.old conn.old }
+    ensures whole { IfOk result (Finished (talk_by ⟦<dyn Link as Link>⟧) (faults_by ⟦<dyn Link as Link>⟧) O.held O.faults program.now rack.old conn.old out.old rack.new conn.new out.new) }
+    ensures part { OnErr result (Cut (talk_by ⟦<dyn Link as Link>⟧) (faults_by ⟦<dyn Link as Link>⟧) O.held O.faults program.now rack.old conn.old out.old rack.new conn.new out.new) }
+    ensures cause { result ≡ Err RunStop.WriteFault → Rose (O.faults out.old) (O.faults out.new) }
+    ensures steady { result ≡ Err RunStop.OutOfMemory → O.faults out.new ≡ O.faults out.old }
+{
+    let end = carry_out(alloc, program, rack, conn, out);
+    out.flush()?;
+    end
 }
 
 // Gives a connection back, if there is one.

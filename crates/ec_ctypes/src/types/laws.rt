@@ -6,7 +6,7 @@ ghost use Rattle.ec_ctypes.specs.Arithmetic.{converted, promoted, usual_type, Co
 
 /// Each number has one value of each integer type to which it converts (ISO/IEC 9899:1999, 6.3.1.2 and 6.3.1.3).
 pub fn one_conversion()
-    ensures one { (to : Arith) (value result : ℤ) → Converts to value result → result ≡ converted to value }
+    ensures one { (to : Arith) (value got : ℤ) → Converts to value got → got ≡ converted to value }
     ensures exists { (to : Arith) (value : ℤ) → Converts to value (converted to value) }
 {}
 
@@ -25,9 +25,9 @@ pub fn conversion_examples()
     ensures ushort_edges { WrapsBetween UShort (pos 0) (pos 65535) }
     ensures int_edges { WrapsBetween Int (negsuc 2147483647) (pos 2147483647) }
     ensures uint_edges { WrapsBetween UInt (pos 0) (pos 4294967295) }
-    ensures long_edges { WrapsBetween Long (negsuc 9223372036854775807) (pos 9223372036854775807) }
+    ensures long_edges { WrapsBetween Long (negsuc (2 ^ 63 - 1)) (pos (2 ^ 63 - 1)) }
     ensures ulong_edges { WrapsBetween ULong (pos 0) (pos 18446744073709551615) }
-    ensures llong_edges { WrapsBetween LLong (negsuc 9223372036854775807) (pos 9223372036854775807) }
+    ensures llong_edges { WrapsBetween LLong (negsuc (2 ^ 63 - 1)) (pos (2 ^ 63 - 1)) }
     ensures ullong_edges { WrapsBetween ULLong (pos 0) (pos 18446744073709551615) }
     ensures bool_promoted { promoted Boolean ≡ Int }
     ensures char_promoted { promoted Char ≡ Int }

@@ -1,9 +1,8 @@
-ghost use Rattle.std.specs.Prelude.{◌≡◌, ◌+◌, ◌<◌, ◌≤◌, ◌^◌, Some, map, option_map, IsSome, IfSome, MatchOption, IfOk, IfErr};
+ghost use Rattle.std.specs.Prelude.{◌≡◌, ◌+◌, ◌<◌, ◌≤◌, ◌^◌, Some, option_map, IsSome, IfSome, MatchOption, IfOk, IfErr};
 ghost use Rattle.std.specs.Int.{next_multiple_of};
-ghost use Rattle.ec_base.specs.declared.fault.LimitKind.TheVariants.{L1};
-ghost use Rattle.ec_ctypes.specs.Layout.{with_member, no_members, with_members, struct_shape, shapes_of, shape_of, member_behind, member_of, limited, IsSmall, IsElement, HasElements, IsTooMany};
-ghost use Rattle.ec_ctypes.specs.trees.Types.{structure};
-ghost use Rattle.ec_ctypes.specs.views.Types.{ty_view, member_view, structs_view};
+ghost use Rattle.ec_ctypes.specs.Layout.{with_member, limited, IsSmall, IsElement};
+ghost use Rattle.ec_ctypes.specs.Sizes.{shape_in, shape_at, shape_behind, members_in, named_in, member_in, IsWithinLimit, HasShape, PassesLimit, AreElements, AreTooMany};
+ghost use Rattle.ec_ctypes.specs.views.Types.{ty_view};
 
 use crate::types::{Structs, Ty};
 use ec_base::{LimitKind, Name};
@@ -24,9 +23,9 @@ const LIMIT: u64 = 16_777_216;
 ///
 /// `LimitKind::L1` where the type has more than 2^24 bytes.
 pub fn layout(structs: &Structs, ty: &Ty) -> Result<Shape, LimitKind>
-    requires complete { IsSome (shape_of (structs_view structs.now) (ty_view ty.now)) }
-    ensures shape { IfOk result (λ shape. (shape_of (structs_view structs.now) (ty_view ty.now) ≡ Some shape) × (shape.size ≤ 2 ^ 24)) }
-    ensures limit { IfErr result (λ limit. (limit ≡ L1) × IfSome (shape_of (structs_view structs.now) (ty_view ty.now)) (λ shape. 2 ^ 24 < shape.size)) }
+    requires complete { IsSome (shape_in structs.now ty.now) }
+    ensures shape { IfOk result (HasShape (shape_in structs.now ty.now)) }
+    ensures limit { IfErr result (PassesLimit (shape_in structs.now ty.now)) }
 {
     type_shape(structs, ty).ok_or(LimitKind::L1)
 }
@@ -34,9 +33,9 @@ pub fn layout(structs: &Structs, ty: &Ty) -> Result<Shape, LimitKind>
 /// The offset in bytes and the type of a struct's member of this name, or `None` where the struct has no such member
 /// (ISO/IEC 9899:1999, 6.5.2.3 and 6.7.2.1). The struct is complete and has at most 2^24 bytes.
 pub fn member<'a>(structs: &'a Structs, id: u32, name: &Name) -> Option<(u64, &'a Ty)>
-    requires complete { IsSome (shape_of (structs_view structs.now) (structure id)) }
-    requires small { IfSome (shape_of (structs_view structs.now) (structure id)) (λ shape. shape.size ≤ 2 ^ 24) }
-    ensures { option_map (λ m. (m.0, ty_view m.1.now)) result ≡ member_of (structs_view structs.now) id name.now }
+    requires complete { IsSome (shape_at structs.now id) }
+    requires small { IfSome (shape_at structs.now id) IsWithinLimit }
+    ensures { option_map (λ m. (m.0, ty_view m.1.now)) result ≡ member_in structs.now id name.now }
 {
     let members = structs.as_slice().get(id as usize)?.members.as_slice();
     find_member(structs, members, name)
@@ -48,8 +47,9 @@ fn find_member<'a>(
     members: &'a [(Name, Ty)],
     name: &Name,
 ) -> Option<(u64, &'a Ty)>
-    requires { IsSome (limited (with_members (shapes_of (structs_view structs.now)) no_members (map member_view members.now))) }
-    ensures { option_map (λ m. (m.0, ty_view m.1.now)) result ≡ member_behind (shapes_of (structs_view structs.now)) no_members name.now (map member_view members.now) }
+    requires { IsSome (limited (members_in structs.now members.now)) }
+    ensures { option_map (λ m. (m.0, ty_view m.1.now)) result
+        ≡ named_in structs.now members.now name.now }
 {
     let mut before = Shape { size: 0, align: 1 };
     for (title, ty) in members {
@@ -62,9 +62,11 @@ fn find_member<'a>(
     None
 }
 
-// The shape of a type, or `None` where it has none or more bytes than the limit.
-pub(crate) fn type_shape(structs: &Structs, ty: &Ty) -> Option<Shape>
-    ensures shape { result ≡ limited (shape_of (structs_view structs.now) (ty_view ty.now)) }
+/// The size and the alignment of a type, in bytes, or `None` where it has none, since it is not complete, or where it has
+/// more than 2^24 bytes (ISO/IEC 9899:1999, 6.2.5, 6.5.3.4 and 6.7.2.1). So it is also the test of what `layout` and
+/// `member` ask of their callers.
+pub fn type_shape(structs: &Structs, ty: &Ty) -> Option<Shape>
+    ensures shape { result ≡ limited (shape_in structs.now ty.now) }
     ensures small { IfSome result IsSmall }
 {
     let (count, element) = elements(ty)?;
@@ -74,7 +76,7 @@ pub(crate) fn type_shape(structs: &Structs, ty: &Ty) -> Option<Shape>
 
 // How many elements an array of arrays has in all, and their type. A type that is no array is one element.
 fn elements<'a>(ty: &'a Ty) -> Option<(u64, &'a Ty)>
-    ensures { MatchOption result (IsTooMany (ty_view ty.now)) (λ all. HasElements (ty_view ty.now) all.0 (ty_view all.1.now)) }
+    ensures { MatchOption result (AreTooMany ty.now) (λ all. AreElements ty.now all.0 all.1.now) }
 {
     let mut count: u64 = 1;
     let mut element = ty;
@@ -94,7 +96,7 @@ fn elements<'a>(ty: &'a Ty) -> Option<(u64, &'a Ty)>
 // The shape of a type that is no array.
 fn element_shape(structs: &Structs, ty: &Ty) -> Option<Shape>
     requires { IsElement (ty_view ty.now) }
-    ensures shape { result ≡ limited (shape_of (structs_view structs.now) (ty_view ty.now)) }
+    ensures shape { result ≡ limited (shape_in structs.now ty.now) }
     ensures small { IfSome result IsSmall }
 {
     match ty {
@@ -109,7 +111,7 @@ fn element_shape(structs: &Structs, ty: &Ty) -> Option<Shape>
 
 // The shape of a struct with these members, behind these structs.
 pub(crate) fn struct_shape(structs: &Structs, members: &[(Name, Ty)]) -> Option<Shape>
-    ensures { result ≡ limited (struct_shape (shapes_of (structs_view structs.now)) (map member_view members.now)) }
+    ensures { result ≡ limited (shape_behind structs.now members.now) }
 {
     if members.is_empty() {
         return None;
@@ -120,7 +122,7 @@ pub(crate) fn struct_shape(structs: &Structs, members: &[(Name, Ty)]) -> Option<
 
 // The bytes up to the end of the last member, and the widest alignment of a member.
 fn members_shape(structs: &Structs, members: &[(Name, Ty)]) -> Option<Shape>
-    ensures shape { result ≡ limited (with_members (shapes_of (structs_view structs.now)) no_members (map member_view members.now)) }
+    ensures shape { result ≡ limited (members_in structs.now members.now) }
     ensures small { IfSome result IsSmall }
 {
     let mut all = Shape { size: 0, align: 1 };

@@ -1,7 +1,6 @@
 ghost use Rattle.std.specs.Prelude.{◌≡◌, [], ◌∷◌, ◌++◌, slice_get, option_and_then, IfSome, OnOk, OnErr};
-ghost use Rattle.ec_ctypes.specs.Layout.{shape_of, limited, IsSmall};
-ghost use Rattle.ec_ctypes.specs.trees.Types.{structure};
-ghost use Rattle.ec_ctypes.specs.views.Types.{structs_view};
+ghost use Rattle.ec_ctypes.specs.Layout.{limited, IsSmall};
+ghost use Rattle.ec_ctypes.specs.Sizes.{shape_at};
 
 use crate::types::StructDef;
 use crate::types::sizes::{Shape, struct_shape};
@@ -69,7 +68,7 @@ impl Structs {
 
     // The shape of the struct of this number, or `None` where it has none within the limit.
     pub(crate) fn shape(&self, id: u32) -> Option<Shape>
-        ensures shape { result ≡ limited (shape_of (structs_view self.now) (structure id)) }
+        ensures shape { result ≡ limited (shape_at self.now id) }
         ensures small { IfSome result IsSmall }
     {
         shape_at(self.shapes.as_slice(), id)

@@ -59,14 +59,12 @@ impl From<Arith> for Ty {
 }
 
 impl Ty {
-    ghost use Rattle.std.specs.Prelude.{MatchOption, ◌≢◌};
-    ghost use Rattle.ec_ctypes.specs.declared.types.arith.Arith.{Arith};
-    ghost use Rattle.ec_ctypes.specs.trees.Types.{arithmetic};
-    ghost use Rattle.ec_ctypes.specs.views.Types.{ty_view};
+    ghost use Rattle.std.specs.Prelude.{MatchOption};
+    ghost use Rattle.ec_ctypes.specs.Sizes.{IsInteger, IsNoInteger};
 
     /// The integer type that this is, or `None` of any other type.
     pub fn arith(&self) -> Option<Arith>
-        ensures { MatchOption result ((t : Arith) → ty_view self.now ≢ arithmetic t) (λ t. ty_view self.now ≡ arithmetic t) }
+        ensures { MatchOption result (IsNoInteger self.now) (IsInteger self.now) }
     {
         match self {
             Ty::Bool => Some(Arith::Bool),

@@ -5,4 +5,4 @@ use Rattle.ec_ctypes.proofs.StmtsBack.{same_stmts, same_stmt_option}
 use Rattle.ec_ctypes.proofs.views_law.list_views_lose_nothing.Goals as goal
 
 pub returns : goal.returns
-returns c = record { structs = same_structs; tokens = same_tokens; expressions = same_exprs; expression = same_expr_option; array_lengths = same_dims; initializers = same_inits; initializer = same_init_option; declarators = same_declarators; declarations = same_decls; statements = same_stmts; statement = same_stmt_option }
+returns c = record { structs = same_structs; tokens = same_tokens; expressions = same_exprs; expression = same_expr_option; array_lengths = same_dims; initializers = same_inits; initializer = same_init_option; declared = same_declarators; declarations = same_decls; statements = same_stmts; statement = same_stmt_option }

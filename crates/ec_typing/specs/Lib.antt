@@ -1,0 +1,13 @@
+pub mod Answers
+pub mod Constants
+pub mod Examples
+pub mod Expressions
+pub mod Formats
+pub mod Initializers
+pub mod Known
+pub mod Operands
+pub mod Programs
+pub mod Statements
+pub mod Tables
+pub mod Types
+pub mod Worlds
