@@ -1,10 +1,10 @@
 //! Reads a source on standard input by one part of the precompiler, and prints how much it found, so that the part can be
-//! measured: `ec_bench pieces`, `ec_bench tokens` or `ec_bench syntax`.
+//! measured: `ec_bench pieces`, `ec_bench tokens`, `ec_bench syntax` or `ec_bench written`.
 #![tactic(auto)]
 
 mod count;
 
-use crate::count::{count_pieces, count_tokens, count_tops};
+use crate::count::{count_pieces, count_tokens, count_tops, count_written};
 use ec_base::{InputStop, OutOfMemory, StdSource, Stop, read_all};
 use std::alloc::Global;
 use std::env;
@@ -51,6 +51,7 @@ enum Part {
     Pieces,
     Tokens,
     Syntax,
+    Written,
 }
 
 // The part that a word names.
@@ -63,6 +64,9 @@ fn part_named(word: &str) -> Option<Part> {
     }
     if word == "syntax" {
         return Some(Part::Syntax);
+    }
+    if word == "written" {
+        return Some(Part::Written);
     }
     None
 }
@@ -90,6 +94,7 @@ fn count_of(alloc: Global, part: Part, text: &[u8]) -> Result<usize, Failure> {
         Part::Pieces => Ok(count_pieces(alloc, text)?),
         Part::Tokens => Ok(count_tokens(alloc, text)?),
         Part::Syntax => Ok(count_tops(alloc, text)?),
+        Part::Written => Ok(count_written(alloc, text)?),
     }
 }
 

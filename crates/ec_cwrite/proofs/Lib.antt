@@ -1,2 +1,3 @@
 mod Lists
+mod Remains
 mod Writing

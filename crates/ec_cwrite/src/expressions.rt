@@ -218,7 +218,8 @@ fn push_in_parens(out: &mut Bytes, expr: &Expr) -> Result<(), OutOfMemory>
 /// An expression at a place that binds so tight.
 #[cycle(exprs)]
 fn push_at(out: &mut Bytes, height: u8, expr: &Expr) -> Result<(), OutOfMemory>
-    ensures { OnOk result (Writes out.old out.new (at_height height (expr_view expr.now) (expr_chunks (expr_view expr.now)))) }
+    ensures { OnOk result (Writes out.old out.new (at_height height (expr_view expr.now)
+        (expr_chunks (expr_view expr.now)))) }
 {
     if height_of(expr) < height {
         push_in_parens(out, expr)
@@ -230,7 +231,8 @@ fn push_at(out: &mut Bytes, height: u8, expr: &Expr) -> Result<(), OutOfMemory>
 /// An expression before `.`.
 #[cycle(exprs)]
 fn push_before_dot(out: &mut Bytes, expr: &Expr) -> Result<(), OutOfMemory>
-    ensures { OnOk result (Writes out.old out.new (before_dot (expr_view expr.now) (expr_chunks (expr_view expr.now)))) }
+    ensures { OnOk result (Writes out.old out.new (before_dot (expr_view expr.now) (expr_chunks
+        (expr_view expr.now)))) }
 {
     match expr {
         Expr::Int(_, _) => push_in_parens(out, expr),
@@ -241,7 +243,8 @@ fn push_before_dot(out: &mut Bytes, expr: &Expr) -> Result<(), OutOfMemory>
 /// Arguments in parentheses.
 #[cycle(exprs)]
 fn push_arguments(out: &mut Bytes, exprs: &[Expr]) -> Result<(), OutOfMemory>
-    ensures { OnOk result (Writes out.old out.new (arguments (list_chunks (exprs_view exprs.now)))) }
+    ensures { OnOk result (Writes out.old out.new (arguments (list_chunks
+        (exprs_view exprs.now)))) }
 {
     push_mark(out, Punct::LeftParen)?;
     push_list(out, exprs)?;
@@ -281,7 +284,8 @@ fn push_struct(
     members: &[Decl],
     tag: &Option<Boxed<Name>>,
 ) -> Result<(), OutOfMemory>
-    ensures { OnOk result (Writes out.old out.new (base_chunks (struct_base tag.now (decls_view members.now)))) }
+    ensures { OnOk result (Writes out.old out.new (base_chunks (struct_base tag.now
+        (decls_view members.now)))) }
 {
     push_struct_head(out, tag)?;
     push_blank(out)?;
@@ -330,7 +334,8 @@ pub fn push_decl(out: &mut Bytes, decl: &Decl) -> Result<(), OutOfMemory>
 /// Declarators, all on one line.
 #[cycle(exprs)]
 fn push_declarators(out: &mut Bytes, items: &[Declarator]) -> Result<(), OutOfMemory>
-    ensures { OnOk result (Writes out.old out.new (declarators_chunks (declarators_view items.now))) }
+    ensures { OnOk result (Writes out.old out.new (declarators_chunks
+        (declarators_view items.now))) }
 {
     for (at, item) in items.iter().enumerate() {
         push_lead(out, at > 0)?;
@@ -379,7 +384,8 @@ fn push_length(out: &mut Bytes, length: &Expr) -> Result<(), OutOfMemory>
 /// An initializer behind `=`, where there is one.
 #[cycle(exprs)]
 fn push_initializer(out: &mut Bytes, init: &Option<Init>) -> Result<(), OutOfMemory>
-    ensures { OnOk result (Writes out.old out.new (initializer_chunks (init_option_view init.now))) }
+    ensures { OnOk result (Writes out.old out.new (initializer_chunks
+        (init_option_view init.now))) }
 {
     if let Some(init) = init {
         push_blank(out)?;

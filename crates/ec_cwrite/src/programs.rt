@@ -48,7 +48,8 @@ fn push_param(out: &mut Bytes, param: &Param) -> Result<(), OutOfMemory>
 
 /// Parameters, one after the other.
 fn push_some_params(out: &mut Bytes, params: &[Param]) -> Result<(), OutOfMemory>
-    ensures { OnOk result (Writes out.old out.new (some_params_chunks (map param_view params.now))) }
+    ensures { OnOk result (Writes out.old out.new (some_params_chunks
+        (map param_view params.now))) }
 {
     for (at, param) in params.iter().enumerate() {
         push_comma(out, at > 0)?;

@@ -27,7 +27,8 @@ fn push_semicolon(out: &mut Bytes) -> Result<(), OutOfMemory>
 
 /// A blank, and an expression in parentheses.
 fn push_condition(out: &mut Bytes, expr: &Expr) -> Result<(), OutOfMemory>
-    ensures { OnOk result (Writes out.old out.new (blank ∷ in_parens (expr_chunks (expr_view expr.now)))) }
+    ensures { OnOk result (Writes out.old out.new (blank ∷ in_parens (expr_chunks
+        (expr_view expr.now)))) }
 {
     push_blank(out)?;
     push_mark(out, Punct::LeftParen)?;
@@ -84,7 +85,8 @@ fn push_expr_stmt(out: &mut Bytes, expr: &Expr) -> Result<(), OutOfMemory>
 
 /// `break;` or `continue;`
 fn push_jump(out: &mut Bytes, text: &[u8]) -> Result<(), OutOfMemory>
-    ensures { OnOk result (Writes out.old out.new (word text.now ∷ mark punct.Semicolon ∷ line_end ∷ [])) }
+    ensures { OnOk result (Writes out.old out.new (word text.now ∷ mark punct.Semicolon
+        ∷ line_end ∷ [])) }
 {
     push_word(out, text)?;
     push_semicolon(out)?;
@@ -104,7 +106,8 @@ fn push_value(out: &mut Bytes, expr: &Option<Expr>) -> Result<(), OutOfMemory>
 
 /// A `return`.
 fn push_return(out: &mut Bytes, expr: &Option<Expr>) -> Result<(), OutOfMemory>
-    ensures { OnOk result (Writes out.old out.new (kind_chunks (return_stmt (expr_option_view expr.now)))) }
+    ensures { OnOk result (Writes out.old out.new (kind_chunks (return_stmt
+        (expr_option_view expr.now)))) }
 {
     push_word(out, b"return")?;
     push_value(out, expr)?;
@@ -186,7 +189,8 @@ fn push_else(out: &mut Bytes, other: &Option<Boxed<Stmt>>) -> Result<(), OutOfMe
 /// A `while`.
 #[cycle(stmts)]
 fn push_while(out: &mut Bytes, stmt: &Stmt, expr: &Expr) -> Result<(), OutOfMemory>
-    ensures { OnOk result (Writes out.old out.new (kind_chunks (while_stmt (expr_view expr.now) (stmt_view stmt.now)))) }
+    ensures { OnOk result (Writes out.old out.new (kind_chunks (while_stmt (expr_view expr.now)
+        (stmt_view stmt.now)))) }
 {
     push_word(out, b"while")?;
     push_condition(out, expr)?;
@@ -198,7 +202,8 @@ fn push_while(out: &mut Bytes, stmt: &Stmt, expr: &Expr) -> Result<(), OutOfMemo
 /// A `do`.
 #[cycle(stmts)]
 fn push_do(out: &mut Bytes, stmt: &Stmt, expr: &Expr) -> Result<(), OutOfMemory>
-    ensures { OnOk result (Writes out.old out.new (kind_chunks (do_stmt (stmt_view stmt.now) (expr_view expr.now)))) }
+    ensures { OnOk result (Writes out.old out.new (kind_chunks (do_stmt (stmt_view stmt.now)
+        (expr_view expr.now)))) }
 {
     push_word(out, b"do")?;
     push_line_end(out)?;
@@ -227,7 +232,8 @@ fn push_for(out: &mut Bytes, stmt: &Stmt, parts: &ForParts) -> Result<(), OutOfM
 /// A label, and what it stands before.
 #[cycle(stmts)]
 fn push_label(out: &mut Bytes, label: &[u8], stmt: &Stmt) -> Result<(), OutOfMemory>
-    ensures { OnOk result (Writes out.old out.new (kind_chunks (label_stmt label.now (stmt_view stmt.now)))) }
+    ensures { OnOk result (Writes out.old out.new (kind_chunks (label_stmt label.now
+        (stmt_view stmt.now)))) }
 {
     push_word(out, label)?;
     push_mark(out, Punct::Colon)?;
@@ -239,7 +245,8 @@ fn push_label(out: &mut Bytes, label: &[u8], stmt: &Stmt) -> Result<(), OutOfMem
 /// A block as a statement.
 #[cycle(stmts)]
 fn push_block_stmt(out: &mut Bytes, stmts: &[Stmt]) -> Result<(), OutOfMemory>
-    ensures { OnOk result (Writes out.old out.new (kind_chunks (block_stmt (stmts_view stmts.now)))) }
+    ensures { OnOk result (Writes out.old out.new (kind_chunks (block_stmt
+        (stmts_view stmts.now)))) }
 {
     push_block(out, stmts)?;
     push_line_end(out)?;

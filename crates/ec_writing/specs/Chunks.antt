@@ -1,8 +1,6 @@
 -- Written C as a list of chunks, one after the other: its tokens, and what parts them. A tree decides its chunks, and three functions of chunks are all that is said of texts: their bytes, their tokens and their lines.
-use Rattle.std.specs.Prelude.{ℕ, suc, ◌+◌, ◌-◌, ◌/◌, ◌%◌, Bool, true, false, ◌||◌, ◌&&◌, nat_le, ◌==◌, List, [], ◌∷◌, ◌++◌, codes, if◌then◌else◌, ℤ, pos, negsuc}
-use Rattle.std.specs.Fmt.{decimal, digits}
-use Rattle.ec_ctypes.specs.declared.text.token.Punct.{Punct}
-use Rattle.ec_ctypes.specs.declared.types.arith.Arith.{Arith}
+use Rattle.std.specs.Prelude.{ℕ, suc, ◌+◌, ◌-◌, ◌/◌, ◌%◌, Bool, true, false, ◌||◌, ◌&&◌, nat_le, ◌==◌, List, [], ◌∷◌, ◌++◌, codes, ℤ, pos, negsuc}
+use Rattle.std.specs.Fmt.{decimal}
 use Rattle.ec_ctypes.specs.declared.types.arith.Arith.TheVariants.{UInt, Long, ULong, LLong, ULLong}
 use Rattle.ec_ctypes.specs.trees.Types.{TyData, arithmetic}
 use Rattle.ec_ctypes.specs.trees.Tokens.{TokData, word_token, integer_token, character_token, string_token, punct_token, include_token}

@@ -7,7 +7,8 @@ use Rattle.ec_ctypes.specs.trees.Exprs.{binary, assign, bump, call, call_other, 
 use Rattle.ec_ctypes.specs.views.Exprs.{expr_view, exprs_view, base_view, decl_view, decls_view, declarator_view, declarators_view, dims_view, init_view, inits_view, init_option_view}
 use Rattle.ec_writing.specs.Chunks.{blank}
 use Rattle.ec_writing.specs.Expressions.{expr_chunks, dims_chunks, init_chunks, declarator_chunks, decl_chunks, members_chunks}
-use Rattle.ec_cwrite.specs.Lists.{comma_chunks, lead_chunks, dim_part, exprs_from, inits_from, declarators_from}
+use Rattle.ec_cwrite.specs.Lists.{comma_chunks, lead_chunks, dim_part}
+use Rattle.ec_cwrite.proofs.Remains.{exprs_from, inits_from, declarators_from}
 use Rattle.ec_cwrite.specs.Writes.{Writes}
 use Rattle.ec_cwrite.proofs.Lists.{each_kept, list_kept, drop_item, at_told, mark_told, dim_told}
 use Rattle.ec_cwrite.proofs.Writing.{both}

@@ -3,7 +3,7 @@ use Rattle.std.specs.Prelude.{map}
 use Rattle.ec_ctypes.specs.views.Units.{param_view}
 use Rattle.ec_writing.specs.Chunks.{text_of}
 use Rattle.ec_writing.specs.Programs.{some_params_chunks}
-use Rattle.ec_cwrite.specs.Lists.{params_from}
+use Rattle.ec_cwrite.proofs.Remains.{params_from}
 use Rattle.ec_cwrite.proofs.programs.push_some_params.Given as goal
 
 abbrev pub invariant-loop-at : goal.invariant-loop-at
