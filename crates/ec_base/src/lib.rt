@@ -35,6 +35,3 @@ pub use source::Source;
 pub use std_sink::StdSink;
 pub use std_source::StdSource;
 pub use stop::{Failed, InputStop, OutOfMemory, Stop, Trap};
-
-#[cfg(test)]
-mod tests;

@@ -9,6 +9,3 @@ mod view;
 pub use region::Region;
 pub use scalar::{Flag, I8, I16, I32, I64, Ptr, Scalar, U8, U16, U32, U64};
 pub use view::{Stride, View, ViewMut};
-
-#[cfg(test)]
-mod tests;

@@ -46,7 +46,8 @@ pub trait Scalar: Copy + Drop {
 
     ghost encode_bytes: { (v : Self) → All (λ b. b < 256) (encode v) };
 
-    ghost decode_fits: { (bytes : List ℕ) → length bytes ≡ SIZE → ((i : ℕ) → slice_index bytes i < 256) → in_range (decode bytes) };
+    ghost decode_fits: { (bytes : List ℕ) → length bytes ≡ SIZE → ((i : ℕ) → slice_index bytes i < 256)
+        → in_range (decode bytes) };
 
     ghost decode_encode: { (v : Self) → in_range v → decode (encode v) ≡ v };
 }

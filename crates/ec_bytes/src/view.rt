@@ -95,8 +95,10 @@ impl<T: Scalar> View<'_, T> {
 
     /// The value, or `None` where one of its bytes is unset.
     pub fn get(&self) -> Option<T>
-        ensures value { result ≡ value_of T.decode (part_of (view_cells self.now) (view_place self.now) T.SIZE) }
-        ensures bytes { IfSome result (λ _. HoldBytes (part_of (view_cells self.now) (view_place self.now) T.SIZE)) }
+        ensures value { result
+            ≡ value_of T.decode (part_of (view_cells self.now) (view_place self.now) T.SIZE) }
+        ensures bytes { IfSome result
+            (λ _. HoldBytes (part_of (view_cells self.now) (view_place self.now) T.SIZE)) }
     {
         self.region.load(self.at)
     }
@@ -107,7 +109,8 @@ impl<T: Scalar> ViewMut<'_, T> {
 
     /// The value, or `None` where one of its bytes is unset.
     pub fn get(&self) -> Option<T>
-        ensures { result ≡ value_of T.decode (part_of (view_mut_cells self.now) (view_mut_place self.now) T.SIZE) }
+        ensures { result
+            ≡ value_of T.decode (part_of (view_mut_cells self.now) (view_mut_place self.now) T.SIZE) }
     {
         self.region.load(self.at)
     }
@@ -115,7 +118,8 @@ impl<T: Scalar> ViewMut<'_, T> {
     /// Writes the bytes of `value`, and no other.
     pub fn set(&mut self, value: T)
         ensures same { IsSameView self.old self.new }
-        ensures cells { view_mut_cells self.new ≡ written (view_mut_cells self.old) (view_mut_place self.old) (set_cells (T.encode value)) }
+        ensures cells { view_mut_cells self.new
+            ≡ written (view_mut_cells self.old) (view_mut_place self.old) (set_cells (T.encode value)) }
         ensures length { length (view_mut_cells self.new) ≡ length (view_mut_cells self.old) }
     {
         self.region.store(self.at, value);
@@ -128,7 +132,8 @@ impl<T: Scalar> Stride<'_, T> {
     /// Value `i`, the first being 0, or `None` where one of its bytes is unset. There are more than `i`.
     pub fn get(&self, i: usize) -> Option<T>
         requires { i < stride_count self.now }
-        ensures { result ≡ value_of T.decode (part_of (stride_cells self.now) (stride_place self.now i) T.SIZE) }
+        ensures { result
+            ≡ value_of T.decode (part_of (stride_cells self.now) (stride_place self.now i) T.SIZE) }
     {
         let place = self.region.place(self.at, self.step, i);
         self.region.load(place)
@@ -138,7 +143,8 @@ impl<T: Scalar> Stride<'_, T> {
     pub fn set(&mut self, i: usize, value: T)
         requires { i < stride_count self.old }
         ensures same { IsSameStride self.old self.new }
-        ensures cells { stride_cells self.new ≡ written (stride_cells self.old) (stride_place self.old i) (set_cells (T.encode value)) }
+        ensures cells { stride_cells self.new
+            ≡ written (stride_cells self.old) (stride_place self.old i) (set_cells (T.encode value)) }
         ensures length { length (stride_cells self.new) ≡ length (stride_cells self.old) }
     {
         let place = self.region.place(self.at, self.step, i);

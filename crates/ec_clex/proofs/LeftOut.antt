@@ -1,5 +1,5 @@
 -- The table of the words of C that are left out.
-use Rattle.std.proofs.Common.{◌≡◌, Bool, false, List, [], ◌∷◌, length, refl}
+use Rattle.std.proofs.Common.{◌≡◌, false, List, [], ◌∷◌, length, refl}
 use Rattle.std.specs.Prelude.{codes, ◌==◌}
 use Rattle.ec_language.specs.Letters.{Text, same_text}
 use Rattle.ec_language.specs.Keywords.{left_out_words}

@@ -22,12 +22,15 @@ seen (Err stop) = Err stop
 
 -- Where pieces have tokens, the answer is these.
 abbrev pub FindsTokens : Bool → List Piece → Result (List Token) Stop → Type 0
-FindsTokens written pieces answer = (wanted : List TokenData) → Tokens written pieces wanted → UnlessNoMemory answer (seen answer ≡ Ok wanted)
+FindsTokens written pieces answer = (wanted : List TokenData)
+    → Tokens written pieces wanted → UnlessNoMemory answer (seen answer ≡ Ok wanted)
 
 -- What is answered in the place of tokens, memory aside, is why there are none.
 abbrev pub TellsStop : Bool → List Piece → Result (List Token) Stop → Type 0
-TellsStop written pieces answer = (stop : Stop) → answer ≡ Err stop → (stop ≡ OutOfMemory → ⊥) → TokensOrStop written pieces (Err stop)
+TellsStop written pieces answer = (stop : Stop)
+    → answer ≡ Err stop → (stop ≡ OutOfMemory → ⊥) → TokensOrStop written pieces (Err stop)
 
 -- Where there is a fault or a limit that stands in the place of tokens, the answer is this.
 abbrev pub FindsStop : Bool → List Piece → Result (List Token) Stop → Type 0
-FindsStop written pieces answer = (stop : Stop) → TokensOrStop written pieces (Err stop) → UnlessNoMemory answer (answer ≡ Err stop)
+FindsStop written pieces answer = (stop : Stop)
+    → TokensOrStop written pieces (Err stop) → UnlessNoMemory answer (answer ≡ Err stop)

@@ -10,7 +10,7 @@ use Rattle.ec_ctypes.specs.views.Tokens.{tok_view}
 use Rattle.ec_language.specs.Letters.{Text, single_quote, is_not_newline, begins_with}
 use Rattle.ec_language.specs.Constants.{unescaped, only_byte}
 use Rattle.ec_language.specs.Tokens.{Step, counted, numbered_line, is_left_out_word, character_tok, string_tok}
-use Rattle.ec_language.specs.ReadPieces.{passed, cut, endless, comment_end, quote_end, behind_all}
+use Rattle.ec_language.specs.ReadPieces.{Behind, passed, cut, endless, comment_end, quote_end, behind_all}
 use Rattle.ec_language.specs.ReadTokens.{ReadItem, read_hash, lexeme, lexeme_item, with_front, mark_end, include_item, include_behind}
 use Rattle.ec_clex.specs.declared.items.Item.{Item}
 
@@ -46,7 +46,12 @@ some_tok (Some tok) = Some (Ok (tok_view tok))
 
 -- an item that stands at an index
 abbrev pub item_view : Text → ℕ → Item → ReadItem
-item_view text at it = record { bytes = take (it.end - at) (drop at text); tok = some_tok it.tok; step = step_view it.number; rest = drop it.end text }
+item_view text at it = record {
+  bytes = take (it.end - at) (drop at text);
+  tok = some_tok it.tok;
+  step = step_view it.number;
+  rest = drop it.end text;
+}
 
 -- an item that is a token
 abbrev pub with_end : ℕ → Result Tok Stop → Result Item Stop
@@ -55,17 +60,26 @@ with_end end (Err stop) = Err stop
 
 -- the token of a text in quotes, by its quote
 abbrev pub quoted_tok : ℕ → Text → Result TokData FaultKind
-quoted_tok quote inside = if quote == single_quote then character_tok (only_byte (unescaped inside)) else string_tok (unescaped inside)
+quoted_tok quote inside =
+    if quote == single_quote then character_tok (only_byte (unescaped inside))
+    else string_tok (unescaped inside)
+
+-- the text behind what is passed
+abbrev pub if_passed : Behind → Option Text
+if_passed behind = elim behind [ passed rest ↦ Some rest | cut rest ↦ None | endless ↦ None ]
 
 -- the text behind the quote in which a text begins
 abbrev pub quote_behind : ℕ → Text → Option Text
-quote_behind quote text = elim (quote_end quote text) [ passed rest ↦ Some rest | cut rest ↦ None | endless ↦ None ]
+quote_behind quote text = if_passed (quote_end quote text)
 
 -- the text behind the comment that a text begins with
 abbrev pub comment_behind : Text → Option Text
 comment_behind text = elim (begins_with (codes "/*") text) [
-  | true ↦ elim (comment_end (drop 2 text)) [ passed rest ↦ Some rest | cut rest ↦ None | endless ↦ None ]
-  | false ↦ elim (begins_with (codes "//") text) [ true ↦ Some (behind_all is_not_newline (drop 2 text)) | false ↦ None ]
+  | true ↦ if_passed (comment_end (drop 2 text))
+  | false ↦ elim (begins_with (codes "//") text) [
+    | true ↦ Some (behind_all is_not_newline (drop 2 text))
+    | false ↦ None
+  ]
 ]
 
 -- what a line with `#` is, of which nothing but blanks may stand before
@@ -93,7 +107,8 @@ abbrev pub lexeme_at : Text → ℕ → Option ReadItem
 lexeme_at text at = option_map lexeme_item (lexeme (drop at text))
 
 abbrev pub mark_item_at : Text → ℕ → Option ReadItem
-mark_item_at text at = option_map lexeme_item (option_map (with_front (drop at text)) (mark_end 3 (drop at text)))
+mark_item_at text at =
+    option_map lexeme_item (option_map (with_front (drop at text)) (mark_end 3 (drop at text)))
 
 abbrev pub include_at : Text → ℕ → Option ReadItem
 include_at text at = option_map (include_item (drop at text)) (include_behind (drop at text))

@@ -22,17 +22,24 @@ abbrev pub assigning : Text → Punct → Punct → Option Mark
 assigning rest alone assigns = if begins_byte 61 rest then of assigns 2 else of alone 1
 
 abbrev pub doubling : Text → ℕ → Punct → Punct → Punct → Option Mark
-doubling rest byte alone twice assigns = if begins_byte byte rest then of twice 2 else assigning rest alone assigns
+doubling rest byte alone twice assigns =
+    if begins_byte byte rest then of twice 2 else assigning rest alone assigns
 
 abbrev pub shifting : Text → ℕ → Punct → Punct → Punct → Punct → Option Mark
 shifting rest byte alone equal shift assigns =
-    if begins_byte byte rest then (if begins_byte 61 (drop 1 rest) then of assigns 3 else of shift 2) else assigning rest alone equal
+    if begins_byte byte rest
+    then (if begins_byte 61 (drop 1 rest) then of assigns 3 else of shift 2)
+    else assigning rest alone equal
 
 abbrev pub minus : Text → Option Mark
-minus rest = if begins_byte 62 rest then of p.Arrow 2 else doubling rest 45 p.Minus p.MinusMinus p.MinusAssign
+minus rest =
+    if begins_byte 62 rest then of p.Arrow 2
+    else doubling rest 45 p.Minus p.MinusMinus p.MinusAssign
 
 abbrev pub point : Text → Option Mark
-point rest = if begins_byte 46 rest then (if begins_byte 46 (drop 1 rest) then left 3 else of p.Dot 1) else of p.Dot 1
+point rest =
+    if begins_byte 46 rest then (if begins_byte 46 (drop 1 rest) then left 3 else of p.Dot 1)
+    else of p.Dot 1
 
 -- marks that nothing makes longer
 abbrev pub lonely : ℕ → Option Mark

@@ -26,7 +26,11 @@ sql_views ts = map sql_view ts
 -- what a unit is that begins a text, and is no gap and no escaped quote
 abbrev pub first_class : Text → sql.SqlClass
 first_class [] = sql.mark
-first_class (b ∷ bs) = if is_sql_word_start b then sql.word else if begins_number (b ∷ bs) then sql.number else if is_quote b then sql.quoted else sql.mark
+first_class (b ∷ bs) =
+    if is_sql_word_start b then sql.word
+    else if begins_number (b ∷ bs) then sql.number
+    else if is_quote b then sql.quoted
+    else sql.mark
 
 -- whether a mark of two bytes begins a text
 abbrev pub begins_pair : Text → Bool
@@ -38,4 +42,5 @@ all_tokens l text = sql_views l.tokens ++ sql.sql_tokens_from l.gap l.line (sql_
 
 -- the token of these bytes that comes next
 abbrev pub next_token : SqlLexer → SqlClass → Text → sql.SqlToken
-next_token l class bytes = record { class = class_view class; bytes = bytes; gap = l.gap; line = l.line }
+next_token l class bytes =
+    record { class = class_view class; bytes = bytes; gap = l.gap; line = l.line }

@@ -11,5 +11,7 @@ mod sql;
 mod statements;
 mod words;
 
+pub use escapes::character;
 pub use lexer::tokens;
+pub use numbers::digits_value;
 pub use sql::{SqlClass, SqlToken, sql_tokens};

@@ -14,8 +14,9 @@ use Rattle.ec_grammar.specs.declared.failure.Failure.{Failure}
 use Rattle.ec_grammar.specs.declared.kind.Kind.{Kind}
 use Rattle.ec_grammar.specs.declared.kind.Kind.TheVariants as k
 use Rattle.ec_grammar.specs.Input.{State, state, Outcome, Parser, and_then, ◌>>=◌, pure, own, expect, kind_at}
+use Rattle.ec_grammar.specs.Lists.{separated, separated_from}
 use Rattle.ec_grammar.specs.Starts.{is_comma, is_left_parenthesis}
-use Rattle.ec_grammar.specs.ReadDeclarations.{specifiers, stars, lengths, initializer_option, declarator_part, more_declarators, more_declarators_from}
+use Rattle.ec_grammar.specs.ReadDeclarations.{specifiers, stars, lengths, initializer_option, declarator_part, more_declarators}
 use Rattle.ec_grammar.specs.ReadStatements.{body, body_of, behind_name, behind_name_by, external, external_tail, external_tail_by}
 use Rattle.ec_csyntax.specs.Tops.{top_inner, top_deeper, is_semicolon, object_declarators, named, named_function, named_object, tail, nameless, with_name}
 
@@ -29,19 +30,19 @@ then_made (Err e) f g h each = refl
 
 -- with a declarator in front
 more_front : (d : DeclaratorData) (m : ℕ) (found : List DeclaratorData) (i : State)
-    → more_declarators_from limits top_inner m (d ∷ found) i ≡ made (λ xs. d ∷ xs) (more_declarators_from limits top_inner m found i)
-unfolding more_declarators_from
+    → separated_from (own (declarator_part limits top_inner)) m (d ∷ found) i ≡ made (λ xs. d ∷ xs) (separated_from (own (declarator_part limits top_inner)) m found i)
+unfolding separated_from
 more_front d zero found i = refl
 more_front d (suc m) found i =
     elim (is_comma (kind_at i.tokens)) as (λ t.
-    (if t then (expect (k.Mark p.Comma) >>= (λ _. own (declarator_part limits top_inner) >>= (λ x. more_declarators_from limits top_inner m ((d ∷ found) ++ x ∷ [])))) else pure (d ∷ found)) i
-    ≡ made (λ xs. d ∷ xs) ((if t then (expect (k.Mark p.Comma) >>= (λ _. own (declarator_part limits top_inner) >>= (λ x. more_declarators_from limits top_inner m (found ++ x ∷ [])))) else pure found) i)) [
+    (if t then (expect (k.Mark p.Comma) >>= (λ _. own (declarator_part limits top_inner) >>= (λ x. separated_from (own (declarator_part limits top_inner)) m ((d ∷ found) ++ x ∷ [])))) else pure (d ∷ found)) i
+    ≡ made (λ xs. d ∷ xs) ((if t then (expect (k.Mark p.Comma) >>= (λ _. own (declarator_part limits top_inner) >>= (λ x. separated_from (own (declarator_part limits top_inner)) m (found ++ x ∷ [])))) else pure found) i)) [
       | true ↦ then_made (expect (k.Mark p.Comma) i) _ _ _ (λ t j. then_made (own (declarator_part limits top_inner) j) _ _ _ (λ x l. more_front d m (found ++ x ∷ []) l))
       | false ↦ refl
     ]
 
 pub declarators_front : (d : DeclaratorData) (i : State) → more_declarators limits top_inner (d ∷ []) i ≡ made (λ xs. d ∷ xs) (more_declarators limits top_inner [] i)
-unfolding more_declarators
+unfolding separated
 declarators_front d i = more_front d (length i.tokens) [] i
 
 -- what is read with stars and lengths of its own

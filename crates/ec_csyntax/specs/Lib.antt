@@ -1,6 +1,7 @@
 pub mod Answers
 pub mod Arms
 pub mod Forms
+pub mod Levels
 pub mod Nests
 pub mod Texts
 pub mod Tops

@@ -4,39 +4,34 @@ use Rattle.std.specs.declared.alloc.Global.{Global}
 use denote.Ref.{MutBor}
 use Rattle.ec_ctypes.specs.declared.tree.stmt.Stmt.{Stmt}
 use Rattle.ec_ctypes.specs.views.Stmts.{stmt_view}
-use Rattle.ec_language.specs.Grammar.{Limits}
 use Rattle.ec_language.specs.Syntax.{limits}
 use Rattle.ec_grammar.specs.declared.failure.Failure.{Failure}
 use Rattle.ec_grammar.specs.Input.{Reads}
-use Rattle.ec_grammar.specs.Nested.{Nested, NestedStatements}
-use Rattle.ec_grammar.specs.ReadDeclarations.{nested}
 use Rattle.ec_grammar.specs.ReadStatements.{nested_statements}
+use Rattle.ec_declarations.specs.Nests.{Needs, Ensures}
 use Rattle.ec_declarations.specs.States.{Left, seen}
 use Rattle.ec_csyntax.specs.declared.statements.Statements.{Statements}
 use Rattle.ec_csyntax.specs.Views.{each_stmt}
 
-pub record NestsStatements (levels : ℕ) (pre : Global → MutBor Left → ℕ → Type 0)
-    (post : Global → MutBor Left → ℕ → Result Stmt Failure → MutBor Left → Type 0) : Type 0 where
+pub record NestsStatements (levels : ℕ) (pre : Needs) (post : Ensures Stmt) : Type 0 where
   pub callable : (alloc : Global) (old : MutBor Left) → pre alloc old levels
-  pub reads : (alloc : Global) (old new : MutBor Left) (r : Result Stmt Failure) → post alloc old levels r new
-      → Reads stmt_view ((nested_statements limits levels).statement (seen old.now)) r (seen new.now)
+  pub reads : (alloc : Global) (old new : MutBor Left) (r : Result Stmt Failure)
+      → post alloc old levels r new
+      → Reads stmt_view ((nested_statements limits levels).statement (seen old.now))
+      r (seen new.now)
 
-pub record NestsBlocks (levels : ℕ) (pre : Global → MutBor Left → ℕ → Type 0)
-    (post : Global → MutBor Left → ℕ → Result (List Stmt) Failure → MutBor Left → Type 0) : Type 0 where
+pub record NestsBlocks (levels : ℕ) (pre : Needs) (post : Ensures (List Stmt)) : Type 0 where
   pub callable : (alloc : Global) (old : MutBor Left) → pre alloc old levels
-  pub reads : (alloc : Global) (old new : MutBor Left) (r : Result (List Stmt) Failure) → post alloc old levels r new
+  pub reads : (alloc : Global) (old new : MutBor Left) (r : Result (List Stmt) Failure)
+      → post alloc old levels r new
       → Reads each_stmt ((nested_statements limits levels).block (seen old.now)) r (seen new.now)
 
 -- ---- the same, of the function values that the readers of a level hold
 
-abbrev pub StatementsNest : {S B : Type 0} → (S → Global → MutBor Left → ℕ → Type 0)
-    → (S → Global → MutBor Left → ℕ → Result Stmt Failure → MutBor Left → Type 0) → Statements S B → Type 0
+abbrev pub StatementsNest : {S B : Type 0}
+    → (S → Needs) → (S → Ensures Stmt) → Statements S B → Type 0
 StatementsNest pre post s = NestsStatements s.levels (pre s.statement) (post s.statement)
 
-abbrev pub BlocksNest : {S B : Type 0} → (B → Global → MutBor Left → ℕ → Type 0)
-    → (B → Global → MutBor Left → ℕ → Result (List Stmt) Failure → MutBor Left → Type 0) → Statements S B → Type 0
+abbrev pub BlocksNest : {S B : Type 0}
+    → (B → Needs) → (B → Ensures (List Stmt)) → Statements S B → Type 0
 BlocksNest pre post s = NestsBlocks s.levels (pre s.block) (post s.block)
-
--- a function of the plain reading of statements, where so many levels are left
-abbrev pub within_statements : {X : Type 0} → ℕ → (Limits → Nested → NestedStatements → X) → X
-within_statements levels f = f limits (nested limits levels) (nested_statements limits levels)

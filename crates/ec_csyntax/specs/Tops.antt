@@ -48,7 +48,9 @@ named_function x b n name' = do
 
 -- and as either
 unfoldable pub named : Start → BaseData → ℕ → Text → Parser TopData
-named x b n name' = behind_name limits top_inner top_deeper >>= (λ behind. pure (external_named x b n name' behind))
+named x b n name' =
+    behind_name limits top_inner top_deeper
+    >>= (λ behind. pure (external_named x b n name' behind))
 
 -- what stands behind a base, where it has no name, where it has one, and as either
 unfoldable pub nameless : Start → BaseData → Parser TopData

@@ -6,7 +6,8 @@ ghost use Rattle.ec_declarations.specs.Parts.{start_view};
 ghost use Rattle.ec_declarations.specs.States.{Reading};
 ghost use Rattle.ec_csyntax.specs.Arms.{block_item_of};
 ghost use Rattle.ec_csyntax.specs.declared.forms.ItemForm.TheVariants as forms;
-ghost use Rattle.ec_csyntax.specs.Nests.{StatementsNest, BlocksNest, within_statements};
+ghost use Rattle.ec_csyntax.specs.Levels.{within_statements};
+ghost use Rattle.ec_csyntax.specs.Nests.{StatementsNest, BlocksNest};
 ghost use Rattle.ec_csyntax.specs.Views.{each_stmt};
 
 use crate::forms::{ItemForm, item_form};

@@ -9,7 +9,7 @@ ghost use Rattle.ec_grammar.specs.ReadStatements as spec;
 ghost use Rattle.ec_language.specs.Productions as places;
 ghost use Rattle.ec_csyntax.specs.Views.{each_stmt, stmt_option};
 
-use ec_base::{Boxed, Line, List, OutOfMemory};
+use ec_base::{Boxed, Line, List, OutOfMemory, beside};
 use ec_ctypes::{Decl, Expr, ForParts, Stmt, StmtKind};
 use ec_declarations::{ForHead, ForStart, Start, list_of};
 use std::alloc::Global;
@@ -113,6 +113,24 @@ fn block_with(start: Start, mut items: List<Stmt>, last: Stmt) -> Result<Stmt, O
     Ok(block_of(start, items))
 }
 
+/// A block of a declaration and a statement.
+fn block_of_two(
+    alloc: Global,
+    start: Start,
+    declaration: Decl,
+    last: Stmt,
+) -> Result<Stmt, OutOfMemory>
+    ensures { IfOk result (λ s. stmt_view s
+        ≡ places.at (start_view start)
+        (trees.block_stmt
+        (trees.stmts (trees.stmt (places.line_of (decl_view declaration))
+        (trees.decl_stmt (decl_view declaration)))
+        (trees.stmts (stmt_view last) trees.no_stmts)))) }
+{
+    let (last, items) = beside(last, declared(alloc, declaration))?;
+    block_with(start, items, last)
+}
+
 /// `for`. With a declaration it is a block that holds the declaration and the loop (ISO/IEC 9899:1999, 6.8.5.3).
 pub fn for_loop(
     alloc: Global,
@@ -131,9 +149,11 @@ pub fn for_loop(
     match first {
         ForStart::Expression(first) => loop_of(alloc, start, first, condition, step, inner),
         ForStart::Declaration(declaration) => {
-            let items = declared(alloc, declaration)?;
-            let repeated = loop_of(alloc, start, None, condition, step, inner)?;
-            block_with(start, items, repeated)
+            let (declaration, repeated) = beside(
+                declaration,
+                loop_of(alloc, start, None, condition, step, inner),
+            )?;
+            block_of_two(alloc, start, declaration, repeated)
         }
     }
 }

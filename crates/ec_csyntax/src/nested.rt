@@ -13,6 +13,18 @@ use ec_declarations::{Cursor, begins_statement};
 use ec_grammar::{Failure, Kind};
 use std::alloc::Global;
 
+/// The readers of statements where so many levels are left.
+macro_rules! statements_at {
+    ($alloc:expr, $levels:expr) => {
+        Statements {
+            alloc: $alloc,
+            levels: $levels,
+            statement: nested_statement,
+            block: nested_block,
+        }
+    };
+}
+
 /// A statement, one level deeper (ISO/IEC 9899:1999, 6.8).
 #[cycle(nested)]
 pub fn nested_statement(
@@ -26,13 +38,7 @@ pub fn nested_statement(
     if levels == 0 {
         return Err(cursor.no_level(begins_statement(cursor.peek())));
     }
-    Statements {
-        alloc,
-        levels: levels - 1,
-        statement: nested_statement,
-        block: nested_block,
-    }
-    .statement(cursor)
+    statements_at!(alloc, levels - 1).statement(cursor)
 }
 
 /// A block, one level deeper (ISO/IEC 9899:1999, 6.8.2).
@@ -48,11 +54,5 @@ pub fn nested_block(
     if levels == 0 {
         return Err(cursor.no_level(cursor.sees(Kind::Mark(Punct::LeftBrace))));
     }
-    Statements {
-        alloc,
-        levels: levels - 1,
-        statement: nested_statement,
-        block: nested_block,
-    }
-    .block(cursor)
+    statements_at!(alloc, levels - 1).block(cursor)
 }

@@ -11,7 +11,8 @@ ghost use Rattle.ec_declarations.specs.Parts.{start_view};
 ghost use Rattle.ec_declarations.specs.States.{Reading};
 ghost use Rattle.ec_csyntax.specs.Arms.{statement_of, branches};
 ghost use Rattle.ec_csyntax.specs.declared.forms.Form.TheVariants as forms;
-ghost use Rattle.ec_csyntax.specs.Nests.{StatementsNest, BlocksNest, within_statements};
+ghost use Rattle.ec_csyntax.specs.Levels.{within_statements};
+ghost use Rattle.ec_csyntax.specs.Nests.{StatementsNest, BlocksNest};
 ghost use Rattle.ec_csyntax.specs.Views.{each_stmt, stmt_option};
 
 use crate::forms::{Form, statement_form};
@@ -73,10 +74,9 @@ impl<
         ensures { Reading stmt_option (within_statements self.now.levels spec.else_option)
             cursor.old result cursor.new }
     {
-        if !cursor.sees(Kind::Else) {
+        if !cursor.eat(Kind::Else) {
             return Ok(None);
         }
-        cursor.expect(Kind::Else)?;
         let inner = self.boxed_statement(cursor)?;
         Ok(Some(inner))
     }

@@ -5,6 +5,7 @@ pub mod NoVoid
 pub mod RankOperators
 pub mod RankSteps
 pub mod SeenTokens
+pub mod Separated
 pub mod Sees
 pub mod StarCounts
 pub mod Turns

@@ -71,12 +71,18 @@ for_start_view (first.Expression e) = for_expression (expr_option_view e)
 for_start_view (first.Declaration d) = for_declaration (decl_view d)
 
 abbrev pub for_head_view : ForHead → ForHeadData
-for_head_view h = record { first = for_start_view h.first; condition = expr_option_view h.condition; step = expr_option_view h.step }
+for_head_view h = record {
+  first = for_start_view h.first;
+  condition = expr_option_view h.condition;
+  step = expr_option_view h.step;
+}
 
 -- ---- one declarator, and further ones
 
 abbrev pub some_declarators : Limits → Nested → Parser (List DeclaratorData)
-some_declarators most inner = do x ← own (declarator_part most inner); more_declarators most inner (x ∷ [])
+some_declarators most inner = do
+  x ← own (declarator_part most inner)
+  more_declarators most inner (x ∷ [])
 
 -- ---- the head of a `for`, behind its first part
 abbrev pub for_step : Limits → Nested → ForStartData → Option ExprData → Parser ForHeadData

@@ -1,10 +1,11 @@
 //! The tokens that are left, with what is counted so far.
 
-ghost use Rattle.std.specs.Prelude.{◌≡◌, Bool, length, Some, None};
+ghost use Rattle.std.specs.Prelude.{◌≡◌, Bool, false, length, Some, None};
 ghost use Rattle.ec_ctypes.specs.views.Tokens.{tok_view, token_view, tokens_view};
 ghost use Rattle.ec_declarations.specs.Parts.{start_view};
 ghost use Rattle.ec_declarations.specs.Sees.{sees};
-ghost use Rattle.ec_declarations.specs.States.{counts_view, counted_by, seen, IsNextKind, IsSecondKind};
+ghost use Rattle.ec_declarations.specs.States.{counts_view, counted_by, seen, inside_expression, behind_expression, inside_declarator, behind_declarator, Eats, IsNextKind, IsSecondKind};
+ghost use Rattle.ec_grammar.specs.declared.kind.Kind.TheVariants as kinds;
 ghost use Rattle.ec_grammar.specs.Input as spec;
 ghost use Rattle.ec_grammar.specs.Input.{Reads, Passes, kind_at, kind_next, state};
 ghost use Rattle.ec_language.specs.Grammar as g;
@@ -192,6 +193,27 @@ impl<'a> Cursor<'a> {
         }
     }
 
+    /// Passes the next token if it is of this kind, and says whether it is. (The end is no token that is passed so.)
+    #[tactic(auto, using(crate::proofs::Sees::same_is_sees), unfolding(crate::specs::States::seen, ec_grammar::specs::Input::expect))]
+    pub fn eat(&mut self, kind: Kind) -> bool
+        requires { sees kind kinds.End ≡ false }
+        ensures { Eats kind (seen self.old) result (seen self.new) }
+    {
+        match self.rest {
+            [first, rest @ ..] => {
+                if !same_kind(self.kind, kind) {
+                    return false;
+                }
+                self.section = section_behind_token(self.section, &first.tok);
+                self.kind = self.kind_behind;
+                self.kind_behind = second_kind(rest);
+                self.rest = rest;
+                true
+            }
+            [] => false,
+        }
+    }
+
     /// A token of this kind, which is counted.
     #[tactic(auto, using(crate::proofs::SeenTokens::placed_length), unfolding(crate::specs::States::seen, ec_grammar::specs::Input::expect, ec_grammar::specs::Input::expect_counted))]
     pub fn expect_counted(&mut self, counted: Counted, kind: Kind) -> Result<(), Failure>
@@ -213,8 +235,7 @@ impl<'a> Cursor<'a> {
     #[tactic(auto, unfolding(crate::specs::States::seen))]
     pub fn begin_expression(&mut self) -> Counts
         ensures outside { counts_view result ≡ (seen self.old).counts }
-        ensures inside { seen self.new
-            ≡ state (seen self.old).tokens (g.in_expression (seen self.old).counts) }
+        ensures inside { seen self.new ≡ inside_expression (seen self.old) }
     {
         let outside = self.counts;
         if self.counts.operations.is_none() {
@@ -226,8 +247,7 @@ impl<'a> Cursor<'a> {
     /// Leaves an expression, by what was counted outside of it.
     #[tactic(auto, unfolding(crate::specs::States::seen))]
     pub fn end_expression(&mut self, outside: Counts)
-        ensures { seen self.new
-            ≡ state (seen self.old).tokens (g.behind_expression (counts_view outside) (seen self.old).counts) }
+        ensures { seen self.new ≡ behind_expression outside (seen self.old) }
     {
         if outside.operations.is_none() {
             self.counts.operations = None;
@@ -239,8 +259,7 @@ impl<'a> Cursor<'a> {
     #[tactic(auto, unfolding(crate::specs::States::seen))]
     pub fn begin_declarator(&mut self) -> Counts
         ensures outside { counts_view result ≡ (seen self.old).counts }
-        ensures inside { seen self.new
-            ≡ state (seen self.old).tokens (g.in_declarator (seen self.old).counts) }
+        ensures inside { seen self.new ≡ inside_declarator (seen self.old) }
     {
         let outside = self.counts;
         self.counts.derivations = 0;
@@ -250,8 +269,7 @@ impl<'a> Cursor<'a> {
     /// Leaves it, by what was counted outside of it.
     #[tactic(auto, unfolding(crate::specs::States::seen))]
     pub fn end_declarator(&mut self, outside: Counts)
-        ensures { seen self.new
-            ≡ state (seen self.old).tokens (g.behind_declarator (counts_view outside) (seen self.old).counts) }
+        ensures { seen self.new ≡ behind_declarator outside (seen self.old) }
     {
         self.counts.derivations = outside.derivations;
     }

@@ -14,7 +14,7 @@ ghost use Rattle.ec_declarations.specs.States.{Reading, within};
 
 use crate::cursor::{Cursor, Start};
 use crate::declarators::Declarators;
-use crate::lists::list_of;
+use crate::lists::{list_of, separated};
 use crate::parts::{ForHead, ForStart, Subexpression};
 use crate::starts::begins_type;
 use crate::texts::copy_name;
@@ -32,7 +32,8 @@ pub struct Declarations<E, T, I, M> {
 
 fn declared(start: Start, base: Base, items: List<Declarator>) -> Decl
     ensures { decl_view result
-        ≡ language.declared (start_view start) (base_view base) (declarators_of (each_declarator items)) }
+        ≡ language.declared (start_view start) (base_view base)
+        (declarators_of (each_declarator items)) }
 {
     Decl {
         base,
@@ -154,7 +155,7 @@ impl<
     fn more_parameters(
         &self,
         cursor: &mut Cursor<'_>,
-        mut found: List<Param>,
+        found: List<Param>,
     ) -> Result<List<Param>, Failure>
         requires subexpressions { SubexpressionsNest E.pre E.post self.now.declarators.expressions }
         requires members { MembersNest M.pre M.post self.now }
@@ -162,15 +163,11 @@ impl<
             (within self.now.declarators.expressions.levels spec.more_parameters (each_param found))
             cursor.old result cursor.new }
     {
-        for _turn in 0..cursor.left() {
-            if !cursor.sees(Kind::Mark(Punct::Comma)) {
-                return Ok(found);
-            }
-            cursor.expect(Kind::Mark(Punct::Comma))?;
-            let parameter = self.own_parameter(cursor)?;
-            found.push(parameter)?;
-        }
-        Ok(found)
+        separated(
+            cursor,
+            found,
+            |cursor: &mut Cursor<'_>| self.own_parameter(cursor),
+        )
     }
 
     #[tactic(auto, unfolding(ec_grammar::specs::ReadDeclarations::parameters))]

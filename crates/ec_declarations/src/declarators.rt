@@ -17,7 +17,7 @@ ghost use Rattle.ec_declarations.specs.States.{Reading, within};
 use crate::counts::Counted;
 use crate::cursor::Cursor;
 use crate::expressions::Expressions;
-use crate::lists::list_of;
+use crate::lists::{list_of, separated};
 use crate::parts::Subexpression;
 use crate::starts::{begins_declarator, begins_expression, begins_initializer};
 use crate::texts::copy_name;
@@ -226,10 +226,9 @@ impl<
         ensures { Reading init_option (within self.now.expressions.levels spec.initializer_option)
             cursor.old result cursor.new }
     {
-        if !cursor.sees(Kind::Mark(Punct::Assign)) {
+        if !cursor.eat(Kind::Mark(Punct::Assign)) {
             return Ok(None);
         }
-        cursor.expect(Kind::Mark(Punct::Assign))?;
         let initializer = self.initializer(cursor)?;
         Ok(Some(initializer))
     }
@@ -270,7 +269,7 @@ impl<
     pub fn more_declarators(
         &self,
         cursor: &mut Cursor<'_>,
-        mut found: List<Declarator>,
+        found: List<Declarator>,
     ) -> Result<List<Declarator>, Failure>
         requires subexpressions { SubexpressionsNest E.pre E.post self.now.expressions }
         requires types { TypesNest T.pre T.post self.now.expressions }
@@ -279,15 +278,11 @@ impl<
             (within self.now.expressions.levels spec.more_declarators (each_declarator found))
             cursor.old result cursor.new }
     {
-        for _turn in 0..cursor.left() {
-            if !cursor.sees(Kind::Mark(Punct::Comma)) {
-                return Ok(found);
-            }
-            cursor.expect(Kind::Mark(Punct::Comma))?;
-            let declarator = self.own_declarator(cursor)?;
-            found.push(declarator)?;
-        }
-        Ok(found)
+        separated(
+            cursor,
+            found,
+            |cursor: &mut Cursor<'_>| self.own_declarator(cursor),
+        )
     }
 
     /// A declarator and further ones, behind a comma each.

@@ -27,7 +27,8 @@ pub fn nested_subexpression(
     levels: u32,
     subexpression: Subexpression,
 ) -> Result<Expr, Failure>
-    ensures { Reading expr_view (subexpression_of subexpression (nested limits levels)) cursor.old result cursor.new }
+    ensures { Reading expr_view (subexpression_of subexpression (nested limits levels))
+        cursor.old result cursor.new }
 {
     if levels == 0 {
         return Err(cursor.no_level(begins_subexpression(subexpression, cursor)));

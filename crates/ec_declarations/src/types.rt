@@ -34,10 +34,9 @@ fn constants(cursor: &mut Cursor<'_>) -> Result<(), Failure>
     ensures { Reading (λ u. u) spec.constants cursor.old result cursor.new }
 {
     for _turn in 0..cursor.left() {
-        if !cursor.sees(Kind::Const) {
+        if !cursor.eat(Kind::Const) {
             return Ok(());
         }
-        cursor.expect(Kind::Const)?;
     }
     Ok(())
 }

@@ -1,2 +1,2 @@
 mod Deterministic
-mod Sound
+pub mod Sound

@@ -12,6 +12,7 @@ use Rattle.ec_language.specs.Grammar.{PlacedTokens, Limits, Counts, in_expressio
 use Rattle.ec_grammar.specs.declared.kind.Kind.{Kind}
 use Rattle.ec_grammar.specs.declared.kind.Kind.TheVariants as k
 use Rattle.ec_grammar.specs.Input.{State, state, ◌>>=◌, pure, and_then, kind_at, kind_next, expect}
+use Rattle.ec_grammar.specs.Lists.{separated, separated_from}
 use Rattle.ec_grammar.specs.Nested.{Nested}
 use Rattle.ec_grammar.specs.Starts.{begins_expression, is_comma}
 use Rattle.ec_grammar.specs.ReadExpressions as read
@@ -87,8 +88,8 @@ module _ (most : Limits) (levels : ℕ) (inner : Nested) (f : ReadsInner most le
         (λ e mid _. then_row (side refl (λ _. refl)) _ (expect_reads (k.Mark p.RightBracket) mid) (λ t mid _. end_row refl))),
   )
 
-  more_read : (m : ℕ) (found : List ExprData) (w : PlacedTokens) (c : Counts) → length w ≤ m → Reads most levels c (ofs g.more_arguments) (List ExprData) (λ v. found ++ exprs_in v) w (read.more_arguments_from most inner m found (state w c))
-  unfolding read.more_arguments_from
+  more_read : (m : ℕ) (found : List ExprData) (w : PlacedTokens) (c : Counts) → length w ≤ m → Reads most levels c (ofs g.more_arguments) (List ExprData) (λ v. found ++ exprs_in v) w (separated_from (read.expression most inner) m found (state w c))
+  unfolding separated_from
   more_read zero found [] c le = choose g.more_arguments 0 (λ v. found ++ exprs_in v) [] _ k.End k.End refl refl refl ((λ x y. refl), end_row (sym (append-nil found)))
   more_read zero found (t ∷ w) c le = absurd (omega arith)
   more_read (suc m) found w c le = when (is_comma (kind_at w)) _ _
@@ -101,7 +102,7 @@ module _ (most : Limits) (levels : ℕ) (inner : Nested) (f : ReadsInner most le
       (λ no. choose_if g.more_arguments 0 (λ v. found ++ exprs_in v) w is_comma false no refl ((λ x y. refl), end_row (sym (append-nil found))))
 
   arguments_read : Reading most levels (ofs g.arguments) exprs_in (read.arguments most inner)
-  unfolding read.arguments read.more_arguments
+  unfolding read.arguments separated
   arguments_read st = when (begins_expression (kind_at st.tokens)) _ _
       (λ yes. choose_if g.arguments 1 exprs_in st.tokens begins_expression true yes refl
       (refl, then_row (side refl (λ _. refl)) _ (expression_reads st) (λ x mid _. last_row (side refl (λ _. refl)) (λ v. refl) (more_read (length mid.tokens) (x ∷ []) mid.tokens mid.counts (omega arith)))))

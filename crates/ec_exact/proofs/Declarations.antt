@@ -13,6 +13,7 @@ use Rattle.ec_grammar.specs.declared.kind.Kind.{Kind}
 use Rattle.ec_grammar.specs.declared.kind.Kind.TheVariants as k
 use Rattle.ec_grammar.specs.Input.{State, state, Parser, ◌>>=◌, ◌>>◌, pure, kind_at, kind_next, expect}
 use Rattle.ec_grammar.specs.Input as taken
+use Rattle.ec_grammar.specs.Lists.{separated, separated_from}
 use Rattle.ec_grammar.specs.Nested.{Nested}
 use Rattle.ec_grammar.specs.Starts.{is_comma, is_name, is_assign, is_left_bracket, begins_type, begins_expression, begins_initializer, begins_declarator}
 use Rattle.ec_grammar.specs.ReadExpressions.{operators}
@@ -139,8 +140,8 @@ module _ (most : Limits) (levels : ℕ) (inner : Nested) (f : ReadsInner most le
   own_declarator_reads : (st : State) → Reads most levels st.counts (own g.declarator_part) DeclaratorData (λ v. v) st.tokens (taken.own (read.declarator_part most inner) st)
   own_declarator_reads st = own_reads (read.declarator_part most inner) st (declarator_reads (state st.tokens (in_declarator st.counts)))
 
-  more_declarators_read : (m : ℕ) (found : List DeclaratorData) (w : PlacedTokens) (c : Counts) → length w ≤ m → Reads most levels c (ofs g.more_declarators) (List DeclaratorData) (λ v. found ++ declarators_in v) w (read.more_declarators_from most inner m found (state w c))
-  unfolding read.more_declarators_from
+  more_declarators_read : (m : ℕ) (found : List DeclaratorData) (w : PlacedTokens) (c : Counts) → length w ≤ m → Reads most levels c (ofs g.more_declarators) (List DeclaratorData) (λ v. found ++ declarators_in v) w (separated_from (taken.own (read.declarator_part most inner)) m found (state w c))
+  unfolding separated_from
   more_declarators_read zero found [] c le = choose g.more_declarators 0 (λ v. found ++ declarators_in v) [] _ k.End k.End refl refl refl ((λ x y. refl), end_row (sym (append-nil found)))
   more_declarators_read zero found (t ∷ w) c le = absurd (omega arith)
   more_declarators_read (suc m) found w c le = when (is_comma (kind_at w)) _ _
@@ -153,7 +154,7 @@ module _ (most : Limits) (levels : ℕ) (inner : Nested) (f : ReadsInner most le
       (λ no. choose_if g.more_declarators 0 (λ v. found ++ declarators_in v) w is_comma false no refl ((λ x y. refl), end_row (sym (append-nil found))))
 
   pub more_declarators_reads : (found : List DeclaratorData) → Reading most levels (ofs g.more_declarators) (λ v. found ++ declarators_in v) (read.more_declarators most inner found)
-  unfolding read.more_declarators
+  unfolding separated
   more_declarators_reads found st = more_declarators_read (length st.tokens) found st.tokens st.counts (omega arith)
 
   declarators_option_reads : Reading most levels (ofs g.declarators_option) declarators_in (read.declarators_option most inner)
@@ -225,8 +226,8 @@ module _ (most : Limits) (levels : ℕ) (inner : Nested) (f : ReadsInner most le
   own_parameter_reads : (st : State) → Reads most levels st.counts (own g.parameter) ParamData (λ v. v) st.tokens (taken.own (read.parameter most inner) st)
   own_parameter_reads st = own_reads (read.parameter most inner) st (parameter_reads (state st.tokens (in_declarator st.counts)))
 
-  more_parameters_read : (m : ℕ) (found : List ParamData) (w : PlacedTokens) (c : Counts) → length w ≤ m → Reads most levels c (ofs g.more_parameters) (List ParamData) (λ v. found ++ v) w (read.more_parameters_from most inner m found (state w c))
-  unfolding read.more_parameters_from
+  more_parameters_read : (m : ℕ) (found : List ParamData) (w : PlacedTokens) (c : Counts) → length w ≤ m → Reads most levels c (ofs g.more_parameters) (List ParamData) (λ v. found ++ v) w (separated_from (taken.own (read.parameter most inner)) m found (state w c))
+  unfolding separated_from
   more_parameters_read zero found [] c le = choose g.more_parameters 0 (λ v. found ++ v) [] _ k.End k.End refl refl refl ((λ x y. refl), end_row (sym (append-nil found)))
   more_parameters_read zero found (t ∷ w) c le = absurd (omega arith)
   more_parameters_read (suc m) found w c le = when (is_comma (kind_at w)) _ _
@@ -239,7 +240,7 @@ module _ (most : Limits) (levels : ℕ) (inner : Nested) (f : ReadsInner most le
       (λ no. choose_if g.more_parameters 0 (λ v. found ++ v) w is_comma false no refl ((λ x y. refl), end_row (sym (append-nil found))))
 
   parameters_reads : Reading most levels (ofs g.parameters) (λ v. v) (read.parameters most inner)
-  unfolding read.parameters read.more_parameters
+  unfolding read.parameters separated
   parameters_reads st = when (begins_type (kind_at st.tokens)) _ _
       (λ yes. choose_if g.parameters 1 (λ v. v) st.tokens begins_type true yes refl
       (refl, then_row (side refl (λ _. refl)) _ (own_parameter_reads st) (λ x mid _. last_row (side refl (λ _. refl)) (λ v. refl) (more_parameters_read (length mid.tokens) (x ∷ []) mid.tokens mid.counts (omega arith)))))

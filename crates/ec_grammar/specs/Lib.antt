@@ -1,5 +1,6 @@
 pub mod Input
 pub mod Kinds
+pub mod Lists
 pub mod Nested
 pub mod ReadDeclarations
 pub mod ReadExpressions

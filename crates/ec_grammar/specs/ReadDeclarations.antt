@@ -10,6 +10,7 @@ use Rattle.ec_language.specs.Grammar.{Limits}
 use Rattle.ec_grammar.specs.declared.kind.Kind.{Kind}
 use Rattle.ec_grammar.specs.declared.kind.Kind.TheVariants as k
 use Rattle.ec_grammar.specs.Input.{Parser, ◌>>=◌, ◌>>◌, pure, refuse, no_level, peek, peek_next, start, expect, expect_counted, whole, own}
+use Rattle.ec_grammar.specs.Lists.{separated}
 use Rattle.ec_grammar.specs.Nested.{Nested}
 use Rattle.ec_grammar.specs.ReadExpressions.{assignment, unary_part, cast_part, size_operand, operators, expression, expression_option, parenthesized, index_part, argument_part}
 use Rattle.ec_grammar.specs.Starts.{is_star, is_comma, is_const, is_name, is_assign, is_left_parenthesis, is_left_bracket, is_left_brace, begins_type, begins_expression, begins_initializer, begins_declarator}
@@ -136,14 +137,9 @@ module _ (most : Limits) (inner : Nested) where
   unfoldable pub declarator_part : Parser DeclaratorData
   declarator_part = do n ← stars most; t ← expect k.Name; ds ← lengths; x ← initializer_option; pure (declarator n (text_of t) (dims_of ds) (init_of x))
 
-  unfoldable pub more_declarators_from : ℕ → List DeclaratorData → Parser (List DeclaratorData)
-  more_declarators_from zero found = pure found
-  more_declarators_from (suc m) found = do
-    j ← peek
-    if is_comma j then (do expect (k.Mark p.Comma); x ← own declarator_part; more_declarators_from m (found ++ x ∷ [])) else pure found
-
-  unfoldable pub more_declarators : List DeclaratorData → Parser (List DeclaratorData)
-  more_declarators found = λ i. more_declarators_from (length i.tokens) found i
+  -- further ones, each behind a comma
+  abbrev pub more_declarators : List DeclaratorData → Parser (List DeclaratorData)
+  more_declarators = separated (own declarator_part)
 
   unfoldable pub declarators_option : Parser (List DeclaratorData)
   declarators_option = do
@@ -187,14 +183,8 @@ module _ (most : Limits) (inner : Nested) where
     ds ← lengths
     pure (record { base = b; stars = n; name = name; dims = dims_of ds; section = at.section })
 
-  unfoldable pub more_parameters_from : ℕ → List ParamData → Parser (List ParamData)
-  more_parameters_from zero found = pure found
-  more_parameters_from (suc m) found = do
-    j ← peek
-    if is_comma j then (do expect (k.Mark p.Comma); x ← own parameter; more_parameters_from m (found ++ x ∷ [])) else pure found
-
-  unfoldable pub more_parameters : List ParamData → Parser (List ParamData)
-  more_parameters found = λ i. more_parameters_from (length i.tokens) found i
+  abbrev pub more_parameters : List ParamData → Parser (List ParamData)
+  more_parameters = separated (own parameter)
 
   unfoldable pub parameters : Parser (List ParamData)
   parameters = do

@@ -12,6 +12,7 @@ use Rattle.ec_language.specs.Grammar.{Limits}
 use Rattle.ec_grammar.specs.declared.kind.Kind.{Kind}
 use Rattle.ec_grammar.specs.declared.kind.Kind.TheVariants as k
 use Rattle.ec_grammar.specs.Input.{Parser, ◌>>=◌, ◌>>◌, pure, refuse, peek, peek_next, expect, expect_counted, whole}
+use Rattle.ec_grammar.specs.Lists.{separated}
 use Rattle.ec_grammar.specs.Nested.{Nested}
 use Rattle.ec_grammar.specs.Starts.{is_comma, begins_type, begins_postfix_part, begins_expression}
 
@@ -234,14 +235,8 @@ module _ (most : Limits) (inner : Nested) where
   unfoldable pub index_part : Parser ExprData
   index_part = do expect_counted most operations (k.Mark p.LeftBracket); e ← expression; expect (k.Mark p.RightBracket); pure e
 
-  unfoldable pub more_arguments_from : ℕ → List ExprData → Parser (List ExprData)
-  more_arguments_from zero found = pure found
-  more_arguments_from (suc m) found = do
-    j ← peek
-    if is_comma j then (do expect (k.Mark p.Comma); e ← expression; more_arguments_from m (found ++ e ∷ [])) else pure found
-
-  unfoldable pub more_arguments : List ExprData → Parser (List ExprData)
-  more_arguments found = λ i. more_arguments_from (length i.tokens) found i
+  abbrev pub more_arguments : List ExprData → Parser (List ExprData)
+  more_arguments = separated expression
 
   unfoldable pub arguments : Parser (List ExprData)
   arguments = do

@@ -1,5 +1,6 @@
 pub mod Numbers
 pub mod Pieces
+pub mod Joined
 pub mod Line
 pub mod Objects
 pub mod Reading

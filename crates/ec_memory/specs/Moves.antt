@@ -1,5 +1,5 @@
 -- A pointer that moves within an object of so many bytes.
-use Rattle.std.specs.Prelude.{ℕ, Bool, ℤ, pos, ◌+ℤ◌, ◌*ℤ◌, int_le, ◌&&◌, unsigned_abs, Result, Ok, Err, if◌then◌else◌}
+use Rattle.std.specs.Prelude.{◌≡◌, ◌≤◌, ℕ, Bool, false, ℤ, pos, ◌+ℤ◌, ◌*ℤ◌, int_le, ◌&&◌, unsigned_abs, Result, Ok, Err, if◌then◌else◌}
 use Rattle.ec_base.specs.declared.stop.Trap.{Trap}
 use Rattle.ec_base.specs.declared.stop.Trap.TheVariants.{Outside}
 use Rattle.ec_objects.specs.Memory.{pointer_to, object_of, offset_of}
@@ -7,6 +7,13 @@ use Rattle.ec_objects.specs.Memory.{pointer_to, object_of, offset_of}
 -- an offset lies in the object or one past its end
 abbrev pub is_within : ℕ → ℤ → Bool
 is_within len offset = int_le (pos 0) offset && int_le offset (pos len)
+
+abbrev pub LiesOutside : ℕ → ℤ → Type 0
+LiesOutside len offset = is_within len offset ≡ false
+
+-- the same as a number
+abbrev pub IsOffset : ℕ → ℤ → ℕ → Type 0
+IsOffset len offset it = (offset ≡ pos it) × (it ≤ len)
 
 -- the offset `by` elements of this size behind that of a pointer
 abbrev pub offset_behind : ℕ → ℤ → ℕ → ℤ

@@ -66,6 +66,10 @@ pub record Placed (places : List Place) (p n at : ℕ) : Type 0 where
   pub begins : at ≡ place.start + offset_of p
   pub inside : offset_of p + n ≤ place.size
 
+-- with these places an access traps so, whatever the cells
+abbrev pub Traps : {A : Type 0} → List Place → (Memory → Result A Trap) → Trap → Type 0
+Traps places access t = (made : ℕ) (cells : List Cell) → Kept made cells places → access (memory_of made cells places) ≡ Err t
+
 -- the objects behind a mark begin at this index
 pub record Behind (places : List Place) (mark k : ℕ) : Type 0 where
   pub bound : k ≤ length places

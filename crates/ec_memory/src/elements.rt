@@ -39,9 +39,12 @@ impl Store {
     ) -> Result<Elements<'_, T>, Trap>
         requires step { T.SIZE ≤ step }
         requires some { 1 ≤ count }
-        ensures* refused { sem 𝓛 (RestsIfErr the_row self.entry (λ it. (elements_store it).ghost_name) result (λ last. last ≡ self.old)) }
-        ensures trap { result_err result ≡ result_err (cells_at self.old ptr.0 (extent count step T.SIZE)) }
-        ensures same_reference { IfOk result (λ it. (elements_store it).ghost_name ≡ self.entry.ghost_name) }
+        ensures* refused { sem 𝓛 (RestsIfErr the_row self.entry
+            (λ it. (elements_store it).ghost_name) result (λ last. last ≡ self.old)) }
+        ensures trap { result_err result
+            ≡ result_err (cells_at self.old ptr.0 (extent count step T.SIZE)) }
+        ensures same_reference { IfOk result
+            (λ it. (elements_store it).ghost_name ≡ self.entry.ghost_name) }
         ensures memory { IfOk result (λ it. elements_memory it ≡ self.old) }
         ensures count { IfOk result (λ it. elements_count it ≡ count) }
         ensures places { IfOk result (λ it. (i : ℕ) → element_at it i ≡ ptr.0 + i * step) }
@@ -63,7 +66,10 @@ impl<T: Scalar> Elements<'_, T> {
     /// Element `i`, the first being 0, or `None` where one of its bytes is unset. There are more than `i`.
     pub fn get(&self, i: u64) -> Option<T>
         requires { i < elements_count self.now }
-        ensures { MatchOption result (span (elements_memory self.now) (element_at self.now i) T.SIZE ≡ Err trap.Unset) (λ value. seen T.decode (span (elements_memory self.now) (element_at self.now i) T.SIZE) ≡ Ok value) }
+        ensures { MatchOption result
+            (span (elements_memory self.now) (element_at self.now i) T.SIZE ≡ Err trap.Unset)
+            (λ value. seen T.decode (span (elements_memory self.now) (element_at self.now i) T.SIZE)
+            ≡ Ok value) }
     {
         self.store.read(place(self.ptr, i, self.step)).ok()
     }
@@ -72,7 +78,8 @@ impl<T: Scalar> Elements<'_, T> {
     pub fn set(&mut self, i: u64, value: T)
         requires { i < elements_count self.old }
         ensures same { IsSameElements self.old self.new }
-        ensures memory { put (elements_memory self.old) (element_at self.old i) (T.encode value) ≡ Ok (elements_memory self.new) }
+        ensures memory { put (elements_memory self.old) (element_at self.old i) (T.encode value)
+            ≡ Ok (elements_memory self.new) }
     {
         // Each element lies in the object, so no write traps.
         let _ = self.store.write(place(self.ptr, i, self.step), value);

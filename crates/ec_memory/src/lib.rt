@@ -3,6 +3,7 @@
 
 mod elements;
 mod moves;
+mod padded;
 mod place;
 mod pointers;
 mod scalars;
@@ -14,6 +15,3 @@ pub use elements::Elements;
 pub use pointers::{difference, order};
 pub use store::{MakeStop, Store};
 pub use value::Value;
-
-#[cfg(test)]
-mod tests;

@@ -1,10 +1,10 @@
 //! Pointers that move within an object.
 
-ghost use Rattle.std.specs.Prelude.{◌≡◌, ◌≤◌, ℤ, pos, ◌+ℤ◌, ◌*ℤ◌, int_le, ◌&&◌, false, MatchOption, SomeIff, FitsSigned, ◌^◌};
+ghost use Rattle.std.specs.Prelude.{◌≡◌, ◌≤◌, pos, ◌*ℤ◌, MatchOption, SomeIff, FitsSigned, ◌^◌};
 ghost use Rattle.std.specs.Int.{w128};
 ghost use Rattle.ec_objects.specs.Memory.{pointer_to, object_of, offset_of};
 ghost use Rattle.ec_memory.specs.Store.{seen};
-ghost use Rattle.ec_memory.specs.Moves.{is_within, moved_within, offset_behind};
+ghost use Rattle.ec_memory.specs.Moves.{IsOffset, LiesOutside, moved_within, offset_behind};
 
 use crate::place::offset_in;
 use ec_base::Trap;
@@ -37,7 +37,9 @@ pub(crate) fn moved_wide_to(len: u32, ptr: Ptr, by: i128, size: u64) -> Result<P
 /// offset that is no 128-bit number lies outside of every object.
 fn wide_offset_up_to(len: usize, ptr: Ptr, by: i128, size: u64) -> Option<usize>
     requires { len ≤ 2 ^ 28 }
-    ensures { MatchOption result (is_within len (offset_behind ptr.0 by size) ≡ false) (λ it. (offset_behind ptr.0 by size ≡ pos it) × (it ≤ len)) }
+    ensures { MatchOption result
+        (LiesOutside len (offset_behind ptr.0 by size))
+        (IsOffset len (offset_behind ptr.0 by size)) }
 {
     let distance = wide_distance(by, size)?;
     let offset = distance.checked_add(offset_in(ptr) as i128)?;
@@ -53,7 +55,7 @@ fn wide_distance(by: i128, size: u64) -> Option<i128>
 
 /// An offset of at most `len`, or `None` if it is none.
 fn offset_up_to(len: usize, offset: i128) -> Option<usize>
-    ensures { MatchOption result (is_within len offset ≡ false) (λ it. (offset ≡ pos it) × (it ≤ len)) }
+    ensures { MatchOption result (LiesOutside len offset) (IsOffset len offset) }
 {
     if 0 <= offset && offset <= len as i128 {
         Some(offset as usize)

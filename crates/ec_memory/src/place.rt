@@ -4,7 +4,7 @@ ghost use Rattle.std.specs.Prelude.{◌≡◌, ◌≤◌, ◌<◌, ◌+◌, ℕ,
 ghost use Rattle.ec_base.specs.declared.stop.Trap.TheVariants as trap;
 ghost use Rattle.ec_objects.specs.Cells.{Cell};
 ghost use Rattle.ec_objects.specs.Memory.{object_of, offset_of, object_cells, cells_at};
-ghost use Rattle.ec_memory.specs.Objects.{Behind, Holds, IsAt, IsMissing, IsRising, Kept, Placed, memory_of};
+ghost use Rattle.ec_memory.specs.Objects.{Behind, Holds, IsAt, IsMissing, IsRising, Kept, Placed, Traps, memory_of};
 
 use ec_base::Trap;
 use ec_bytes::Ptr;
@@ -104,7 +104,9 @@ fn search(places: &[Place], number: u32) -> Option<usize>
 #[inline(always)]
 pub(crate) fn object(places: &[Place], ptr: Ptr) -> Result<Place, Trap>
     requires { IsRising places.now }
-    ensures { MatchResult result (λ place. Holds places.now (object_of ptr.0) place) (λ t. (made : ℕ) (cells : List Cell) → Kept made cells places.now → object_cells (memory_of made cells places.now) (object_of ptr.0) ≡ Err t) }
+    ensures { MatchResult result
+        (Holds places.now (object_of ptr.0))
+        (Traps places.now (λ m. object_cells m (object_of ptr.0))) }
 {
     let number = number_of(ptr);
     if number == 0 {
@@ -120,7 +122,9 @@ pub(crate) fn object(places: &[Place], ptr: Ptr) -> Result<Place, Trap>
 #[inline(always)]
 pub(crate) fn reach(places: &[Place], ptr: Ptr, n: u128) -> Result<usize, Trap>
     requires { IsRising places.now }
-    ensures { MatchResult result (λ at. Placed places.now ptr.0 n at) (λ t. (made : ℕ) (cells : List Cell) → Kept made cells places.now → cells_at (memory_of made cells places.now) ptr.0 n ≡ Err t) }
+    ensures { MatchResult result
+        (Placed places.now ptr.0 n)
+        (Traps places.now (λ m. cells_at m ptr.0 n)) }
 {
     let place = object(places, ptr)?;
     let offset = offset_in(ptr);

@@ -22,7 +22,8 @@ impl Store {
     /// is a true `_Bool`. The traps are `Null`, `Dead`, `Outside` and `Unset`.
     pub fn load(&self, ptr: Ptr, ty: &Ty) -> Result<Value, Trap>
         requires { IsSome (scalar_type (ty_view ty.now)) }
-        ensures { (s : ScalarType) → scalar_type (ty_view ty.now) ≡ Some s → seen value_view result ≡ load self.now ptr.0 s }
+        ensures { (s : ScalarType) → scalar_type (ty_view ty.now) ≡ Some s
+            → seen value_view result ≡ load self.now ptr.0 s }
     {
         match Kind::of(ty) {
             Some(kind) => self.load_kind(ptr, kind),
@@ -53,8 +54,10 @@ impl Store {
     /// which it is one of the values, or a pointer type. The traps are `Null`, `Dead` and `Outside`.
     pub fn store(&mut self, ptr: Ptr, ty: &Ty, value: Value) -> Result<(), Trap>
         requires scalar { IsSome (scalar_type (ty_view ty.now)) }
-        requires fits { (s : ScalarType) → scalar_type (ty_view ty.now) ≡ Some s → Fits s (value_view value) }
-        ensures outcome { (s : ScalarType) → scalar_type (ty_view ty.now) ≡ Some s → outcome result self.new ≡ store self.old ptr.0 s (value_view value) }
+        requires fits { (s : ScalarType) → scalar_type (ty_view ty.now) ≡ Some s
+            → Fits s (value_view value) }
+        ensures outcome { (s : ScalarType) → scalar_type (ty_view ty.now) ≡ Some s
+            → outcome result self.new ≡ store self.old ptr.0 s (value_view value) }
         ensures unchanged { OnErr result (self.new ≡ self.old) }
     {
         match Kind::of(ty) {
@@ -67,7 +70,8 @@ impl Store {
     #[inline(always)]
     pub fn store_kind(&mut self, ptr: Ptr, kind: Kind, value: Value) -> Result<(), Trap>
         requires { Fits (kind_type kind) (value_view value) }
-        ensures outcome { outcome result self.new ≡ store self.old ptr.0 (kind_type kind) (value_view value) }
+        ensures outcome { outcome result self.new
+            ≡ store self.old ptr.0 (kind_type kind) (value_view value) }
         ensures unchanged { OnErr result (self.new ≡ self.old) }
     {
         match kind {
@@ -111,7 +115,8 @@ impl Store {
     #[inline(always)]
     pub fn read<T: Scalar>(&self, ptr: Ptr) -> Result<T, Trap>
         ensures value { result ≡ seen T.decode (span self.now ptr.0 T.SIZE) }
-        ensures bytes { IfOk result (λ _. (bytes : List ℕ) → span self.now ptr.0 T.SIZE ≡ Ok bytes → AreBytes bytes) }
+        ensures bytes { IfOk result
+            (λ _. (bytes : List ℕ) → span self.now ptr.0 T.SIZE ≡ Ok bytes → AreBytes bytes) }
     {
         let at = reach(&self.alive, ptr, T::SIZE as u128)?;
         match self.cells.view::<T>(at).get() {

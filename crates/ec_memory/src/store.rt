@@ -102,8 +102,10 @@ impl Store {
     fn make_cells(&mut self, size: u64, zeroed: bool) -> Result<Ptr, MakeStop>
         requires some { 1 ≤ size }
         requires small { size ≤ 2 ^ 24 }
-        ensures ok { IfOk result (λ ptr. with_object self.old (first_cells zeroed size) ≡ Ok (ptr.0, self.new)) }
-        ensures spent { (result ≡ Err stops.Spent) ↔ (with_object self.old (first_cells zeroed size) ≡ Err trap.Spent) }
+        ensures ok { IfOk result
+            (λ ptr. with_object self.old (first_cells zeroed size) ≡ Ok (ptr.0, self.new)) }
+        ensures spent { (result ≡ Err stops.Spent)
+            ↔ (with_object self.old (first_cells zeroed size) ≡ Err trap.Spent) }
         ensures unchanged { OnErr result (self.new ≡ self.old) }
     {
         let start = self.cells.len();

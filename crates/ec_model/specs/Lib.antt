@@ -6,6 +6,13 @@ pub use Rattle.ec_ctypes.specs.views
 pub use Rattle.ec_embedded.specs.References
 pub use Rattle.ec_embedded.specs.SentText
 pub use Rattle.ec_embedded.specs.Statements
+pub use Rattle.ec_evaluation.specs.Agree
+pub use Rattle.ec_evaluation.specs.Evaluate
+pub use Rattle.ec_evaluation.specs.Execute
+pub use Rattle.ec_evaluation.specs.Expanded
+pub use Rattle.ec_evaluation.specs.Results
+pub use Rattle.ec_evaluation.specs.State
+pub use Rattle.ec_evaluation.specs.Whole
 pub use Rattle.ec_firstpath.specs.Direct
 pub use Rattle.ec_firstpath.specs.Faults
 pub use Rattle.ec_firstpath.specs.Simulation
@@ -13,8 +20,12 @@ pub use Rattle.ec_firstpath.specs.Source
 pub use Rattle.ec_firstpath.specs.Written
 pub use Rattle.ec_firstpath.specs.WrittenMeaning
 pub use Rattle.ec_firstpath.specs.WrittenText
-pub use Rattle.ec_language.specs.Constants
+pub use Rattle.ec_functions.specs.Formats
+pub use Rattle.ec_functions.specs.Functions
+pub use Rattle.ec_functions.specs.Printing
+pub use Rattle.ec_functions.specs.Strings
 pub use Rattle.ec_language.specs.CText
+pub use Rattle.ec_language.specs.Constants
 pub use Rattle.ec_language.specs.First
 pub use Rattle.ec_language.specs.Grammar
 pub use Rattle.ec_language.specs.Keywords
@@ -37,3 +48,7 @@ pub use Rattle.ec_objects.specs.Memory
 pub use Rattle.ec_observed.specs.Headline
 pub use Rattle.ec_observed.specs.Observed
 pub use Rattle.ec_observed.specs.Run
+pub use Rattle.ec_resolved.specs.Labels
+pub use Rattle.ec_resolved.specs.Operations
+pub use Rattle.ec_resolved.specs.Programs
+pub use Rattle.ec_resolved.specs.Resolved

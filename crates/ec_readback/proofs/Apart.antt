@@ -21,7 +21,7 @@ use Rattle.ec_language.proofs.Classes.{either}
 use Rattle.ec_language.proofs.Marks.{same_text_is}
 use Rattle.ec_writing.specs.Chunks.{blank, Chunks, text_of, suffix}
 use Rattle.ec_writing.specs.Expressions.{Level, ranked, postfixed, height, tighter, rank_of, level, binary_mark, assign_mark, unary_mark, bump_mark, mark, word, in_parens, at_place, before_dot, more_word_chunks, word_chunks, star_chunks, stars_behind, struct_head, bumped_chunks, expr_chunks, list_chunks, more_chunks, base_chunks, members_chunks, type_chunks, dim_chunks, dims_chunks, init_chunks, inits_chunks, more_inits_chunks, initializer_chunks, declarator_chunks, more_declarators_chunks, declarators_chunks, decl_chunks}
-use Rattle.ec_writing.specs.Shapes.{is_plain_name, is_area_word, is_free_name, is_tag, is_tag_option, is_assignable, are_type_words, fits_type, is_written_expr, are_written_exprs, is_written_base, are_written_members, is_written_member, is_written_dim, are_written_dims, is_written_init, are_some_inits, are_written_inits, is_written_initializer, is_written_declarator, are_written_declarators}
+use Rattle.ec_writing.specs.Shapes.{is_no_name, is_plain_name, is_area_word, is_free_name, is_tag, is_tag_option, is_assignable, are_type_words, fits_type, is_written_expr, are_written_exprs, is_written_base, are_written_members, is_written_member, is_written_dim, are_written_dims, is_written_init, are_some_inits, are_written_inits, is_written_initializer, is_written_declarator, are_written_declarators}
 use Rattle.ec_readback.proofs.Numbers.{decimal_is, fits_small}
 use Rattle.ec_readback.proofs.Marks.{is_tail, is_closed, is_apart}
 use Rattle.ec_readback.proofs.Lexing.{begins_sql}
@@ -232,7 +232,10 @@ module _ (n : ℕ) where
   place_soft (bump true up a) h rest = refl
   place_soft (bump false up a) h rest = soft_before (at_place postfixed a (expr_chunks a)) (mark (bump_mark up) ∷ []) rest (place_soft a h (mark (bump_mark up) ∷ rest))
   place_soft (call f es) h rest = plain_start f _ (plain f (both (is_free_name f) (are_written_exprs n es) h).0)
-  place_soft (call_other f es) h rest = absurd (false≢true h)
+  place_soft (call_other f es) h rest =
+      let ys = mark p.LeftParen ∷ list_chunks es ++ mark p.RightParen ∷ [] in
+      let k = both (is_no_name f) (is_written_expr n f && are_written_exprs n es) h in
+      soft_before (at_place postfixed f (expr_chunks f)) ys rest (place_soft f (both (is_written_expr n f) (are_written_exprs n es) k.1).0 (ys ++ rest))
   place_soft (index a b) h rest =
       let ys = mark p.LeftBracket ∷ expr_chunks b ++ mark p.RightBracket ∷ [] in
       soft_before (at_place postfixed a (expr_chunks a)) ys rest (place_soft a ((both (is_written_expr n a) (is_written_expr n b) h).0) (ys ++ rest))
@@ -436,7 +439,14 @@ module _ (n : ℕ) where
             fine_append (list_chunks es) (mark p.RightParen ∷ []) rest (list_fine es k.1 rest) ((refl, c.line, refl), tt),
           ),
         )
-    expr_fine (call_other f es) h rest c = absurd (false≢true h)
+    expr_fine (call_other f es) h rest c =
+        let i = both (is_no_name f) (is_written_expr n f && are_written_exprs n es) h in
+        let k = both (is_written_expr n f) (are_written_exprs n es) i.1 in
+        let ys = mark p.LeftParen ∷ list_chunks es ++ mark p.RightParen ∷ [] in
+        fine_append (at_place postfixed f (expr_chunks f)) ys rest (place_fine postfixed f (expr_fine f k.0) (ys ++ rest) (a_mark p.LeftParen ((list_chunks es ++ mark p.RightParen ∷ []) ++ rest) refl)) (
+          (refl, line_before (list_chunks es) (mark p.RightParen ∷ []) rest (list_line es (mark p.RightParen ∷ rest) refl), refl),
+          fine_append (list_chunks es) (mark p.RightParen ∷ []) rest (list_fine es k.1 rest) ((refl, c.line, refl), tt),
+        )
     expr_fine (index a b) h rest c =
         let k = both (is_written_expr n a) (is_written_expr n b) h in
         let ys = mark p.LeftBracket ∷ expr_chunks b ++ mark p.RightBracket ∷ [] in

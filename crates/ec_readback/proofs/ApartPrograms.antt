@@ -1,5 +1,5 @@
 -- The chunks of statements, functions and programs stand apart.
-use Rattle.std.proofs.Common.{◌≡◌, ℕ, zero, suc, ◌<◌, Bool, true, false, not, ◌&&◌, ◌⊎◌, List, [], ◌∷◌, ◌++◌, refl, inl, inr, sym, subst, arith, Option, Some, None, append-nil}
+use Rattle.std.proofs.Common.{◌≡◌, ℕ, zero, suc, ◌<◌, Bool, true, false, not, ◌&&◌, ◌⊎◌, List, [], ◌∷◌, ◌++◌, refl, inl, inr, sym, subst, arith, Option, Some, None, append-nil, take, append_assoc, ap, ◌∙◌}
 use Rattle.std.specs.Prelude.{codes, nat_lt, ◌==◌, ◌||◌}
 use Rattle.std.proofs.lemmas.Bool.{false≢true}
 use Rattle.std.proofs.lemmas.Bool.Decides.{nat_tests}
@@ -8,14 +8,16 @@ use Rattle.ec_ctypes.specs.declared.text.token.Punct.TheVariants as p
 use Rattle.ec_ctypes.specs.trees.Exprs.{ExprData, DimList, no_dims, dims, DeclData, decl}
 use Rattle.ec_ctypes.specs.trees.Stmts.{StmtData, stmt, StmtKindData, empty_stmt, expr_stmt, block_stmt, if_stmt, while_stmt, do_stmt, for_stmt, break_stmt, continue_stmt, return_stmt, goto_stmt, label_stmt, decl_stmt, emb_stmt, mark_stmt, StmtList, no_stmts, stmts, StmtOption, no_stmt, some_stmt}
 use Rattle.ec_ctypes.specs.trees.Units.{ParamData, FuncData, TopData, include_top, directive_top, decl_top, func_top, mark_top}
-use Rattle.ec_language.specs.Letters.{Text, is_word_byte, begins}
+use Rattle.ec_language.specs.Letters.{Text, newline, is_word_byte, is_not_newline, begins, begins_with, each, same_text}
+use Rattle.ec_language.specs.ReadTokens.{include_behind}
 use Rattle.ec_language.proofs.Ends.{both}
 use Rattle.ec_language.proofs.Classes.{either}
 use Rattle.ec_writing.specs.Chunks.{blank, line_end, line_mark, Chunks, text_of, line_behind}
 use Rattle.ec_writing.specs.Expressions.{mark, word, in_parens, star_chunks, expr_chunks, base_chunks, dims_chunks, decl_chunks}
 use Rattle.ec_writing.specs.Programs.{option_chunks, head_chunks, stmt_chunks, kind_chunks, items_chunks, else_chunks, block_chunks, param_name, param_chunks, more_params_chunks, params_chunks, body_chunks, func_chunks, top_chunks, tops_chunks}
-use Rattle.ec_writing.specs.Shapes.{is_plain_name, is_line, is_written_expr, is_written_base, are_written_dims, are_written_declarators, is_written_decl, is_declaration, is_written_option, is_open, is_written_stmt, is_written_kind, is_written_else, are_written_items, is_written_item, is_written_name, is_written_param, are_written_params, is_void_list, is_written_body, is_written_func, is_written_top, are_written_tops}
+use Rattle.ec_writing.specs.Shapes.{is_plain_name, is_line, is_written_expr, is_written_base, are_written_dims, are_written_declarators, is_written_decl, is_declaration, is_written_option, is_open, is_written_stmt, is_written_kind, is_written_else, are_written_items, is_written_item, is_written_name, is_written_param, are_written_params, is_void_list, is_written_body, is_written_func, is_written_top, are_written_tops, has_no_exec_sql, is_line_end}
 use Rattle.ec_readback.proofs.Marks.{is_tail}
+use Rattle.ec_readback.proofs.Lexing.{begins_hash}
 use Rattle.ec_readback.proofs.Parts.{begins_line, Fits, AllFit}
 use Rattle.ec_readback.proofs.Apart.{Fine, fine_append, fine_all, Closing, weaker, a_mark, word_fits, plain_start, stars_fine, is_loose, parens_fine, expr_fine, base_fine, dims_closing, dims_fine, named_fine, decl_parts_fine, declarators_fine}
 use Rattle.ec_readback.proofs.Starts.{begins_token, no_line, token_before, line_before, expr_line, base_token, stars_token}
@@ -247,20 +249,37 @@ func_fine f rest h =
           (tt, tt),
     )
 
-top_fine : (t : TopData) (rest : Chunks) → is_written_top t ≡ true → Fine (top_chunks t) rest
-top_fine (decl_top d) rest h = of d h
+-- what stands at the top level begins with `#`, as the first byte of its first line
+top_hash : (t : TopData) (rest : Chunks) → is_written_top t ≡ true → begins_hash (text_of (top_chunks t ++ rest)) ≡ true
+top_hash (decl_top d) rest h = refl
+top_hash (func_top f) rest h = refl
+top_hash (include_top s) rest h = hash s (text_of (line_end ∷ rest)) (both (begins_with (codes "#include") s) (each is_not_newline s && (has_no_exec_sql s && is_line_end (include_behind (s ++ newline ∷ [])))) h).0
+  where
+    hash : (s t : Text) → begins_with (codes "#include") s ≡ true → begins_hash (s ++ t) ≡ true
+    hash [] t e = absurd (false≢true e)
+    hash (b ∷ s) t e = let k = both (35 == b) (same_text (codes "include") (take 7 s)) e in let l = k.0 in grind (arith, nat_tests)
+top_hash (directive_top n) rest h = absurd (false≢true h)
+top_hash (mark_top b l) rest h = absurd (false≢true h)
+
+tops_hash : (ts : List TopData) → are_written_tops ts ≡ true → begins_hash (text_of (tops_chunks ts ++ [])) ≡ true
+tops_hash [] h = refl
+tops_hash (t ∷ ts) h = let k = both (is_written_top t) (are_written_tops ts) h in ap (λ cs. begins_hash (text_of cs)) (append_assoc (top_chunks t) (tops_chunks ts) []) ∙ top_hash t (tops_chunks ts ++ []) k.0
+
+top_fine : (t : TopData) (rest : Chunks) → is_written_top t ≡ true → begins_hash (text_of rest) ≡ true → Fine (top_chunks t) rest
+top_fine (decl_top d) rest h e = of d h
   where
     of : (d : DeclData) → is_written_top (decl_top d) ≡ true → Fine (top_chunks (decl_top d)) rest
     of (decl b ds section line) h = let k = both (is_line line.0) (is_written_decl line.0 (decl b ds section line)) h in
         (line_fits line.0 ((decl_chunks (decl b ds section line) ++ line_end ∷ []) ++ rest) k.0, decl_fine line.0 (decl b ds section line) rest k.1)
-top_fine (func_top f) rest h = func_fine f rest h
-top_fine (include_top s) rest h = absurd (false≢true h)
-top_fine (directive_top n) rest h = absurd (false≢true h)
-top_fine (mark_top b l) rest h = absurd (false≢true h)
+top_fine (func_top f) rest h e = func_fine f rest h
+top_fine (include_top s) rest h e = (((h, e), refl, refl), (tt, tt))
+top_fine (directive_top n) rest h e = absurd (false≢true h)
+top_fine (mark_top b l) rest h e = absurd (false≢true h)
 
-tops_fine : (ts : List TopData) (rest : Chunks) → are_written_tops ts ≡ true → Fine (tops_chunks ts) rest
-tops_fine [] rest h = tt
-tops_fine (t ∷ ts) rest h = let k = both (is_written_top t) (are_written_tops ts) h in fine_append (top_chunks t) (tops_chunks ts) rest (top_fine t (tops_chunks ts ++ rest) k.0) (tops_fine ts rest k.1)
+tops_fine : (ts : List TopData) → are_written_tops ts ≡ true → Fine (tops_chunks ts) []
+tops_fine [] h = tt
+tops_fine (t ∷ ts) h = let k = both (is_written_top t) (are_written_tops ts) h in
+    fine_append (top_chunks t) (tops_chunks ts) [] (top_fine t (tops_chunks ts ++ []) k.0 (tops_hash ts k.1)) (tops_fine ts k.1)
 
 pub tops_apart : (ts : List TopData) → are_written_tops ts ≡ true → AllFit (tops_chunks ts)
-tops_apart ts h = subst AllFit (append-nil (tops_chunks ts)) (fine_all (tops_chunks ts) [] (tops_fine ts [] h) tt)
+tops_apart ts h = subst AllFit (append-nil (tops_chunks ts)) (fine_all (tops_chunks ts) [] (tops_fine ts h) tt)

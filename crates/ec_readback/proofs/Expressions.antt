@@ -1,5 +1,5 @@
 -- Expressions, and the declarations that may stand in them, are derived from what they are written as. All of it stands on one line.
-use Rattle.std.proofs.Common.{◌≡◌, ℕ, zero, suc, ◌+◌, ◌-◌, ◌≤◌, Bool, true, false, not, ◌&&◌, List, [], ◌∷◌, ◌++◌, refl, ap, sym, ◌∙◌, subst, arith, lit≤, Option, Some, None, append_assoc}
+use Rattle.std.proofs.Common.{◌≡◌, ℕ, zero, suc, ◌+◌, ◌-◌, ◌≤◌, Bool, true, false, not, ◌&&◌, List, [], ◌∷◌, ◌++◌, refl, inl, inr, ap, sym, ◌∙◌, subst, arith, lit≤, Option, Some, None, append_assoc}
 use Rattle.std.specs.Prelude.{nat_lt, codes, ◌==◌}
 use Rattle.std.proofs.lemmas.List.{append-nil}
 use Rattle.std.proofs.lemmas.Bool.{false≢true}
@@ -23,7 +23,7 @@ use Rattle.ec_language.proofs.Ends.{both}
 use Rattle.ec_language.proofs.Classes.{neither, turn_not}
 use Rattle.ec_writing.specs.Chunks.{the, blank, Chunks}
 use Rattle.ec_writing.specs.Expressions.{Level, assigning, ranked, casting, prefixed, postfixed, height, tighter, rank_of, bump_level, level, binary_mark, assign_mark, unary_mark, mark, word, in_parens, at_place, before_dot, more_word_chunks, star_chunks, stars_behind, bumped_chunks, expr_chunks, list_chunks, more_chunks, base_chunks, members_chunks, type_chunks, dim_chunks, dims_chunks, init_chunks, inits_chunks, more_inits_chunks, initializer_chunks, declarator_chunks, more_declarators_chunks, declarators_chunks, decl_chunks}
-use Rattle.ec_writing.specs.Shapes.{is_plain_name, is_area_word, is_free_name, is_tag, is_tag_option, is_assignable, are_type_words, is_written_expr, are_written_exprs, is_written_base, are_written_members, is_written_member, is_written_dim, are_written_dims, is_written_init, are_some_inits, are_written_inits, is_written_initializer, is_written_declarator, are_written_declarators}
+use Rattle.ec_writing.specs.Shapes.{is_no_name, is_plain_name, is_area_word, is_free_name, is_tag, is_tag_option, is_assignable, are_type_words, is_written_expr, are_written_exprs, is_written_base, are_written_members, is_written_member, is_written_dim, are_written_dims, is_written_init, are_some_inits, are_written_inits, is_written_initializer, is_written_declarator, are_written_declarators}
 use Rattle.ec_readback.proofs.Derivations.{On, done, token, counts, gap, part, inner, full, its_own, last_part, last_inner, last_full, Among, here, next, made, made_on, same_chunks, same_tree}
 use Rattle.ec_readback.proofs.Lists.{one_more_operand, one_more_part}
 use Rattle.ec_readback.proofs.Starts.{begins_token, base_token, starts_at}
@@ -267,23 +267,29 @@ module _ (n : ℕ) where
       called_written : (es : ExprList) (cs : Chunks) → On n g.arguments cs es → On n g.postfix_part (mark p.LeftParen ∷ cs ++ mark p.RightParen ∷ []) (called es)
       called_written es cs d = made _ (next (next (next (next (next here))))) (last_inner (arguments_written es cs d)) (λ at. refl)
 
+  call_part : (es : ExprList) (cs : Chunks) → On n g.arguments cs es → On n g.postfix_part (mark p.LeftParen ∷ cs ++ mark p.RightParen ∷ []) (called es)
+  call_part es cs d = made _ (next (next (next (next (next here))))) (last_inner (arguments_written es cs d)) (λ at. refl)
+
+  call_other_written : (f : ExprData) (es : ExprList) (cs ds : Chunks) → is_no_name f ≡ true → On n g.postfix cs f → On n g.arguments ds es → On n g.postfix (cs ++ (mark p.LeftParen ∷ ds ++ mark p.RightParen ∷ [])) (call_other f es)
+  call_other_written f es cs ds h x y = one_more_part (called es) (inr h) x (call_part es ds y)
+
   index_written : (a b : ExprData) (cs ds : Chunks) → On n g.postfix cs a → On n g.assignment ds b → On n g.postfix (cs ++ (mark p.LeftBracket ∷ ds ++ mark p.RightBracket ∷ [])) (index a b)
-  index_written a b cs ds x y = one_more_part (at_index b) refl x
+  index_written a b cs ds x y = one_more_part (at_index b) (inl refl) x
       (made _ here (last_inner (made _ here (counts (punct_token p.LeftBracket) refl (λ at. refl) (full y refl (token (punct_token p.RightBracket) refl (λ at. refl) done))) (λ at. refl))) (λ at. refl))
 
   dot_written : (a : ExprData) (m : Text) (cs : Chunks) → is_plain_name m ≡ true → On n g.postfix cs a → On n g.postfix (cs ++ mark p.Dot ∷ word m ∷ []) (member a m)
-  dot_written a m cs h x = one_more_part (at_member m) refl x
+  dot_written a m cs h x = one_more_part (at_member m) (inl refl) x
       (made _ (next here) (counts (punct_token p.Dot) refl (λ at. refl) (token (word_token m) (name_in_grammar m h) (λ at. refl) done)) (λ at. refl))
 
   arrow_written : (a : ExprData) (m : Text) (cs : Chunks) → is_plain_name m ≡ true → On n g.postfix cs a → On n g.postfix (cs ++ mark p.Arrow ∷ word m ∷ []) (arrow a m)
-  arrow_written a m cs h x = one_more_part (at_arrow m) refl x
+  arrow_written a m cs h x = one_more_part (at_arrow m) (inl refl) x
       (made _ (next (next here)) (counts (punct_token p.Arrow) refl (λ at. refl) (token (word_token m) (name_in_grammar m h) (λ at. refl) done)) (λ at. refl))
 
   bump_written : (before up : Bool) (a : ExprData) (cs : Chunks) → On n g.postfix cs a → ExprAt (bump_level before) (bumped_chunks before up cs) (bump before up a)
   bump_written true true a cs d = made _ (next here) (token (punct_token p.PlusPlus) refl (λ at. refl) (last_inner (lifted postfixed prefixed cs a (lit≤ tt) d))) (λ at. refl)
   bump_written true false a cs d = made _ (next (next here)) (token (punct_token p.MinusMinus) refl (λ at. refl) (last_inner (lifted postfixed prefixed cs a (lit≤ tt) d))) (λ at. refl)
-  bump_written false true a cs d = one_more_part (bumped true) refl d (made _ (next (next (next here))) (counts (punct_token p.PlusPlus) refl (λ at. refl) done) (λ at. refl))
-  bump_written false false a cs d = one_more_part (bumped false) refl d (made _ (next (next (next (next here)))) (counts (punct_token p.MinusMinus) refl (λ at. refl) done) (λ at. refl))
+  bump_written false true a cs d = one_more_part (bumped true) (inl refl) d (made _ (next (next (next here))) (counts (punct_token p.PlusPlus) refl (λ at. refl) done) (λ at. refl))
+  bump_written false false a cs d = one_more_part (bumped false) (inl refl) d (made _ (next (next (next (next here)))) (counts (punct_token p.MinusMinus) refl (λ at. refl) done) (λ at. refl))
 
   -- ---- types
 
@@ -367,7 +373,10 @@ module _ (n : ℕ) where
         assign_written o k.0 a b (at_place (ranked or_rank) a (expr_chunks a)) (expr_chunks b) (placed (ranked or_rank) a (expr_chunks a) (expr_written a j.0)) (as_whole (level b) (expr_chunks b) b (expr_written b j.1))
     expr_written (bump before up a) h = bump_written before up a (at_place postfixed a (expr_chunks a)) (placed postfixed a (expr_chunks a) (expr_written a h))
     expr_written (call f es) h = let k = both (is_free_name f) (are_written_exprs n es) h in call_written f es (list_chunks es) k.0 (list_written es k.1)
-    expr_written (call_other f es) h = absurd (false≢true h)
+    expr_written (call_other f es) h =
+        let k = both (is_no_name f) (is_written_expr n f && are_written_exprs n es) h in
+        let j = both (is_written_expr n f) (are_written_exprs n es) k.1 in
+        call_other_written f es (at_place postfixed f (expr_chunks f)) (list_chunks es) k.0 (placed postfixed f (expr_chunks f) (expr_written f j.0)) (list_written es j.1)
     expr_written (index a b) h = let k = both (is_written_expr n a) (is_written_expr n b) h in
         index_written a b (at_place postfixed a (expr_chunks a)) (expr_chunks b) (placed postfixed a (expr_chunks a) (expr_written a k.0)) (as_whole (level b) (expr_chunks b) b (expr_written b k.1))
     expr_written (member a m) h = let k = both (is_plain_name m) (is_written_expr n a) h in dot_written a m (before_dot a (expr_chunks a)) k.0 (dotted a (expr_chunks a) (expr_written a k.1))

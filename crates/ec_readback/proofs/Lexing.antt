@@ -1,48 +1,66 @@
 -- Chunks are cut into their tokens, and are one piece of C text.
-use Rattle.std.proofs.Common.{◌≡◌, ℕ, ◌+◌, ◌/◌, ◌%◌, ◌^◌, ◌<◌, ◌≤◌, Bool, true, false, ◌&&◌, [], ◌∷◌, ◌++◌, length, take, map, refl, ap, sym, ◌∙◌, subst, arith, Option, Some, None, Result, Ok, Err}
+use Rattle.std.proofs.Common.{◌≡◌, ℕ, ◌+◌, ◌/◌, ◌%◌, ◌^◌, ◌<◌, ◌≤◌, Bool, true, false, ◌&&◌, [], ◌∷◌, ◌++◌, length, take, map, refl, ap, sym, ◌∙◌, subst, arith, Option, Some, None, Ok, Err, List, not, suc}
 use Rattle.std.specs.Prelude.{codes, nat_le, ◌==◌, ◌||◌, ℤ, option_map, if◌then◌else◌}
 use Rattle.std.specs.Fmt.{decimal}
 use Rattle.std.proofs.lemmas.Bool.{false≢true}
 use Rattle.std.proofs.lemmas.Bool.Decides.{nat_tests}
 use Rattle.std.proofs.lemmas.Fmt.{decimal_nonempty}
-use Rattle.ec_base.specs.declared.fault.FaultKind.{FaultKind}
 use Rattle.ec_base.specs.declared.fault.FaultKind.TheVariants.{F9}
 use Rattle.ec_ctypes.specs.declared.text.token.Punct.{Punct}
 use Rattle.ec_ctypes.specs.declared.types.arith.Arith.TheVariants.{UInt}
 use Rattle.ec_ctypes.specs.trees.Types.{TyData, arithmetic}
 use Rattle.ec_ctypes.specs.trees.Tokens.{TokData, word_token, integer_token, character_token, string_token, punct_token, include_token, emb_token, section_start, section_end, end_token}
 use Rattle.ec_language.specs.Letters.{Text, newline, lower, is_blank, is_digit, is_word_start, is_word_byte, is_number_byte, is_empty, begins, each, same_text, same_word, skip_blanks}
+use Rattle.ec_language.specs.Letters.{begins_with, is_not_newline}
+use Rattle.ec_ctypes.specs.Texts.{punct_text}
+use Rattle.std.specs.List.{concat}
 use Rattle.ec_language.specs.Line.{newlines}
 use Rattle.ec_language.specs.CText.{is_word, is_number, is_quoted, closes_quote, CUnit, CUnits}
 use Rattle.ec_language.specs.CText as unit
-use Rattle.ec_language.specs.Pieces.{starts_piece}
+use Rattle.ec_language.specs.Pieces.{starts_piece, NoneStarts}
 use Rattle.ec_language.specs.Lexemes.{Class, word, number, character, string, punct, Longest}
-use Rattle.ec_language.specs.Tokens.{is_left_out_word, character_tok, string_tok, token_of}
+use Rattle.ec_language.specs.Tokens.{is_left_out_word, character_tok, string_tok, counted, Item, match, include}
 use Rattle.ec_language.specs.ReadPieces.{passed, cut, endless, behind_all as all_behind, quote_end}
 use Rattle.ec_language.specs.ReadTokens.{quoted_class, lexeme_end, with_front}
 use Rattle.ec_language.proofs.Ends.{both, quote_complete}
-use Rattle.ec_language.proofs.Classes.{all_complete, digit_no_word}
+use Rattle.ec_language.proofs.Classes.{all_complete, digit_no_word, turn_not}
 use Rattle.ec_language.proofs.CWalks.{front_is}
 use Rattle.ec_language.proofs.LongestMatch.{lexeme_sound}
 use Rattle.ec_writing.specs.Chunks.{is_plain, octal, quoted_bytes, quoted, byte_of, suffix, token_text}
-use Rattle.ec_writing.specs.Shapes.{is_byte, is_character, fits_type}
+use Rattle.ec_writing.specs.Shapes.{is_byte, is_character, fits_type, is_exec_sql, has_no_exec_sql, is_line_end, is_include_line}
+use Rattle.ec_language.specs.ReadTokens.{include_behind}
+use Rattle.ec_language.proofs.Includes.{IncludeTail, include_sound}
+use Rattle.ec_language.proofs.Marks.{same_text_is}
 use Rattle.ec_readback.proofs.Numbers.{decimal_is, integer_back, fits_small}
 use Rattle.ec_readback.proofs.Quotes.{quote_closes, string_back, character_back, one_byte}
 use Rattle.ec_readback.proofs.Marks.{Starting, starting, not_true, no_start, is_apart, punct_longest, UnitsOf, one_unit, punct_units, punct_flat}
 
 -- ---- one token
 
+-- an `#include` line has to be first on its line
+abbrev pub is_first : TokData → Bool
+is_first (include_token bytes) = true
+is_first _ = false
+
 -- What is known of a token before this text: it is cut off there, and is worth what it was.
 pub record Lexed (t : TokData) (rest : Text) : Type 0 where
-  pub class : Class
-  pub longest : Longest (token_text t) rest class
-  pub value : ◌≡◌ {A = Option (Result TokData FaultKind)} (Some (Ok t)) (token_of class (token_text t))
+  pub item : (fresh : Bool) → (is_first t ≡ true → fresh ≡ true) → Item true fresh (token_text t) rest (Some (Ok t)) counted
   pub flat : newlines (token_text t) ≡ 0
   pub units : UnitsOf (token_text t) rest
 
 -- the word `SQL` stands here, behind blanks
 abbrev pub begins_sql : Text → Bool
 begins_sql text = same_word (take 3 (skip_blanks text)) (codes "SQL")
+
+-- a line of written C that begins with `#`, or nothing
+abbrev pub begins_hash : Text → Bool
+begins_hash [] = true
+begins_hash (b ∷ bs) = b == 35
+
+-- the line ends here, and what follows is such a line
+abbrev pub ends_line : Text → Bool
+ends_line [] = false
+ends_line (b ∷ bs) = b == newline && begins_hash bs
 
 -- what has to stand behind a token, so that it ends there
 abbrev pub FitsToken : TokData → Text → Type 0
@@ -51,6 +69,7 @@ FitsToken (integer_token n t) rest = (fits_type n t ≡ true) × (begins is_numb
 FitsToken (character_token c) rest = is_character c ≡ true
 FitsToken (string_token s) rest = each is_byte s ≡ true
 FitsToken (punct_token p) rest = is_apart p rest ≡ true
+FitsToken (include_token bytes) rest = (is_include_line bytes ≡ true) × (ends_line rest ≡ true)
 FitsToken _ rest = ⊥
 
 each_flat : (test : ℕ → Bool) → ((b : ℕ) → test b ≡ true → (b == newline) ≡ false) → (bs : Text) → each test bs ≡ true → newlines bs ≡ 0
@@ -120,9 +139,7 @@ word_flat (b ∷ w) e = let k = both (is_word_start b) (each is_word_byte w) e i
 
 word_lexed : (w rest : Text) → FitsToken (word_token w) rest → Lexed (word_token w) rest
 word_lexed w rest f = record {
-  class = word;
-  longest = word_longest w rest f.0 f.2;
-  value = λ i. Some (if sym f.1 i then Err F9 else Ok (word_token w));
+  item = λ fresh e. match fresh w rest word (Some (Ok (word_token w))) (word_longest w rest f.0 f.2) (λ i. Some (if sym f.1 i then Err F9 else Ok (word_token w)));
   flat = word_flat w f.0;
   units = one_unit w rest (unit.word w rest f.0 f.2) (word_no_start w rest f.0 f.2 f.3);
 }
@@ -172,9 +189,7 @@ integer_lexed n t rest f =
     let w = decimal n ++ suffix t in
     let is : is_number w ≡ true = digits_number (decimal n) (suffix t) (decimal_is n small).digits (some_decimal n small) (suffix_bytes t) in
     record {
-      class = number;
-      longest = number_longest w rest is f.1;
-      value = ap (λ x. Some x) (sym (integer_back n t f.0));
+      item = λ fresh e. match fresh w rest number (Some (Ok (integer_token n t))) (number_longest w rest is f.1) (ap (λ x. Some x) (sym (integer_back n t f.0)));
       flat = number_flat w is;
       units = one_unit w rest (unit.number w rest is f.1) (number_no_start w rest is);
     }
@@ -215,9 +230,7 @@ string_lexed : (s rest : Text) → each is_byte s ≡ true → Lexed (string_tok
 string_lexed s rest e =
     let c = quote_closes 34 s (omega arith) e in
     record {
-      class = string;
-      longest = quote_longest 34 (quoted_bytes 34 s) rest refl c;
-      value = ap (λ x. Some (string_tok x)) (sym (string_back 34 s e));
+      item = λ fresh k. match fresh (quoted 34 s) rest string (Some (Ok (string_token s))) (quote_longest 34 (quoted_bytes 34 s) rest refl c) (ap (λ x. Some (string_tok x)) (sym (string_back 34 s e)));
       flat = ap (λ n. 0 + n) (quoted_flat 34 s refl e);
       units = one_unit (quoted 34 s) rest (unit.quoted (quoted 34 s) rest c) refl;
     }
@@ -227,15 +240,117 @@ character_lexed c rest h =
     let e = one_byte c h in
     let k = quote_closes 39 (byte_of c ∷ []) (omega arith) e in
     record {
-      class = character;
-      longest = quote_longest 39 (quoted_bytes 39 (byte_of c ∷ [])) rest refl k;
-      value = ap (λ x. Some (character_tok x)) (sym (character_back c h));
+      item = λ fresh f. match fresh (quoted 39 (byte_of c ∷ [])) rest character (Some (Ok (character_token c))) (quote_longest 39 (quoted_bytes 39 (byte_of c ∷ [])) rest refl k) (ap (λ x. Some (character_tok x)) (sym (character_back c h)));
       flat = ap (λ n. 0 + n) (quoted_flat 39 (byte_of c ∷ []) refl e);
       units = one_unit (quoted 39 (byte_of c ∷ [])) rest (unit.quoted (quoted 39 (byte_of c ∷ [])) rest k) refl;
     }
 
 punct_lexed : (p : Punct) (rest : Text) → is_apart p rest ≡ true → Lexed (punct_token p) rest
-punct_lexed p rest h = record { class = punct p; longest = punct_longest p rest h; value = refl; flat = punct_flat p; units = punct_units p rest h }
+punct_lexed p rest h = record { item = λ fresh e. match fresh (punct_text p) rest (punct p) (Some (Ok (punct_token p))) (punct_longest p rest h) refl; flat = punct_flat p; units = punct_units p rest h }
+
+-- ---- `#include` lines
+
+cut_last : (xs ys : Text) (b : ℕ) → xs ++ b ∷ [] ≡ ys ++ b ∷ [] → xs ≡ ys
+cut_last [] [] b e = refl
+cut_last [] (y ∷ []) b e = absurd (cc)
+cut_last [] (y ∷ z ∷ ys) b e = absurd (cc)
+cut_last (x ∷ []) [] b e = absurd (cc)
+cut_last (x ∷ z ∷ xs) [] b e = absurd (cc)
+cut_last (x ∷ xs) (y ∷ ys) b e =
+    let f : xs ++ b ∷ [] ≡ ys ++ b ∷ [] = cc in
+    let g : x ≡ y = cc in
+    λ i. g i ∷ cut_last xs ys b f i
+
+-- a unit before the end of a line, whatever stands on the next
+unit_before : (u x r : Text) → CUnit u (x ++ newline ∷ []) → CUnit u (x ++ newline ∷ r)
+unit_before u [] r (unit.word v s is ends) = unit.word u (newline ∷ r) is ends
+unit_before u (b ∷ x) r (unit.word v s is ends) = unit.word u (b ∷ x ++ newline ∷ r) is ends
+unit_before u [] r (unit.number v s is ends) = unit.number u (newline ∷ r) is ends
+unit_before u (b ∷ x) r (unit.number v s is ends) = unit.number u (b ∷ x ++ newline ∷ r) is ends
+unit_before u x r (unit.block_comment v s is) = unit.block_comment u (x ++ newline ∷ r) is
+unit_before u [] r (unit.line_comment v s is ends) = unit.line_comment u (newline ∷ r) is ends
+unit_before u (b ∷ x) r (unit.line_comment v s is ends) = unit.line_comment u (b ∷ x ++ newline ∷ r) is ends
+unit_before u x r (unit.quoted v s is) = unit.quoted u (x ++ newline ∷ r) is
+unit_before [] x r (unit.single v s is) = absurd (false≢true is)
+unit_before (b ∷ []) [] r (unit.single v s is) = unit.single (b ∷ []) (newline ∷ r) is
+unit_before (b ∷ []) (c ∷ x) r (unit.single v s is) = unit.single (b ∷ []) (c ∷ x ++ newline ∷ r) is
+unit_before (b ∷ c ∷ u) x r (unit.single v s is) = absurd (false≢true is)
+
+units_before : (us : List Text) (r : Text) → CUnits us (newline ∷ []) → CUnits us (newline ∷ r)
+units_before [] r f = tt
+units_before (u ∷ us) r f = (unit_before u (concat us) r f.0, units_before us r f.1)
+
+-- where the line ends, `SQL` begins no later than on it
+same_sql : (x r : Text) → begins_hash r ≡ true → begins_sql (x ++ newline ∷ r) ≡ begins_sql (x ++ newline ∷ [])
+same_sql [] [] h = refl
+same_sql [] (b ∷ r) h = let e : b ≡ 35 = grind (arith, nat_tests) in ap (λ c. same_word (take 3 (skip_blanks (c ∷ r))) (codes "SQL")) e
+same_sql (b ∷ x) r h = go (is_blank b) refl (same_sql x r h)
+  where
+    rest : (x r : Text) → begins_hash r ≡ true → same_word (take 3 (b ∷ x ++ newline ∷ r)) (codes "SQL") ≡ same_word (take 3 (b ∷ x ++ newline ∷ [])) (codes "SQL")
+    rest [] r h = refl
+    rest (c ∷ []) r h = refl
+    rest (c ∷ d ∷ x) r h = refl
+
+    go : (t : Bool) → is_blank b ≡ t → begins_sql (x ++ newline ∷ r) ≡ begins_sql (x ++ newline ∷ [])
+        → same_word (take 3 (elim t [ true ↦ skip_blanks (x ++ newline ∷ r) | false ↦ b ∷ x ++ newline ∷ r ])) (codes "SQL") ≡ same_word (take 3 (elim t [ true ↦ skip_blanks (x ++ newline ∷ []) | false ↦ b ∷ x ++ newline ∷ [] ])) (codes "SQL")
+    go true e more = more
+    go false e more = rest x r h
+
+line_starts_none : (t r : Text) → begins_hash r ≡ true → is_exec_sql (t ++ newline ∷ []) ≡ false → starts_piece (t ++ newline ∷ r) ≡ false
+line_starts_none t r h e = not_true (starts_piece (t ++ newline ∷ r)) (λ s. go t e (starting (t ++ newline ∷ r) s))
+  where
+    go : (t : Text) → is_exec_sql (t ++ newline ∷ []) ≡ false → Starting (t ++ newline ∷ r) → ⊥
+    go [] e s = let k = s.exec in cc
+    go (a ∷ []) e s = let k = s.exec in cc
+    go (a ∷ b ∷ []) e s = let k = s.exec in cc
+    go (a ∷ b ∷ c ∷ []) e s = let k = s.exec in cc
+    go (a ∷ b ∷ c ∷ d ∷ x) e s = false≢true (sym e ∙ (λ i. same (a ∷ b ∷ c ∷ d ∷ []) s.exec i && (sym (same_sql x r h) ∙ s.sql) i))
+      where
+        same : (w : Text) → map lower w ≡ codes "exec" → same_word w (codes "EXEC") ≡ true
+        same w e = ap (λ v. same_text v (codes "exec")) e
+
+no_piece_from : (v t r : Text) → begins_hash r ≡ true → has_no_exec_sql (v ++ t) ≡ true → has_no_exec_sql t ≡ true
+no_piece_from [] t r h e = e
+no_piece_from (b ∷ v) t r h e = no_piece_from v t r h ((both (not (is_exec_sql (b ∷ (v ++ t) ++ newline ∷ []))) (has_no_exec_sql (v ++ t)) e).1)
+
+none_in_line : (us : List Text) (r : Text) → begins_hash r ≡ true → CUnits us (newline ∷ []) → has_no_exec_sql (concat us) ≡ true → NoneStarts us (newline ∷ r)
+none_in_line [] r h f e = tt
+none_in_line (u ∷ us) r h f e = (here (u ++ concat us) e, none_in_line us r h f.1 (no_piece_from u (concat us) r h e))
+  where
+    here : (t : Text) → has_no_exec_sql t ≡ true → starts_piece (t ++ newline ∷ r) ≡ false
+    here [] e = refl
+    here (b ∷ t) e = line_starts_none (b ∷ t) r h (turn_not (is_exec_sql (b ∷ t ++ newline ∷ [])) (both (not (is_exec_sql (b ∷ t ++ newline ∷ []))) (has_no_exec_sql t) e).0)
+
+include_lexed : (bytes rest : Text) → FitsToken (include_token bytes) rest → Lexed (include_token bytes) rest
+include_lexed bytes [] f = absurd (false≢true f.1)
+include_lexed bytes (b ∷ r) f =
+    let k = both (begins_with (codes "#include") bytes) (each is_not_newline bytes && (has_no_exec_sql bytes && is_line_end (include_behind (bytes ++ newline ∷ [])))) f.0 in
+    let j = both (each is_not_newline bytes) (has_no_exec_sql bytes && is_line_end (include_behind (bytes ++ newline ∷ []))) k.1 in
+    let l = both (has_no_exec_sql bytes) (is_line_end (include_behind (bytes ++ newline ∷ []))) j.1 in
+    let m = both (b == newline) (begins_hash r) f.1 in
+    let e : b ≡ newline = let n = m.0 in grind (arith, nat_tests) in
+    subst (λ c. Lexed (include_token bytes) (c ∷ r)) (sym e) (go (include_behind (bytes ++ newline ∷ [])) refl l.1 k.0 j.0 l.0 m.1)
+  where
+    go : (o : Option Text) → include_behind (bytes ++ newline ∷ []) ≡ o → is_line_end o ≡ true → begins_with (codes "#include") bytes ≡ true → each is_not_newline bytes ≡ true → has_no_exec_sql bytes ≡ true → begins_hash r ≡ true
+        → Lexed (include_token bytes) (newline ∷ r)
+    go None g h a n s d = absurd (false≢true h)
+    go (Some rest) g h a n s d =
+        let same : rest ≡ newline ∷ [] = same_text_is rest (newline ∷ []) h in
+        let tail : IncludeTail (bytes ++ newline ∷ []) (newline ∷ []) = subst (IncludeTail (bytes ++ newline ∷ [])) same (include_sound (suc (length (bytes ++ newline ∷ []))) (bytes ++ newline ∷ []) rest g) in
+        let whole : bytes ≡ concat tail.units = cut_last bytes (concat tail.units) newline tail.whole in
+        record {
+          item = λ fresh e. include fresh bytes (newline ∷ r) (e refl) (record { units = tail.units; whole = whole; free = units_before tail.units r tail.free; begin = a; inside = tail.inside; ends = refl });
+          flat = each_flat is_not_newline plain bytes n;
+          units = record {
+            units = tail.units;
+            are = sym whole;
+            free = units_before tail.units r tail.free;
+            none = none_in_line tail.units r d tail.free (subst (λ t. has_no_exec_sql t ≡ true) whole s);
+          };
+        }
+      where
+        plain : (b : ℕ) → is_not_newline b ≡ true → (b == newline) ≡ false
+        plain b h = turn_not (b == newline) h
 
 pub token_lexed : (t : TokData) (rest : Text) → FitsToken t rest → Lexed t rest
 token_lexed (word_token w) rest f = word_lexed w rest f
@@ -243,7 +358,7 @@ token_lexed (integer_token n t) rest f = integer_lexed n t rest f
 token_lexed (character_token c) rest f = character_lexed c rest f
 token_lexed (string_token s) rest f = string_lexed s rest f
 token_lexed (punct_token p) rest f = punct_lexed p rest f
-token_lexed (include_token bytes) rest f = absurd f
+token_lexed (include_token bytes) rest f = include_lexed bytes rest f
 token_lexed (emb_token n b) rest f = absurd f
 token_lexed section_start rest f = absurd f
 token_lexed section_end rest f = absurd f

@@ -21,13 +21,14 @@ use Rattle.ec_language.proofs.Ends.{both}
 use Rattle.ec_writing.specs.Chunks.{Chunk, the, blank, line_end, line_mark, Chunks, token_text, chunk_text, text_of, At, behind, behind_all, place_token, tokens_from}
 use Rattle.ec_readback.proofs.Numbers.{decimal_is}
 use Rattle.ec_readback.proofs.Marks.{UnitsOf, one_unit, more_units, solo, no_units, no_start}
-use Rattle.ec_readback.proofs.Lexing.{FitsToken, token_lexed}
+use Rattle.ec_readback.proofs.Lexing.{is_first, FitsToken, token_lexed}
 
 -- ---- chunks that stand apart
 
--- a line with a number stands here, which has to be first on its line
+-- a line stands here that begins with `#`, which has to be first on its line
 abbrev pub begins_line : Chunks → Bool
 begins_line (line_mark n ∷ cs) = true
+begins_line (the x ∷ cs) = is_first x
 begins_line _ = false
 
 -- the next token is a string, which would be joined with one before it
@@ -103,7 +104,7 @@ parts_all (line_mark n ∷ cs) f at fresh h =
 parts_all (the x ∷ cs) f at fresh h =
     let l = token_lexed x (text_of cs) f.0.0 in
     item_parts at.line at.line fresh (token_text x) (text_of cs) (Some (Ok x)) counted (parts_from (behind at (the x)) cs) _
-    (t.match fresh (token_text x) (text_of cs) l.class (Some (Ok x)) l.longest l.value) (omega (arith, l.flat))
+    (l.item fresh h) (omega (arith, l.flat))
     (parts_all cs f.1 (behind at (the x)) (is_fresh_after fresh (token_text x)) (λ e. absurd (false≢true (sym f.0.1 ∙ e))))
 
 -- ---- their units

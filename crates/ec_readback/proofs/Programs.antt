@@ -6,7 +6,7 @@ use Rattle.ec_ctypes.specs.declared.text.token.Punct.TheVariants as p
 use Rattle.ec_ctypes.specs.trees.Exprs.{BaseData, words, DimList, no_dims, declarator, DeclaratorList, no_declarators, declarators, DeclData, decl}
 use Rattle.ec_ctypes.specs.trees.Stmts.{StmtList}
 use Rattle.ec_ctypes.specs.trees.Units.{ParamData, FuncData, TopData, include_top, directive_top, decl_top, func_top, mark_top, UnitData}
-use Rattle.ec_ctypes.specs.trees.Tokens.{word_token, punct_token, end_token, TokenData}
+use Rattle.ec_ctypes.specs.trees.Tokens.{word_token, punct_token, include_token, end_token, TokenData}
 use Rattle.ec_language.specs.Letters.{Text}
 use Rattle.ec_language.specs.Productions.{is, Start, start_of, BehindName, object, without_void, line_of, Placed}
 use Rattle.ec_language.specs.Productions as g
@@ -153,7 +153,7 @@ decl_top_written (decl b ds section line) h = let o = on_line line.0 (decl b ds 
 top_written : (t : TopData) → is_written_top t ≡ true → TopWritten t
 top_written (decl_top d) h = decl_top_written d (both (is_line (line_of d).0) (is_written_decl (line_of d).0 d) h).1
 top_written (func_top f) h = func_written f h
-top_written (include_top s) h = absurd (false≢true h)
+top_written (include_top s) h = λ i. settled (made _ here (token (include_token s) refl (λ at. refl) (new_line done)) (λ at. refl))
 top_written (directive_top n) h = absurd (false≢true h)
 top_written (mark_top b l) h = absurd (false≢true h)
 

@@ -1,26 +1,26 @@
 -- What the chunks of a tree begin with: a token, so that no line `#line` stands there and the tree knows where it starts.
 use Rattle.std.proofs.Common.{◌≡◌, ℕ, zero, suc, Bool, true, false, [], ◌∷◌, ◌++◌, refl, ap, ◌∙◌, Some, None, append_assoc}
-use Rattle.std.specs.Prelude.{nat_lt}
+use Rattle.std.specs.Prelude.{not, nat_lt}
 use Rattle.std.proofs.lemmas.Bool.{false≢true}
 use Rattle.ec_ctypes.specs.declared.text.token.Punct.TheVariants as p
 use Rattle.ec_ctypes.specs.trees.Exprs.{ExprData, integer, character, string, identifier, unary, binary, assign, bump, call, call_other, index, member, arrow, cast, size_type, size_expr, BaseData, words, varchar, tagged, struct_base, InitData, one, many, DeclaratorData, declarator}
-use Rattle.ec_ctypes.specs.trees.Tokens.{word_token}
 use Rattle.ec_language.specs.Letters.{Text}
 use Rattle.ec_language.specs.Productions.{or_rank, Start, start_of}
 use Rattle.ec_writing.specs.Chunks.{the, blank, line_end, line_mark, Chunks, At, tokens_from}
 use Rattle.ec_writing.specs.Expressions.{Level, ranked, postfixed, height, tighter, rank_of, level, binary_mark, assign_mark, bump_mark, mark, word, in_parens, at_place, before_dot, star_chunks, bumped_chunks, expr_chunks, list_chunks, base_chunks, dims_chunks, init_chunks, initializer_chunks, declarator_chunks}
 use Rattle.ec_writing.specs.Shapes.{is_written_base}
+use Rattle.ec_language.proofs.Classes.{turn_not}
+use Rattle.ec_readback.proofs.Lexing.{is_first}
 use Rattle.ec_readback.proofs.Parts.{begins_line}
 
--- a token stands here
+-- a token stands here that needn't be first on its line
 abbrev pub begins_token : Chunks → Bool
-begins_token (the x ∷ cs) = true
+begins_token (the x ∷ cs) = not (is_first x)
 begins_token _ = false
 
 pub no_line : (cs : Chunks) → begins_token cs ≡ true → begins_line cs ≡ false
 no_line [] h = refl
-no_line (the (word_token w) ∷ cs) h = refl
-no_line (the _ ∷ cs) h = refl
+no_line (the x ∷ cs) h = turn_not (is_first x) h
 no_line (blank ∷ cs) h = refl
 no_line (line_end ∷ cs) h = refl
 no_line (line_mark n ∷ cs) h = absurd (false≢true h)

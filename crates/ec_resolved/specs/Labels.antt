@@ -1,6 +1,6 @@
 -- Whether a label stands in a statement, however deep (6.8.1).
 use Rattle.std.specs.Prelude.{ℕ, Bool, false, ◌||◌, nat_eq}
-use Rattle.ec_resolved.specs.Trees.{Stm, on_line, nothing, evaluate, declare, initialize, block, choose, loop, leave, next, return, goto, label, atom, Stms, no_stms, stms}
+use Rattle.ec_resolved.specs.Resolved.{Stm, on_line, nothing, evaluate, declare, initialize, block, choose, loop, leave, next, return, goto, label, embedded_statement, Stms, no_stms, stms}
 
 abbrev mutual
   pub holds : ℕ → Stm → Bool
@@ -17,7 +17,7 @@ abbrev mutual
   holds l (return e) = false
   holds l (goto m) = false
   holds l (label m s) = nat_eq m l || holds l s
-  holds l (atom a) = false
+  holds l (embedded_statement n) = false
 
   pub holds_any : ℕ → Stms → Bool
   holds_any l no_stms = false

@@ -1,5 +1,5 @@
 pub mod Labels
-pub mod Operations
 pub mod OperationExamples
+pub mod Operations
 pub mod Programs
-pub mod Trees
+pub mod Resolved

@@ -2,7 +2,7 @@
 use Rattle.std.specs.Prelude.{ℕ, ◌∷◌, [], ◌++◌, List, map, replicate, Option, codes}
 use Rattle.ec_objects.specs.Cells.{written}
 use Rattle.ec_objects.specs.Memory.{ScalarType, ValueData, little_endian_bytes}
-use Rattle.ec_resolved.specs.Trees.{Stms}
+use Rattle.ec_resolved.specs.Resolved.{Stms}
 
 -- a function: the types of its parameters, the sizes of the objects of its body's block, its body, and what a call gives where the body ends without `return`. Only `main` has that (5.1.2.2.3)
 pub record Function : Type 0 where

@@ -6,7 +6,7 @@ ghost use Rattle.ec_objects.specs.Cells.{part_of};
 ghost use Rattle.ec_objects.specs.Memory.{number, little_endian};
 ghost use Rattle.ec_resolved.specs.Labels.{holds};
 ghost use Rattle.ec_resolved.specs.Programs.{sqlca_bytes, global_bytes, literal_bytes, opening_objects};
-ghost use Rattle.ec_resolved.specs.Trees.{constant, on_line, nothing, block, choose, loop, goto, label, atom, embedded, no_stms, stms};
+ghost use Rattle.ec_resolved.specs.Resolved.{constant, on_line, nothing, block, choose, loop, goto, label, embedded_statement, no_stms, stms};
 
 /// Object 1 is `sqlca` with its opening values, then come the globals, then the string literals.
 pub fn opening_examples()
@@ -46,5 +46,5 @@ pub fn label_examples()
     ensures in_loop { holds 3 (loop false None None (block [] (stms nothing (stms (label 3
         nothing) no_stms))))
         ≡ true }
-    ensures in_atom { holds 3 (atom (embedded 3)) ≡ false }
+    ensures in_embedded_statement { holds 3 (embedded_statement 3) ≡ false }
 {}

@@ -11,8 +11,8 @@ use ec_link::Rack;
 use std::alloc::Global;
 use std::{mem, str};
 
-/// The most slots of a row.
-const MOST_SLOTS: usize = 64;
+/// The most slots of a row: one more than the tool takes.
+const MOST_SLOTS: usize = 65;
 
 // The words of a line, as a call is given them.
 fn words(alloc: Global, line: &[u8]) -> Result<Vec<String>, Stop> {

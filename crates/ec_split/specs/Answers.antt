@@ -27,12 +27,15 @@ refused kind line = Refused kind (record { 0 = line })
 
 -- Where a text has pieces, the answer is these.
 abbrev pub FindsAllPieces : Text → Result (List Piece) Stop → Type 0
-FindsAllPieces text answer = (pieces : List Piece) → Pieces text pieces → UnlessNoMemory answer (answer ≡ Ok pieces)
+FindsAllPieces text answer =
+    (pieces : List Piece) → Pieces text pieces → UnlessNoMemory answer (answer ≡ Ok pieces)
 
 -- A fault that is answered is that of the text.
 abbrev pub FindsFault : Text → Result (List Piece) Stop → Type 0
-FindsFault text answer = (kind : FaultKind) (line : ℕ) → answer ≡ Err (refused kind line) → PieceFault text kind line
+FindsFault text answer = (kind : FaultKind) (line : ℕ)
+    → answer ≡ Err (refused kind line) → PieceFault text kind line
 
 -- Where a text has a fault, the answer is this.
 abbrev pub FindsAllFaults : Text → Result (List Piece) Stop → Type 0
-FindsAllFaults text answer = (kind : FaultKind) (line : ℕ) → PieceFault text kind line → UnlessNoMemory answer (answer ≡ Err (refused kind line))
+FindsAllFaults text answer = (kind : FaultKind) (line : ℕ)
+    → PieceFault text kind line → UnlessNoMemory answer (answer ≡ Err (refused kind line))

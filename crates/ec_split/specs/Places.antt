@@ -51,14 +51,19 @@ FoundWithin from text (Whole kind end) = (from ≤ end) × (end ≤ length text)
 FoundWithin from text (CutAt at) = (from ≤ at) × (at ≤ length text)
 FoundWithin from text Unended = ⊤
 
+-- the text from an index on, up to another
+abbrev pub between : Text → ℕ → ℕ → Text
+between text from at = front (drop from text) (drop at text)
+
 -- the piece that stands from an index on, on its line, or the fault
 abbrev pub part_read : Text → ℕ → ℕ → Result Extent Fault → Read
-part_read text from line (Ok part) = Ok (piece_of part.kind (front (drop from text) (drop part.end text)) line, drop part.end text)
+part_read text from line (Ok part) =
+    Ok (piece_of part.kind (between text from part.end) line, drop part.end text)
 part_read text from line (Err fault) = Err (fault.kind, fault.line.0)
 
 -- how many newlines stand between two indices
 abbrev pub lines_between : Text → ℕ → ℕ → ℕ
-lines_between text from at = newlines (front (drop from text) (drop at text))
+lines_between text from at = newlines (between text from at)
 
 -- whether C text ends here
 abbrev pub ends_c_text : Text → Bool
@@ -70,7 +75,8 @@ c_piece line text = read.c_piece line text (read.c_stop text)
 
 -- the embedded piece that stands from an index on, behind whose `EXEC SQL` the other stands
 abbrev pub embedded_piece : Text → ℕ → ℕ → ℕ → Read
-embedded_piece text from line behind = read.embedded_piece line (drop from text) (read.embedded (drop behind text))
+embedded_piece text from line behind =
+    read.embedded_piece line (drop from text) (read.embedded (drop behind text))
 
 -- whether these words and a `;` stand behind a word that was found
 abbrev pub words_behind : List Text → Text → Option ℕ → Bool
@@ -79,7 +85,8 @@ words_behind words text (Some end) = read.begins_words words (drop end text)
 
 -- The answer is the index behind this word, blanks and comments before it aside, if it stands there.
 abbrev pub FindsWord : Text → ℕ → Text → Option ℕ → Type 0
-FindsWord text from word answer = (words : List Text) → words_behind words text answer ≡ read.begins_words (word ∷ words) (drop from text)
+FindsWord text from word answer = (words : List Text)
+    → words_behind words text answer ≡ read.begins_words (word ∷ words) (drop from text)
 
 -- the unit that a text begins with, if one is passed, and the text behind it
 abbrev pub word_before : Text → Behind → Text

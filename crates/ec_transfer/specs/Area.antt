@@ -3,7 +3,7 @@ use Rattle.std.specs.Prelude.{◌≡◌, ℕ, zero, suc, ◌-◌, ℤ, pos, List
 use Rattle.std.specs.Fmt.{decimal}
 use Rattle.ec_ctypes.specs.declared.types.arith.Arith.TheVariants.{Int, Long}
 use Rattle.ec_objects.specs.Cells.{written, set_cells}
-use Rattle.ec_objects.specs.Memory.{Memory, alive, ended, little_endian_bytes}
+use Rattle.ec_objects.specs.Memory.{Memory, alive, ended}
 use Rattle.ec_transfer.specs.Conversion.{integer_bytes}
 
 -- the first object is the area: it is alive, with 256 cells
@@ -53,8 +53,8 @@ sqlerrp = at 180
 abbrev pub sqlerrd : List ℕ → Member
 sqlerrd = at 192
 
-abbrev pub sqlerrd_2 : List ℕ → Member
-sqlerrd_2 = at 208
+abbrev pub sqlerrd_2 : ℤ → Member
+sqlerrd_2 z = at 208 (integer_bytes Long z)
 
 abbrev pub sqlwarn : List ℕ → Member
 sqlwarn = at 240
@@ -111,6 +111,6 @@ area_warned m = with_members m (sqlwarn (codes "WW") ∷ [])
 abbrev pub area_noticed : Memory → Memory
 area_noticed m = with_members m (at 240 (codes "W") ∷ at 242 (codes "W") ∷ [])
 
--- behind a number of rows, of which sqlerrd[2] takes the low 64 bits
+-- behind a number of rows, which sqlerrd[2] takes as a long, by its low 64 bits
 abbrev pub area_counted : Memory → ℕ → Memory
-area_counted m rows = with_members m (sqlerrd_2 (little_endian_bytes 8 rows) ∷ [])
+area_counted m rows = with_members m (sqlerrd_2 (pos rows) ∷ [])

@@ -27,18 +27,26 @@ abbrev pub counted_text : Memory → ℕ → ℕ → ℤ → Result (List ℕ) T
 counted_text m p n len =
     if int_le (pos 0) len && int_le len (pos n) then and_then (moved m p (pos 4) 1) (λ q. text_up_to m q (unsigned_abs len)) else Err BadLen
 
+-- the number of an integer type at a pointer
+abbrev pub number_at : Memory → ℕ → Arith → Result ℤ Trap
+number_at m p t = and_then (load m p (integer_type t)) (λ v. Ok (number_of v))
+
+-- the pointer at a pointer
+abbrev pub address_at : Memory → ℕ → Result ℕ Trap
+address_at m p = and_then (load m p pointer_type) (λ v. Ok (unsigned_abs (number_of v)))
+
 -- the text of the element at a pointer
 abbrev pub element_text : Memory → ℕ → Holding → Result (List ℕ) Trap
-element_text m p (integer t) = and_then (load m p (integer_type t)) (λ v. Ok (signed_decimal (number_of v)))
-element_text m p truth = and_then (load m p (integer_type Boolean)) (λ v. Ok (truth_text (number_of v)))
+element_text m p (integer t) = and_then (number_at m p t) (λ z. Ok (signed_decimal z))
+element_text m p truth = and_then (number_at m p Boolean) (λ z. Ok (truth_text z))
 element_text m p (characters n) = text_up_to m p n
-element_text m p pointed = and_then (load m p pointer_type) (λ v. text_at m (unsigned_abs (number_of v)))
-element_text m p (counted n) = and_then (load m p (integer_type Int)) (λ v. counted_text m p n (number_of v))
+element_text m p pointed = and_then (address_at m p) (λ q. text_at m q)
+element_text m p (counted n) = and_then (number_at m p Int) (λ z. counted_text m p n z)
 
 -- whether the indicator, if there is one, says that the value is NULL: it is negative
 abbrev pub is_null : Memory → Option IndicatorData → Result Bool Trap
 is_null m None = Ok false
-is_null m (Some i) = and_then (load m i.place (integer_type i.kind)) (λ v. Ok (int_lt (number_of v) (pos 0)))
+is_null m (Some i) = and_then (number_at m i.place i.kind) (λ z. Ok (int_lt z (pos 0)))
 
 -- the parameter that a host of one element gives: none for NULL. The indicator is read first, and no value where it says NULL
 abbrev pub parameter : Memory → HostData → Result (Option (List ℕ)) Trap
@@ -93,7 +101,7 @@ is_cut _ field = false
 
 -- where the bytes of an element are: what a char pointer leads to, and else the element itself
 abbrev pub bytes_place : Memory → ℕ → Holding → Result ℕ Trap
-bytes_place m p pointed = and_then (load m p pointer_type) (λ v. Ok (unsigned_abs (number_of v)))
+bytes_place m p pointed = address_at m p
 bytes_place m p _ = Ok p
 
 -- the memory with these bytes in the element of a row, the first being 0

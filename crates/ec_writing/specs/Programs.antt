@@ -8,7 +8,7 @@ use Rattle.ec_ctypes.specs.trees.Units.{ParamData, FuncData, TopData, include_to
 use Rattle.ec_language.specs.Letters.{Text}
 use Rattle.ec_language.specs.Productions.{line_of}
 use Rattle.ec_writing.specs.Chunks.{Chunk, the, blank, line_end, line_mark, Chunks, text_of, line_behind}
-use Rattle.ec_writing.specs.Expressions.{mark, word, in_parens, star_chunks, base_chunks, dims_chunks, decl_chunks, expr_chunks}
+use Rattle.ec_writing.specs.Expressions.{mark, word, in_parens, star_chunks, stars_behind, base_chunks, dims_chunks, decl_chunks, expr_chunks}
 
 -- ---- statements
 
@@ -61,9 +61,8 @@ block_chunks ss = mark p.LeftBrace ∷ line_end ∷ items_chunks ss ++ mark p.Ri
 
 -- stars stand directly before the name, with one blank before the first
 abbrev pub param_name : ℕ → Option Text → Chunks
-param_name zero None = []
-param_name (suc n) None = blank ∷ star_chunks (suc n)
-param_name n (Some x) = blank ∷ star_chunks n ++ word x ∷ []
+param_name stars None = stars_behind stars
+param_name stars (Some x) = blank ∷ star_chunks stars ++ word x ∷ []
 
 abbrev pub param_chunks : ParamData → Chunks
 param_chunks q = base_chunks q.base ++ (param_name q.stars q.name ++ dims_chunks q.dims)
@@ -77,10 +76,12 @@ some_params_chunks [] = []
 some_params_chunks (q ∷ qs) = param_chunks q ++ more_params_chunks qs
 
 -- a function without parameters has `(void)`
+abbrev pub params_inside : List ParamData → Chunks
+params_inside [] = word (codes "void") ∷ []
+params_inside (q ∷ qs) = some_params_chunks (q ∷ qs)
+
 abbrev pub params_chunks : List ParamData → Chunks
-params_chunks [] = mark p.LeftParen ∷ word (codes "void") ∷ mark p.RightParen ∷ []
-params_chunks (q ∷ qs) =
-    mark p.LeftParen ∷ some_params_chunks (q ∷ qs) ++ mark p.RightParen ∷ []
+params_chunks qs = mark p.LeftParen ∷ params_inside qs ++ mark p.RightParen ∷ []
 
 abbrev pub body_chunks : Option StmtList → Chunks
 body_chunks None = mark p.Semicolon ∷ []

@@ -4,7 +4,7 @@ ghost use Rattle.std.specs.Prelude.{◌≡◌, true, false, negsuc, pos, [], ◌
 ghost use Rattle.ec_ctypes.specs.declared.types.arith.Arith.TheVariants.{UInt, Long, ULong, LLong, ULLong};
 ghost use Rattle.ec_ctypes.specs.declared.tree.expr.UnOp.TheVariants as un;
 ghost use Rattle.ec_ctypes.specs.declared.tree.expr.BinOp.TheVariants as bin;
-ghost use Rattle.ec_ctypes.specs.trees.Exprs.{character, string, assign, bump, binary, unary, call, index, member, arrow, cast, size_type, size_expr, no_exprs, words, tagged, struct_base, varchar, open_dim, dim, no_dims, dims, one, many, no_inits, inits, some_init, no_init, declarator, no_declarators, declarators, decl, no_decls};
+ghost use Rattle.ec_ctypes.specs.trees.Exprs.{character, string, assign, bump, binary, unary, call, call_other, index, member, arrow, cast, size_type, size_expr, no_exprs, words, tagged, struct_base, varchar, open_dim, dim, no_dims, dims, one, many, no_inits, inits, some_init, no_init, declarator, no_declarators, declarators, decl, no_decls};
 ghost use Rattle.ec_ctypes.specs.trees.Stmts.{empty_stmt, expr_stmt, block_stmt, if_stmt, while_stmt, do_stmt, for_stmt, break_stmt, continue_stmt, return_stmt, goto_stmt, label_stmt, decl_stmt, no_stmt, some_stmt};
 ghost use Rattle.ec_ctypes.specs.trees.Units.{include_top, decl_top, UnitData};
 ghost use Rattle.ec_writing.specs.Examples.{expr_text, decl_text, stmt_text, top_text, int, typed, var, a, b, c, minus, sum, product, difference, on, int_words, one_item, declared, named, two_members, pair, at, list, arguments, function, param, example};
@@ -27,6 +27,7 @@ pub fn expression_examples()
     ensures bumps { expr_text (sum (sum (bump true true a) (bump true false a))
         (sum (bump false true a) (bump false false a))) ≡ codes "++a + --a + (a++ + a--)" }
     ensures no_arguments { expr_text (call (codes "f") no_exprs) ≡ codes "f()" }
+    ensures called { expr_text (call_other (index a (int 0)) (arguments (b ∷ []))) ≡ codes "a[0](b)" }
     ensures parts { expr_text (arrow (member (index a (sum b c)) (codes "m")) (codes "n"))
         ≡ codes "a[b + c].m->n" }
     ensures casts { expr_text (cast int_words 1 a) ≡ codes "(int *)a" }
@@ -194,6 +195,11 @@ pub fn shape_examples()
     } ∷ []) None) ≡ false }
     ensures no_line { is_written_top (decl_top (decl int_words no_declarators false (on 0)))
         ≡ false }
+    ensures include { is_written_top (include_top (codes "#include <a.h>")) ≡ true }
+    ensures comment { is_written_top (include_top (codes "#include <a.h> // a")) ≡ false }
+    ensures embedded { is_written_top (include_top (codes "#include <a> EXEC SQL")) ≡ false }
+    ensures callee { is_written_expr 7 (call_other (member a (codes "m")) no_exprs) ≡ true }
+    ensures called_name { is_written_expr 7 (call_other a no_exprs) ≡ false }
     ensures section { is_written_top (decl_top (decl int_words no_declarators true (on 7)))
         ≡ false }
 {}

@@ -6,6 +6,7 @@ use ec_cli::{Ending, LinkSpec, ec_main, links_named, status};
 use ec_link::Rack;
 use ec_sqlitelink::SqliteLink;
 use std::env;
+use std::io::{BufWriter, Stdout};
 use std::process::ExitCode;
 
 /// So many slots are more than the tool takes, so no link beyond them is made.
@@ -40,6 +41,14 @@ fn target(spec: &LinkSpec) -> Result<(Name, bool), OutOfMemory> {
     }
 }
 
+// Standard output behind a buffer, so that many small pieces are few writes. The tool flushes it.
+fn output(rt: &HostRuntime) -> Result<StdSink<BufWriter<Stdout>>, OutOfMemory> {
+    match BufWriter::new(rt.alloc(), rt.stdout()) {
+        Ok(buffered) => Ok(StdSink::new(buffered)),
+        Err(_) => Err(OutOfMemory),
+    }
+}
+
 // Runs the tool over the links that the words name.
 fn run(rt: &HostRuntime) -> Result<Ending, OutOfMemory> {
     let words = words(rt)?;
@@ -62,7 +71,7 @@ fn run(rt: &HostRuntime) -> Result<Ending, OutOfMemory> {
         }
     }
     let mut input = StdSource::new(rt.stdin());
-    let mut out = StdSink::new(rt.stdout());
+    let mut out = output(rt)?;
     let mut err = StdSink::new(rt.stderr());
     Ok(ec_main(
         rt.alloc(),

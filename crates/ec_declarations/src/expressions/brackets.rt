@@ -12,7 +12,7 @@ ghost use Rattle.ec_declarations.specs.States.{Reading, within};
 use crate::counts::Counted;
 use crate::cursor::Cursor;
 use crate::expressions::Expressions;
-use crate::lists::list_of;
+use crate::lists::{list_of, separated};
 use crate::parts::Subexpression;
 use crate::starts::begins_expression;
 use ec_base::{List, beside};
@@ -70,7 +70,7 @@ impl<
     fn more_arguments(
         &self,
         cursor: &mut Cursor<'_>,
-        mut found: List<Expr>,
+        found: List<Expr>,
     ) -> Result<List<Expr>, Failure>
         requires subexpressions { SubexpressionsNest E.pre E.post self.now }
         requires nests { 0 < self.now.levels }
@@ -78,14 +78,11 @@ impl<
             (within (self.now.levels - 1) spec.more_arguments (each_expr found))
             cursor.old result cursor.new }
     {
-        for _turn in 0..cursor.left() {
-            if !cursor.sees(Kind::Mark(Punct::Comma)) {
-                return Ok(found);
-            }
-            cursor.expect(Kind::Mark(Punct::Comma))?;
-            found.push(self.argument(cursor)?)?;
-        }
-        Ok(found)
+        separated(
+            cursor,
+            found,
+            |cursor: &mut Cursor<'_>| self.argument(cursor),
+        )
     }
 
     /// The arguments of a call, which may be none.

@@ -9,15 +9,9 @@ pub loop-turn-init : goal.loop-turn-init
 unfolding constants
 loop-turn-init c = first_of (search rules, grind (arith, common_steps))
 
-pub returns-then-not-sees : goal.returns-then-not-sees
+pub returns-then-not-eat : goal.returns-then-not-eat
 unfolding constants_from
-returns-then-not-sees c =
-    let e = one_more (λ n. constants_from n (seen c.loop-turn.cursor)) _ c.loop-turn._turn c.loop-turn-test.true c.loop-turn.invariant in
-    first_of (search rules, grind (arith, common_steps))
-
-pub returns-in_err-expect : goal.returns-in_err-expect
-unfolding constants_from
-returns-in_err-expect c =
+returns-then-not-eat c =
     let e = one_more (λ n. constants_from n (seen c.loop-turn.cursor)) _ c.loop-turn._turn c.loop-turn-test.true c.loop-turn.invariant in
     first_of (search rules, grind (arith, common_steps))
 

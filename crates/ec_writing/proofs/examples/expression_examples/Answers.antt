@@ -5,3 +5,7 @@ use Rattle.ec_writing.proofs.examples.expression_examples.Goals as goal
 pub returns-clause-suffixes : goal.returns-clause-suffixes
 unfolding digits
 returns-clause-suffixes c = refl
+
+pub returns-clause-called : goal.returns-clause-called
+unfolding digits
+returns-clause-called c = refl

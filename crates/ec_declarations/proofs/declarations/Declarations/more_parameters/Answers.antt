@@ -1,42 +1,10 @@
-use Rattle.std.proofs.Common.{rules, arith}
-use Rattle.std.proofs.lemmas.Grind.{common_steps}
-use Rattle.ec_grammar.specs.ReadDeclarations.{more_parameters, more_parameters_from, nested}
+use Rattle.std.proofs.Common.{rules}
+use Rattle.ec_grammar.specs.Input.{own}
+use Rattle.ec_grammar.specs.ReadDeclarations.{nested, parameter}
 use Rattle.ec_language.specs.Syntax.{limits}
-use Rattle.ec_declarations.specs.Parts.{each_param}
-use Rattle.ec_declarations.specs.States.{seen}
-use Rattle.ec_declarations.proofs.Turns.{one_more, no_more}
 use Rattle.ec_declarations.proofs.declarations.Declarations.more_parameters.Goals as goal
 
-pub loop-turn-init : goal.loop-turn-init
-unfolding more_parameters
-loop-turn-init g c = first_of (search rules, grind (arith, common_steps))
-
-pub returns-then-not-sees : goal.returns-then-not-sees
-unfolding more_parameters_from
-returns-then-not-sees g c =
-    let e = one_more (λ n. more_parameters_from limits (nested limits c.args.self.now.declarators.expressions.levels) n (each_param c.loop-turn.found) (seen c.loop-turn.cursor)) _ c.loop-turn._turn c.loop-turn-test.true c.loop-turn.invariant in
-    first_of (search rules, grind (arith, common_steps))
-
-pub returns-in_err-expect : goal.returns-in_err-expect
-unfolding more_parameters_from
-returns-in_err-expect g c =
-    let e = one_more (λ n. more_parameters_from limits (nested limits c.args.self.now.declarators.expressions.levels) n (each_param c.loop-turn.found) (seen c.loop-turn.cursor)) _ c.loop-turn._turn c.loop-turn-test.true c.loop-turn.invariant in
-    first_of (search rules, grind (arith, common_steps))
-
-pub returns-in_err-parameter : goal.returns-in_err-parameter
-unfolding more_parameters_from
-returns-in_err-parameter g c =
-    let e = one_more (λ n. more_parameters_from limits (nested limits c.args.self.now.declarators.expressions.levels) n (each_param c.loop-turn.found) (seen c.loop-turn.cursor)) _ c.loop-turn._turn c.loop-turn-test.true c.loop-turn.invariant in
-    first_of (search rules, grind (arith, common_steps))
-
-pub loop-turn-preserved : goal.loop-turn-preserved
-unfolding more_parameters_from
-loop-turn-preserved g c =
-    let e = one_more (λ n. more_parameters_from limits (nested limits c.args.self.now.declarators.expressions.levels) n (each_param c.loop-turn.found) (seen c.loop-turn.cursor)) _ c.loop-turn._turn c.loop-turn-test.true c.loop-turn.invariant in
-    first_of (search rules, grind (arith, common_steps))
-
 pub returns : goal.returns
-unfolding more_parameters_from
 returns g c =
-    let e = no_more (λ n. more_parameters_from limits (nested limits c.args.self.now.declarators.expressions.levels) n (each_param c.loop-turn.found) (seen c.loop-turn.cursor)) _ c.loop-turn._turn c.loop-turn-test.false c.loop-turn.invariant in
-    first_of (search rules, grind (arith, common_steps))
+    c.separated.ensures (own (parameter limits (nested limits c.args.self.now.declarators.expressions.levels)))
+    (record { reads = λ old new r read. search rules })

@@ -1,43 +1,10 @@
-use Rattle.std.proofs.Common.{rules, ◌-◌, arith}
-use Rattle.std.proofs.lemmas.Grind.{common_steps}
+use Rattle.std.proofs.Common.{◌-◌, rules}
 use Rattle.ec_grammar.specs.ReadDeclarations.{nested}
-use Rattle.ec_grammar.specs.ReadExpressions.{more_arguments, more_arguments_from}
+use Rattle.ec_grammar.specs.ReadExpressions.{expression}
 use Rattle.ec_language.specs.Syntax.{limits}
-use Rattle.ec_declarations.specs.Parts.{each_expr}
-use Rattle.ec_declarations.specs.States.{seen}
-use Rattle.ec_declarations.proofs.Turns.{one_more, no_more}
 use Rattle.ec_declarations.proofs.expressions.Expressions.more_arguments.Goals as goal
 
-pub loop-turn-init : goal.loop-turn-init
-unfolding more_arguments
-loop-turn-init g c = first_of (search rules, grind (arith, common_steps))
-
-pub returns-then-not-sees : goal.returns-then-not-sees
-unfolding more_arguments_from
-returns-then-not-sees g c =
-    let e = one_more (λ n. more_arguments_from limits (nested limits (c.args.self.now.levels - 1)) n (each_expr c.loop-turn.found) (seen c.loop-turn.cursor)) _ c.loop-turn._turn c.loop-turn-test.true c.loop-turn.invariant in
-    first_of (search rules, grind (arith, common_steps))
-
-pub returns-in_err-expect : goal.returns-in_err-expect
-unfolding more_arguments_from
-returns-in_err-expect g c =
-    let e = one_more (λ n. more_arguments_from limits (nested limits (c.args.self.now.levels - 1)) n (each_expr c.loop-turn.found) (seen c.loop-turn.cursor)) _ c.loop-turn._turn c.loop-turn-test.true c.loop-turn.invariant in
-    first_of (search rules, grind (arith, common_steps))
-
-pub returns-in_err-argument : goal.returns-in_err-argument
-unfolding more_arguments_from
-returns-in_err-argument g c =
-    let e = one_more (λ n. more_arguments_from limits (nested limits (c.args.self.now.levels - 1)) n (each_expr c.loop-turn.found) (seen c.loop-turn.cursor)) _ c.loop-turn._turn c.loop-turn-test.true c.loop-turn.invariant in
-    first_of (search rules, grind (arith, common_steps))
-
-pub loop-turn-preserved : goal.loop-turn-preserved
-unfolding more_arguments_from
-loop-turn-preserved g c =
-    let e = one_more (λ n. more_arguments_from limits (nested limits (c.args.self.now.levels - 1)) n (each_expr c.loop-turn.found) (seen c.loop-turn.cursor)) _ c.loop-turn._turn c.loop-turn-test.true c.loop-turn.invariant in
-    first_of (search rules, grind (arith, common_steps))
-
 pub returns : goal.returns
-unfolding more_arguments_from
 returns g c =
-    let e = no_more (λ n. more_arguments_from limits (nested limits (c.args.self.now.levels - 1)) n (each_expr c.loop-turn.found) (seen c.loop-turn.cursor)) _ c.loop-turn._turn c.loop-turn-test.false c.loop-turn.invariant in
-    first_of (search rules, grind (arith, common_steps))
+    c.separated.ensures (expression limits (nested limits (c.args.self.now.levels - 1)))
+    (record { reads = λ old new r read. search rules })

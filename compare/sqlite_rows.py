@@ -1,0 +1,138 @@
+#!/usr/bin/env python3
+"""Compares the rows of crates/ec_sqliterows with what SQLite itself answers, by Python's module sqlite3.
+
+Where the library refuses a statement its state is compared and not its message. A prepared statement that is executed is
+compared by its text. Rows about cursors, files and places that are no file are answered by the link and not by SQLite:
+they are passed over. It prints the rows that differ, and ends with 1 where one does.
+"""
+import re
+import sqlite3
+import sys
+from pathlib import Path
+
+ROWS = Path(__file__).resolve().parent.parent / "crates" / "ec_sqliterows"
+LINK_ONLY = re.compile(r"(?i)^(prepare|deallocate|connect|close)\b|^text (declare|fetch|close)\b")
+SKIPPED = re.compile(r"('[^']*'|\"[^\"]*\"|/\*.*?\*/|--[^\n]*)|\$(\d)")
+FIRST_WORD = re.compile(r"(?is)(\s|/\*.*?\*/|--[^\n]*\n?)*(\w*)")
+COUNTED = ("INSERT", "UPDATE", "DELETE", "REPLACE")
+
+
+def new_connection():
+    return sqlite3.connect(":memory:", isolation_level=None)
+
+
+def with_marks(text):
+    """The text with ?n for each $n that stands in no quote and no comment."""
+    return SKIPPED.sub(lambda match: match.group(1) or "?" + match.group(2), text)
+
+
+def field(value):
+    if value is None:
+        return "NULL"
+    return value.decode() if isinstance(value, bytes) else str(value)
+
+
+def code(values):
+    """The code of a column: 4 where it has whole numbers and NULLs alone, else 12."""
+    return 4 if {type(value) for value in values if value is not None} == {int} else 12
+
+
+def state(connection):
+    return "A" if connection.in_transaction else "I"
+
+
+def printed_rows(connection, names, rows):
+    columns = "".join(f" {name}:{code([row[at] for row in rows])}" for at, name in enumerate(names))
+    lines = "".join("\n |" + "".join(f" {field(value)} |" for value in row) for row in rows)
+    return f" rows {state(connection)}{columns}{lines}"
+
+
+def answer(connection, text, params):
+    """What SQLite answers, as the rows have it. Of a refusal that is its state, without a message."""
+    try:
+        cursor = connection.execute(with_marks(text), params)
+        rows = cursor.fetchall()
+    except sqlite3.IntegrityError as error:
+        return f" refused {state(connection)} {'23505' if 'UNIQUE' in str(error) else 'XX000'}"
+    except (sqlite3.Error, sqlite3.Warning):
+        return f" refused {state(connection)} XX000"
+    if cursor.description is None:
+        is_counted = FIRST_WORD.match(text).group(2).upper() in COUNTED
+        return f" done {state(connection)}" + (f" {cursor.rowcount}" if is_counted else "")
+    if any(isinstance(value, float) for row in rows for value in row):
+        return f" refused {state(connection)} XX000"
+    return printed_rows(connection, [column[0] for column in cursor.description], rows)
+
+
+def stored():
+    """The lines of the input, each with what stands below it in the output."""
+    output = (ROWS / "stdout").read_text().splitlines()
+    at = 0
+    for line in (ROWS / "stdin").read_text().splitlines():
+        assert output[at] == line, (output[at], line)
+        end = at + 1
+        while end < len(output) and output[end].startswith(" "):
+            end += 1
+        yield line, "\n".join(output[at + 1 : end])
+        at = end
+
+
+class Compared:
+    """The links in memory by their names, with what is prepared over the one that is compared, `m`."""
+
+    def __init__(self):
+        self.links, self.prepared = {}, {}
+        self.compared, self.passed, self.differ = 0, 0, 0
+
+    def is_unknown(self, rest):
+        """Whether it executes a name that isn't prepared, which the link refuses by itself."""
+        return rest.startswith("exec ") and rest.partition(" <- ")[0][5:] not in self.prepared
+
+    def pass_over(self, name, rest, got):
+        self.passed += 1
+        words = rest.split(" ", 2)
+        if name != "m":
+            return
+        if words[0] == "prepare" and got.startswith(" done"):
+            self.prepared[words[1]] = words[2]
+        elif words[0] == "deallocate":
+            self.prepared.pop(words[1], None)
+        elif words[0] in ("connect", "close"):
+            self.prepared.clear()
+            if words[0] == "close":
+                self.links[name] = new_connection()
+            elif self.links[name].in_transaction:
+                self.links[name].execute("ROLLBACK")
+
+    def compare(self, line, name, rest, got):
+        self.compared += 1
+        text, _, given = rest.partition(" <- ")
+        kind, _, text = text.partition(" ")
+        if kind == "exec":
+            text = self.prepared[text]
+        params = [None if param == "NULL" else param for param in given.split(" | ")] if given else []
+        want = answer(self.links[name], text, params)
+        if not (got.startswith(want) if want.startswith(" refused") else got == want):
+            self.differ += 1
+            print(f"{line}\n  stored: {got!r}\n  SQLite: {want!r}")
+
+    def take(self, line, got):
+        name, _, rest = line.partition(" ")
+        if rest == "= memory":
+            self.links[name] = new_connection()
+        elif name != "m" or LINK_ONLY.match(rest) or self.is_unknown(rest):
+            self.pass_over(name, rest, got)
+        else:
+            self.compare(line, name, rest, got)
+
+
+def main():
+    compared = Compared()
+    for line, got in stored():
+        if line and not line.startswith("#"):
+            compared.take(line, got)
+    print(f"{compared.compared} rows compared, {compared.passed} left to the link, {compared.differ} differ")
+    return 1 if compared.differ else 0
+
+
+sys.exit(main())

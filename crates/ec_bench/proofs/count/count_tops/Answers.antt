@@ -1,5 +1,0 @@
-use Rattle.ec_language.proofs.LastToken.{ends_of}
-use Rattle.ec_bench.proofs.count.count_tops.Goals as goal
-
-pub parse-requires : goal.parse-requires
-parse-requires c = ends_of _ _ _ c.in_ok-found.ensures.tokens

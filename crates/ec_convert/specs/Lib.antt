@@ -1,0 +1,5 @@
+pub mod Answers
+pub mod Calls
+pub mod Elements
+pub mod Host
+pub mod Pieces

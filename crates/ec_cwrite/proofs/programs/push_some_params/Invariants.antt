@@ -1,0 +1,11 @@
+use Rattle.std.proofs.Common.{◌≡◌, ◌++◌, drop}
+use Rattle.std.specs.Prelude.{map}
+use Rattle.ec_ctypes.specs.views.Units.{param_view}
+use Rattle.ec_writing.specs.Chunks.{text_of}
+use Rattle.ec_writing.specs.Programs.{some_params_chunks}
+use Rattle.ec_cwrite.specs.Lists.{params_from}
+use Rattle.ec_cwrite.proofs.programs.push_some_params.Given as goal
+
+abbrev pub invariant-loop-at : goal.invariant-loop-at
+invariant-loop-at l =
+    l.out ++ text_of (params_from l.at (map param_view (drop l.at l.params))) ≡ l.initial.out ++ text_of (some_params_chunks (map param_view l.params))

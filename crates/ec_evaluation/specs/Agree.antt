@@ -1,0 +1,164 @@
+-- When two steps do the same, and what that says of whole runs. The second may have more turns and further answers.
+use Rattle.std.specs.Prelude.{◌≡◌, ◌⊎◌, ℕ, suc, ◌+◌, ◌≤◌, List, [], ◌++◌, false, Option}
+use Rattle.ec_link.specs.declared.logged.Logged.{Logged}
+use Rattle.ec_objects.specs.Memory.{Memory, ValueData}
+use Rattle.ec_resolved.specs.Labels.{holds}
+use Rattle.ec_resolved.specs.Resolved.{embedded, library, Stm}
+use Rattle.ec_evaluation.specs.State.{Answer, State, Ending, exited, trapped, turns_spent, waits, stuck}
+use Rattle.ec_evaluation.specs.Results.{Res, value, on, broke, continued, went, back, over}
+use Rattle.ec_evaluation.specs.Evaluate.{Context, Task, calls, turn_of, look_for, World, Step}
+use Rattle.ec_evaluation.specs.Execute.{run}
+use Rattle.ec_evaluation.specs.Expanded.{written_task, itself}
+
+-- a state with more turns and further answers
+abbrev pub richer : ℕ → List Answer → State → State
+richer d more s = record s { turns = s.turns + d; answers = s.answers ++ more }
+
+-- a state before a `goto` took its turn
+abbrev pub before_goto : State → State
+before_goto s = record s { turns = suc s.turns }
+
+-- a state of which P holds, and beside it the same with more turns and further answers
+pub data Beside (P : State → Type 0) (d : ℕ) (more : List Answer) : State → State → Type 0 where
+  beside : {s : State} → P s → Beside P d more s (richer d more s)
+
+-- the state with which a run answers
+abbrev pub state_of : Res → State
+state_of (value v s) = s
+state_of (on s) = s
+state_of (broke s) = s
+state_of (continued s) = s
+state_of (went l s) = s
+state_of (back v s) = s
+state_of (over e s) = s
+
+-- Two runs did the same up to states that are beside one another, of which the first keeps P; or the first is over with an ending of E, and the second may go on, to a state that is later by G.
+pub data Same (P : State → Type 0) (E : Ending → Type 0) (G : State → State → Type 0) (d : ℕ) (more : List Answer) : Res → Res → Type 0 where
+  same_value : {v : ValueData} {s s' : State} → Beside P d more s s' → Same P E G d more (value v s) (value v s')
+  same_on : {s s' : State} → Beside P d more s s' → Same P E G d more (on s) (on s')
+  same_broke : {s s' : State} → Beside P d more s s' → Same P E G d more (broke s) (broke s')
+  same_continued : {s s' : State} → Beside P d more s s' → Same P E G d more (continued s) (continued s')
+  same_went : {l : ℕ} {s s' : State} → Beside (λ t. P (before_goto t)) d more s s' → Same P E G d more (went l s) (went l s')
+  same_back : {v : Option ValueData} {s s' : State} → Beside P d more s s' → Same P E G d more (back v s) (back v s')
+  same_over : {e : Ending} {s s' : State} → Beside P d more s s' → Same P E G d more (over e s) (over e s')
+  stops_first : {e : Ending} {s : State} {o : Res} → P s → E e → G s (state_of o) → Same P E G d more (over e s) o
+
+-- P stays true whatever a run does of itself, and it only leads to later states. Without turns both are over, or E has this ending
+pub record Kept (P : State → Type 0) (E : Ending → Type 0) (G : State → State → Type 0) (d : ℕ) (more : List Answer) : Type 0 where
+  pub memory : (s : State) (m : Memory) → P s → P (record s { memory = m })
+  pub printed : (s : State) (output errors : List ℕ) → P s → P (record s { output = s.output ++ output; errors = s.errors ++ errors })
+  pub turn : (s : State) (k : ℕ) → s.turns ≡ suc k → P s → P (record s { turns = k })
+  pub spent : E turns_spent ⊎ (d ≡ 0)
+  pub same_later : (s : State) → G s s
+  pub later_still : (s t u : State) → G s t → G t u → G s u
+  pub memory_later : (s : State) (m : Memory) → G s (record s { memory = m })
+  pub printed_later : (s : State) (output errors : List ℕ) → G s (record s { output = s.output ++ output; errors = s.errors ++ errors })
+  pub turn_later : (s : State) (k : ℕ) → G s (record s { turns = k })
+  pub richer_later : (s : State) → G s (richer d more s)
+
+-- two computations do the same from states beside one another, and the second only leads to later states
+pub record Alike (P : State → Type 0) (E : Ending → Type 0) (G : State → State → Type 0) (d : ℕ) (more : List Answer) (m m' : State → Res) : Type 0 where
+  pub same : (s s' : State) → Beside P d more s s' → Same P E G d more (m s) (m' s')
+  pub later : (u : State) → G u (state_of (m' u))
+
+-- the state before a task: a `goto` has taken its turn
+abbrev pub before : Task → State → State
+before (calls line f vs) s = s
+before (turn_of c test behind x) s = s
+before (look_for c l b) s = before_goto s
+
+-- tasks do the same in a program and in what is written for it
+pub record Related (P : State → Type 0) (E : Ending → Type 0) (G : State → State → Type 0) (d : ℕ) (more : List Answer) (text : ℕ → Stm) (w w' : World) : Type 0 where
+  pub same : (t : Task) (s s' : State) → Beside (λ u. P (before t u)) d more s s' → Same P E G d more (w t s) (w' (written_task text t) s')
+  pub later : (t : Task) (u : State) → G u (state_of (w' (written_task text t) u))
+
+-- Each embedded statement does what the statement in its place does, and each call of the library does the same, whenever the tasks do.
+pub record Agree (P : State → Type 0) (E : Ending → Type 0) (G : State → State → Type 0) (d : ℕ) (more : List Answer) (step step' : Step) (text : ℕ → Stm) : Type 0 where
+  pub no_label : (l n : ℕ) → holds l (text n) ≡ false
+  pub embeds : (w w' : World) → Related P E G d more text w w' → (c : Context) (n : ℕ) → Alike P E G d more (step w c (embedded n)) (run step' w' c (text n))
+  pub libraries : (w w' : World) → Related P E G d more text w w' → (c : Context) (n : ℕ) → Alike P E G d more (step w c (library n)) (step' w' c (library n))
+
+-- ---- what is kept, and which endings let the second run go on
+
+abbrev pub Always : State → Type 0
+Always s = Unit {0}
+
+abbrev pub Never : Ending → Type 0
+Never e = ⊥
+
+abbrev pub IsSpent : Ending → Type 0
+IsSpent e = e ≡ turns_spent
+
+abbrev pub IsWaiting : Ending → Type 0
+IsWaiting (exited n) = ⊥
+IsWaiting (trapped t line) = ⊥
+IsWaiting turns_spent = ⊥
+IsWaiting (waits slot request) = Unit {0}
+IsWaiting stuck = ⊥
+
+-- any state is later than any
+abbrev pub Any : State → State → Type 0
+Any s t = Unit {0}
+
+-- what was printed and said before is there
+pub record Grows (old new : State) : Type 0 where
+  pub printed : (more : List ℕ) × (new.output ≡ old.output ++ more)
+  pub complained : (more : List ℕ) × (new.errors ≡ old.errors ++ more)
+  pub said : (more : List Logged) × (new.conversation ≡ old.conversation ++ more)
+
+-- the turns that are left are at most so many
+abbrev pub Below : ℕ → State → Type 0
+Below n s = s.turns ≤ n
+
+-- what was printed and said is still there, and there are no more turns
+pub record Extends (old new : State) : Type 0 where
+  pub grows : Grows old new
+  pub turns : new.turns ≤ old.turns
+
+-- the same answer with more turns and further answers left
+abbrev pub richer_result : ℕ → List Answer → Res → Res
+richer_result d more (value v s) = value v (richer d more s)
+richer_result d more (on s) = on (richer d more s)
+richer_result d more (broke s) = broke (richer d more s)
+richer_result d more (continued s) = continued (richer d more s)
+richer_result d more (went l s) = went l (richer d more s)
+richer_result d more (back v s) = back v (richer d more s)
+richer_result d more (over e s) = over e (richer d more s)
+
+-- an answer that isn't over with an ending of E
+abbrev pub IsNot : (Ending → Type 0) → Res → Type 0
+IsNot E (value v s) = Unit {0}
+IsNot E (on s) = Unit {0}
+IsNot E (broke s) = Unit {0}
+IsNot E (continued s) = Unit {0}
+IsNot E (went l s) = Unit {0}
+IsNot E (back v s) = Unit {0}
+IsNot E (over e s) = E e → ⊥
+
+-- where the first run waits, the second has all that it printed and said, and goes on from there
+abbrev pub GoesOn : Res → Res → Type 0
+GoesOn (value v s) o = Unit {0}
+GoesOn (on s) o = Unit {0}
+GoesOn (broke s) o = Unit {0}
+GoesOn (continued s) o = Unit {0}
+GoesOn (went l s) o = Unit {0}
+GoesOn (back v s) o = Unit {0}
+GoesOn (over e s) o = IsWaiting e → Grows s (state_of o)
+
+-- ---- steps of which the laws hold
+
+-- a step that does the same however many turns its tasks may take beyond those that are left
+abbrev pub CountsTurns : Step → Type 0
+CountsTurns step = (n : ℕ) → Agree (Below n) Never Any 0 [] step step itself
+
+-- a step that only adds to what was printed and said
+abbrev pub OnlyAdds : Step → Type 0
+OnlyAdds step = (old : State) → Agree (Extends old) Never Any 0 [] step step itself
+
+-- a step that does the same with more turns, where those that it has are enough
+abbrev pub TakesMoreTurns : Step → Type 0
+TakesMoreTurns step = (d : ℕ) → Agree Always IsSpent Any d [] step step itself
+
+-- a step that does the same with further answers where it doesn't wait, and goes on from there where it does
+abbrev pub TakesMoreAnswers : Step → Type 0
+TakesMoreAnswers step = (more : List Answer) → Agree Always IsWaiting Grows 0 more step step itself

@@ -1,0 +1,2 @@
+pub mod NameSorts
+pub mod Telling

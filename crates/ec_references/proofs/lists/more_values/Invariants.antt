@@ -1,0 +1,11 @@
+use Rattle.std.proofs.Common.{◌≡◌, ◌-◌, codes, map}
+use Rattle.ec_references.specs.Readers.{further, one_further, value, next_is, turns_from}
+use Rattle.ec_embedded.specs.Terminals.{sign}
+use Rattle.ec_ctypes.specs.views.Embedded.{input_view}
+use Rattle.ec_references.specs.States.{seen}
+use Rattle.ec_references.proofs.lists.more_values.Given as goal
+
+abbrev pub invariant-loop-turn : goal.invariant-loop-turn
+invariant-loop-turn l =
+    further value (map input_view l.fn.values) (seen l.fn.cursor).counts (seen l.fn.cursor).tokens
+    ≡ turns_from (next_is (sign (codes ","))) (one_further value) (l._turn-end - l._turn) (map input_view l.values) (seen l.cursor).counts (seen l.cursor).tokens
