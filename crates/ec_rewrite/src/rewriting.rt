@@ -1,34 +1,15 @@
 //! A source is read, written, read back and written again.
 
-ghost use Rattle.std.specs.Prelude.{length, ◌≤◌, ◌^◌};
-
-use ec_base::{Bytes, LimitKind, OutOfMemory, Stop};
-use ec_clex::tokens;
-use ec_csyntax::parse;
+use ec_base::{Bytes, OutOfMemory, Stop};
 use ec_cwrite::write;
-use ec_split::split;
+use ec_front::read_unit;
 use itoa::Buffer;
 use std::alloc::Global;
 
-/// The most bytes of a text that is read.
-const MAX_TEXT: usize = 1 << 24;
-
 // The written C of a source, or of written C.
-fn read_and_written(alloc: Global, text: &[u8], written: bool) -> Result<Bytes, Stop>
-    requires { length text.now ≤ 2 ^ 24 }
-{
-    let pieces = split(alloc, text)?;
-    let found = tokens(alloc, &pieces, written)?;
-    let unit = parse(alloc, &found)?;
-    Ok(write(&unit)?)
-}
-
-// The same of a text of any length.
 fn rewritten(alloc: Global, text: &[u8], written: bool) -> Result<Bytes, Stop> {
-    if text.len() > MAX_TEXT {
-        return Err(Stop::Limit(LimitKind::L6));
-    }
-    read_and_written(alloc, text, written)
+    let unit = read_unit(alloc, text, written)?;
+    Ok(write(&unit)?)
 }
 
 // Why a text is refused, and the end of the line.
