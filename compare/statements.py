@@ -1,4 +1,4 @@
-"""Embedded statements, read from the rules of ECPG's subset alone: the tree of a statement, or its fault, as printed.
+"""Embedded statements, read from the rules alone: the tree of a statement, or its fault, as printed.
 
 A form is a recognizer that tries every way to go on. The token with which no form goes on is the farthest at which any
 way stopped, since each way can be completed. Trees are those of the first way that reaches the end.

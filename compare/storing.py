@@ -1,4 +1,4 @@
-"""Values between C and SQL, from the rules of ECPG's subset alone: what a host gives, what a field stores, and sqlca.
+"""Values between C and SQL, from the rules alone: what a host gives, what a field stores, and sqlca.
 
 Memory is a dictionary from the numbers of objects to lists of cells, a cell being a byte or None where it is unset; an
 object that isn't in it was never made or has ended. A pointer is the object's number times 2^32 plus an offset.
