@@ -18,7 +18,10 @@ is_digit_of base b = (is_digit b || is_upper b || is_lower b) && nat_lt (digit_v
 abbrev pub leading_digits : ℕ → ℕ → Text → Text
 leading_digits base zero text = []
 leading_digits base (suc most) [] = []
-leading_digits base (suc most) (b ∷ bs) = elim (is_digit_of base b) [ true ↦ b ∷ leading_digits base most bs | false ↦ [] ]
+leading_digits base (suc most) (b ∷ bs) = elim (is_digit_of base b) [
+  | true ↦ b ∷ leading_digits base most bs
+  | false ↦ []
+]
 
 abbrev pub digits_value : ℕ → Text → ℕ
 digits_value base digits = fold (λ n b. n * base + digit_value b) 0 digits
@@ -33,18 +36,29 @@ pub record Suffix : Type 0 where
 abbrev pub suffix_of : Text → Option Suffix
 suffix_of text =
     if is_empty text then Some (record { unsigned = false; longs = 0 })
-    else if is_among (codes "u" ∷ codes "U" ∷ []) text then Some (record { unsigned = true; longs = 0 })
-    else if is_among (codes "l" ∷ codes "L" ∷ []) text then Some (record { unsigned = false; longs = 1 })
-    else if is_among (codes "ll" ∷ codes "LL" ∷ []) text then Some (record { unsigned = false; longs = 2 })
-    else if is_among (codes "ul" ∷ codes "uL" ∷ codes "Ul" ∷ codes "UL" ∷ codes "lu" ∷ codes "lU" ∷ codes "Lu" ∷ codes "LU" ∷ []) text then Some (record { unsigned = true; longs = 1 })
-    else if is_among (codes "ull" ∷ codes "uLL" ∷ codes "Ull" ∷ codes "ULL" ∷ codes "llu" ∷ codes "llU" ∷ codes "LLu" ∷ codes "LLU" ∷ []) text then Some (record { unsigned = true; longs = 2 })
+    else if is_among (codes "u" ∷ codes "U" ∷ []) text
+    then Some (record { unsigned = true; longs = 0 })
+    else if is_among (codes "l" ∷ codes "L" ∷ []) text
+    then Some (record { unsigned = false; longs = 1 })
+    else if is_among (codes "ll" ∷ codes "LL" ∷ []) text
+    then Some (record { unsigned = false; longs = 2 })
+    else if is_among (codes "ul" ∷ codes "uL" ∷ codes "Ul" ∷ codes "UL"
+    ∷ codes "lu" ∷ codes "lU" ∷ codes "Lu" ∷ codes "LU" ∷ []) text
+    then Some (record { unsigned = true; longs = 1 })
+    else if is_among (codes "ull" ∷ codes "uLL" ∷ codes "Ull" ∷ codes "ULL"
+    ∷ codes "llu" ∷ codes "llU" ∷ codes "LLu" ∷ codes "LLU" ∷ []) text
+    then Some (record { unsigned = true; longs = 2 })
     else None
 
 -- the types that a constant may have, the first choice first (6.4.4.1, 5)
 abbrev pub choices : Bool → Suffix → List Arith
 choices decimal s =
-    if s.longs == 0 then (if s.unsigned then UInt ∷ ULong ∷ [] else if decimal then Int ∷ Long ∷ [] else Int ∷ UInt ∷ Long ∷ ULong ∷ [])
-    else if s.longs == 1 then (if s.unsigned then ULong ∷ [] else if decimal then Long ∷ [] else Long ∷ ULong ∷ [])
+    if s.longs == 0
+    then (if s.unsigned then UInt ∷ ULong ∷ []
+    else if decimal then Int ∷ Long ∷ []
+    else Int ∷ UInt ∷ Long ∷ ULong ∷ [])
+    else if s.longs == 1
+    then (if s.unsigned then ULong ∷ [] else if decimal then Long ∷ [] else Long ∷ ULong ∷ [])
     else (if s.unsigned then ULLong ∷ [] else if decimal then LLong ∷ [] else LLong ∷ ULLong ∷ [])
 
 -- the first type that has the value
@@ -53,18 +67,22 @@ first_fit n types = find (λ t. int_le (pos n) (greatest t)) types
 
 abbrev pub constant_of : Bool → Text → Option Suffix → ℕ → Option (ℕ × Arith)
 constant_of decimal digits None base = None
-constant_of decimal digits (Some s) base = option_map (λ t. (digits_value base digits, t)) (first_fit (digits_value base digits) (choices decimal s))
+constant_of decimal digits (Some s) base =
+    option_map (λ t. (digits_value base digits, t))
+    (first_fit (digits_value base digits) (choices decimal s))
 
 -- digits of a base and a suffix
 abbrev pub based : ℕ → Bool → Text → Option (ℕ × Arith)
 based base decimal text =
     if is_empty (leading_digits base (length text) text) then None
-    else constant_of decimal (leading_digits base (length text) text) (suffix_of (drop (length (leading_digits base (length text) text)) text)) base
+    else constant_of decimal (leading_digits base (length text) text)
+    (suffix_of (drop (length (leading_digits base (length text) text)) text)) base
 
 -- the value and the type of an integer constant: hexadecimal behind `0x`, octal behind `0`, else decimal
 abbrev pub integer_constant : Text → Option (ℕ × Arith)
 integer_constant text =
-    if begins_with (codes "0x") text || begins_with (codes "0X") text then based 16 false (drop 2 text)
+    if begins_with (codes "0x") text || begins_with (codes "0X") text
+    then based 16 false (drop 2 text)
     else if begins_with (codes "0") text then based 8 false text
     else based 10 true text
 
@@ -91,8 +109,13 @@ byte_and_rest (Some b) rest = Some (b, rest)
 -- digits of the base, one to so many, with a value that is a byte
 abbrev pub numeric_escape : ℕ → ℕ → Text → Option (ℕ × Text)
 numeric_escape base most text =
-    if is_empty (leading_digits base most text) || nat_lt 255 (digits_value base (leading_digits base most text)) then None
-    else Some (digits_value base (leading_digits base most text), drop (length (leading_digits base most text)) text)
+    if is_empty (leading_digits base most text)
+    || nat_lt 255 (digits_value base (leading_digits base most text))
+    then None
+    else Some (
+      digits_value base (leading_digits base most text),
+      drop (length (leading_digits base most text)) text,
+    )
 
 -- the byte of the escape behind a backslash: one to three octal digits up to 377, `x` and one or two hexadecimal digits, or one byte
 abbrev pub escape : Text → Option (ℕ × Text)
@@ -110,7 +133,10 @@ first_byte b bs = if b == backslash then escape bs else Some (b, bs)
 abbrev pub unescaped_within : ℕ → Text → Option Text
 unescaped_within most [] = Some []
 unescaped_within zero (b ∷ bs) = None
-unescaped_within (suc most) (b ∷ bs) = elim (first_byte b bs) [ None ↦ None | Some p ↦ option_map (λ bytes. p.0 ∷ bytes) (unescaped_within most p.1) ]
+unescaped_within (suc most) (b ∷ bs) = elim (first_byte b bs) [
+  | None ↦ None
+  | Some p ↦ option_map (λ bytes. p.0 ∷ bytes) (unescaped_within most p.1)
+]
 
 abbrev pub unescaped : Text → Option Text
 unescaped text = unescaped_within (length text) text

@@ -13,11 +13,16 @@ use Rattle.ec_language.specs.Constants.{digits_value}
 -- all punctuation marks (6.4.6)
 abbrev pub puncts : List Punct
 puncts =
-    mark.Arrow ∷ mark.PlusPlus ∷ mark.MinusMinus ∷ mark.ShlAssign ∷ mark.ShrAssign ∷ mark.Shl ∷ mark.Shr ∷ mark.LessEqual ∷ mark.GreaterEqual
-    ∷ mark.EqualEqual ∷ mark.NotEqual ∷ mark.AndAnd ∷ mark.OrOr ∷ mark.PlusAssign ∷ mark.MinusAssign ∷ mark.StarAssign ∷ mark.SlashAssign
-    ∷ mark.PercentAssign ∷ mark.AndAssign ∷ mark.OrAssign ∷ mark.CaretAssign ∷ mark.LeftParen ∷ mark.RightParen ∷ mark.LeftBracket
-    ∷ mark.RightBracket ∷ mark.LeftBrace ∷ mark.RightBrace ∷ mark.Semicolon ∷ mark.Comma ∷ mark.Dot ∷ mark.And ∷ mark.Star ∷ mark.Plus
-    ∷ mark.Minus ∷ mark.Tilde ∷ mark.Not ∷ mark.Slash ∷ mark.Percent ∷ mark.Less ∷ mark.Greater ∷ mark.Caret ∷ mark.Or ∷ mark.Assign
+    mark.Arrow ∷ mark.PlusPlus ∷ mark.MinusMinus ∷ mark.ShlAssign ∷ mark.ShrAssign ∷ mark.Shl
+    ∷ mark.Shr ∷ mark.LessEqual ∷ mark.GreaterEqual
+    ∷ mark.EqualEqual ∷ mark.NotEqual ∷ mark.AndAnd ∷ mark.OrOr ∷ mark.PlusAssign
+    ∷ mark.MinusAssign ∷ mark.StarAssign ∷ mark.SlashAssign
+    ∷ mark.PercentAssign ∷ mark.AndAssign ∷ mark.OrAssign ∷ mark.CaretAssign ∷ mark.LeftParen
+    ∷ mark.RightParen ∷ mark.LeftBracket
+    ∷ mark.RightBracket ∷ mark.LeftBrace ∷ mark.RightBrace ∷ mark.Semicolon ∷ mark.Comma ∷ mark.Dot
+    ∷ mark.And ∷ mark.Star ∷ mark.Plus
+    ∷ mark.Minus ∷ mark.Tilde ∷ mark.Not ∷ mark.Slash ∷ mark.Percent ∷ mark.Less ∷ mark.Greater
+    ∷ mark.Caret ∷ mark.Or ∷ mark.Assign
     ∷ mark.Colon ∷ []
 
 abbrev pub punct_of : Text → Option Punct
@@ -53,7 +58,8 @@ class_of text =
 -- The text, with the rest behind it, is of this class, and no longer front of what stands there is of any.
 pub record Longest (text rest : Text) (class : Class) : Type 0 where
   pub is : class_of text ≡ Some class
-  pub longest : (longer behind : Text) → text ++ rest ≡ longer ++ behind → length text < length longer → class_of longer ≡ None
+  pub longest : (longer behind : Text) → text ++ rest ≡ longer ++ behind
+      → length text < length longer → class_of longer ≡ None
 
 -- ---- lines that begin with `#`
 
@@ -69,11 +75,14 @@ pub record IncludeLine (text rest : Text) : Type 0 where
   pub free : CUnits units rest
   pub begin : begins_with (codes "#include") text ≡ true
   pub inside : list_all (λ u. not (is_comment u || begins_with (newline ∷ []) u)) units ≡ true
-  pub ends : (is_empty rest || begins_with (newline ∷ []) rest || begins_with (codes "/*") rest || begins_with (codes "//") rest) ≡ true
+  pub ends : (is_empty rest || begins_with (newline ∷ []) rest || begins_with (codes "/*") rest
+      || begins_with (codes "//") rest) ≡ true
 
 -- decimal digits, one to nine, without a leading zero
 abbrev pub is_line_number : Text → Bool
-is_line_number digits = not (is_empty digits) && nat_le (length digits) 9 && each is_digit digits && not (begins (λ b. b == 48) digits)
+is_line_number digits =
+    not (is_empty digits) && nat_le (length digits) 9 && each is_digit digits
+    && not (begins (λ b. b == 48) digits)
 
 -- a `#line` line of written C (6.10.4), without its newline: one space and a number
 abbrev pub is_line_directive : Text → Bool

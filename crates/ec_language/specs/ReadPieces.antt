@@ -27,12 +27,18 @@ behind_all test (b ∷ bs) = elim (test b) [ true ↦ behind_all test bs | false
 abbrev pub comment_end : Text → Behind
 comment_end [] = endless
 comment_end (b ∷ []) = endless
-comment_end (b ∷ c ∷ bs) = elim (begins_with (codes "*/") (b ∷ c ∷ [])) [ true ↦ passed bs | false ↦ comment_end (c ∷ bs) ]
+comment_end (b ∷ c ∷ bs) = elim (begins_with (codes "*/") (b ∷ c ∷ [])) [
+  | true ↦ passed bs
+  | false ↦ comment_end (c ∷ bs)
+]
 
 -- inside of a quote of C text
 abbrev pub quote_end : ℕ → Text → Behind
 quote_end q [] = endless
-quote_end q (b ∷ []) = elim (b == q) [ true ↦ passed [] | false ↦ elim (is_not_newline b) [ true ↦ endless | false ↦ cut (b ∷ []) ] ]
+quote_end q (b ∷ []) = elim (b == q) [
+  | true ↦ passed []
+  | false ↦ elim (is_not_newline b) [ true ↦ endless | false ↦ cut (b ∷ []) ]
+]
 quote_end q (b ∷ c ∷ bs) = elim (b == q) [
   | true ↦ passed (c ∷ bs)
   | false ↦ elim (b == backslash) [
@@ -92,7 +98,10 @@ c_end (b ∷ bs) =
                       elim (begins_with (codes "/*") (b ∷ bs)) [
                         | true ↦ comment_end (drop 1 bs)
                         | false ↦
-                            elim (begins_with (codes "//") (b ∷ bs)) [ true ↦ passed (behind_all is_not_newline (drop 1 bs)) | false ↦ passed bs ]
+                            elim (begins_with (codes "//") (b ∷ bs)) [
+                              | true ↦ passed (behind_all is_not_newline (drop 1 bs))
+                              | false ↦ passed bs
+                            ]
                       ]
                 ]
           ]
@@ -122,7 +131,10 @@ sql_end (b ∷ bs) =
                             elim (begins_with (codes "/*") (b ∷ bs)) [
                               | true ↦ nested_end 0 (drop 1 bs)
                               | false ↦
-                                  elim (begins_with (codes "--") (b ∷ bs)) [ true ↦ passed (behind_all is_not_newline (drop 1 bs)) | false ↦ passed bs ]
+                                  elim (begins_with (codes "--") (b ∷ bs)) [
+                                    | true ↦ passed (behind_all is_not_newline (drop 1 bs))
+                                    | false ↦ passed bs
+                                  ]
                             ]
                       ]
                 ]
@@ -143,21 +155,35 @@ pub data Step (S R : Type 0) : Type 0 where
 -- the result of a walk, if it takes no more steps than this
 abbrev pub walk : {S R : Type 0} → (S → Step S R) → R → ℕ → S → R
 walk step none zero state = none
-walk step none (suc n) state = elim (step state) [ on next ↦ walk step none n next | halt result ↦ result ]
+walk step none (suc n) state = elim (step state) [
+  | on next ↦ walk step none n next
+  | halt result ↦ result
+]
 
 -- C text stops where an embedded piece starts, and where no unit stands
 abbrev pub c_step : Text → Step Text Text
-c_step text = elim (starts_piece text) [ true ↦ halt text | false ↦ elim (c_end text) [ passed rest ↦ on rest | cut rest ↦ halt text | endless ↦ halt text ] ]
+c_step text = elim (starts_piece text) [
+  | true ↦ halt text
+  | false ↦ elim (c_end text) [ passed rest ↦ on rest | cut rest ↦ halt text | endless ↦ halt text ]
+]
 
 abbrev pub c_stop : Text → Text
 c_stop text = walk c_step [] (suc (length text)) text
 
 -- whether a text of SQL begins with a blank or a comment
 abbrev pub begins_gap : Text → Bool
-begins_gap text = begins is_blank text || begins_with (codes "/*") text || begins_with (codes "--") text
+begins_gap text =
+    begins is_blank text || begins_with (codes "/*") text || begins_with (codes "--") text
 
 abbrev pub gap_step : Text → Step Text Text
-gap_step text = elim (begins_gap text) [ true ↦ elim (sql_end text) [ passed rest ↦ on rest | cut rest ↦ halt text | endless ↦ halt text ] | false ↦ halt text ]
+gap_step text = elim (begins_gap text) [
+  | true ↦ elim (sql_end text) [
+    | passed rest ↦ on rest
+    | cut rest ↦ halt text
+    | endless ↦ halt text
+  ]
+  | false ↦ halt text
+]
 
 -- the text behind blanks and comments
 abbrev pub gap_stop : Text → Text
@@ -167,7 +193,14 @@ abbrev pub begins_semicolon : Text → Bool
 begins_semicolon text = begins (λ b. b == semicolon) text
 
 abbrev pub statement_step : Text → Step Text (Option Text)
-statement_step text = elim (begins_semicolon text) [ true ↦ halt (Some (drop 1 text)) | false ↦ elim (sql_end text) [ passed rest ↦ on rest | cut rest ↦ halt None | endless ↦ halt None ] ]
+statement_step text = elim (begins_semicolon text) [
+  | true ↦ halt (Some (drop 1 text))
+  | false ↦ elim (sql_end text) [
+    | passed rest ↦ on rest
+    | cut rest ↦ halt None
+    | endless ↦ halt None
+  ]
+]
 
 -- the text behind the `;` of a statement
 abbrev pub statement_end : Text → Option Text
@@ -184,7 +217,8 @@ pub data Found : Type 0 where
 -- how many braces are open behind the unit with which the text begins
 abbrev pub braces_behind : ℕ → Text → ℕ
 braces_behind open_ [] = open_
-braces_behind open_ (b ∷ bs) = if b == 123 then suc open_ else if b == 125 then pred open_ else open_
+braces_behind open_ (b ∷ bs) =
+    if b == 123 then suc open_ else if b == 125 then pred open_ else open_
 
 -- whether the text begins with the `;` of a declaration
 abbrev pub begins_end : ℕ × Text → Bool
@@ -194,7 +228,11 @@ begins_end state = begins_semicolon state.1 && state.0 == 0
 abbrev pub loose_step : ℕ × Text → Step (ℕ × Text) Bool
 loose_step state = elim (begins_end state) [
   | true ↦ halt true
-  | false ↦ elim (c_end state.1) [ passed rest ↦ on (braces_behind state.0 state.1, rest) | cut rest ↦ on (state.0, rest) | endless ↦ halt false ]
+  | false ↦ elim (c_end state.1) [
+    | passed rest ↦ on (braces_behind state.0 state.1, rest)
+    | cut rest ↦ on (state.0, rest)
+    | endless ↦ halt false
+  ]
 ]
 
 abbrev pub has_end : ℕ × Text → Bool
@@ -205,7 +243,10 @@ declaration_step state = elim (begins_end state) [
   | true ↦ halt (found InPlace (drop 1 state.1))
   | false ↦ elim (c_end state.1) [
     | passed rest ↦ on (braces_behind state.0 state.1, rest)
-    | cut rest ↦ elim (has_end (state.0, rest)) [ true ↦ halt (cut_at state.1) | false ↦ halt unended ]
+    | cut rest ↦ elim (has_end (state.0, rest)) [
+      | true ↦ halt (cut_at state.1)
+      | false ↦ halt unended
+    ]
     | endless ↦ halt unended
   ]
 ]
@@ -216,13 +257,20 @@ declaration text = walk declaration_step unended (suc (length text)) (0, text)
 
 -- whether the first unit of SQL text is a word that begins a declaration
 abbrev pub begins_type : Text → Bool
-begins_type text = elim (sql_end text) [ passed rest ↦ is_type_word (front text rest) | cut rest ↦ false | endless ↦ false ]
+begins_type text = elim (sql_end text) [
+  | passed rest ↦ is_type_word (front text rest)
+  | cut rest ↦ false
+  | endless ↦ false
+]
 
 -- whether the text is these words, blanks and comments aside, and then a `;`
 abbrev pub begins_words : List Text → Text → Bool
 begins_words [] text = begins_semicolon (gap_stop text)
 begins_words (w ∷ ws) text = elim (sql_end (gap_stop text)) [
-  | passed rest ↦ elim (same_word (front (gap_stop text) rest) w) [ true ↦ begins_words ws rest | false ↦ false ]
+  | passed rest ↦ elim (same_word (front (gap_stop text) rest) w) [
+    | true ↦ begins_words ws rest
+    | false ↦ false
+  ]
   | cut rest ↦ false
   | endless ↦ false
 ]
@@ -231,15 +279,24 @@ abbrev pub statement_kind : Text → PieceKind
 statement_kind text =
     elim (begins_words (codes "BEGIN" ∷ codes "DECLARE" ∷ codes "SECTION" ∷ []) text) [
       | true ↦ SectionStart
-      | false ↦ elim (begins_words (codes "END" ∷ codes "DECLARE" ∷ codes "SECTION" ∷ []) text) [ true ↦ SectionEnd | false ↦ Emb ]
+      | false ↦ elim (begins_words (codes "END" ∷ codes "DECLARE" ∷ codes "SECTION" ∷ []) text) [
+        | true ↦ SectionEnd
+        | false ↦ Emb
+      ]
     ]
 
 -- of the text behind `EXEC SQL`
 abbrev pub statement : Text → Found
-statement text = elim (statement_end text) [ Some rest ↦ found (statement_kind text) rest | None ↦ unended ]
+statement text = elim (statement_end text) [
+  | Some rest ↦ found (statement_kind text) rest
+  | None ↦ unended
+]
 
 abbrev pub embedded : Text → Found
-embedded text = elim (begins_type (gap_stop text)) [ true ↦ declaration (gap_stop text) | false ↦ statement text ]
+embedded text = elim (begins_type (gap_stop text)) [
+  | true ↦ declaration (gap_stop text)
+  | false ↦ statement text
+]
 
 -- of a text that starts a piece
 abbrev pub found_at : Text → Found
@@ -272,9 +329,13 @@ embedded_piece line text unended = Err (F3, line)
 
 -- the first piece of a text that begins on this line and is not empty
 abbrev pub first_piece : ℕ → Text → Read
-first_piece line text = elim (starts_piece text) [ true ↦ embedded_piece line text (found_at text) | false ↦ c_piece line text (c_stop text) ]
+first_piece line text = elim (starts_piece text) [
+  | true ↦ embedded_piece line text (found_at text)
+  | false ↦ c_piece line text (c_stop text)
+]
 
-abbrev pub with_first : Piece → Result (List Piece) (FaultKind × ℕ) → Result (List Piece) (FaultKind × ℕ)
+abbrev pub with_first : Piece → Result (List Piece) (FaultKind × ℕ)
+    → Result (List Piece) (FaultKind × ℕ)
 with_first p (Ok ps) = Ok (p ∷ ps)
 with_first p (Err fault) = Err fault
 
@@ -282,7 +343,10 @@ with_first p (Err fault) = Err fault
 abbrev pub read_up_to : ℕ → ℕ → Text → Result (List Piece) (FaultKind × ℕ)
 read_up_to zero line text = Ok []
 read_up_to (suc n) line [] = Ok []
-read_up_to (suc n) line (b ∷ bs) = elim (first_piece line (b ∷ bs)) [ Ok read ↦ with_first read.0 (read_up_to n (line + newlines read.0.bytes) read.1) | Err fault ↦ Err fault ]
+read_up_to (suc n) line (b ∷ bs) = elim (first_piece line (b ∷ bs)) [
+  | Ok read ↦ with_first read.0 (read_up_to n (line + newlines read.0.bytes) read.1)
+  | Err fault ↦ Err fault
+]
 
 abbrev pub read_from : ℕ → Text → Result (List Piece) (FaultKind × ℕ)
 read_from line text = read_up_to (suc (length text)) line text

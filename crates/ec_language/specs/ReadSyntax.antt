@@ -42,7 +42,8 @@ IsAmong x (y ∷ ys) = (y ≡ x) ⊎ IsAmong x ys
 -- a token of which the test holds
 abbrev pub read_token : (Placed → Bool) → Counts → PlacedTokens → List (Reading Placed)
 read_token f behind [] = []
-read_token f behind (v ∷ w) = alone_where (f v) (record { tree = v; taken = v ∷ []; left = w; behind = behind })
+read_token f behind (v ∷ w) =
+    alone_where (f v) (record { tree = v; taken = v ∷ []; left = w; behind = behind })
 
 -- one level deeper, where a level is left
 abbrev pub read_deeper : {A : Type 0} → (ℕ → List A) → ℕ → List A
@@ -55,7 +56,12 @@ leaving f x = record { tree = x.tree; taken = x.taken; left = x.left; behind = f
 
 -- a reading of an element, and behind it one of the rest of its row
 abbrev pub joined : {A B : Type 0} → Reading A → Reading B → Reading (A × B)
-joined x y = record { tree = (x.tree, y.tree); taken = x.taken ++ y.taken; left = y.left; behind = y.behind }
+joined x y = record {
+  tree = (x.tree, y.tree);
+  taken = x.taken ++ y.taken;
+  left = y.left;
+  behind = y.behind;
+}
 
 -- where tokens may stand behind an element, and else only no tokens
 abbrev pub may_follow : Bool → PlacedTokens → Bool
@@ -67,7 +73,12 @@ joined_where b x y = alone_where (may_follow b y.taken) (joined x y)
 
 -- the tree that a production makes of a reading of its row
 abbrev pub made : {A : Type 0} (a : Production A) → Reading (Nodes a.row) → Reading A
-made a x = record { tree = a.make (start_of x.taken) x.tree; taken = x.taken; left = x.left; behind = x.behind }
+made a x = record {
+  tree = a.make (start_of x.taken) x.tree;
+  taken = x.taken;
+  left = x.left;
+  behind = x.behind;
+}
 
 -- ---- parts of fronts
 
@@ -104,22 +115,33 @@ only_where a b = elim a [ true ↦ b | false ↦ false ]
 module _ (limits : Limits) where
   -- ---- readings
 
-  abbrev pub read_element : Reader → ℕ → Counts → (i : Element) → PlacedTokens → List (Reading (Node i))
+  abbrev pub read_element : Reader → ℕ → Counts → (i : Element) → PlacedTokens
+      → List (Reading (Node i))
   read_element R levels c (tok t) w = read_token (λ v. is t v.token.tok) c w
-  read_element R levels c (count k t) w = read_token (λ v. is t v.token.tok && is_within limits k (behind_counted k c)) (behind_counted k c) w
+  read_element R levels c (count k t) w =
+      read_token (λ v. is t v.token.tok && is_within limits k (behind_counted k c))
+      (behind_counted k c) w
   read_element R levels c (sym s) w = R levels c s w
   read_element R levels c (nest s) w = read_deeper (λ fewer. R fewer c s w) levels
-  read_element R levels c (whole s) w = each_of (leaving (behind_expression c)) (R levels (in_expression c) s w)
-  read_element R levels c (own s) w = each_of (leaving (behind_declarator c)) (R levels (in_declarator c) s w)
+  read_element R levels c (whole s) w =
+      each_of (leaving (behind_expression c)) (R levels (in_expression c) s w)
+  read_element R levels c (own s) w =
+      each_of (leaving (behind_declarator c)) (R levels (in_declarator c) s w)
 
-  abbrev pub read_row : Reader → ℕ → Counts → Follows → (r : Row) → PlacedTokens → List (Reading (Nodes r))
+  abbrev pub read_row : Reader → ℕ → Counts → Follows → (r : Row) → PlacedTokens
+      → List (Reading (Nodes r))
   read_row R levels c follows [] w = record { tree = tt; taken = []; left = w; behind = c } ∷ []
   read_row R levels c follows (i ∷ r) w =
-      all_of (λ x. all_of (joined_where (follows i x.tree) x) (read_row R levels x.behind follows r x.left)) (read_element R levels c i w)
+      all_of
+      (λ x. all_of (joined_where (follows i x.tree) x)
+      (read_row R levels x.behind follows r x.left))
+      (read_element R levels c i w)
 
-  abbrev pub read_productions : Reader → ℕ → Counts → {A : Type 0} → List (Production A) → PlacedTokens → List (Reading A)
+  abbrev pub read_productions : Reader → ℕ → Counts → {A : Type 0} → List (Production A)
+      → PlacedTokens → List (Reading A)
   read_productions R levels c [] w = []
-  read_productions R levels c (a ∷ rest) w = each_of (made a) (read_row R levels c a.follows a.row w) ++ read_productions R levels c rest w
+  read_productions R levels c (a ∷ rest) w =
+      each_of (made a) (read_row R levels c a.follows a.row w) ++ read_productions R levels c rest w
 
   -- all readings by derivations lower than n
   abbrev pub read : ℕ → Reader
@@ -130,7 +152,8 @@ module _ (limits : Limits) where
 
   abbrev pub front_element : Fronter → ℕ → Counts → Element → PlacedTokens → Bool
   front_element F levels c (tok t) u = front_token (λ v. is t v.token.tok) u
-  front_element F levels c (count k t) u = front_token (λ v. is t v.token.tok && is_within limits k (behind_counted k c)) u
+  front_element F levels c (count k t) u =
+      front_token (λ v. is t v.token.tok && is_within limits k (behind_counted k c)) u
   front_element F levels c (sym s) u = F levels c s u
   front_element F levels c (nest s) u = front_nest (λ fewer. F fewer c s u) levels u
   front_element F levels c (whole s) u = F levels (in_expression c) s u
@@ -141,13 +164,17 @@ module _ (limits : Limits) where
   front_row R F levels c follows [] u = is_empty u
   front_row R F levels c follows (i ∷ r) u = elim (front_element F levels c i u) [
     | true ↦ true
-    | false ↦ some_of (λ x. elim (may_follow (follows i x.tree) x.left) [ true ↦ front_row R F levels x.behind follows r x.left | false ↦ false ]) (read_element R levels c i u)
+    | false ↦ some_of (λ x. elim (may_follow (follows i x.tree) x.left) [
+      | true ↦ front_row R F levels x.behind follows r x.left
+      | false ↦ false
+    ]) (read_element R levels c i u)
   ]
 
   -- whether the list is a front, by a derivation lower than n
   abbrev pub is_front : ℕ → Fronter
   is_front zero levels c s u = false
-  is_front (suc n) levels c s u = some_of (λ a. front_row (read n) (is_front n) levels c a.follows a.row u) (productions s)
+  is_front (suc n) levels c s u =
+      some_of (λ a. front_row (read n) (is_front n) levels c a.follows a.row u) (productions s)
 
 -- ---- readings and fronts in one pass
 
@@ -176,13 +203,16 @@ abbrev pub found_leaving : {A : Type 0} → (Counts → Counts) → Found A → 
 found_leaving f e = found (each_of (leaving f) e.readings) e.front
 
 abbrev pub found_joined : {A B : Type 0} → Bool → Reading A → Found B → Found (A × B)
-found_joined b x e = found (all_of (joined_where b x) e.readings) (only_where (may_follow b x.left) e.front)
+found_joined b x e =
+    found (all_of (joined_where b x) e.readings) (only_where (may_follow b x.left) e.front)
 
-abbrev pub found_behind : {A B : Type 0} → (A → Bool) → (Reading A → Found B) → List (Reading A) → Found (A × B)
+abbrev pub found_behind : {A B : Type 0} → (A → Bool) → (Reading A → Found B) → List (Reading A)
+    → Found (A × B)
 found_behind t f [] = found [] false
 found_behind t f (x ∷ xs) = both (found_joined (t x.tree) x (f x)) (found_behind t f xs)
 
-abbrev pub found_rest : {A B : Type 0} → (A → Bool) → (Reading A → Found B) → Found A → Found (A × B)
+abbrev pub found_rest : {A B : Type 0} → (A → Bool) → (Reading A → Found B) → Found A
+    → Found (A × B)
 found_rest t f e = or_front e.front (found_behind t f e.readings)
 
 abbrev pub found_made : {A : Type 0} (a : Production A) → Found (Nodes a.row) → Found A
@@ -193,21 +223,33 @@ Finder = ℕ → Counts → (s : Sym) → PlacedTokens → Found (Value s)
 
 module _ (limits : Limits) where
   abbrev pub find_element : Finder → ℕ → Counts → (i : Element) → PlacedTokens → Found (Node i)
-  find_element X levels c (tok t) w = found (read_token (λ v. is t v.token.tok) c w) (front_token (λ v. is t v.token.tok) w)
+  find_element X levels c (tok t) w =
+      found (read_token (λ v. is t v.token.tok) c w) (front_token (λ v. is t v.token.tok) w)
   find_element X levels c (count k t) w =
-      found (read_token (λ v. is t v.token.tok && is_within limits k (behind_counted k c)) (behind_counted k c) w) (front_token (λ v. is t v.token.tok && is_within limits k (behind_counted k c)) w)
+      found
+      (read_token (λ v. is t v.token.tok && is_within limits k (behind_counted k c))
+      (behind_counted k c) w)
+      (front_token (λ v. is t v.token.tok && is_within limits k (behind_counted k c)) w)
   find_element X levels c (sym s) w = X levels c s w
   find_element X levels c (nest s) w = found_deeper (λ fewer. X fewer c s w) levels w
-  find_element X levels c (whole s) w = found_leaving (behind_expression c) (X levels (in_expression c) s w)
-  find_element X levels c (own s) w = found_leaving (behind_declarator c) (X levels (in_declarator c) s w)
+  find_element X levels c (whole s) w =
+      found_leaving (behind_expression c) (X levels (in_expression c) s w)
+  find_element X levels c (own s) w =
+      found_leaving (behind_declarator c) (X levels (in_declarator c) s w)
 
   abbrev pub find_row : Finder → ℕ → Counts → Follows → (r : Row) → PlacedTokens → Found (Nodes r)
-  find_row X levels c follows [] w = found (record { tree = tt; taken = []; left = w; behind = c } ∷ []) (is_empty w)
-  find_row X levels c follows (i ∷ r) w = found_rest (follows i) (λ x. find_row X levels x.behind follows r x.left) (find_element X levels c i w)
+  find_row X levels c follows [] w =
+      found (record { tree = tt; taken = []; left = w; behind = c } ∷ []) (is_empty w)
+  find_row X levels c follows (i ∷ r) w =
+      found_rest (follows i) (λ x. find_row X levels x.behind follows r x.left)
+      (find_element X levels c i w)
 
-  abbrev pub find_productions : Finder → ℕ → Counts → {A : Type 0} → List (Production A) → PlacedTokens → Found A
+  abbrev pub find_productions : Finder → ℕ → Counts → {A : Type 0} → List (Production A)
+      → PlacedTokens → Found A
   find_productions X levels c [] w = found [] false
-  find_productions X levels c (a ∷ rest) w = both (found_made a (find_row X levels c a.follows a.row w)) (find_productions X levels c rest w)
+  find_productions X levels c (a ∷ rest) w =
+      both (found_made a (find_row X levels c a.follows a.row w))
+      (find_productions X levels c rest w)
 
   -- what `read` and `is_front` give, without reading an element twice
   abbrev pub find : ℕ → Finder
@@ -245,9 +287,15 @@ unreached u = record { nesting = height u; operations = length u; derivations = 
 abbrev pub stop_at : Limits → PlacedTokens → Placed → Option Stop
 stop_at limits u t = elim (fits limits unit u) [
   | true ↦ None
-  | false ↦ elim (fits (unreached u) unit u) [ true ↦ Some (Limit L3) | false ↦ Some (Refused F7 t.token.line) ]
+  | false ↦ elim (fits (unreached u) unit u) [
+    | true ↦ Some (Limit L3)
+    | false ↦ Some (Refused F7 t.token.line)
+  ]
 ]
 
 abbrev pub first_stop : Limits → PlacedTokens → PlacedTokens → Option Stop
 first_stop limits before [] = None
-first_stop limits before (t ∷ after) = elim (stop_at limits (before ++ t ∷ []) t) [ Some stop ↦ Some stop | None ↦ first_stop limits (before ++ t ∷ []) after ]
+first_stop limits before (t ∷ after) = elim (stop_at limits (before ++ t ∷ []) t) [
+  | Some stop ↦ Some stop
+  | None ↦ first_stop limits (before ++ t ∷ []) after
+]

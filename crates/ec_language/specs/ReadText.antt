@@ -15,6 +15,9 @@ read_text written text = elim (nat_lt max_text (length text)) [
   | true ↦ Err (Limit L6)
   | false ↦ elim (read_pieces text) [
     | Err fault ↦ Err (Refused fault.0 (record { 0 = fault.1 }))
-    | Ok pieces ↦ elim (read_tokens written pieces) [ Err stop ↦ Err stop | Ok tokens ↦ read_syntax tokens ]
+    | Ok pieces ↦ elim (read_tokens written pieces) [
+      | Err stop ↦ Err stop
+      | Ok tokens ↦ read_syntax tokens
+    ]
   ]
 ]

@@ -25,7 +25,10 @@ mark_class text = if is_left_out_mark text then Some left_out else option_map pu
 -- the longest mark of at most so many bytes, and the text behind it
 abbrev pub mark_end : ℕ → Text → Option (Class × Text)
 mark_end zero text = None
-mark_end (suc n) text = elim (mark_class (take (suc n) text)) [ Some class ↦ Some (class, drop (suc n) text) | None ↦ mark_end n text ]
+mark_end (suc n) text = elim (mark_class (take (suc n) text)) [
+  | Some class ↦ Some (class, drop (suc n) text)
+  | None ↦ mark_end n text
+]
 
 -- the class of what a quote begins
 abbrev pub quoted_class : ℕ → Class
@@ -42,11 +45,22 @@ lexeme_end (b ∷ bs) =
             | true ↦ Some (number, behind_all is_number_byte bs)
             | false ↦
                 elim (is_quote b) [
-                  | true ↦ elim (quote_end b bs) [ passed rest ↦ Some (quoted_class b, rest) | cut rest ↦ None | endless ↦ None ]
+                  | true ↦ elim (quote_end b bs) [
+                    | passed rest ↦ Some (quoted_class b, rest)
+                    | cut rest ↦ None
+                    | endless ↦ None
+                  ]
                   | false ↦
                       elim (begins_with (codes "/*") (b ∷ bs)) [
-                        | true ↦ elim (comment_end (drop 1 bs)) [ passed rest ↦ Some (comment, rest) | cut rest ↦ mark_end 3 (b ∷ bs) | endless ↦ mark_end 3 (b ∷ bs) ]
-                        | false ↦ elim (begins_with (codes "//") (b ∷ bs)) [ true ↦ Some (comment, behind_all is_not_newline (drop 1 bs)) | false ↦ mark_end 3 (b ∷ bs) ]
+                        | true ↦ elim (comment_end (drop 1 bs)) [
+                          | passed rest ↦ Some (comment, rest)
+                          | cut rest ↦ mark_end 3 (b ∷ bs)
+                          | endless ↦ mark_end 3 (b ∷ bs)
+                        ]
+                        | false ↦ elim (begins_with (codes "//") (b ∷ bs)) [
+                          | true ↦ Some (comment, behind_all is_not_newline (drop 1 bs))
+                          | false ↦ mark_end 3 (b ∷ bs)
+                        ]
                       ]
                 ]
           ]
@@ -71,14 +85,20 @@ pub record ReadItem : Type 0 where
 
 -- where an `#include` line ends: with its line, or before a comment
 abbrev pub ends_include : Text → Bool
-ends_include text = is_empty text || begins_with (newline ∷ []) text || begins_with (codes "/*") text || begins_with (codes "//") text
+ends_include text =
+    is_empty text || begins_with (newline ∷ []) text || begins_with (codes "/*") text
+    || begins_with (codes "//") text
 
 -- the text behind an `#include` line that goes on with this text, which has no more units than this
 abbrev pub include_end : ℕ → Text → Option Text
 include_end zero text = None
 include_end (suc n) text = elim (ends_include text) [
   | true ↦ Some text
-  | false ↦ elim (c_end text) [ passed rest ↦ include_end n rest | cut rest ↦ None | endless ↦ None ]
+  | false ↦ elim (c_end text) [
+    | passed rest ↦ include_end n rest
+    | cut rest ↦ None
+    | endless ↦ None
+  ]
 ]
 
 -- the text behind an `#include` line, if the text begins with one
@@ -87,17 +107,28 @@ include_behind text = include_end (suc (length text)) text
 
 -- an `#include` line of this text, with this rest
 abbrev pub include_item : Text → Text → ReadItem
-include_item text rest = record { bytes = front text rest; tok = Some (Ok (include_token (front text rest))); step = counted; rest = rest }
+include_item text rest = record {
+  bytes = front text rest;
+  tok = Some (Ok (include_token (front text rest)));
+  step = counted;
+  rest = rest;
+}
 
 -- a `#line` line, and what stands behind it, from its newline on
 abbrev pub directive_item : Text → Text → ReadItem
 directive_item line [] = record { bytes = line; tok = None; step = counted; rest = [] }
-directive_item line (b ∷ bs) = record { bytes = line ++ b ∷ []; tok = None; step = numbered_line (directive_number line); rest = bs }
+directive_item line (b ∷ bs) = record {
+  bytes = line ++ b ∷ [];
+  tok = None;
+  step = numbered_line (directive_number line);
+  rest = bs;
+}
 
 -- a `#line` line of written C, if the text begins with one
 abbrev pub read_directive : Text → Option ReadItem
 read_directive text = elim (is_line_directive (front text (behind_all is_not_newline text))) [
-  | true ↦ Some (directive_item (front text (behind_all is_not_newline text)) (behind_all is_not_newline text))
+  | true ↦ Some (directive_item (front text (behind_all is_not_newline text))
+      (behind_all is_not_newline text))
   | false ↦ None
 ]
 
@@ -110,7 +141,12 @@ read_hash written text = elim (begins_with (codes "#include") text) [
 
 -- a longest match
 abbrev pub lexeme_item : Class × Text × Text → ReadItem
-lexeme_item found = record { bytes = found.1; tok = token_of found.0 found.1; step = counted; rest = found.2 }
+lexeme_item found = record {
+  bytes = found.1;
+  tok = token_of found.0 found.1;
+  step = counted;
+  rest = found.2;
+}
 
 -- The first thing that stands at the beginning of C text: a blank, a line with `#`, or a longest match. Nothing else begins with `#`.
 abbrev pub read_item : Bool → Bool → Text → Option ReadItem
@@ -147,7 +183,8 @@ c_parts_within zero written line fresh text = record { parts = []; last = line }
 c_parts_within (suc n) written line fresh [] = record { parts = []; last = line }
 c_parts_within (suc n) written line fresh (b ∷ bs) = elim (read_item written fresh (b ∷ bs)) [
   | Some item ↦ with_parts (part_at line item.tok)
-      (c_parts_within n written (line_behind line item.bytes item.step) (is_fresh_after fresh item.bytes) item.rest)
+      (c_parts_within n written (line_behind line item.bytes item.step)
+      (is_fresh_after fresh item.bytes) item.rest)
   | None ↦ one_part line (Err (bad_byte fresh (b ∷ bs))) line
 ]
 
@@ -162,7 +199,11 @@ abbrev pub units_within : ℕ → Text → List Text
 units_within zero text = []
 units_within (suc n) text = elim (begins_semicolon text) [
   | true ↦ []
-  | false ↦ elim (sql_end text) [ passed rest ↦ front text rest ∷ units_within n rest | cut rest ↦ [] | endless ↦ [] ]
+  | false ↦ elim (sql_end text) [
+    | passed rest ↦ front text rest ∷ units_within n rest
+    | cut rest ↦ []
+    | endless ↦ []
+  ]
 ]
 
 -- the units of a text up to the first `;`
@@ -183,27 +224,35 @@ declaration_text bytes = gap_stop (text_behind_start bytes)
 
 abbrev pub statement_parts : ℕ → ℕ → Text → List Text → ReadParts
 statement_parts line statements bytes units = record {
-  parts = record { line = line; tok = Ok (emb_token statements (is_executable units)) } ∷ fault_at (first_bad_line (line + lines_before bytes (concat units)) units) F4;
+  parts =
+      record { line = line; tok = Ok (emb_token statements (is_executable units)) }
+      ∷ fault_at (first_bad_line (line + lines_before bytes (concat units)) units) F4;
   last = line + newlines bytes;
 }
 
 -- C text between two marks, the first of which stands on this line
 abbrev pub marked : ℕ → ReadParts → ReadParts
 marked line inner = record {
-  parts = record { line = line; tok = Ok section_start } ∷ inner.parts ++ record { line = inner.last; tok = Ok section_end } ∷ [];
+  parts =
+      record { line = line; tok = Ok section_start } ∷ inner.parts
+      ++ record { line = inner.last; tok = Ok section_end } ∷ [];
   last = inner.last;
 }
 
 abbrev pub declaration_parts : ℕ → Text → Text → ReadParts
-declaration_parts line bytes text = marked line (c_parts false (line + lines_before bytes text) false text)
+declaration_parts line bytes text =
+    marked line (c_parts false (line + lines_before bytes text) false text)
 
 -- of what is embedded in a source
 abbrev pub embedded_parts : PieceKind → ℕ → ℕ → Text → ReadParts
 embedded_parts C line statements bytes = record { parts = []; last = line }
-embedded_parts Emb line statements bytes = statement_parts line statements bytes (statement_units bytes)
+embedded_parts Emb line statements bytes =
+    statement_parts line statements bytes (statement_units bytes)
 embedded_parts InPlace line statements bytes = declaration_parts line bytes (declaration_text bytes)
-embedded_parts SectionStart line statements bytes = one_part line (Ok section_start) (line + newlines bytes)
-embedded_parts SectionEnd line statements bytes = one_part line (Ok section_end) (line + newlines bytes)
+embedded_parts SectionStart line statements bytes =
+    one_part line (Ok section_start) (line + newlines bytes)
+embedded_parts SectionEnd line statements bytes =
+    one_part line (Ok section_end) (line + newlines bytes)
 
 -- of a piece that is not C text
 abbrev pub other_parts : Bool → PieceKind → ℕ → ℕ → Text → ReadParts
@@ -219,15 +268,20 @@ is_c _ = false
 
 -- of a piece that begins on this line, behind so many statements
 abbrev pub piece_parts : Bool → ℕ → Bool → ℕ → Piece → ReadParts
-piece_parts written line fresh statements p = elim (is_c p.kind) [ true ↦ c_parts written line fresh p.bytes | false ↦ other_parts written p.kind line statements p.bytes ]
+piece_parts written line fresh statements p = elim (is_c p.kind) [
+  | true ↦ c_parts written line fresh p.bytes
+  | false ↦ other_parts written p.kind line statements p.bytes
+]
 
 -- ---- tokens
 
 -- the parts of pieces, one after the other
 abbrev pub all_parts : Bool → ℕ → Bool → ℕ → List Piece → ReadParts
 all_parts written line fresh statements [] = record { parts = []; last = line }
-all_parts written line fresh statements (p ∷ ps) = with_parts (piece_parts written line fresh statements p).parts
-    (all_parts written (piece_parts written line fresh statements p).last (is_fresh_after fresh p.bytes) (statements_behind statements p.kind) ps)
+all_parts written line fresh statements (p ∷ ps) =
+    with_parts (piece_parts written line fresh statements p).parts
+    (all_parts written (piece_parts written line fresh statements p).last
+    (is_fresh_after fresh p.bytes) (statements_behind statements p.kind) ps)
 
 -- the tokens of all parts
 abbrev pub tokens_of : Bool → ReadParts → Result (List TokenData) Stop

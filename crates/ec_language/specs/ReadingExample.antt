@@ -16,7 +16,8 @@ abbrev pub example_unit : UnitData
 example_unit = record {
   tops =
       mark_top true (at_line 1)
-      ∷ decl_top (decl int_base (declarators (declarator 0 (codes "x") no_dims no_init) no_declarators) true (at_line 1))
+      ∷ decl_top (decl int_base (declarators (declarator 0 (codes "x") no_dims no_init)
+      no_declarators) true (at_line 1))
       ∷ mark_top false (at_line 1)
       ∷ func_top (record {
         base = int_base;
@@ -24,7 +25,8 @@ example_unit = record {
         name = codes "main";
         params = [];
         body = Some (stmts (on_line 3 (emb_stmt 0))
-            (stmts (on_line 4 (expr_stmt (call (codes "printf") (exprs (string (codes "%d\n")) (exprs (id "x") no_exprs)))))
+            (stmts (on_line 4 (expr_stmt (call (codes "printf")
+            (exprs (string (codes "%d\n")) (exprs (id "x") no_exprs)))))
             (stmts (on_line 5 (return_stmt (Some (int_value 0)))) no_stmts)));
         section = false;
         line = at_line 2;

@@ -29,7 +29,10 @@ mark_of None = end_token
 mark_of (Some m) = punct_token m
 
 abbrev pub other_token : Text → TokData
-other_token text = elim (is_number text) [ true ↦ integer_of (integer_constant text) | false ↦ mark_of (punct_of text) ]
+other_token text = elim (is_number text) [
+  | true ↦ integer_of (integer_constant text)
+  | false ↦ mark_of (punct_of text)
+]
 
 -- `BEGIN` and `END` stand for the marks of a section
 abbrev pub token_of : Text → TokData
@@ -54,7 +57,10 @@ abbrev pub tokens_from : ℕ → Text → Text → List TokenData
 tokens_from line sofar [] = token_before line sofar (at_line line end_token ∷ [])
 tokens_from line sofar (b ∷ bs) = elim (b == 32) [
   | true ↦ token_before line sofar (tokens_from line [] bs)
-  | false ↦ elim (b == 10) [ true ↦ token_before line sofar (tokens_from (suc line) [] bs) | false ↦ tokens_from line (sofar ++ b ∷ []) bs ]
+  | false ↦ elim (b == 10) [
+    | true ↦ token_before line sofar (tokens_from (suc line) [] bs)
+    | false ↦ tokens_from line (sofar ++ b ∷ []) bs
+  ]
 ]
 
 -- the tokens of the text, and the end
@@ -71,7 +77,9 @@ braces zero = []
 braces (suc n) = at_line 1 (punct_token LeftBrace) ∷ braces n
 
 abbrev pub opened : ℕ → PlacedTokens
-opened n = placed (map (at_line 1) (word_token (codes "int") ∷ word_token (codes "main") ∷ punct_token LeftParen ∷ punct_token RightParen ∷ []) ++ braces n)
+opened n =
+    placed (map (at_line 1) (word_token (codes "int") ∷ word_token (codes "main")
+    ∷ punct_token LeftParen ∷ punct_token RightParen ∷ []) ++ braces n)
 
 -- ---- trees
 
@@ -102,7 +110,16 @@ abbrev pub unit_of : List TopData → UnitData
 unit_of tops = record { tops = tops; embs = []; last = first_line }
 
 abbrev pub main_with : StmtList → UnitData
-main_with body = unit_of (func_top (record { base = int_base; stars = 0; name = codes "main"; params = []; body = Some body; section = false; line = first_line }) ∷ [])
+main_with body =
+    unit_of (func_top (record {
+      base = int_base;
+      stars = 0;
+      name = codes "main";
+      params = [];
+      body = Some body;
+      section = false;
+      line = first_line;
+    }) ∷ [])
 
 -- a function with this statement
 abbrev pub doing : StmtKindData → UnitData
@@ -114,7 +131,8 @@ computing e = doing (expr_stmt e)
 
 -- a declaration of one name as an `int`
 abbrev pub declaring : String → DimList → InitOption → Bool → DeclData
-declaring name ds i section = decl int_base (declarators (declarator 0 (codes name) ds i) no_declarators) section first_line
+declaring name ds i section =
+    decl int_base (declarators (declarator 0 (codes name) ds i) no_declarators) section first_line
 
 -- ---- limits
 
