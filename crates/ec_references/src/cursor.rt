@@ -86,6 +86,17 @@ impl<'a> Cursor<'a> {
         }
     }
 
+    /// Goes to other tokens, with the same counts.
+    #[tactic(auto, unfolding(crate::specs::States::seen))]
+    pub fn go_to(&mut self, tokens: &'a [SqlToken])
+        ensures { seen self.new ≡ record {
+          tokens = sql_views tokens.now;
+          counts = (seen self.old).counts;
+        } }
+    {
+        self.rest = tokens;
+    }
+
     /// How many tokens are left.
     #[tactic(auto, unfolding(crate::specs::States::seen))]
     pub fn left(&self) -> usize

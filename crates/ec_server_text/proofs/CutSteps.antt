@@ -1,7 +1,7 @@
 -- Hosts, INTO lists and cuts of a statement for the server are read by the readers.
-use Rattle.std.proofs.Common.{◌≡◌, ℕ, zero, suc, Bool, true, false, List, [], ◌∷◌, ◌++◌, length, drop, refl, ap, sym, ◌∙◌, codes, Option, Some, None, ◌⊎◌, inl, inr, append_assoc, append-nil}
+use Rattle.std.proofs.Common.{◌≡◌, ℕ, zero, suc, Bool, true, false, List, [], ◌∷◌, ◌++◌, length, drop, ◌-◌, refl, ap, sym, ◌∙◌, codes, Option, Some, None, ◌⊎◌, inl, inr, append_assoc, append-nil}
 use Rattle.std.specs.Prelude.{◌&&◌, ◌||◌, ◌==◌}
-use Rattle.ec_ctypes.specs.trees.Embedded.{HostData, TextArgData, word_arg, OutsData, no_outs, listed_outs, area_outs, PartData, bytes_part, host_part, server_text, trans, declare_cursor}
+use Rattle.ec_ctypes.specs.trees.Embedded.{HostData, TextArgData, word_arg, OutsData, no_outs, listed_outs, area_outs, PartData, bytes_part, host_part, server_text, trans, declare_cursor, EmbKindData}
 use Rattle.ec_ctypes.specs.trees.Exprs.{ExprData, identifier}
 use Rattle.ec_shapes.specs.ReadShapes.{done, stopped, stuck, over_limit, and_then, counting, taking, read_one}
 use Rattle.ec_shapes.proofs.Made.{made, same_next, made_first}
@@ -329,3 +329,14 @@ control_is n w = plain_are (λ ps os. trans (bytes_in ps)) w (r.cutting_from tru
 pub declare_is : (name : Text) (n : Counts) (w : Tokens) → made (λ cs. declare_cursor name (parts true false cs) None) (cuts (length w) 0 false n w) ≡ r.declaring name n w
 unfolding r.declaring r.all_cuts
 declare_is name n w = cuts_are (λ ps os. declare_cursor name ps None) (length w) (r.cutting_from false) (λ e. absurd (cc)) n w ∙ same_next (cuts_within (length w) (r.cutting_from false) n w) _ _ (λ s i u. ap (λ ps. done (declare_cursor name ps None) i u) (put_end s.writing.parts s.writing.bytes))
+
+pub prepared_is : (name prepared : Text) (n : Counts) (w : Tokens)
+    → and_then (cuts (length w - 1) 0 false n w) (λ cs m q. done (declare_cursor name (bytes_part (bytes_in (parts true false cs) ++ codes " ") ∷ []) (Some prepared)) m []) ≡ r.declaring_prepared name prepared n w
+unfolding r.declaring_prepared
+prepared_is name prepared n w =
+    let head : List PartData → EmbKindData = λ ps. declare_cursor name (bytes_part (bytes_in ps ++ codes " ") ∷ []) (Some prepared) in
+    let end : EmbKindData → Counts → Tokens → Reading EmbKindData = λ k m q. done k m [] in
+    sym (made_first (cuts (length w - 1) 0 false n w) (λ cs. head (parts true false cs)) end)
+    ∙ ap (λ o. and_then o end) (cuts_are (λ ps os. head ps) (length w - 1) (r.cutting_from false) (λ e. absurd (cc)) n w)
+    ∙ made_first (cuts_within (length w - 1) (r.cutting_from false) n w) (λ s. head (whole s.writing [])) end
+    ∙ same_next (cuts_within (length w - 1) (r.cutting_from false) n w) _ _ (λ s i u. ap (λ ps. done (head ps) i []) (put_end s.writing.parts s.writing.bytes))

@@ -2,7 +2,7 @@
 use Rattle.std.specs.Prelude.{ℕ, zero, suc, ◌-◌, Bool, true, false, not, ◌&&◌, ◌||◌, ◌==◌, List, [], ◌∷◌, ◌++◌, drop, length, codes, Option, Some, None, if◌then◌else◌}
 use Rattle.ec_ctypes.specs.trees.Embedded.{HostData, TextArgData, word_arg, OutsData, no_outs, listed_outs, area_outs, PartData, bytes_part, host_part, EmbKindData, server_text, trans, declare_cursor}
 use Rattle.ec_ctypes.specs.trees.Exprs.{ExprData, identifier}
-use Rattle.ec_shapes.specs.ReadShapes.{done, stuck}
+use Rattle.ec_shapes.specs.ReadShapes.{done, stuck, and_then}
 use Rattle.ec_language.specs.Letters.{Text}
 use Rattle.ec_language.specs.SqlTokens.{SqlToken}
 use Rattle.ec_embedded.specs.References.{unquoted, text_of_host}
@@ -181,3 +181,10 @@ declared_by name s = declare_cursor name (parts_of s.writing) None
 -- for a statement
 unfoldable pub declaring : Text → Reader EmbKindData
 declaring name = all_cuts (cutting_from false) >>= (λ s. returns (declared_by name s))
+
+-- for a prepared statement: the text up to its name, and a blank
+abbrev pub prepared_by : Text → Text → Cutting → EmbKindData
+prepared_by name prepared s = declare_cursor name (bytes_part (bytes_in (parts_of s.writing) ++ codes " ") ∷ []) (Some prepared)
+
+unfoldable pub declaring_prepared : Text → Text → Reader EmbKindData
+declaring_prepared name prepared = λ n w. and_then (cuts_within (length w - 1) (cutting_from false) n w) (λ s m r. done (prepared_by name prepared s) m [])

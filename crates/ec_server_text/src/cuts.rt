@@ -336,3 +336,60 @@ pub fn declare(alloc: Global, cursor: &mut Cursor<'_>, name: Name) -> Result<Emb
     let cutting = all_cuts(alloc, cursor, cutting_from(alloc, false))?;
     Ok(declared_by(cutting, name)?)
 }
+
+/// So many cuts at most.
+fn cuts_within(
+    alloc: Global,
+    cursor: &mut Cursor<'_>,
+    turns: usize,
+    mut cutting: Cutting,
+) -> Result<Cutting, Failure>
+    requires { cutting.depth ≡ 0 }
+    ensures { ReadsBy cutting_view (spec.cuts_within turns (cutting_view cutting)) (seen cursor.old) result (seen cursor.new) }
+{
+    for _turn in 0..turns {
+        if cursor.left() == 0 {
+            return Ok(cutting);
+        }
+        cutting = one_cut(alloc, cursor, cutting)?;
+    }
+    Ok(cutting)
+}
+
+/// The declaration of a cursor for a prepared statement that is written so.
+fn prepared_by(
+    alloc: Global,
+    cutting: Cutting,
+    name: Name,
+    prepared: Name,
+) -> Result<EmbKind, OutOfMemory>
+    ensures { IfOk result (λ kind. emb_kind_view kind
+        ≡ spec.prepared_by name prepared (cutting_view cutting)) }
+{
+    let written = with_bytes(cutting.parts, cutting.bytes)?;
+    let mut bytes = bytes_in(alloc, &written)?;
+    bytes.push(b' ')?;
+    let mut parts = List::new(alloc);
+    parts.push(Part::Bytes(bytes))?;
+    Ok(EmbKind::Declare {
+        cursor: name,
+        parts,
+        prepared: Some(prepared),
+    })
+}
+
+/// DECLARE of a cursor for a prepared statement, from its first token on: all but the last token, and a blank.
+#[tactic(auto, unfolding(crate::specs::Readers::declaring_prepared))]
+pub fn declare_prepared(
+    alloc: Global,
+    cursor: &mut Cursor<'_>,
+    name: Name,
+    prepared: Name,
+) -> Result<EmbKind, Failure>
+    ensures { ReadsBy emb_kind_view (spec.declaring_prepared name prepared) (seen cursor.old) result (seen cursor.new) }
+{
+    let turns = cursor.left().saturating_sub(1);
+    let cutting = cuts_within(alloc, cursor, turns, cutting_from(alloc, false))?;
+    cursor.go_to(&[]);
+    Ok(prepared_by(alloc, cutting, name, prepared)?)
+}

@@ -1,6 +1,6 @@
 //! The readers are what the definition of statements for the server has, as the contract of a function that does nothing.
 
-ghost use Rattle.ec_server_text.specs.Laws.{CursorsAreDeclared, HostsAreLongest, StatementsAreSent, SuffixesAreLongest, TransactionsAreControlled};
+ghost use Rattle.ec_server_text.specs.Laws.{CursorsAreDeclared, CursorsArePrepared, HostsAreLongest, StatementsAreSent, SuffixesAreLongest, TransactionsAreControlled};
 
 /// What is read token by token is what the definition has.
 #[tactic(none)]
@@ -10,4 +10,5 @@ pub fn readers_are_exact()
     ensures statement { StatementsAreSent }
     ensures transaction { TransactionsAreControlled }
     ensures cursor { CursorsAreDeclared }
+    ensures prepared { CursorsArePrepared }
 {}

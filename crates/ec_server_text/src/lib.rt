@@ -6,7 +6,7 @@ mod hosts;
 mod laws;
 mod lookahead;
 
-pub use cuts::{Cutting, declare, server, transaction};
+pub use cuts::{Cutting, declare, declare_prepared, server, transaction};
 pub use hosts::{input_host, long_host, outputs};
 pub use laws::readers_are_exact;
 pub use lookahead::{begins_area, begins_host, begins_into};

@@ -1,0 +1,2 @@
+pub mod FormsDecided
+pub mod Telling
