@@ -582,6 +582,10 @@ class Texts(Form):
     def cut_list(self, at):
         """The INTO list whose first token behind INTO is at `at`."""
         if self.tokens[at].is_word("SQL"):
+            found = self.host_here(at + 2)
+            if found is not None:
+                end, text, limits = found
+                return end, f"(area {text})", limits
             for end, text, limits in self.text_argument(at + 2):
                 return end, f"(area {text})", limits
             raise fault("F8", "statement form", self.tokens[self.farthest].line)
