@@ -96,7 +96,8 @@ def quote_end(text, at, escapes):
 def lex(text, line):
     """The tokens of what stands behind EXEC SQL, up to the first free semicolon, which is the last of them.
 
-    The second value is the line of the first byte that begins no token, or None.
+    The second value is the line of the first byte that begins no token, or None. Without tokens it is None where the
+    statement has no end, and else where it ends before the text.
     """
     tokens, bad, at = [], None, 0
     while True:
@@ -131,7 +132,7 @@ def lex(text, line):
                 bad = here
         tokens.append(Token(sort, text[begin:end], here, gap))
         if sort == "mark" and byte == ord(";"):
-            return tokens, bad
+            return (tokens, bad) if end == len(text) else (None, end)
         at = end
 
 
@@ -753,7 +754,7 @@ def kind(tokens, alone):
     if first.is_mark(b";"):
         raise refuse(first)
     if is_left_out(tokens):
-        raise fault("F9", "left-out form", first.line)
+        raise fault("F9", "left-out form", next(token for token in tokens if token.sort == "word").line)
     form = Form(tokens)
     simple = {"CONNECT": form.connect, "DISCONNECT": form.disconnect, "ALLOCATE": form.allocate, "GET": form.get,
               "WHENEVER": form.whenever, "INCLUDE": form.include}
@@ -808,7 +809,7 @@ def printed(text):
     line = 1 + text.count(b"\n", 0, head.end())
     tokens, bad = lex(text[head.end():], line)
     if tokens is None:
-        return "F3 unclosed statement at line 1"
+        return None if bad is not None else "F3 unclosed statement at line 1"
     if tokens[0].sort == "word" and tokens[0].text in TYPE_WORDS:
         return None
     if len(tokens) == 4 and tokens[0].is_word("BEGIN", "END") and tokens[1].is_word("DECLARE") \
