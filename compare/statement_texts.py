@@ -21,7 +21,6 @@ class Statements:
 
     def __init__(self, seed):
         self.random = random.Random(seed)
-        self.deep = 0
 
     def one_of(self, *choices):
         return self.random.choice(choices)

@@ -248,7 +248,6 @@ class Form:
     def host(self, at, only_by_word=False):
         """A reference with an optional indicator."""
         for end, value, limits in self.reference(at):
-            by_word = self.word_is(end, "INDICATOR") and self.mark_is(end + 1, b":")
             if self.mark_is(end, b":") and not only_by_word:
                 start = end
             elif self.word_is(end, "INDICATOR"):
@@ -256,7 +255,6 @@ class Form:
             else:
                 yield end, f"(host {value})", limits
                 continue
-            del by_word
             for last, indicator, more in self.reference(start):
                 yield last, f"(host {value} {indicator})", limits + more
 
@@ -686,14 +684,19 @@ def whole(form, ways):
                 raise Stop("limit L4")
             return tree
     place = form.farthest
-    raise_limit_before(form, place, seen)
+    if any(passes_limit(limits, place) for limits in seen):
+        raise Stop("limit L4")
     raise fault("F8", "statement form", form.tokens[place].line)
 
 
-def raise_limit_before(form, place, seen):
-    """Where the longest way passed a limit before the dead token, the limit comes."""
-    if any(passes_limit(limits, place) for limits in seen):
+def whole_text(form, into_allowed):
+    """The parts and the outputs of a text for the server; else its fault, or L4 before it."""
+    parts, place, limits, outs = form.parts(0, into_allowed)
+    if passes_limit(limits, place):
         raise Stop("limit L4")
+    if parts is None:
+        raise fault("F8", "statement form", form.tokens[place].line)
+    return parts, outs
 
 
 def declare(tokens):
@@ -720,21 +723,12 @@ def declare(tokens):
         parts, _, _, _ = head.parts(0, False)
         text = parts[0][:-1] + ' "'
         return f"(declare {cursor} (parts {text}) {printed_bytes(tokens[inner].text)})"
-    parts, place, limits, _ = form.parts(0, False)
-    if passes_limit(limits, place):
-        raise Stop("limit L4")
-    if parts is None:
-        raise fault("F8", "statement form", tokens[place].line)
+    parts, _ = whole_text(form, False)
     return f"(declare {cursor} (parts {' '.join(parts)}) -)"
 
 
 def server(tokens):
-    form = Texts(tokens)
-    parts, place, limits, outs = form.parts(0, True)
-    if passes_limit(limits, place):
-        raise Stop("limit L4")
-    if parts is None:
-        raise fault("F8", "statement form", tokens[place].line)
+    parts, outs = whole_text(Texts(tokens), True)
     return f"(text (parts{''.join(' ' + part for part in parts)}) {outs})"
 
 
