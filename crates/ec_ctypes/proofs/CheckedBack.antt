@@ -41,10 +41,10 @@ name_undone : (n : ℕ × Ty) → name_back (name_view n) ≡ n
 name_undone n = λ i. (n.0, ty_undone n.1 i)
 
 abbrev pub typed_back : TypedData → Typed
-typed_back t = record { unit = unit_back t.unit; structs = map struct_back t.structs; names = map name_back t.names; hosts = record { hosts = t.hosts }; handlers = handlers_back t.handlers }
+typed_back t = record { unit = unit_back t.unit; structs = map struct_back t.structs; names = map name_back t.names; hosts = record { hosts = t.hosts }; handlers = handlers_back t.handlers; denoted = t.denoted }
 
 pub typed_undone : (t : Typed) → typed_back (typed_view t) ≡ t
-typed_undone t = λ i. record { unit = unit_undone t.unit i; structs = map_undone struct_view struct_back struct_undone t.structs i; names = map_undone name_view name_back name_undone t.names i; hosts = t.hosts; handlers = handlers_undone t.handlers i }
+typed_undone t = λ i. record { unit = unit_undone t.unit i; structs = map_undone struct_view struct_back struct_undone t.structs i; names = map_undone name_view name_back name_undone t.names i; hosts = t.hosts; handlers = handlers_undone t.handlers i; denoted = t.denoted }
 
 abbrev indicator_back : IndicatorData → Sym × Expr × ℕ × ℕ
 indicator_back x = (x.0, expr_back x.1, x.2, x.3)

@@ -11,13 +11,14 @@ use Rattle.ec_ctypes.specs.trees.Units.{UnitData}
 abbrev pub MarkData : Type 0
 MarkData = ℕ × Cond × ActionData
 
--- a program with what the checks found: the structs, the types of the declarations by their numbers, the numbers of the hosts, and each WHENEVER in order
+-- a program with what the checks found: the structs, the types of the declarations by their numbers, the numbers of the hosts, each WHENEVER in order, and for each embedded statement the declarations that the variables in its hosts denote
 pub record TypedData : Type 0 where
   pub unit : UnitData
   pub structs : List StructData
   pub names : List (ℕ × TyData)
   pub hosts : List ℕ
   pub handlers : List MarkData
+  pub denoted : List (List (Option ℕ))
 
 -- an indicator: its symbol, its pointer, how many elements it has, and their distance
 abbrev pub IndicatorData : Type 0

@@ -26,7 +26,7 @@ abbrev pub name_view : ℕ × Ty → ℕ × TyData
 name_view n = (n.0, ty_view n.1)
 
 abbrev pub typed_view : Typed → TypedData
-typed_view t = record { unit = unit_view t.unit; structs = structs_view t.structs; names = map name_view t.names; hosts = t.hosts.hosts; handlers = handlers_view t.handlers }
+typed_view t = record { unit = unit_view t.unit; structs = structs_view t.structs; names = map name_view t.names; hosts = t.hosts.hosts; handlers = handlers_view t.handlers; denoted = t.denoted }
 
 abbrev pub indicator_view : Sym × Expr × ℕ × ℕ → IndicatorData
 indicator_view i = (i.0, expr_view i.1, i.2, i.3)

@@ -27,4 +27,7 @@ pub struct Typed {
     pub names: List<(u32, Ty)>,
     pub hosts: HostTable,
     pub handlers: HandlerTable,
+    /// For each embedded statement, by its number: the declarations that the variables in its hosts denote where the
+    /// statement stands, in the order of its tree. There is none for a name that no declaration of the program has.
+    pub denoted: List<List<Option<u32>>>,
 }
