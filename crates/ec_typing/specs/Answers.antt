@@ -61,7 +61,7 @@ listed_members order (listed ms) = struct_members order ms
 
 abbrev pub struct_data : List ℕ → Option StructInfo → StructData
 struct_data order None = record { tag = None; varchar = false; members = [] }
-struct_data order (Some s) = record { tag = s.tag; varchar = false; members = listed_members order s.members }
+struct_data order (Some s) = record { tag = s.tag; varchar = s.varchar; members = listed_members order s.members }
 
 abbrev pub structs_of : World → List StructData
 structs_of w = map (λ k. struct_data (struct_order w) (slice_get w.structs k)) (struct_order w)
@@ -76,7 +76,7 @@ names_of w = numbered_from 0 (struct_order w) w.types
 
 -- what was found out about a program that has no violation
 abbrev pub typed_of : UnitData → List ℕ → List MarkData → World → TypedData
-typed_of u hosts handlers w = record { unit = u; structs = structs_of w; names = names_of w; hosts = hosts; handlers = handlers }
+typed_of u hosts handlers w = record { unit = u; structs = structs_of w; names = names_of w; hosts = hosts; handlers = handlers; denoted = w.denoted }
 
 -- the answer of the checks: the first violation, or the program with its types
 abbrev pub answer_by : UnitData → List ℕ → List MarkData → World → Option Stop → Result TypedData Stop

@@ -1,5 +1,5 @@
 -- What is found out about expressions, and about the types and declarators in them: in which order the parts are looked at, and which rule each form has.
-use Rattle.std.specs.Prelude.{ℕ, zero, suc, Bool, true, false, not, pos, List, [], ◌∷◌, ◌++◌, length, Option, Some, None, is_some, option_and_then}
+use Rattle.std.specs.Prelude.{ℕ, zero, suc, ◌+◌, Bool, true, false, not, pos, List, [], ◌∷◌, ◌++◌, length, Option, Some, None, is_some, option_and_then, slice_get, codes}
 use Rattle.ec_base.specs.declared.fault.FaultKind.TheVariants.{F10, F11, F14, F16}
 use Rattle.ec_base.specs.declared.fault.LimitKind.TheVariants.{L1}
 use Rattle.ec_ctypes.specs.declared.types.sizes.Shape.{Shape}
@@ -9,10 +9,10 @@ use Rattle.ec_ctypes.specs.trees.Exprs.{ExprData, integer, character, string, id
 use Rattle.ec_ctypes.specs.Layout.{struct_shape}
 use Rattle.ec_language.specs.Letters.{Text}
 use Rattle.ec_typing.specs.Tables.{Named, find, put}
-use Rattle.ec_typing.specs.Types.{int_type, words_type}
+use Rattle.ec_typing.specs.Types.{int_type, char_type, words_type}
 use Rattle.ec_typing.specs.Known.{ArgumentsData, all_expressions, is_identifier, is_no_expression, behind_first_argument, arguments_of}
 use Rattle.ec_typing.specs.Worlds.{Place, MembersData, unlisted, begun, listed, StructInfo, World, Rule, ◌>>=◌, ◌>>◌, pure, ask, change, note, demand, keep_within, free_name, free_tag, tag_up, with_tag, place, struct_named, new_struct, set_struct, members_of, shapes_in, is_within}
-use Rattle.ec_typing.specs.Operands.{OperandData, unknown, integer_operand, literal_operand, name_rule, value_rule, address_rule, unary_rule, binary_rule, index_rule, assign_rule, compound_rule, bump_rule, call_rule, member_rule, arrow_rule, cast_rule, size_rule, declared_type, length_rule, within_rule, complete_rule}
+use Rattle.ec_typing.specs.Operands.{OperandData, unknown, integer_operand, literal_operand, name_rule, value_rule, address_rule, unary_rule, binary_rule, index_rule, assign_rule, compound_rule, bump_rule, call_rule, member_rule, arrow_rule, cast_rule, size_rule, array_of, declared_type, length_rule, within_rule, complete_rule}
 
 abbrev pub Members : Type 0
 Members = Named (Option TyData)
@@ -84,8 +84,21 @@ abbrev pub first_of_members : List StructInfo → Members → List TyData
 first_of_members structs [] = []
 first_of_members structs (m ∷ ms) = elim m.1 [ None ↦ [] | Some t ↦ first_types structs t ]
 
+-- how many members a host stands for: one, or as many as the members of a struct do, inner structs too
+abbrev pub stands_for : List StructInfo → TyData → ℕ
+stands_for structs (structure k) = elim (slice_get structs k) [ None ↦ 0 | Some s ↦ s.stands_for ]
+stands_for structs _ = 1
+
+abbrev pub stands_for_member : List StructInfo → Option TyData → ℕ
+stands_for_member structs None = 1
+stands_for_member structs (Some t) = stands_for structs t
+
+abbrev pub stands_for_all : List StructInfo → Members → ℕ
+stands_for_all structs [] = 0
+stands_for_all structs (m ∷ ms) = stands_for_member structs m.1 + stands_for_all structs ms
+
 abbrev pub closed_struct : Option Text → Members → Option Shape → World → StructInfo
-closed_struct tag ms shape w = record { tag = tag; members = listed ms; shape = shape; first = first_of_members w.structs ms }
+closed_struct tag ms shape w = record { tag = tag; varchar = false; members = listed ms; shape = shape; first = first_of_members w.structs ms; stands_for = stands_for_all w.structs ms }
 
 -- Its members are these: the struct is complete (6.7.2.1, 7). L1 where it is larger than the limit.
 unfoldable pub end_struct : Place → Option Text → ℕ → Members → Rule (Option TyData)
@@ -109,6 +122,59 @@ member_named at name ty ms = do
 abbrev pub has_init : InitOption → Bool
 has_init no_init = false
 has_init (some_init i) = true
+
+-- ---- VARCHAR (PostgreSQL manual, "VARCHAR"): `VARCHAR v[n]` is a struct of a length and n characters
+
+abbrev pub is_varchar : BaseData → Bool
+is_varchar varchar = true
+is_varchar _ = false
+
+abbrev pub varchar_members : Option ℕ → Members
+varchar_members n = (codes "len", Some int_type) ∷ (codes "arr", array_of n (Some char_type)) ∷ []
+
+-- a host of it stands for itself
+abbrev pub varchar_info : Option Text → Option ℕ → World → StructInfo
+varchar_info tag n w = record {
+  tag = tag;
+  varchar = true;
+  members = listed (varchar_members n);
+  shape = option_and_then (struct_shape (shapes_in w)) (typed_members (varchar_members n));
+  first = int_type ∷ [];
+  stands_for = 1;
+}
+
+-- a last length that is left out is none
+abbrev pub capacity : Option ℕ → Option ℕ
+capacity (Some (suc n)) = Some (suc n)
+capacity _ = None
+
+-- Each declarator makes a struct of its own, which is closed at once. L1 where it is larger than the limit.
+unfoldable pub varchar_struct : Place → Option Text → Option ℕ → Rule ℕ
+varchar_struct at tag n = do
+  info ← ask (varchar_info tag (capacity n))
+  k ← new_struct info
+  change (λ w. record w { closed = w.closed ++ k ∷ [] })
+  keep_within at L1 (is_within info.shape)
+  pure k
+
+-- the tag of a VARCHAR that is no member
+abbrev pub varchar_tag : Text → Text
+varchar_tag name = codes "varchar_" ++ name
+
+-- One that is no member declares its tag; F10 where this scope has the tag already.
+unfoldable pub varchar_object : Place → Text → Option ℕ → Rule (Option TyData)
+varchar_object at name n = do
+  k ← varchar_struct at (Some (varchar_tag name)) n
+  before ← ask (λ w. is_some (find (varchar_tag name) w.here.tags))
+  change (with_tag (varchar_tag name) k)
+  demand at F10 (not before)
+  pure (Some (structure k))
+
+-- As a member it has no tag.
+unfoldable pub varchar_member : Place → Option ℕ → Rule (Option TyData)
+varchar_member at n = do
+  k ← varchar_struct at None n
+  pure (Some (structure k))
 
 -- ---- the parts in their order
 
@@ -193,21 +259,29 @@ abbrev mutual
   member_decl (decl b items section line) ms = do
     at ← place line
     t ← base at b
-    member_items at t items ms
+    member_items at (is_varchar b) t items ms
 
-  pub member_items : Place → Option TyData → DeclaratorList → Members → Rule Members
-  member_items at t no_declarators ms = pure ms
-  member_items at t (declarators d ds) ms = do
-    more ← member_item at t d ms
-    member_items at t ds more
+  -- members of this type, or VARCHARs
+  pub member_items : Place → Bool → Option TyData → DeclaratorList → Members → Rule Members
+  member_items at is_varchar t no_declarators ms = pure ms
+  member_items at is_varchar t (declarators d ds) ms = do
+    more ← member_item at is_varchar t d ms
+    member_items at is_varchar t ds more
 
   -- A member has no initializer (6.7.2.1, 1).
-  pub member_item : Place → Option TyData → DeclaratorData → Members → Rule Members
-  member_item at t (declarator stars name ns init) ms = do
+  pub member_item : Place → Bool → Option TyData → DeclaratorData → Members → Rule Members
+  member_item at false t (declarator stars name ns init) ms = do
     sizes ← lengths at ns
     demand at F14 (not (has_init init))
     init_parts at init
     member_named at name (declared_type t stars sizes) ms
+  member_item at true t (declarator stars name ns init) ms = do
+    n ← last_length at ns
+    own ← varchar_member at n
+    sizes ← outer_lengths at ns
+    demand at F14 (not (has_init init))
+    init_parts at init
+    member_named at name (declared_type own stars sizes) ms
 
   -- the lengths of an array, outermost first: 0 where one is left out
   pub lengths : Place → DimList → Rule (List (Option ℕ))
@@ -215,6 +289,21 @@ abbrev mutual
   lengths at (dims d ds) = do
     n ← length_at at d
     ns ← lengths at ds
+    pure (n ∷ ns)
+
+  -- the last length, which is the capacity of a VARCHAR; its struct is made before the other lengths are looked at
+  pub last_length : Place → DimList → Rule (Option ℕ)
+  last_length at no_dims = pure None
+  last_length at (dims d no_dims) = length_at at d
+  last_length at (dims d (dims e ds)) = last_length at (dims e ds)
+
+  -- the lengths but the last
+  pub outer_lengths : Place → DimList → Rule (List (Option ℕ))
+  outer_lengths at no_dims = pure []
+  outer_lengths at (dims d no_dims) = pure []
+  outer_lengths at (dims d (dims e ds)) = do
+    n ← length_at at d
+    ns ← outer_lengths at (dims e ds)
     pure (n ∷ ns)
 
   pub length_at : Place → DimData → Rule (Option ℕ)

@@ -1,5 +1,5 @@
 -- Initializers (ISO/IEC 9899:1999, 6.7.8; at file level 6.6).
-use Rattle.std.specs.Prelude.{ℕ, zero, suc, ◌+◌, Bool, true, false, not, ◌&&◌, ◌||◌, nat_le, List, [], ◌∷◌, ◌++◌, length, map, Option, Some, None, is_some, if◌then◌else◌}
+use Rattle.std.specs.Prelude.{ℕ, zero, suc, ◌+◌, ◌^◌, Bool, true, false, not, ◌&&◌, ◌||◌, nat_le, List, [], ◌∷◌, ◌++◌, length, map, Option, Some, None, is_some, if◌then◌else◌}
 use Rattle.ec_base.specs.declared.fault.FaultKind.TheVariants.{F14, F19}
 use Rattle.ec_ctypes.specs.trees.Types.{TyData, void, arithmetic, pointer, array, structure}
 use Rattle.ec_ctypes.specs.trees.Exprs.{ExprData, string, InitData, one, many, InitList, no_inits, inits}
@@ -7,7 +7,7 @@ use Rattle.ec_typing.specs.Types.{is_scalar, is_structure, is_char_array, same_t
 use Rattle.ec_typing.specs.Constants.{is_known}
 use Rattle.ec_typing.specs.Worlds.{Place, MembersData, unlisted, begun, listed, World, Rule, ◌>>=◌, ◌>>◌, pure, ask, note, demand, members_of}
 use Rattle.ec_typing.specs.Operands.{OperandData, value_rule, is_null}
-use Rattle.ec_typing.specs.Expressions.{expr, first_types}
+use Rattle.ec_typing.specs.Expressions.{expr}
 
 -- ---- what is left to be initialized
 
@@ -66,10 +66,29 @@ is_same_struct (Some s) t = is_structure t && same_type s t
 abbrev pub is_whole : OperandData → TyData → Bool
 is_whole o t = is_scalar t || is_text_for o t || is_same_struct o.type t
 
--- where an expression goes, of these types that begin where it stands: the type, and what is left
-abbrev pub going_in : World → OperandData → List TyData → Frames → Option (TyData × Frames)
-going_in w o [] fs = None
-going_in w o (t ∷ ts) fs = if is_whole o t then Some (t, fs) else going_in w o ts (behind_first (parts_of w t) ++ fs)
+-- the first part of an object, if it has one with a type
+abbrev pub first_type : List (Option TyData) → Option TyData
+first_type [] = None
+first_type (t ∷ ts) = t
+
+abbrev pub first_part : World → TyData → Option TyData
+first_part w (array t n) = Some t
+first_part w (structure k) = first_type (member_types (members_of k w))
+first_part w void = None
+first_part w (arithmetic a) = None
+first_part w (pointer t) = None
+
+-- Where an expression goes that stands where an object of this type begins: to the object as a whole, or into its first part, at most so many parts deep. The type that it initializes, and what is left.
+abbrev pub going_in : ℕ → World → OperandData → TyData → Frames → Option (TyData × Frames)
+going_in zero w o t fs = None
+going_in (suc n) w o t fs = elim (is_whole o t) [
+  | true ↦ Some (t, fs)
+  | false ↦ elim (first_part w t) [ None ↦ None | Some inner ↦ going_in n w o inner (behind_first (parts_of w t) ++ fs) ]
+]
+
+-- More parts than stand one in another in any program: a text has at most 2^24 bytes.
+abbrev pub max_depth : ℕ
+max_depth = 2 ^ 32
 
 -- The bytes of a literal fit; for its zero byte there may be no room (6.7.8, 2 and 14).
 abbrev pub has_room : ℕ → Option ℕ → Bool
@@ -112,7 +131,7 @@ go_to at o None = note at F14 >> pure (Some [])
 go_to at o (Some p) = elim p.0 [
   | None ↦ pure None
   | Some t ↦ do
-    found ← ask (λ w. going_in w o (first_types w.structs t) p.1)
+    found ← ask (λ w. going_in max_depth w o t p.1)
     go_by at o found
 ]
 

@@ -1,5 +1,6 @@
 pub mod Answers
 pub mod Constants
+pub mod Embedded
 pub mod Examples
 pub mod Expressions
 pub mod Formats

@@ -1,9 +1,10 @@
 -- What is found out about functions (ISO/IEC 9899:1999, 6.7.5.3, 6.9.1) and programs (6.9).
-use Rattle.std.specs.Prelude.{ℕ, zero, Bool, true, false, not, ◌&&◌, ◌||◌, ◌==◌, List, [], ◌∷◌, ◌++◌, length, map, Option, Some, None, is_some, codes, if◌then◌else◌}
+use Rattle.std.specs.Prelude.{ℕ, zero, Bool, true, false, not, ◌&&◌, ◌||◌, ◌==◌, List, [], ◌∷◌, ◌++◌, length, map, Option, Some, None, is_some, codes, slice_get, if◌then◌else◌}
 use Rattle.ec_base.specs.declared.fault.FaultKind.TheVariants.{F10, F14, F20}
 use Rattle.ec_ctypes.specs.trees.Types.{TyData, pointer, MemberData, StructData}
 use Rattle.ec_ctypes.specs.trees.Exprs.{BaseData, words}
 use Rattle.ec_ctypes.specs.trees.Stmts.{StmtList}
+use Rattle.ec_ctypes.specs.trees.Embedded.{EmbData}
 use Rattle.ec_ctypes.specs.trees.Units.{ParamData, FuncData, TopData, include_top, directive_top, decl_top, func_top, mark_top, UnitData}
 use Rattle.ec_ctypes.specs.Layout.{struct_shape}
 use Rattle.ec_ctypes.specs.LayoutExamples.{sqlca_structs}
@@ -12,7 +13,8 @@ use Rattle.ec_typing.specs.Tables.{Named, find, put}
 use Rattle.ec_typing.specs.Types.{int_type, words_type, is_void, is_structure, same_type}
 use Rattle.ec_typing.specs.Worlds.{Place, EntryData, object, function, listed, StructInfo, ScopeData, World, no_names, Rule, ◌>>=◌, ◌>>◌, pure, ask, change, demand, enter, leave, declare, free_name, place, next_number, number_as}
 use Rattle.ec_typing.specs.Operands.{declared_type, within_rule, complete_rule}
-use Rattle.ec_typing.specs.Expressions.{Members, base, lengths, first_of_members}
+use Rattle.ec_typing.specs.Expressions.{Members, base, lengths, first_of_members, stands_for_all}
+use Rattle.ec_typing.specs.Embedded.{embedded_rule}
 use Rattle.ec_typing.specs.Statements.{type_or_void, declaration, statements, labels_in_all}
 
 -- ---- parameters and results
@@ -121,13 +123,13 @@ begin_function name entry = change (λ w. record w { here = record { names = put
 unfoldable pub know_function : Text → EntryData → Rule (Unit {0})
 know_function name entry = change (λ w. record w { outer = put_outside name entry w.outer })
 
-abbrev pub body_rule : Option TyData → Option StmtList → Rule (Unit {0})
-body_rule r None = pure tt
-body_rule r (Some ss) = change (λ w. record w { labels = [] }) >> statements (record { in_loop = false; labels = labels_in_all ss []; result = r }) ss
+abbrev pub body_rule : List EmbData → Option TyData → Option StmtList → Rule (Unit {0})
+body_rule es r None = pure tt
+body_rule es r (Some ss) = change (λ w. record w { labels = [] }) >> statements (record { embs = es; is_body = false; in_loop = false; labels = labels_in_all ss []; result = r }) ss
 
 -- A function is a place. Its parameters and its body are one scope (6.2.1, 4).
-abbrev pub function_rule : FuncData → Rule (Unit {0})
-function_rule f = do
+abbrev pub function_rule : List EmbData → FuncData → Rule (Unit {0})
+function_rule es f = do
   at ← place f.line
   b ← base at f.base
   r ← result_rule at (declared_type b f.stars [])
@@ -140,21 +142,26 @@ function_rule f = do
   ps ← params at (is_some f.body) f.params
   know_function f.name (function k (is_done before || is_some f.body) r (Some ps))
   demand at F10 (may_follow (is_some f.body) r ps before)
-  body_rule r f.body
+  body_rule es r f.body
   leave
 
 -- ---- programs
 
-abbrev pub top_rule : TopData → Rule (Unit {0})
-top_rule (include_top bytes) = pure tt
-top_rule (directive_top n) = pure tt
-top_rule (decl_top d) = declaration true d
-top_rule (func_top f) = function_rule f
-top_rule (mark_top opens line) = pure tt
+-- a directive outside of functions is a place
+abbrev pub directive_rule : List EmbData → ℕ → Option EmbData → Rule (Unit {0})
+directive_rule es n None = pure tt
+directive_rule es n (Some e) = place e.line >>= (λ at. embedded_rule es false false [] at n e)
 
-abbrev pub tops_rule : List TopData → Rule (Unit {0})
-tops_rule [] = pure tt
-tops_rule (t ∷ ts) = top_rule t >> tops_rule ts
+abbrev pub top_rule : List EmbData → TopData → Rule (Unit {0})
+top_rule es (include_top bytes) = pure tt
+top_rule es (directive_top n) = directive_rule es n (slice_get es n)
+top_rule es (decl_top d) = declaration true d
+top_rule es (func_top f) = function_rule es f
+top_rule es (mark_top opens line) = pure tt
+
+abbrev pub tops_rule : List EmbData → List TopData → Rule (Unit {0})
+tops_rule es [] = pure tt
+tops_rule es (t ∷ ts) = top_rule es t >> tops_rule es ts
 
 abbrev pub with_defined : TopData → Named (Unit {0}) → Named (Unit {0})
 with_defined (func_top f) ds = if is_some f.body then put f.name tt ds else ds
@@ -187,7 +194,7 @@ unfoldable pub main_rule : List TopData → Place → Rule (Unit {0})
 main_rule ts at = demand at F20 (has_main ts)
 
 abbrev pub unit_rule : UnitData → Rule (Unit {0})
-unit_rule u = tops_rule u.tops >> (place u.last >>= main_rule u.tops)
+unit_rule u = tops_rule u.embs u.tops >> (place u.last >>= main_rule u.tops)
 
 -- ---- the start: the structs of sqlca are there (PostgreSQL manual, 34.8.2)
 
@@ -199,9 +206,11 @@ abbrev pub known_structs : List StructInfo → List StructData → List StructIn
 known_structs before [] = before
 known_structs before (d ∷ ds) = known_structs (before ++ record {
   tag = d.tag;
+  varchar = false;
   members = listed (known_members d.members);
   shape = struct_shape (map (λ s. s.shape) before) d.members;
   first = first_of_members before (known_members d.members);
+  stands_for = stands_for_all before (known_members d.members);
 } ∷ []) ds
 
 abbrev pub start : Bool → UnitData → World
@@ -212,6 +221,7 @@ start written u = record {
   structs = known_structs [] sqlca_structs;
   closed = 0 ∷ 1 ∷ [];
   types = [];
+  denoted = [];
   defined = defined_in u.tops [];
   labels = [];
   places = 0;

@@ -1,15 +1,17 @@
 -- What is found out about declarations (ISO/IEC 9899:1999, 6.7) and statements (6.8).
-use Rattle.std.specs.Prelude.{ℕ, zero, Bool, true, false, not, ◌&&◌, Option, Some, None, is_some}
+use Rattle.std.specs.Prelude.{ℕ, zero, Bool, true, false, not, ◌&&◌, List, Option, Some, None, is_some, slice_get}
 use Rattle.ec_base.specs.declared.fault.FaultKind.TheVariants.{F14, F18}
 use Rattle.ec_ctypes.specs.trees.Types.{TyData, void, array}
-use Rattle.ec_ctypes.specs.trees.Exprs.{ExprData, BaseData, tagged, InitOption, no_init, some_init, DeclaratorData, declarator, DeclaratorList, no_declarators, declarators, DeclData, decl}
+use Rattle.ec_ctypes.specs.trees.Exprs.{ExprData, BaseData, tagged, DimList, InitOption, no_init, some_init, DeclaratorData, declarator, DeclaratorList, no_declarators, declarators, DeclData, decl}
 use Rattle.ec_ctypes.specs.trees.Stmts.{StmtData, stmt, StmtKindData, empty_stmt, expr_stmt, block_stmt, if_stmt, while_stmt, do_stmt, for_stmt, break_stmt, continue_stmt, return_stmt, goto_stmt, label_stmt, decl_stmt, emb_stmt, mark_stmt, StmtList, no_stmts, stmts, StmtOption, no_stmt, some_stmt}
+use Rattle.ec_ctypes.specs.trees.Embedded.{EmbData}
 use Rattle.ec_language.specs.Letters.{Text}
 use Rattle.ec_typing.specs.Tables.{Named, find, put}
 use Rattle.ec_typing.specs.Types.{is_void, is_scalar, is_assignable}
 use Rattle.ec_typing.specs.Worlds.{object, unlisted, World, Rule, ◌>>=◌, ◌>>◌, pure, ask, demand, scoped, declare, know_better, declare_label, free_tag, Place, place, next_number, number_as, is_complete}
 use Rattle.ec_typing.specs.Operands.{OperandData, value_rule, is_null, declared_type, within_rule, complete_rule}
-use Rattle.ec_typing.specs.Expressions.{expr, base, lengths, tagged_struct, has_init}
+use Rattle.ec_typing.specs.Expressions.{expr, base, lengths, last_length, outer_lengths, is_varchar, varchar_object, tagged_struct, has_init}
+use Rattle.ec_typing.specs.Embedded.{embedded_rule}
 use Rattle.ec_typing.specs.Initializers.{initializer}
 
 -- ---- declarations
@@ -34,12 +36,23 @@ abbrev pub initial : Place → Bool → Option TyData → InitOption → Rule (O
 initial at global ty no_init = pure ty
 initial at global ty (some_init i) = initializer at global ty i
 
--- An object, at file level or not. Its name is in scope in its own initializer (6.2.1, 7), where an array may have no length yet.
-abbrev pub object_item : Place → Bool → Option TyData → DeclaratorData → Rule (Unit {0})
-object_item at global t (declarator stars name ns init) = do
+-- the type of a declarator: of this base, or of a VARCHAR of its own
+abbrev pub object_type : Place → Bool → Option TyData → ℕ → Text → DimList → Rule (Option TyData)
+object_type at false t stars name ns = do
   sizes ← lengths at ns
-  within_rule at (declared_type t stars sizes)
-  before ← object_rule at (has_init init) (declared_type t stars sizes)
+  pure (declared_type t stars sizes)
+object_type at true t stars name ns = do
+  n ← last_length at ns
+  own ← varchar_object at name n
+  sizes ← outer_lengths at ns
+  pure (declared_type own stars sizes)
+
+-- An object, at file level or not. Its name is in scope in its own initializer (6.2.1, 7), where an array may have no length yet.
+abbrev pub object_item : Place → Bool → Bool → Option TyData → DeclaratorData → Rule (Unit {0})
+object_item at global is_varchar t (declarator stars name ns init) = do
+  whole ← object_type at is_varchar t stars name ns
+  within_rule at whole
+  before ← object_rule at (has_init init) whole
   k ← ask next_number
   declare at name (object k global before)
   ty ← initial at global before init
@@ -47,9 +60,9 @@ object_item at global t (declarator stars name ns init) = do
   know_better name (object k global ty)
   number_as (type_or_void ty)
 
-abbrev pub object_items : Place → Bool → Option TyData → DeclaratorList → Rule (Unit {0})
-object_items at global t no_declarators = pure tt
-object_items at global t (declarators d ds) = object_item at global t d >> object_items at global t ds
+abbrev pub object_items : Place → Bool → Bool → Option TyData → DeclaratorList → Rule (Unit {0})
+object_items at global is_varchar t no_declarators = pure tt
+object_items at global is_varchar t (declarators d ds) = object_item at global is_varchar t d >> object_items at global is_varchar t ds
 
 -- a tag alone declares a struct, unless this scope has it (6.7.2.3, 7)
 abbrev pub declared_tag : Text → Option ℕ → Rule (Option TyData)
@@ -70,18 +83,28 @@ abbrev pub declaration : Bool → DeclData → Rule (Unit {0})
 declaration global (decl b items section line) = do
   at ← place line
   t ← specifier at b items
-  object_items at global t items
+  object_items at global (is_varchar b) t items
 
 -- ---- statements
 
--- what stands round a statement: whether a loop does, the labels of the function, and the type of its result
+-- what stands round a statement: the embedded statements of the program, whether it is the body of `if`, `else`, a loop or a label, whether a loop stands round it, the labels of the function, and the type of its result
 pub record Around : Type 0 where
+  pub embs : List EmbData
+  pub is_body : Bool
   pub in_loop : Bool
   pub labels : Named (Unit {0})
   pub result : Option TyData
 
+-- the body of `if`, `else` or a label
+abbrev pub as_body : Around → Around
+as_body a = record a { is_body = true }
+
 abbrev pub looping : Around → Around
-looping a = record a { in_loop = true }
+looping a = record a { is_body = true; in_loop = true }
+
+-- an item of a block
+abbrev pub as_item : Around → Around
+as_item a = record a { is_body = false }
 
 -- a condition is a scalar (6.8.4.1, 1; 6.8.5, 2)
 unfoldable pub condition_rule : Place → OperandData → Rule (Unit {0})
@@ -115,6 +138,10 @@ abbrev pub return_by : Place → Option TyData → Option ExprData → Rule (Uni
 return_by at r None = return_nothing at r
 return_by at r (Some e) = (expr at e >>= value_rule at) >>= return_rule at r
 
+abbrev pub embedded_at : Around → Place → ℕ → Option EmbData → Rule (Unit {0})
+embedded_at a at n None = pure tt
+embedded_at a at n (Some e) = embedded_rule a.embs a.is_body a.in_loop a.labels at n e
+
 -- A statement is a place. An `if`, a loop and each statement in them are a scope (6.8.4, 3; 6.8.5, 5), as a block is (6.8.2). A condition of `do` stands behind the body and has the place of the statement.
 abbrev mutual
   pub statement : Around → StmtData → Rule (Unit {0})
@@ -125,8 +152,8 @@ abbrev mutual
   pub statement_kind : Around → Place → StmtKindData → Rule (Unit {0})
   statement_kind a at empty_stmt = pure tt
   statement_kind a at (expr_stmt e) = expr at e >> pure tt
-  statement_kind a at (block_stmt ss) = scoped (statements a ss)
-  statement_kind a at (if_stmt e s other) = scoped (condition at e >> (scoped (statement a s) >> otherwise a other))
+  statement_kind a at (block_stmt ss) = scoped (statements (as_item a) ss)
+  statement_kind a at (if_stmt e s other) = scoped (condition at e >> (scoped (statement (as_body a) s) >> otherwise (as_body a) other))
   statement_kind a at (while_stmt e s) = scoped (condition at e >> scoped (statement (looping a) s))
   statement_kind a at (do_stmt s e) = scoped (scoped (statement (looping a) s) >> condition at e)
   statement_kind a at (for_stmt x y z s) = scoped (optional at x >> (optional_condition at y >> (optional at z >> scoped (statement (looping a) s))))
@@ -134,9 +161,9 @@ abbrev mutual
   statement_kind a at continue_stmt = demand at F18 a.in_loop
   statement_kind a at (return_stmt e) = return_by at a.result e
   statement_kind a at (goto_stmt l) = demand at F18 (is_some (find l a.labels))
-  statement_kind a at (label_stmt l s) = declare_label at l >> statement a s
+  statement_kind a at (label_stmt l s) = declare_label at l >> statement (as_body a) s
   statement_kind a at (decl_stmt d) = declaration false d
-  statement_kind a at (emb_stmt n) = pure tt
+  statement_kind a at (emb_stmt n) = embedded_at a at n (slice_get a.embs n)
   statement_kind a at (mark_stmt opens) = pure tt
 
   pub statements : Around → StmtList → Rule (Unit {0})

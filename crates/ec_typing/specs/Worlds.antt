@@ -31,12 +31,14 @@ pub data MembersData : Type 0 where
   begun : MembersData
   listed : Named (Option TyData) → MembersData
 
--- a struct: its tag, its members, its shape where its members have types, and the types that begin where it begins, outermost first: its first member, and what this begins with
+-- a struct: its tag, whether it is that of a VARCHAR, its members, its shape where its members have types, the types that begin where it begins, outermost first: its first member, and what this begins with, and how many members a host of it stands for
 pub record StructInfo : Type 0 where
   pub tag : Option Text
+  pub varchar : Bool
   pub members : MembersData
   pub shape : Option Shape
   pub first : List TyData
+  pub stands_for : ℕ
 
 -- names, and tags with the numbers of their structs (6.2.1, 6.2.3)
 pub record ScopeData : Type 0 where
@@ -56,6 +58,8 @@ pub record World : Type 0 where
   pub closed : List ℕ
   -- the types of the declarations so far, by their numbers; void where one has none
   pub types : List TyData
+  -- for each embedded statement so far, the declarations that the variables in its hosts denote, in the order of its tree
+  pub denoted : List (List (Option ℕ))
   -- the functions that the program defines
   pub defined : Named (Unit {0})
   -- the labels so far in this function
@@ -114,6 +118,10 @@ demand at kind false = note at kind
 unfoldable pub keep_within : Place → LimitKind → Bool → Rule (Unit {0})
 keep_within at kind true = pure tt
 keep_within at kind false = λ w. out tt (record { place = at.number; stop = Limit kind } ∷ []) w
+
+-- Whatever is found is this fault.
+unfoldable pub instead : Place → FaultKind → Rule (Unit {0}) → Rule (Unit {0})
+instead at kind m = λ w. out tt (map (λ v. record { place = at.number; stop = Refused kind at.line }) (m w).found) (m w).world
 
 -- the next place, on this line
 unfoldable pub place : Line → Rule Place
@@ -212,7 +220,7 @@ number_as ty = change (λ w. record w { types = w.types ++ ty ∷ [] })
 
 -- a struct whose members are not known
 abbrev pub struct_named : Option Text → MembersData → StructInfo
-struct_named tag ms = record { tag = tag; members = ms; shape = None; first = [] }
+struct_named tag ms = record { tag = tag; varchar = false; members = ms; shape = None; first = []; stands_for = 0 }
 
 -- one struct more
 unfoldable pub new_struct : StructInfo → Rule ℕ
