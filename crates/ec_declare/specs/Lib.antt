@@ -1,0 +1,5 @@
+pub mod Answers
+pub mod Counting
+pub mod Scanning
+pub mod Seen
+pub mod Walking

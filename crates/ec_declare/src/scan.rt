@@ -1,0 +1,146 @@
+//! The first fault of marks and VARCHARs.
+
+ghost use Rattle.std.specs.Prelude.{◌≡◌, OnOk};
+ghost use Rattle.ec_declare.specs.Scanning as spec;
+ghost use Rattle.ec_declare.specs.Scanning.{at_start};
+ghost use Rattle.ec_declare.specs.Seen.{scan_view, uses_view};
+ghost use Rattle.ec_sections.specs.Places.{holds, mark};
+
+use crate::uses::Uses;
+use ec_base::{FaultKind, Line, OutOfMemory, Stop};
+
+/// What is kept of the places so far.
+#[derive(Clone, Copy, Debug)]
+pub(crate) struct Scan {
+    /// How many sections are open.
+    pub depth: u64,
+    /// Whether the last mark opens one.
+    pub in_section: bool,
+    /// The line of the outermost open mark, where no fault stands before it.
+    pub pending: Option<Line>,
+    /// The first fault, but for open marks.
+    pub first: Option<Stop>,
+}
+
+/// The fault of uses that stand in a section or not.
+fn fault_of(in_section: bool, uses: Uses) -> Option<FaultKind>
+    ensures { result ≡ spec.fault_of in_section (uses_view uses) }
+{
+    if uses.left_out || (uses.any && !in_section) {
+        return Some(FaultKind::F9);
+    }
+    if in_section && uses.lacks_length {
+        return Some(FaultKind::F13);
+    }
+    None
+}
+
+/// A fault on this line.
+fn stop_on(line: Line, fault: Option<FaultKind>) -> Option<Stop>
+    ensures { result ≡ spec.stop_on line fault }
+{
+    match fault {
+        Some(kind) => Some(Stop::Refused(kind, line)),
+        None => None,
+    }
+}
+
+/// The first stop, or else the second.
+fn or_else(first: Option<Stop>, second: Option<Stop>) -> Option<Stop>
+    ensures { result ≡ spec.or_else first second }
+{
+    match first {
+        Some(stop) => Some(stop),
+        None => second,
+    }
+}
+
+/// The line of an outermost mark that waits for its partner.
+fn waiting(first: Option<Stop>, line: Line) -> Option<Line>
+    ensures { result ≡ spec.waiting first line }
+{
+    match first {
+        Some(_) => None,
+        None => Some(line),
+    }
+}
+
+impl Scan {
+    /// Before the first place.
+    pub(crate) fn new() -> Scan
+        ensures { scan_view result ≡ at_start }
+    {
+        Scan {
+            depth: 0,
+            in_section: false,
+            pending: None,
+            first: None,
+        }
+    }
+
+    /// A place that holds these uses.
+    pub(crate) fn place(&mut self, line: Line, uses: Uses)
+        ensures { scan_view self.new ≡ spec.step (holds line (uses_view uses)) (scan_view self.old) }
+    {
+        let fault = stop_on(line, fault_of(self.in_section, uses));
+        self.first = or_else(self.first, fault);
+    }
+
+    /// A mark that opens a section.
+    fn open(&mut self, line: Line) -> Result<(), OutOfMemory>
+        ensures { OnOk result (scan_view self.new
+            ≡ spec.opened (scan_view self.old).depth line (scan_view self.old)) }
+    {
+        if self.depth == 0 {
+            self.pending = waiting(self.first, line);
+            self.depth = 1;
+        } else {
+            let Some(depth) = self.depth.checked_add(1) else {
+                return Err(OutOfMemory);
+            };
+            self.depth = depth;
+            self.first = or_else(self.first, Some(Stop::Refused(FaultKind::F9, line)));
+        }
+        self.in_section = true;
+        Ok(())
+    }
+
+    /// A mark that closes one.
+    fn close(&mut self, line: Line)
+        ensures { scan_view self.new
+            ≡ spec.closed (scan_view self.old).depth line (scan_view self.old) }
+    {
+        match self.depth {
+            0 => self.first = or_else(self.first, Some(Stop::Refused(FaultKind::F9, line))),
+            1 => {
+                self.depth = 0;
+                self.pending = None;
+            }
+            _ => self.depth -= 1,
+        }
+        self.in_section = false;
+    }
+
+    /// A mark of a section.
+    pub(crate) fn mark(&mut self, opens: bool, line: Line) -> Result<(), OutOfMemory>
+        ensures { OnOk result (scan_view self.new
+            ≡ spec.step (mark opens line) (scan_view self.old)) }
+    {
+        if opens {
+            self.open(line)
+        } else {
+            self.close(line);
+            Ok(())
+        }
+    }
+
+    /// The first fault of the places.
+    pub(crate) fn stop(&self) -> Option<Stop>
+        ensures { result ≡ spec.stop_of (scan_view self.now) }
+    {
+        match self.pending {
+            Some(line) => Some(Stop::Refused(FaultKind::F9, line)),
+            None => self.first,
+        }
+    }
+}
