@@ -1,2 +1,4 @@
 mod Deterministic
+pub mod Found
+pub mod OneAnswer
 pub mod Sound

@@ -1,5 +1,5 @@
 -- Statements on SQL descriptors: ALLOCATE, GET and SET (PostgreSQL manual, "Using Descriptor Areas"), as shapes, with the tree that each makes. DEALLOCATE stands beside that of prepared statements.
-use Rattle.std.specs.Prelude.{◌++◌, List, [], ◌∷◌, map, codes, Option, Some, None}
+use Rattle.std.specs.Prelude.{List, [], ◌∷◌, map, codes, Option, Some, None}
 use Rattle.std.proofs.Common.{inl, inr}
 use Rattle.ec_ctypes.specs.declared.embedded.emb.Item.{Item}
 use Rattle.ec_ctypes.specs.declared.embedded.emb.Item.TheVariants as item

@@ -1,5 +1,5 @@
 -- WHENEVER and INCLUDE, and how DECLARE of a cursor begins (PostgreSQL manual, "Error Handling" and "Embedded SQL Commands"), as shapes, with what each makes.
-use Rattle.std.specs.Prelude.{List, [], ◌∷◌, codes, ◌⊎◌}
+use Rattle.std.specs.Prelude.{[], ◌∷◌, codes}
 use Rattle.std.proofs.Common.{inl, inr}
 use Rattle.ec_ctypes.specs.declared.embedded.emb.Cond.{Cond}
 use Rattle.ec_ctypes.specs.declared.embedded.emb.Cond.TheVariants as cond
@@ -10,7 +10,6 @@ use Rattle.ec_shapes.specs.Shapes.{one, both, either}
 use Rattle.ec_language.specs.Constants.{character_value}
 use Rattle.ec_language.specs.Letters.{Text}
 use Rattle.ec_language.specs.Productions as c
-use Rattle.ec_language.specs.SqlTokens.{SqlToken}
 use Rattle.ec_embedded.specs.Terminals.{any_word, other_word, fitting_number, character_constant, sign}
 use Rattle.ec_embedded.specs.References.{Form, Of, row, choice, optional, listed, gathered, word, decimal_constant}
 use Rattle.std.specs.Prelude.{ℤ, pos, Option, Some, None}

@@ -1,5 +1,5 @@
 -- Statements and parts of trees, as examples write them.
-use Rattle.std.specs.Prelude.{ℕ, ◌+◌, List, codes, Option, Some, None, Result, Ok, Err}
+use Rattle.std.specs.Prelude.{ℕ, ◌+◌, List, codes, Some, None, Result, Ok, Err}
 use Rattle.ec_base.specs.declared.fault.FaultKind.TheVariants.{F8, F9}
 use Rattle.ec_base.specs.declared.stop.Stop.{Stop}
 use Rattle.ec_base.specs.declared.stop.Stop.TheVariants.{Refused}
@@ -10,7 +10,8 @@ use Rattle.ec_language.specs.Line.{newlines}
 use Rattle.ec_language.specs.ReadTokens.{statement_units}
 use Rattle.ec_language.specs.SqlTokens.{SqlToken}
 use Rattle.ec_language.specs.Tokens.{sql_answer}
-use Rattle.ec_embedded.specs.Statements.{answer, Answer}
+use Rattle.ec_embedded.specs.Findings.{Answer}
+use Rattle.ec_embedded.specs.Statements.{answer}
 
 -- what a statement is whose `EXEC` stands on line 1
 abbrev pub answer_by : ℕ → Result (List SqlToken) Stop → Answer

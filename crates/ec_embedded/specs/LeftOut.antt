@@ -1,5 +1,5 @@
 -- Statements that are left out, told by their words.
-use Rattle.std.specs.Prelude.{ℕ, suc, ◌-◌, Bool, true, false, not, ◌&&◌, ◌||◌, ◌==◌, List, [], ◌∷◌, drop, codes, if◌then◌else◌}
+use Rattle.std.specs.Prelude.{ℕ, Bool, true, false, not, ◌&&◌, ◌||◌, ◌==◌, List, [], ◌∷◌, drop, codes}
 use Rattle.ec_language.specs.Letters.{Text}
 use Rattle.ec_embedded.specs.Terminals.{Sort, name, sort_of, is, keyword, any_word, word_but, sign, is_word_among}
 use Rattle.ec_embedded.specs.ServerText.{Tokens, depth_behind}

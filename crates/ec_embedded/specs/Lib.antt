@@ -1,8 +1,10 @@
+pub mod Answers
 pub mod Connections
 pub mod Descriptors
 pub mod Directives
 pub mod Dynamic
 pub mod Examples
+pub mod Findings
 pub mod Laws
 pub mod LeftOut
 pub mod References

@@ -1,26 +1,18 @@
--- Embedded statements: the connection that AT names, and the form that the first words decide.
-use Rattle.std.specs.Prelude.{◌≡◌, ℕ, ◌+◌, ◌-◌, Bool, true, false, ◌==◌, List, [], ◌∷◌, ◌++◌, drop, length, codes, Option, Some, None, Result, Ok, Err, if◌then◌else◌}
-use Rattle.ec_base.specs.declared.fault.FaultKind.TheVariants.{F8, F9}
-use Rattle.ec_base.specs.declared.fault.LimitKind.TheVariants.{L4}
-use Rattle.ec_base.specs.declared.line.Line.{Line}
-use Rattle.ec_base.specs.declared.stop.Stop.{Stop}
-use Rattle.ec_base.specs.declared.stop.Stop.TheVariants.{Refused, Limit, OutOfMemory}
-use Rattle.ec_ctypes.specs.declared.text.piece.Piece.{Piece}
-use Rattle.ec_ctypes.specs.trees.Embedded.{TextArgData, bytes_part, EmbKindData, declare_cursor, EmbData}
-use Rattle.ec_shapes.specs.declared.failure.Failure.{Failure}
-use Rattle.ec_shapes.specs.declared.failure.Failure.TheVariants as failure
+-- Embedded statements: the connection that AT names, the form that the first words decide, and a plain reading of both.
+use Rattle.std.specs.Prelude.{ℕ, ◌-◌, Bool, true, false, List, [], ◌∷◌, ◌++◌, drop, length, codes, Option, Some, None, is_some, Err, if◌then◌else◌}
+use Rattle.ec_base.specs.declared.fault.FaultKind.TheVariants.{F9}
+use Rattle.ec_base.specs.declared.stop.Stop.TheVariants.{Refused}
+use Rattle.ec_ctypes.specs.trees.Embedded.{TextArgData, bytes_part, EmbKindData, declare_cursor}
 use Rattle.ec_shapes.specs.Shapes.{both}
-use Rattle.ec_shapes.specs.ReadShapes.{Outcome, done, stopped, stuck, and_then, read, last}
+use Rattle.ec_shapes.specs.ReadShapes.{Outcome, done, stopped, stuck, and_then, read}
 use Rattle.ec_language.specs.Letters.{Text}
-use Rattle.ec_language.specs.Line.{newlines}
-use Rattle.ec_language.specs.SqlTokens.{SqlToken}
-use Rattle.ec_language.specs.Tokens.{SqlTokens}
 use Rattle.ec_embedded.specs.Terminals.{alphabet, Counts, no_counts, is, any_word}
 use Rattle.ec_embedded.specs.References.{Form, Of, word, text_form}
 use Rattle.ec_embedded.specs.Connections.{connection_of, connect_form, connect_of, set_connection_form, set_connection_of, disconnect_form, disconnect_of, autocommit_form, autocommit_of}
 use Rattle.ec_embedded.specs.Descriptors.{allocate_form, allocate_of, get_form, get_of, set_form, set_of}
 use Rattle.ec_embedded.specs.Directives.{whenever_form, whenever_of, include_form, include_of, cursor_form, cursor_name}
 use Rattle.ec_embedded.specs.Dynamic.{prepare_form, prepare_of, execute_form, execute_of, deallocate_form, deallocate_of, deallocate_at_form, deallocate_at_of, open_form, open_of}
+use Rattle.ec_embedded.specs.Findings.{found_in, word_line, Answer, answer_of}
 use Rattle.ec_embedded.specs.LeftOut.{begin_with, is_first, first_is_among, is_left_out}
 use Rattle.ec_embedded.specs.ServerText.{Tokens, Reading, cuts, parts, server_at, transaction_at, bytes_in}
 
@@ -118,53 +110,22 @@ abbrev pub at_of : Of at_form → TextArgData
 unfolding at_form
 at_of v = connection_of v.1
 
--- ---- the answer
-
--- the line of the first of these tokens, or that of the `;`
-abbrev pub line_of : ℕ → Tokens → ℕ
-line_of end [] = end
-line_of end (t ∷ w) = t.line
-
--- the line of the first word
-abbrev pub word_line : ℕ → Tokens → ℕ
-word_line end [] = end
-word_line end (t ∷ w) = elim (is any_word t) [ true ↦ t.line | false ↦ word_line end w ]
-
-abbrev pub stop_of : ℕ → Tokens → Failure → Stop
-stop_of end w (failure.Dead k) = Refused F8 (record { 0 = line_of end (last k w) })
-stop_of end w (failure.OverLimit k) = Limit L4
-stop_of end w failure.OutOfMemory = OutOfMemory
-
--- the connection that AT names, and what is done
-pub record StatementData : Type 0 where
-  pub at : Option TextArgData
-  pub kind : EmbKindData
-
-abbrev pub Answer : Type 0
-Answer = Result StatementData Stop
-
--- of a whole list: with a token that is left no form goes on
-abbrev pub whole_answer : ℕ → Tokens → Option TextArgData → Reading EmbKindData → Answer
-whole_answer end w at (done k n []) = Ok (record { at = at; kind = k })
-whole_answer end w at (done k n (t ∷ r)) = Err (Refused F8 (record { 0 = t.line }))
-whole_answer end w at (stopped e) = Err (stop_of end w e)
+-- ---- the plain reading of a whole statement
 
 -- A statement that is left out is refused at its first word, whatever stands behind.
-abbrev pub behind_at : ℕ → Tokens → Option TextArgData → Bool → Counts → Tokens → Answer
-behind_at end all at is_at n w = elim (is_left_out w) [ true ↦ Err (Refused F9 (record { 0 = word_line end w })) | false ↦ whole_answer end all at (kind_at is_at n w) ]
+abbrev pub said : ℕ → Option TextArgData → Counts → Tokens → Answer
+said end at n w = elim (is_left_out w) [
+  | true ↦ Err (Refused F9 (record { 0 = word_line end w }))
+  | false ↦ answer_of end at (found_in w (kind_at (is_some at) n w))
+]
 
 abbrev pub named_at : ℕ → Tokens → Reading TextArgData → Answer
-named_at end all (done a n w) = behind_at end all (Some a) true n w
-named_at end all (stopped e) = Err (stop_of end all e)
+named_at end all (done a n w) = said end (Some a) n w
+named_at end all (stopped e) = answer_of end None (found_in all (stopped e))
 
 -- what the tokens of a statement are, whose `;` stands on the line `end`
 abbrev pub answer : ℕ → Tokens → Answer
-answer end w = elim (is_first (codes "AT") w) [ true ↦ named_at end w (made at_of (read alphabet at_form no_counts w)) | false ↦ behind_at end w None false no_counts w ]
-
-abbrev pub placed : Line → ℕ → Answer → Result EmbData Stop
-placed line place (Ok s) = Ok (record { line = line; place = place; at = s.at; kind = s.kind })
-placed line place (Err stop) = Err stop
-
--- What the statement of a piece is, whose token has this place, or why it is none.
-abbrev pub StatementOrStop : Piece → ℕ → Result EmbData Stop → Type 0
-StatementOrStop p place result = (tokens : Tokens) × SqlTokens p.line.0 p.bytes tokens × (result ≡ placed p.line place (answer (p.line.0 + newlines p.bytes) tokens))
+answer end w = elim (is_first (codes "AT") w) [
+  | true ↦ named_at end w (made at_of (read alphabet at_form no_counts w))
+  | false ↦ said end None no_counts w
+]

@@ -1,6 +1,6 @@
 //! The forms are read exactly, as the contract of a function that does nothing.
 
-ghost use Rattle.ec_embedded.specs.Laws.{IsReadExactly};
+ghost use Rattle.ec_embedded.specs.Laws.{HasOneAnswer, IsAnswered, IsReadExactly, PieceHasOneAnswer, PieceIsAnswered};
 ghost use Rattle.ec_embedded.specs.Connections.{connect_form, set_connection_form, disconnect_form, autocommit_form};
 ghost use Rattle.ec_embedded.specs.Descriptors.{allocate_form, get_form, set_form};
 ghost use Rattle.ec_embedded.specs.Directives.{whenever_form, include_form, cursor_form};
@@ -27,4 +27,14 @@ pub fn forms_are_exact()
     ensures deallocate_at { IsReadExactly deallocate_at_form }
     ensures open_cursor { IsReadExactly open_form }
     ensures at { IsReadExactly at_form }
+{}
+
+/// The tokens of a statement have one answer, which the plain reading gives: what the statement is, or why it is none. So
+/// has each piece whose text has tokens.
+#[tactic(none)]
+pub fn statements_have_one_answer()
+    ensures answered { IsAnswered }
+    ensures one { HasOneAnswer }
+    ensures piece { PieceIsAnswered }
+    ensures one_of_piece { PieceHasOneAnswer }
 {}

@@ -1,11 +1,11 @@
 -- Which tokens are a text in double quotes.
-use Rattle.std.proofs.Common.{◌≡◌, ℕ, Bool, true, false, refl, sym, ap, ◌∙◌, if◌then◌else◌}
+use Rattle.std.proofs.Common.{◌≡◌, Bool, true, false, refl, sym, ap, ◌∙◌, if◌then◌else◌}
 use Rattle.std.specs.Prelude.{not, ◌==◌, is_some, ◌^◌, nat_lt}
 use Rattle.ec_clex.specs.declared.sql.SqlClass.TheVariants.{Quoted, Number}
 use Rattle.ec_clex.specs.declared.sql.SqlToken.{SqlToken}
 use Rattle.ec_clex.specs.Sql.{class_view, sql_view}
 use Rattle.ec_embedded.specs.LeftOut.{is_name}
-use Rattle.ec_embedded.specs.Terminals.{Sort, name, character, quote, number, fitting, whole, sort_by, sort_of, on_quotes, passes, is, plain_quote}
+use Rattle.ec_embedded.specs.Terminals.{name, character, quote, number, fitting, whole, sort_by, sort_of, on_quotes, passes, is, plain_quote}
 use Rattle.ec_language.specs.Constants.{character_value, digits_value}
 use Rattle.ec_language.specs.Letters.{Text, begins, single_quote, each, is_digit}
 

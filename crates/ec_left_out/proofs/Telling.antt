@@ -1,9 +1,8 @@
 -- The words by which a statement is left out, as the code looks at them.
 use Rattle.ec_language.specs.Letters.{Text, same_word}
-use Rattle.std.proofs.Common.{◌≡◌, List, Bool, true, false, [], ◌∷◌, refl, sym, ap, ◌∙◌, codes}
-use Rattle.std.specs.Prelude.{◌&&◌, ◌||◌, drop}
-use Rattle.ec_language.specs.SqlTokens.{SqlToken}
-use Rattle.ec_embedded.specs.LeftOut.{begin_with, is_first, first_is_word, first_is_among, left_out_words, names_file, names_then, names_area, is_left_out}
+use Rattle.std.proofs.Common.{◌≡◌, List, Bool, true, false, [], ◌∷◌, refl, ap, ◌∙◌, codes}
+use Rattle.std.specs.Prelude.{◌&&◌, ◌||◌}
+use Rattle.ec_embedded.specs.LeftOut.{begin_with, first_is_among, left_out_words, names_then, names_area, is_left_out}
 use Rattle.ec_embedded.specs.ServerText.{Tokens}
 use Rattle.ec_embedded.specs.Terminals.{Sort, word, fitting, whole, number, character, quote, name, mark, sort_of, among, all, on_words, passes, is, keyword, any_word, is_word_among}
 use Rattle.ec_left_out.specs.Words.{includes_file, prepares_as, is_other_kind, declares_other, deallocates_all, is_left_out_by_words, may_use}

@@ -7,7 +7,10 @@ use Rattle.ec_embedded.specs.Terminals.{is, keyword}
 
 -- by the DESCRIPTOR that stands directly behind this token
 abbrev pub names_area_here : Bool → ℕ → Bool → SqlToken → Tokens → Bool
-names_area_here using depth inserts t w = is_first (codes "DESCRIPTOR") w && ((depth == 0 && is (keyword (codes "INTO")) t && not inserts) || (using && is (keyword (codes "USING")) t))
+names_area_here using depth inserts t w =
+    is_first (codes "DESCRIPTOR") w &&
+    ((depth == 0 && is (keyword (codes "INTO")) t && not inserts) ||
+    (using && is (keyword (codes "USING")) t))
 
 abbrev pub is_insert : SqlToken → Bool
 is_insert t = is (keyword (codes "INSERT")) t || is (keyword (codes "MERGE")) t

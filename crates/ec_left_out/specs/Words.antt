@@ -1,7 +1,7 @@
 -- The words that tell that a statement is left out.
 use Rattle.std.specs.Prelude.{Bool, false, ◌&&◌, ◌||◌, [], ◌∷◌, drop, codes}
 use Rattle.ec_language.specs.SqlTokens.{SqlToken}
-use Rattle.ec_embedded.specs.LeftOut.{begin_with, is_first, first_is_among, left_out_words, names_file, names_then}
+use Rattle.ec_embedded.specs.LeftOut.{is_first, first_is_among, left_out_words, names_file}
 use Rattle.ec_embedded.specs.ServerText.{Tokens}
 use Rattle.ec_embedded.specs.Terminals.{is, keyword, any_word}
 
@@ -10,7 +10,8 @@ includes_file w = is_first (codes "INCLUDE") w && names_file (drop 1 w)
 
 -- three tokens
 abbrev pub prepares_as : Tokens → Bool
-prepares_as (a ∷ b ∷ c ∷ w) = is (keyword (codes "PREPARE")) a && is any_word b && is (keyword (codes "AS")) c
+prepares_as (a ∷ b ∷ c ∷ w) =
+    is (keyword (codes "PREPARE")) a && is any_word b && is (keyword (codes "AS")) c
 prepares_as _ = false
 
 abbrev pub is_other_kind : SqlToken → Bool
@@ -33,7 +34,9 @@ deallocates_all (a ∷ b ∷ w) = is (keyword (codes "DEALLOCATE")) a && is (key
 deallocates_all _ = false
 
 abbrev pub is_left_out_by_words : Tokens → Bool
-is_left_out_by_words w = first_is_among left_out_words w || includes_file w || prepares_as w || declares_other w || deallocates_all w
+is_left_out_by_words w =
+    first_is_among left_out_words w || includes_file w || prepares_as w || declares_other w ||
+    deallocates_all w
 
 abbrev pub may_use : Tokens → Bool
 may_use w = is_first (codes "OPEN") w || is_first (codes "EXECUTE") w

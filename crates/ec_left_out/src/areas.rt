@@ -33,7 +33,8 @@ fn names_area_here(
     token: &SqlToken,
     rest: &[SqlToken],
 ) -> bool
-    ensures { result ≡ names_area_here by_using depth inserts (sql_view token.now) (sql_views rest.now) }
+    ensures { result ≡ names_area_here by_using depth inserts (sql_view token.now)
+        (sql_views rest.now) }
 {
     is_first(rest, b"DESCRIPTOR")
         && ((depth == 0 && is_keyword(token, b"INTO") && !inserts)

@@ -1,6 +1,6 @@
 -- Which form the first words decide, in the steps that code takes.
-use Rattle.std.specs.Prelude.{ℕ, Bool, ◌-◌, true, false, List, [], ◌∷◌, ◌++◌, drop, length, codes, Some, None}
-use Rattle.ec_ctypes.specs.trees.Embedded.{EmbKindData, declare_cursor}
+use Rattle.std.specs.Prelude.{ℕ, Bool, true, false, List, [], ◌∷◌, drop, codes}
+use Rattle.ec_ctypes.specs.trees.Embedded.{EmbKindData}
 use Rattle.ec_shapes.specs.ReadShapes.{stuck, and_then}
 use Rattle.ec_language.specs.Letters.{Text}
 use Rattle.ec_embedded.specs.LeftOut.{begin_with, is_first, first_is_among}
@@ -22,7 +22,12 @@ dead_at_word k = λ n w. stuck (drop k w)
 -- DECLARE of a cursor, read from its first token, where these stand behind FOR: a word alone is the name of a prepared statement
 unfoldable pub declaring_for : Text → Tokens → Counts → Tokens → Reading EmbKindData
 declaring_for name all n [] = stuck []
-declaring_for name all n (t ∷ []) = elim (is any_word t) [ true ↦ declaring_prepared name t.bytes n all | false ↦ declaring name n all ]
+declaring_for name all n (t ∷ []) =
+    elim (is any_word t) [
+      | true ↦ declaring_prepared name t.bytes n all
+      | false ↦ declaring name n
+          all
+    ]
 declaring_for name all n (t ∷ u ∷ w) = declaring name n all
 
 unfoldable pub declared : Reader EmbKindData

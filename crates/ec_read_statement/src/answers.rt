@@ -6,14 +6,12 @@ ghost use Rattle.ec_clex.specs.Items.{Told};
 ghost use Rattle.ec_clex.specs.Sql.{sql_views};
 ghost use Rattle.ec_ctypes.specs.trees.Embedded.{EmbData};
 ghost use Rattle.ec_ctypes.specs.views.Embedded.{emb_kind_view, emb_view, text_arg_view};
-ghost use Rattle.ec_embedded.specs.Statements as statements;
-ghost use Rattle.ec_embedded.specs.Statements.{StatementOrStop, placed};
+ghost use Rattle.ec_embedded.specs.Answers.{StatementOrStop, placed};
 ghost use Rattle.ec_language.specs.SqlTokens.{SqlToken as Token};
 ghost use Rattle.ec_language.specs.Tokens.{SqlTokens, SqlTokensOrStop};
 ghost use Rattle.ec_read_statement.specs.Answers as spec;
-ghost use Rattle.ec_read_statement.specs.Answers.{IsAnswer};
-ghost use Rattle.ec_references.specs.Readers.{ReadsBy};
-ghost use Rattle.ec_references.specs.States.{seen};
+ghost use Rattle.ec_read_statement.specs.Answers.{IsRead};
+ghost use Rattle.ec_references.specs.States.{CursorReads, seen};
 ghost use Rattle.ec_shapes.specs.ReadShapes.{last};
 ghost use Rattle.ec_statements.specs.Readers as form;
 
@@ -62,7 +60,7 @@ fn first_word_line(tokens: &[SqlToken], end: Line) -> Line
 
 /// Why the tokens of a statement have no tree.
 fn stop_of(tokens: &[SqlToken], end: Line, failure: Failure) -> Stop
-    ensures { result ≡ statements.stop_of end.0 (sql_views tokens.now) failure }
+    ensures { result ≡ spec.stop_of end.0 (sql_views tokens.now) failure }
 {
     match failure {
         Failure::Dead(left) => Stop::Refused(FaultKind::F8, last_line(tokens, left, end)),
@@ -92,24 +90,24 @@ fn whole<T: Drop>(
 /// What is done by the tokens that are left, to their end, or why nothing is.
 fn whole_statement(
     alloc: Global,
-    tokens: &[SqlToken],
     cursor: &mut Cursor<'_>,
     end: Line,
     is_at: bool,
 ) -> Result<EmbKind, Stop>
-    ensures { Told emb_kind_view result (spec.kind_answer end.0 (sql_views tokens.now) is_at (seen cursor.old).counts (seen cursor.old).tokens) }
+    ensures { Told emb_kind_view result
+        (spec.kind_answer end.0 is_at (seen cursor.old).counts (seen cursor.old).tokens) }
 {
     let left = cursor.rest();
     if is_left_out(left) {
         return Err(Stop::Refused(FaultKind::F9, first_word_line(left, end)));
     }
     let got = any_statement(alloc, cursor, is_at);
-    whole(tokens, cursor.rest(), end, got)
+    whole(left, cursor.rest(), end, got)
 }
 
 /// The connection that AT names.
 fn named(alloc: Global, cursor: &mut Cursor<'_>) -> Result<Boxed<TextArg>, Failure>
-    ensures { ReadsBy text_arg_view form.at_name (seen cursor.old) result (seen cursor.new) }
+    ensures { CursorReads text_arg_view form.at_name cursor.old result cursor.new }
 {
     let at = at_name(alloc, cursor)?;
     Ok(Boxed::new(alloc, at)?)
@@ -120,7 +118,7 @@ fn alone(alloc: Global, tokens: &[SqlToken], end: Line, line: Line, place: u32) 
     ensures { Told emb_view result (placed line place (spec.alone end.0 (sql_views tokens.now))) }
 {
     let mut cursor = Cursor::new(tokens);
-    let kind = whole_statement(alloc, tokens, &mut cursor, end, false)?;
+    let kind = whole_statement(alloc, &mut cursor, end, false)?;
     Ok(Emb {
         line,
         place,
@@ -137,12 +135,13 @@ fn behind_at(
     line: Line,
     place: u32,
 ) -> Result<Emb, Stop>
-    ensures { Told emb_view result (placed line place (spec.behind_at end.0 (sql_views tokens.now))) }
+    ensures { Told emb_view result
+        (placed line place (spec.behind_at end.0 (sql_views tokens.now))) }
 {
     let mut cursor = Cursor::new(tokens);
     match named(alloc, &mut cursor) {
         Ok(at) => {
-            let (at, kind) = beside(at, whole_statement(alloc, tokens, &mut cursor, end, true))?;
+            let (at, kind) = beside(at, whole_statement(alloc, &mut cursor, end, true))?;
             Ok(Emb {
                 line,
                 place,
@@ -163,7 +162,8 @@ fn statement(
     line: Line,
     place: u32,
 ) -> Result<Emb, Stop>
-    ensures { Told emb_view result (placed line place (spec.answered end.0 (sql_views tokens.now))) }
+    ensures { Told emb_view result
+        (placed line place (spec.answered end.0 (sql_views tokens.now))) }
 {
     if is_first(tokens, b"AT") {
         return behind_at(alloc, tokens, end, line, place);
@@ -178,9 +178,13 @@ fn statement(
 /// (L4) come in the order of the tokens with F8. A byte that begins no token is a fault (F4) before all these.
 pub fn read_statement(alloc: Global, piece: &Piece, place: u32) -> Result<Emb, Stop>
     requires { piece.now.line.0 + length piece.now.bytes < 2 ^ 32 }
-    ensures statement { (wanted : Answer EmbData TheStop) → StatementOrStop piece.now place wanted → Told emb_view result wanted }
-    ensures answer { (tokens : Sequence Token) → SqlTokens piece.now.line.0 piece.now.bytes tokens → IsAnswer piece.now place result }
-    ensures no_tokens { (stop : TheStop) → SqlTokensOrStop piece.now.line.0 piece.now.bytes (Err stop) → Told emb_view result (Err stop) }
+    ensures statement { (wanted : Answer EmbData TheStop) → StatementOrStop piece.now place wanted
+        → Told emb_view result wanted }
+    ensures answer { (tokens : Sequence Token)
+        → SqlTokens piece.now.line.0 piece.now.bytes tokens → IsRead piece.now place result }
+    ensures no_tokens { (stop : TheStop)
+        → SqlTokensOrStop piece.now.line.0 piece.now.bytes (Err stop)
+        → Told emb_view result (Err stop) }
 {
     match sql_tokens(alloc, piece) {
         Ok(tokens) => {

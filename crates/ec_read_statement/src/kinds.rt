@@ -7,8 +7,7 @@ ghost use Rattle.ec_embedded.specs.LeftOut.{begin_with};
 ghost use Rattle.ec_embedded.specs.Statements.{transaction_words};
 ghost use Rattle.ec_embedded.specs.LeftOut as words;
 ghost use Rattle.ec_embedded.specs.Terminals.{is_word_among};
-ghost use Rattle.ec_references.specs.Readers.{ReadsBy};
-ghost use Rattle.ec_references.specs.States.{seen};
+ghost use Rattle.ec_references.specs.States.{CursorReads};
 ghost use Rattle.ec_read_statement.specs.Deciding as spec;
 
 use ec_base::Name;
@@ -77,7 +76,8 @@ fn declared_for<'a>(
     all: &'a [SqlToken],
     name: Name,
 ) -> Result<EmbKind, Failure>
-    ensures { ReadsBy emb_kind_view (spec.declaring_for name (sql_views all.now)) (seen cursor.old) result (seen cursor.new) }
+    ensures { CursorReads emb_kind_view (spec.declaring_for name (sql_views all.now))
+        cursor.old result cursor.new }
 {
     let behind = cursor.rest();
     cursor.go_to(all);
@@ -97,7 +97,7 @@ fn declared_for<'a>(
 /// DECLARE of a cursor.
 #[tactic(auto, unfolding(crate::specs::Deciding::declared))]
 fn declared(alloc: Global, cursor: &mut Cursor<'_>) -> Result<EmbKind, Failure>
-    ensures { ReadsBy emb_kind_view spec.declared (seen cursor.old) result (seen cursor.new) }
+    ensures { CursorReads emb_kind_view spec.declared cursor.old result cursor.new }
 {
     let all = cursor.rest();
     let name = cursor_head(alloc, cursor)?;
@@ -107,7 +107,7 @@ fn declared(alloc: Global, cursor: &mut Cursor<'_>) -> Result<EmbKind, Failure>
 /// Statements without a form.
 #[tactic(auto, unfolding(crate::specs::Deciding::formless))]
 fn formless(alloc: Global, cursor: &mut Cursor<'_>) -> Result<EmbKind, Failure>
-    ensures { ReadsBy emb_kind_view spec.formless (seen cursor.old) result (seen cursor.new) }
+    ensures { CursorReads emb_kind_view spec.formless cursor.old result cursor.new }
 {
     if begins(cursor.rest(), b"DECLARE") {
         return declared(alloc, cursor);
@@ -121,7 +121,7 @@ fn formless(alloc: Global, cursor: &mut Cursor<'_>) -> Result<EmbKind, Failure>
 /// The other forms.
 #[tactic(auto, unfolding(crate::specs::Deciding::other_forms))]
 fn other_forms(alloc: Global, cursor: &mut Cursor<'_>) -> Result<EmbKind, Failure>
-    ensures { ReadsBy emb_kind_view spec.other_forms (seen cursor.old) result (seen cursor.new) }
+    ensures { CursorReads emb_kind_view spec.other_forms cursor.old result cursor.new }
 {
     if begins(cursor.rest(), b"PREPARE") {
         return prepare(alloc, cursor);
@@ -147,7 +147,7 @@ fn other_forms(alloc: Global, cursor: &mut Cursor<'_>) -> Result<EmbKind, Failur
 /// What is done, where AT doesn't stand before it.
 #[tactic(auto, unfolding(crate::specs::Deciding::decided))]
 fn decided(alloc: Global, cursor: &mut Cursor<'_>) -> Result<EmbKind, Failure>
-    ensures { ReadsBy emb_kind_view spec.decided (seen cursor.old) result (seen cursor.new) }
+    ensures { CursorReads emb_kind_view spec.decided cursor.old result cursor.new }
 {
     if begins(cursor.rest(), b"CONNECT") {
         return connect(alloc, cursor);
@@ -175,14 +175,14 @@ fn decided(alloc: Global, cursor: &mut Cursor<'_>) -> Result<EmbKind, Failure>
 
 /// AT before a form that one word decides, and that doesn't take it.
 fn dead_at_first(cursor: &mut Cursor<'_>) -> Result<EmbKind, Failure>
-    ensures { ReadsBy emb_kind_view (spec.dead_at_word 0) (seen cursor.old) result (seen cursor.new) }
+    ensures { CursorReads emb_kind_view (spec.dead_at_word 0) cursor.old result cursor.new }
 {
     Err(Failure::Dead(cursor.left()))
 }
 
 /// AT before a form that two words decide, and that doesn't take it.
 fn dead_at_second(cursor: &mut Cursor<'_>) -> Result<EmbKind, Failure>
-    ensures { ReadsBy emb_kind_view (spec.dead_at_word 1) (seen cursor.old) result (seen cursor.new) }
+    ensures { CursorReads emb_kind_view (spec.dead_at_word 1) cursor.old result cursor.new }
 {
     match cursor.rest() {
         [_, rest @ ..] => Err(Failure::Dead(rest.len())),
@@ -193,7 +193,7 @@ fn dead_at_second(cursor: &mut Cursor<'_>) -> Result<EmbKind, Failure>
 /// Statements without a form, behind AT.
 #[tactic(auto, unfolding(crate::specs::Deciding::formless_at))]
 fn formless_at(alloc: Global, cursor: &mut Cursor<'_>) -> Result<EmbKind, Failure>
-    ensures { ReadsBy emb_kind_view spec.formless_at (seen cursor.old) result (seen cursor.new) }
+    ensures { CursorReads emb_kind_view spec.formless_at cursor.old result cursor.new }
 {
     if begins(cursor.rest(), b"DECLARE") {
         return dead_at_first(cursor);
@@ -207,7 +207,7 @@ fn formless_at(alloc: Global, cursor: &mut Cursor<'_>) -> Result<EmbKind, Failur
 /// The other forms, behind AT.
 #[tactic(auto, unfolding(crate::specs::Deciding::other_forms_at))]
 fn other_forms_at(alloc: Global, cursor: &mut Cursor<'_>) -> Result<EmbKind, Failure>
-    ensures { ReadsBy emb_kind_view spec.other_forms_at (seen cursor.old) result (seen cursor.new) }
+    ensures { CursorReads emb_kind_view spec.other_forms_at cursor.old result cursor.new }
 {
     if begins(cursor.rest(), b"PREPARE") {
         return prepare(alloc, cursor);
@@ -233,7 +233,7 @@ fn other_forms_at(alloc: Global, cursor: &mut Cursor<'_>) -> Result<EmbKind, Fai
 /// What is done, behind AT.
 #[tactic(auto, unfolding(crate::specs::Deciding::decided_at))]
 fn decided_at(alloc: Global, cursor: &mut Cursor<'_>) -> Result<EmbKind, Failure>
-    ensures { ReadsBy emb_kind_view spec.decided_at (seen cursor.old) result (seen cursor.new) }
+    ensures { CursorReads emb_kind_view spec.decided_at cursor.old result cursor.new }
 {
     if begins(cursor.rest(), b"CONNECT") {
         return dead_at_first(cursor);
@@ -275,7 +275,7 @@ pub fn any_statement(
     cursor: &mut Cursor<'_>,
     is_at: bool,
 ) -> Result<EmbKind, Failure>
-    ensures { ReadsBy emb_kind_view (spec.any_statement is_at) (seen cursor.old) result (seen cursor.new) }
+    ensures { CursorReads emb_kind_view (spec.any_statement is_at) cursor.old result cursor.new }
 {
     if is_none_left(cursor.rest()) {
         return Err(Failure::Dead(0));

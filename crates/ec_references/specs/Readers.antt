@@ -53,8 +53,9 @@ abbrev pub Reads : {A B : Type 0} → (B → A) → Reading A → Result B Failu
 Reads view o (Ok b) new = o ≡ done (view b) new.counts new.tokens
 Reads view o (Err e) new = e ≢ OutOfMemory → o ≡ stopped e
 
--- of this reader, from one state to another
-abbrev pub ReadsBy : {A B : Type 0} → (B → A) → Reader A → State → Result B Failure → State → Type 0
+-- by this reader, from one state to another
+abbrev pub ReadsBy : {A B : Type 0} → (B → A) → Reader A → State → Result B Failure → State
+    → Type 0
 ReadsBy view p old result new = Reads view (p old.counts old.tokens) result new
 
 -- The next token is taken, whatever it is, and nothing is counted; of none, all stays.

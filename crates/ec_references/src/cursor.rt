@@ -4,8 +4,8 @@ ghost use Rattle.std.specs.Prelude.{◌≡◌, IfOk, codes, option_map, length};
 ghost use Rattle.ec_clex.specs.Sql.{sql_view, sql_views};
 ghost use Rattle.ec_embedded.specs.Terminals as spec;
 ghost use Rattle.ec_embedded.specs.Terminals.{Begins};
-ghost use Rattle.ec_references.specs.Readers.{FitsLong, ReadsBy, TakesAny, taken, next_is};
-ghost use Rattle.ec_references.specs.States.{counts_view, seen, terminal_view};
+ghost use Rattle.ec_references.specs.Readers.{FitsLong, TakesAny, next_is};
+ghost use Rattle.ec_references.specs.States.{CursorTakes, counts_view, seen, terminal_view};
 
 use crate::class::Class;
 use crate::tests_of_tokens::{
@@ -56,7 +56,8 @@ fn one_more_input(counts: Counts) -> Option<Counts>
 
 /// The counts behind a token of the class, if no limit is passed.
 fn counts_behind(counts: Counts, class: Class) -> Option<Counts>
-    ensures { option_map counts_view result ≡ spec.step_by (terminal_view class).begins (counts_view counts) }
+    ensures { option_map counts_view result ≡ spec.step_by (terminal_view class).begins
+        (counts_view counts) }
 {
     match class {
         Class::InputNumber => one_more_input(counts),
@@ -139,7 +140,8 @@ impl<'a> Cursor<'a> {
     #[tactic(auto, unfolding(crate::specs::States::seen))]
     pub fn at_sign(&self, mark: &[u8]) -> bool
         ensures plain { result ≡ next_is (spec.sign mark.now) (seen self.now).tokens }
-        ensures colon { (b : Begins) → mark.now ≡ codes ":" → result ≡ next_is (spec.colon b) (seen self.now).tokens }
+        ensures colon { (b : Begins) → mark.now ≡ codes ":" → result ≡ next_is (spec.colon b)
+            (seen self.now).tokens }
     {
         match self.rest {
             [first, ..] => is_mark(first, mark),
@@ -172,7 +174,8 @@ impl<'a> Cursor<'a> {
     /// Takes the next token, whatever it is.
     #[tactic(auto, unfolding(crate::specs::States::seen))]
     pub fn next(&mut self) -> Option<&'a SqlToken>
-        ensures { TakesAny (seen self.old) (option_map (λ t. sql_view t.now) result) (seen self.new) }
+        ensures { TakesAny (seen self.old) (option_map (λ t. sql_view t.now) result)
+            (seen self.new) }
     {
         match self.rest {
             [first, rest @ ..] => {
@@ -186,7 +189,7 @@ impl<'a> Cursor<'a> {
     /// Takes the next token, which is this word.
     #[tactic(auto, unfolding(crate::specs::States::seen))]
     pub fn word(&mut self, word: &[u8]) -> Result<&'a SqlToken, Failure>
-        ensures { ReadsBy (λ t. sql_view t.now) (taken (spec.keyword word.now)) (seen self.old) result (seen self.new) }
+        ensures { CursorTakes (spec.keyword word.now) self.old result self.new }
     {
         let tokens = self.rest;
         match tokens {
@@ -204,7 +207,7 @@ impl<'a> Cursor<'a> {
     /// Takes the next token, which is this word, with a gap before it.
     #[tactic(auto, unfolding(crate::specs::States::seen))]
     pub fn parted(&mut self, word: &[u8]) -> Result<&'a SqlToken, Failure>
-        ensures { ReadsBy (λ t. sql_view t.now) (taken (spec.parted_word word.now)) (seen self.old) result (seen self.new) }
+        ensures { CursorTakes (spec.parted_word word.now) self.old result self.new }
     {
         let tokens = self.rest;
         match tokens {
@@ -222,7 +225,7 @@ impl<'a> Cursor<'a> {
     /// Takes the next token, which is this mark.
     #[tactic(auto, unfolding(crate::specs::States::seen))]
     pub fn sign(&mut self, mark: &[u8]) -> Result<&'a SqlToken, Failure>
-        ensures { ReadsBy (λ t. sql_view t.now) (taken (spec.sign mark.now)) (seen self.old) result (seen self.new) }
+        ensures { CursorTakes (spec.sign mark.now) self.old result self.new }
     {
         let tokens = self.rest;
         match tokens {
@@ -240,7 +243,7 @@ impl<'a> Cursor<'a> {
     /// Takes the next token, which is this mark, with no gap before it.
     #[tactic(auto, unfolding(crate::specs::States::seen))]
     pub fn glued_sign(&mut self, mark: &[u8]) -> Result<&'a SqlToken, Failure>
-        ensures { ReadsBy (λ t. sql_view t.now) (taken (spec.glued_sign mark.now)) (seen self.old) result (seen self.new) }
+        ensures { CursorTakes (spec.glued_sign mark.now) self.old result self.new }
     {
         let tokens = self.rest;
         match tokens {
@@ -258,7 +261,7 @@ impl<'a> Cursor<'a> {
     /// Takes the next token, which is one of the class.
     #[tactic(auto, unfolding(crate::specs::States::seen))]
     pub fn take(&mut self, class: Class) -> Result<&'a SqlToken, Failure>
-        ensures { ReadsBy (λ t. sql_view t.now) (taken (terminal_view class)) (seen self.old) result (seen self.new) }
+        ensures { CursorTakes (terminal_view class) self.old result self.new }
     {
         let tokens = self.rest;
         match tokens {
@@ -282,7 +285,7 @@ impl<'a> Cursor<'a> {
     /// Takes the next token, which is a number that a long has, with no gap before it.
     #[tactic(auto, unfolding(crate::specs::States::seen))]
     pub fn glued_number(&mut self) -> Result<&'a SqlToken, Failure>
-        ensures reads { ReadsBy (λ t. sql_view t.now) (taken spec.glued_number) (seen self.old) result (seen self.new) }
+        ensures reads { CursorTakes spec.glued_number self.old result self.new }
         ensures fits { IfOk result (λ t. FitsLong (sql_view t.now).bytes) }
     {
         let tokens = self.rest;
@@ -301,7 +304,7 @@ impl<'a> Cursor<'a> {
     /// Takes the next token, which is a number that a long has.
     #[tactic(auto, unfolding(crate::specs::States::seen))]
     pub fn fitting_number(&mut self) -> Result<&'a SqlToken, Failure>
-        ensures reads { ReadsBy (λ t. sql_view t.now) (taken spec.fitting_number) (seen self.old) result (seen self.new) }
+        ensures reads { CursorTakes spec.fitting_number self.old result self.new }
         ensures fits { IfOk result (λ t. FitsLong (sql_view t.now).bytes) }
     {
         let tokens = self.rest;
@@ -320,7 +323,7 @@ impl<'a> Cursor<'a> {
     /// Takes the next token, which is this mark with no gap before it and begins a suffix, and counts it.
     #[tactic(auto, unfolding(crate::specs::States::seen))]
     pub fn suffix_sign(&mut self, mark: &[u8]) -> Result<&'a SqlToken, Failure>
-        ensures { ReadsBy (λ t. sql_view t.now) (taken (spec.suffix_sign mark.now)) (seen self.old) result (seen self.new) }
+        ensures { CursorTakes (spec.suffix_sign mark.now) self.old result self.new }
     {
         let tokens = self.rest;
         match tokens {

@@ -11,10 +11,12 @@ ghost use Rattle.ec_references.specs.Readers as r;
 #[tactic(none)]
 pub fn readers_are_exact()
     ensures host { (b : Begins) → IsReader (form.host_form b) (form.host_of b) (r.hosted b) }
-    ensures spelled_host { (b : Begins) → IsReader (form.spelled_host_form b) (form.spelled_host_of b) (r.spelled_host b) }
+    ensures spelled_host { (b : Begins) → IsReader (form.spelled_host_form b)
+        (form.spelled_host_of b) (r.spelled_host b) }
     ensures text { IsReader form.text_form form.text_of r.text_argument }
     ensures spelled_text { IsReader form.spelled_text_form form.spelled_text_of r.spelled_text }
-    ensures statement_text { IsReader form.statement_text_form form.statement_text_of r.quote_or_host }
+    ensures statement_text { IsReader form.statement_text_form form.statement_text_of
+        r.quote_or_host }
     ensures connection { IsReader form.text_form connection_of (r.named_connection or_default) }
     ensures ended { IsReader form.text_form ended_of (r.named_connection or_special) }
     ensures value { IsReader form.value_form form.value_of r.value }

@@ -4,8 +4,7 @@ ghost use Rattle.std.specs.Prelude.{◌≡◌, map};
 ghost use Rattle.ec_ctypes.specs.views.Embedded.{host_view, input_view, ins_view, outs_view, text_arg_view};
 ghost use Rattle.ec_embedded.specs.Terminals.{reference};
 ghost use Rattle.ec_references.specs.Readers as spec;
-ghost use Rattle.ec_references.specs.Readers.{ReadsBy};
-ghost use Rattle.ec_references.specs.States.{seen};
+ghost use Rattle.ec_references.specs.States.{CursorReads};
 
 use crate::cursor::Cursor;
 use crate::names::text_argument;
@@ -22,7 +21,8 @@ fn more_values(
     cursor: &mut Cursor<'_>,
     mut values: List<Input>,
 ) -> Result<List<Input>, Failure>
-    ensures { ReadsBy (map input_view) (spec.further spec.value (map input_view values)) (seen cursor.old) result (seen cursor.new) }
+    ensures { CursorReads (map input_view) (spec.further spec.value (map input_view values))
+        cursor.old result cursor.new }
 {
     for _turn in 0..cursor.left() {
         if !cursor.at_sign(b",") {
@@ -39,7 +39,8 @@ fn further_value(
     cursor: &mut Cursor<'_>,
     mut values: List<Input>,
 ) -> Result<List<Input>, Failure>
-    ensures { ReadsBy (map input_view) (spec.one_further spec.value (map input_view values)) (seen cursor.old) result (seen cursor.new) }
+    ensures { CursorReads (map input_view) (spec.one_further spec.value (map input_view values))
+        cursor.old result cursor.new }
 {
     cursor.sign(b",")?;
     let value = value(alloc, cursor)?;
@@ -53,7 +54,9 @@ fn further_host(
     cursor: &mut Cursor<'_>,
     mut hosts: List<Host>,
 ) -> Result<List<Host>, Failure>
-    ensures { ReadsBy (map host_view) (spec.one_further (spec.hosted reference) (map host_view hosts)) (seen cursor.old) result (seen cursor.new) }
+    ensures { CursorReads (map host_view)
+        (spec.one_further (spec.hosted reference) (map host_view hosts))
+        cursor.old result cursor.new }
 {
     cursor.sign(b",")?;
     let host = hosted(alloc, cursor)?;
@@ -67,7 +70,8 @@ fn more_hosts(
     cursor: &mut Cursor<'_>,
     mut hosts: List<Host>,
 ) -> Result<List<Host>, Failure>
-    ensures { ReadsBy (map host_view) (spec.further (spec.hosted reference) (map host_view hosts)) (seen cursor.old) result (seen cursor.new) }
+    ensures { CursorReads (map host_view)
+        (spec.further (spec.hosted reference) (map host_view hosts)) cursor.old result cursor.new }
 {
     for _turn in 0..cursor.left() {
         if !cursor.at_sign(b",") {
@@ -80,7 +84,7 @@ fn more_hosts(
 
 /// A descriptor by its name.
 fn area(alloc: Global, cursor: &mut Cursor<'_>) -> Result<TextArg, Failure>
-    ensures { ReadsBy text_arg_view spec.area (seen cursor.old) result (seen cursor.new) }
+    ensures { CursorReads text_arg_view spec.area cursor.old result cursor.new }
 {
     cursor.word(b"SQL")?;
     cursor.word(b"DESCRIPTOR")?;
@@ -90,7 +94,7 @@ fn area(alloc: Global, cursor: &mut Cursor<'_>) -> Result<TextArg, Failure>
 /// The values of a USING.
 #[tactic(auto, unfolding(crate::specs::Readers::inputs))]
 pub fn inputs(alloc: Global, cursor: &mut Cursor<'_>) -> Result<Ins, Failure>
-    ensures { ReadsBy ins_view spec.inputs (seen cursor.old) result (seen cursor.new) }
+    ensures { CursorReads ins_view spec.inputs cursor.old result cursor.new }
 {
     if cursor.at_word(b"SQL") {
         return Ok(Ins::Area(area(alloc, cursor)?));
@@ -104,7 +108,7 @@ pub fn inputs(alloc: Global, cursor: &mut Cursor<'_>) -> Result<Ins, Failure>
 /// The hosts of an INTO.
 #[tactic(auto, unfolding(crate::specs::Readers::outputs))]
 pub fn outputs(alloc: Global, cursor: &mut Cursor<'_>) -> Result<Outs, Failure>
-    ensures { ReadsBy outs_view spec.outputs (seen cursor.old) result (seen cursor.new) }
+    ensures { CursorReads outs_view spec.outputs cursor.old result cursor.new }
 {
     if cursor.at_word(b"SQL") {
         return Ok(Outs::Area(area(alloc, cursor)?));
@@ -118,7 +122,7 @@ pub fn outputs(alloc: Global, cursor: &mut Cursor<'_>) -> Result<Outs, Failure>
 /// USING with its values, or nothing.
 #[tactic(auto, unfolding(crate::specs::Readers::using_or_none))]
 pub fn using_or_none(alloc: Global, cursor: &mut Cursor<'_>) -> Result<Ins, Failure>
-    ensures { ReadsBy ins_view spec.using_or_none (seen cursor.old) result (seen cursor.new) }
+    ensures { CursorReads ins_view spec.using_or_none cursor.old result cursor.new }
 {
     if cursor.at_word(b"USING") {
         cursor.word(b"USING")?;

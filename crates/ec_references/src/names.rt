@@ -6,8 +6,7 @@ ghost use Rattle.ec_ctypes.specs.views.Embedded.{host_view, text_arg_view};
 ghost use Rattle.ec_embedded.specs.Connections as connections;
 ghost use Rattle.ec_embedded.specs.References as forms;
 ghost use Rattle.ec_references.specs.Readers as spec;
-ghost use Rattle.ec_references.specs.Readers.{ReadsBy};
-ghost use Rattle.ec_references.specs.States.{seen};
+ghost use Rattle.ec_references.specs.States.{CursorReads, seen};
 
 use crate::class::Class;
 use crate::cursor::Cursor;
@@ -99,7 +98,7 @@ pub fn begins_text(cursor: &Cursor<'_>) -> bool
 /// A quote or a host.
 #[tactic(auto, unfolding(crate::specs::Readers::quote_or_host))]
 pub fn quote_or_host(alloc: Global, cursor: &mut Cursor<'_>) -> Result<TextArg, Failure>
-    ensures { ReadsBy text_arg_view spec.quote_or_host (seen cursor.old) result (seen cursor.new) }
+    ensures { CursorReads text_arg_view spec.quote_or_host cursor.old result cursor.new }
 {
     if cursor.at(Class::Quote) {
         let token = cursor.take(Class::Quote)?;
@@ -112,7 +111,7 @@ pub fn quote_or_host(alloc: Global, cursor: &mut Cursor<'_>) -> Result<TextArg, 
 /// A word, a quote or a host.
 #[tactic(auto, unfolding(crate::specs::Readers::text_argument))]
 pub fn text_argument(alloc: Global, cursor: &mut Cursor<'_>) -> Result<TextArg, Failure>
-    ensures { ReadsBy text_arg_view spec.text_argument (seen cursor.old) result (seen cursor.new) }
+    ensures { CursorReads text_arg_view spec.text_argument cursor.old result cursor.new }
 {
     if cursor.at(Class::AnyWord) {
         let token = cursor.take(Class::AnyWord)?;
@@ -124,7 +123,7 @@ pub fn text_argument(alloc: Global, cursor: &mut Cursor<'_>) -> Result<TextArg, 
 /// A word, a quote or a host whose indicator is spelled.
 #[tactic(auto, unfolding(crate::specs::Readers::spelled_text))]
 pub fn spelled_text(alloc: Global, cursor: &mut Cursor<'_>) -> Result<TextArg, Failure>
-    ensures { ReadsBy text_arg_view spec.spelled_text (seen cursor.old) result (seen cursor.new) }
+    ensures { CursorReads text_arg_view spec.spelled_text cursor.old result cursor.new }
 {
     if cursor.at(Class::AnyWord) {
         let token = cursor.take(Class::AnyWord)?;
@@ -141,7 +140,8 @@ pub fn spelled_text(alloc: Global, cursor: &mut Cursor<'_>) -> Result<TextArg, F
 /// A connection by its name.
 #[tactic(auto, unfolding(crate::specs::Readers::named_connection))]
 pub fn connection(alloc: Global, cursor: &mut Cursor<'_>) -> Result<TextArg, Failure>
-    ensures { ReadsBy text_arg_view (spec.named_connection connections.or_default) (seen cursor.old) result (seen cursor.new) }
+    ensures { CursorReads text_arg_view (spec.named_connection connections.or_default)
+        cursor.old result cursor.new }
 {
     if cursor.at(Class::AnyWord) {
         let token = cursor.take(Class::AnyWord)?;
@@ -153,7 +153,8 @@ pub fn connection(alloc: Global, cursor: &mut Cursor<'_>) -> Result<TextArg, Fai
 /// A connection to be ended.
 #[tactic(auto, unfolding(crate::specs::Readers::named_connection))]
 pub fn ended_connection(alloc: Global, cursor: &mut Cursor<'_>) -> Result<TextArg, Failure>
-    ensures { ReadsBy text_arg_view (spec.named_connection connections.or_special) (seen cursor.old) result (seen cursor.new) }
+    ensures { CursorReads text_arg_view (spec.named_connection connections.or_special)
+        cursor.old result cursor.new }
 {
     if cursor.at(Class::AnyWord) {
         let token = cursor.take(Class::AnyWord)?;

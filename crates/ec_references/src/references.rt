@@ -8,8 +8,7 @@ ghost use Rattle.ec_ctypes.specs.views.Exprs.{expr_view, expr_option_view};
 ghost use Rattle.ec_embedded.specs.References.{decimal_constant};
 ghost use Rattle.ec_embedded.specs.Terminals.{input, reference};
 ghost use Rattle.ec_references.specs.Readers as spec;
-ghost use Rattle.ec_references.specs.Readers.{ReadsBy};
-ghost use Rattle.ec_references.specs.States.{seen};
+ghost use Rattle.ec_references.specs.States.{CursorReads, seen};
 
 use crate::class::Class;
 use crate::cursor::Cursor;
@@ -36,14 +35,16 @@ pub fn name(alloc: Global, token: &SqlToken) -> Result<Expr, OutOfMemory>
 
 #[tactic(auto, using(ec_ctypes::specs::declared::tree::expr::Expr::the_lemmas))]
 fn member(alloc: Global, of: Boxed<Expr>, token: &SqlToken) -> Result<Expr, OutOfMemory>
-    ensures { IfOk result (λ e. expr_view e ≡ tree.member (expr_view of) (sql_view token.now).bytes) }
+    ensures { IfOk result
+        (λ e. expr_view e ≡ tree.member (expr_view of) (sql_view token.now).bytes) }
 {
     Ok(Expr::Member(of, copy_name(alloc, token)?))
 }
 
 #[tactic(auto, using(ec_ctypes::specs::declared::tree::expr::Expr::the_lemmas))]
 fn arrow(alloc: Global, of: Boxed<Expr>, token: &SqlToken) -> Result<Expr, OutOfMemory>
-    ensures { IfOk result (λ e. expr_view e ≡ tree.arrow (expr_view of) (sql_view token.now).bytes) }
+    ensures { IfOk result
+        (λ e. expr_view e ≡ tree.arrow (expr_view of) (sql_view token.now).bytes) }
 {
     Ok(Expr::Arrow(of, copy_name(alloc, token)?))
 }
@@ -79,7 +80,7 @@ pub fn decimal(token: &SqlToken) -> Expr
 
 /// An index: a variable or a number.
 fn place(alloc: Global, cursor: &mut Cursor<'_>) -> Result<Boxed<Expr>, Failure>
-    ensures { ReadsBy expr_view spec.place (seen cursor.old) result (seen cursor.new) }
+    ensures { CursorReads expr_view spec.place cursor.old result cursor.new }
 {
     if cursor.at(Class::GluedWord) {
         let token = cursor.take(Class::GluedWord)?;
@@ -90,7 +91,8 @@ fn place(alloc: Global, cursor: &mut Cursor<'_>) -> Result<Boxed<Expr>, Failure>
 }
 
 fn member_behind(alloc: Global, cursor: &mut Cursor<'_>, of: Boxed<Expr>) -> Result<Expr, Failure>
-    ensures { ReadsBy expr_view (spec.member_behind (expr_view of)) (seen cursor.old) result (seen cursor.new) }
+    ensures { CursorReads expr_view (spec.member_behind (expr_view of))
+        cursor.old result cursor.new }
 {
     cursor.suffix_sign(b".")?;
     let token = cursor.take(Class::GluedWord)?;
@@ -98,7 +100,8 @@ fn member_behind(alloc: Global, cursor: &mut Cursor<'_>, of: Boxed<Expr>) -> Res
 }
 
 fn arrow_behind(alloc: Global, cursor: &mut Cursor<'_>, of: Boxed<Expr>) -> Result<Expr, Failure>
-    ensures { ReadsBy expr_view (spec.arrow_behind (expr_view of)) (seen cursor.old) result (seen cursor.new) }
+    ensures { CursorReads expr_view (spec.arrow_behind (expr_view of))
+        cursor.old result cursor.new }
 {
     cursor.suffix_sign(b"->")?;
     let token = cursor.take(Class::GluedWord)?;
@@ -106,7 +109,8 @@ fn arrow_behind(alloc: Global, cursor: &mut Cursor<'_>, of: Boxed<Expr>) -> Resu
 }
 
 fn index_behind(alloc: Global, cursor: &mut Cursor<'_>, of: Boxed<Expr>) -> Result<Expr, Failure>
-    ensures { ReadsBy expr_view (spec.index_behind (expr_view of)) (seen cursor.old) result (seen cursor.new) }
+    ensures { CursorReads expr_view (spec.index_behind (expr_view of))
+        cursor.old result cursor.new }
 {
     cursor.suffix_sign(b"[")?;
     let at = place(alloc, cursor)?;
@@ -117,7 +121,8 @@ fn index_behind(alloc: Global, cursor: &mut Cursor<'_>, of: Boxed<Expr>) -> Resu
 /// A member, a member of what is pointed to, or an element.
 #[tactic(auto, unfolding(crate::specs::Readers::suffix_behind))]
 pub fn suffix_behind(alloc: Global, cursor: &mut Cursor<'_>, of: Expr) -> Result<Expr, Failure>
-    ensures { ReadsBy expr_view (spec.suffix_behind (expr_view of)) (seen cursor.old) result (seen cursor.new) }
+    ensures { CursorReads expr_view (spec.suffix_behind (expr_view of))
+        cursor.old result cursor.new }
 {
     let of = Boxed::new(alloc, of)?;
     if cursor.at_suffix(b".") {
@@ -138,7 +143,8 @@ fn begins_suffix(cursor: &Cursor<'_>) -> bool
 
 /// All suffixes.
 fn suffixes_behind(alloc: Global, cursor: &mut Cursor<'_>, mut of: Expr) -> Result<Expr, Failure>
-    ensures { ReadsBy expr_view (spec.suffixes_behind (expr_view of)) (seen cursor.old) result (seen cursor.new) }
+    ensures { CursorReads expr_view (spec.suffixes_behind (expr_view of))
+        cursor.old result cursor.new }
 {
     for _turn in 0..cursor.left() {
         if !begins_suffix(cursor) {
@@ -152,7 +158,7 @@ fn suffixes_behind(alloc: Global, cursor: &mut Cursor<'_>, mut of: Expr) -> Resu
 /// A variable with its suffixes.
 #[tactic(auto, unfolding(crate::specs::Readers::named_place))]
 pub fn named_place(alloc: Global, cursor: &mut Cursor<'_>) -> Result<Expr, Failure>
-    ensures { ReadsBy expr_view spec.named_place (seen cursor.old) result (seen cursor.new) }
+    ensures { CursorReads expr_view spec.named_place cursor.old result cursor.new }
 {
     let token = cursor.take(Class::GluedWord)?;
     let first = name(alloc, token)?;
@@ -162,7 +168,7 @@ pub fn named_place(alloc: Global, cursor: &mut Cursor<'_>) -> Result<Expr, Failu
 /// A reference to a variable that is no input.
 #[tactic(auto, unfolding(crate::specs::Readers::referenced))]
 pub fn referenced(alloc: Global, cursor: &mut Cursor<'_>) -> Result<Expr, Failure>
-    ensures { ReadsBy expr_view (spec.referenced reference) (seen cursor.old) result (seen cursor.new) }
+    ensures { CursorReads expr_view (spec.referenced reference) cursor.old result cursor.new }
 {
     cursor.take(Class::Colon)?;
     named_place(alloc, cursor)
@@ -171,7 +177,7 @@ pub fn referenced(alloc: Global, cursor: &mut Cursor<'_>) -> Result<Expr, Failur
 /// A reference that is an input.
 #[tactic(auto, unfolding(crate::specs::Readers::referenced))]
 pub fn input_reference(alloc: Global, cursor: &mut Cursor<'_>) -> Result<Expr, Failure>
-    ensures { ReadsBy expr_view (spec.referenced input) (seen cursor.old) result (seen cursor.new) }
+    ensures { CursorReads expr_view (spec.referenced input) cursor.old result cursor.new }
 {
     cursor.take(Class::InputColon)?;
     named_place(alloc, cursor)
@@ -180,7 +186,7 @@ pub fn input_reference(alloc: Global, cursor: &mut Cursor<'_>) -> Result<Expr, F
 /// The indicator behind the word INDICATOR, if there is one.
 #[tactic(auto, unfolding(crate::specs::Readers::spelled_indicator))]
 fn spelled_indicator(alloc: Global, cursor: &mut Cursor<'_>) -> Result<Option<Boxed<Expr>>, Failure>
-    ensures { ReadsBy expr_option_view spec.spelled_indicator (seen cursor.old) result (seen cursor.new) }
+    ensures { CursorReads expr_option_view spec.spelled_indicator cursor.old result cursor.new }
 {
     if cursor.at_word(b"INDICATOR") {
         cursor.word(b"INDICATOR")?;
@@ -192,7 +198,7 @@ fn spelled_indicator(alloc: Global, cursor: &mut Cursor<'_>) -> Result<Option<Bo
 /// The indicator, if there is one.
 #[tactic(auto, unfolding(crate::specs::Readers::indicator))]
 pub fn indicator(alloc: Global, cursor: &mut Cursor<'_>) -> Result<Option<Boxed<Expr>>, Failure>
-    ensures { ReadsBy expr_option_view spec.indicator (seen cursor.old) result (seen cursor.new) }
+    ensures { CursorReads expr_option_view spec.indicator cursor.old result cursor.new }
 {
     if cursor.at_sign(b":") {
         return Ok(Some(Boxed::new(alloc, referenced(alloc, cursor)?)?));
@@ -203,7 +209,7 @@ pub fn indicator(alloc: Global, cursor: &mut Cursor<'_>) -> Result<Option<Boxed<
 /// A host with its indicator.
 #[tactic(auto, unfolding(crate::specs::Readers::hosted))]
 pub fn hosted(alloc: Global, cursor: &mut Cursor<'_>) -> Result<Host, Failure>
-    ensures { ReadsBy host_view (spec.hosted reference) (seen cursor.old) result (seen cursor.new) }
+    ensures { CursorReads host_view (spec.hosted reference) cursor.old result cursor.new }
 {
     let value = Boxed::new(alloc, referenced(alloc, cursor)?)?;
     let indicator = indicator(alloc, cursor)?;
@@ -216,7 +222,7 @@ pub fn hosted(alloc: Global, cursor: &mut Cursor<'_>) -> Result<Host, Failure>
 /// A host that is an input.
 #[tactic(auto, unfolding(crate::specs::Readers::hosted))]
 pub fn input_host(alloc: Global, cursor: &mut Cursor<'_>) -> Result<Host, Failure>
-    ensures { ReadsBy host_view (spec.hosted input) (seen cursor.old) result (seen cursor.new) }
+    ensures { CursorReads host_view (spec.hosted input) cursor.old result cursor.new }
 {
     let value = Boxed::new(alloc, input_reference(alloc, cursor)?)?;
     let indicator = indicator(alloc, cursor)?;
@@ -229,7 +235,7 @@ pub fn input_host(alloc: Global, cursor: &mut Cursor<'_>) -> Result<Host, Failur
 /// A host whose indicator is spelled.
 #[tactic(auto, unfolding(crate::specs::Readers::spelled_host))]
 pub fn spelled_host(alloc: Global, cursor: &mut Cursor<'_>) -> Result<Host, Failure>
-    ensures { ReadsBy host_view (spec.spelled_host reference) (seen cursor.old) result (seen cursor.new) }
+    ensures { CursorReads host_view (spec.spelled_host reference) cursor.old result cursor.new }
 {
     let value = Boxed::new(alloc, referenced(alloc, cursor)?)?;
     let indicator = spelled_indicator(alloc, cursor)?;
@@ -242,7 +248,7 @@ pub fn spelled_host(alloc: Global, cursor: &mut Cursor<'_>) -> Result<Host, Fail
 /// An input whose indicator is spelled.
 #[tactic(auto, unfolding(crate::specs::Readers::spelled_host))]
 pub fn spelled_input(alloc: Global, cursor: &mut Cursor<'_>) -> Result<Host, Failure>
-    ensures { ReadsBy host_view (spec.spelled_host input) (seen cursor.old) result (seen cursor.new) }
+    ensures { CursorReads host_view (spec.spelled_host input) cursor.old result cursor.new }
 {
     let value = Boxed::new(alloc, input_reference(alloc, cursor)?)?;
     let indicator = spelled_indicator(alloc, cursor)?;

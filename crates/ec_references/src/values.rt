@@ -4,8 +4,7 @@ ghost use Rattle.std.specs.Prelude.{◌≡◌, ◌++◌, IfOk, codes};
 ghost use Rattle.ec_clex.specs.Sql.{sql_view};
 ghost use Rattle.ec_ctypes.specs.views.Embedded.{input_view};
 ghost use Rattle.ec_references.specs.Readers as spec;
-ghost use Rattle.ec_references.specs.Readers.{ReadsBy};
-ghost use Rattle.ec_references.specs.States.{seen};
+ghost use Rattle.ec_references.specs.States.{CursorReads};
 
 use crate::class::Class;
 use crate::cursor::Cursor;
@@ -29,7 +28,7 @@ fn negative(alloc: Global, token: &SqlToken) -> Result<Bytes, OutOfMemory>
 /// A number or a quote.
 #[tactic(auto, unfolding(crate::specs::Readers::constant))]
 pub fn constant(alloc: Global, cursor: &mut Cursor<'_>) -> Result<Input, Failure>
-    ensures { ReadsBy input_view spec.constant (seen cursor.old) result (seen cursor.new) }
+    ensures { CursorReads input_view spec.constant cursor.old result cursor.new }
 {
     if cursor.at(Class::InputNumber) {
         let token = cursor.take(Class::InputNumber)?;
@@ -47,7 +46,7 @@ pub fn constant(alloc: Global, cursor: &mut Cursor<'_>) -> Result<Input, Failure
 /// A value.
 #[tactic(auto, unfolding(crate::specs::Readers::value))]
 pub fn value(alloc: Global, cursor: &mut Cursor<'_>) -> Result<Input, Failure>
-    ensures { ReadsBy input_view spec.value (seen cursor.old) result (seen cursor.new) }
+    ensures { CursorReads input_view spec.value cursor.old result cursor.new }
 {
     if cursor.at(Class::InputColon) {
         return Ok(Input::Host(input_host(alloc, cursor)?));
@@ -58,7 +57,7 @@ pub fn value(alloc: Global, cursor: &mut Cursor<'_>) -> Result<Input, Failure>
 /// A value, of a host with an indicator that is spelled.
 #[tactic(auto, unfolding(crate::specs::Readers::spelled_value))]
 pub fn spelled_value(alloc: Global, cursor: &mut Cursor<'_>) -> Result<Input, Failure>
-    ensures { ReadsBy input_view spec.spelled_value (seen cursor.old) result (seen cursor.new) }
+    ensures { CursorReads input_view spec.spelled_value cursor.old result cursor.new }
 {
     if cursor.at(Class::InputColon) {
         return Ok(Input::Host(spelled_input(alloc, cursor)?));

@@ -1,9 +1,9 @@
 -- Hosts, INTO lists and cuts of a statement for the server are read by the readers.
-use Rattle.std.proofs.Common.{◌≡◌, ℕ, zero, suc, Bool, true, false, List, [], ◌∷◌, ◌++◌, length, drop, ◌-◌, refl, ap, sym, ◌∙◌, codes, Option, Some, None, ◌⊎◌, inl, inr, append_assoc, append-nil}
-use Rattle.std.specs.Prelude.{◌&&◌, ◌||◌, ◌==◌}
-use Rattle.ec_ctypes.specs.trees.Embedded.{HostData, TextArgData, word_arg, OutsData, no_outs, listed_outs, area_outs, PartData, bytes_part, host_part, server_text, trans, declare_cursor, EmbKindData}
+use Rattle.std.proofs.Common.{◌≡◌, ℕ, zero, suc, Bool, true, false, List, [], ◌∷◌, ◌++◌, length, drop, ◌-◌, refl, ap, sym, ◌∙◌, codes, Option, Some, None, append_assoc, append-nil}
+use Rattle.std.specs.Prelude.{◌||◌, ◌==◌}
+use Rattle.ec_ctypes.specs.trees.Embedded.{HostData, TextArgData, word_arg, OutsData, listed_outs, area_outs, PartData, bytes_part, host_part, server_text, trans, declare_cursor, EmbKindData}
 use Rattle.ec_ctypes.specs.trees.Exprs.{ExprData, identifier}
-use Rattle.ec_shapes.specs.ReadShapes.{done, stopped, stuck, over_limit, and_then, counting, taking, read_one}
+use Rattle.ec_shapes.specs.ReadShapes.{done, stopped, stuck, over_limit, and_then, counting, read_one}
 use Rattle.ec_shapes.proofs.Made.{made, same_next, made_first}
 use Rattle.ec_language.specs.Letters.{Text}
 use Rattle.ec_language.specs.SqlTokens.{SqlToken}

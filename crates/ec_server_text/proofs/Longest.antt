@@ -1,14 +1,13 @@
 -- References of a statement for the server are read by the readers of suffixes and tokens.
-use Rattle.std.proofs.Common.{◌≡◌, ℕ, zero, suc, ◌≤◌, Bool, true, false, List, [], ◌∷◌, ◌++◌, length, drop, refl, ap, sym, ◌∙◌, codes, Option, Some, None, ◌⊎◌, inl, inr, arith}
+use Rattle.std.proofs.Common.{◌≡◌, ℕ, zero, suc, ◌≤◌, Bool, true, false, [], ◌∷◌, length, refl, ap, sym, ◌∙◌, codes, Option, Some, None, ◌⊎◌, inl, inr, arith}
 use Rattle.std.specs.Prelude.{◌&&◌, ◌||◌, if◌then◌else◌}
-use Rattle.ec_ctypes.specs.trees.Embedded.{HostData, word_arg, listed_outs, area_outs}
 use Rattle.ec_ctypes.specs.trees.Exprs.{ExprData, identifier, member, arrow, index}
-use Rattle.ec_shapes.specs.ReadShapes.{done, stopped, stuck, over_limit, and_then, counting, taking, read_one}
+use Rattle.ec_shapes.specs.ReadShapes.{done, over_limit, and_then, counting, taking, read_one}
 use Rattle.ec_language.specs.SqlTokens.{SqlToken}
 use Rattle.ec_embedded.proofs.Sound.{sound}
-use Rattle.ec_embedded.specs.References.{unquoted, text_of_host, decimal_constant}
-use Rattle.ec_embedded.specs.ServerText.{Tokens, Reading, begins_host, begins_indicator, begins_area, begins_more, is_member, is_arrow, is_index, place_at, counted_suffix, suffixes, reference_at, with_indicator, host_at, more_hosts, text_at, into_list}
-use Rattle.ec_embedded.specs.Terminals.{alphabet, Counts, Terminal, step_by, Begins, input, reference, suffix, is, keyword, any_word, glued_word, glued_number, sign, colon, suffix_sign, glued_sign, plain_quote}
+use Rattle.ec_embedded.specs.References.{decimal_constant}
+use Rattle.ec_embedded.specs.ServerText.{Tokens, Reading, is_member, is_arrow, is_index, place_at, counted_suffix, suffixes}
+use Rattle.ec_embedded.specs.Terminals.{alphabet, Counts, Terminal, step_by, suffix, is, glued_word, glued_number, suffix_sign, glued_sign}
 use Rattle.ec_references.specs.Readers.{Reader, returns, ◌>>=◌, taken, if_next, next_is, turns_from, suffix_behind, member_behind, arrow_behind, index_behind, place}
 use Rattle.ec_server_text.specs.Readers as r
 

@@ -1,12 +1,12 @@
 -- Statements for the server, read token by token: the same as their definition, in the steps that code takes.
-use Rattle.std.specs.Prelude.{ℕ, zero, suc, ◌-◌, Bool, true, false, not, ◌&&◌, ◌||◌, ◌==◌, List, [], ◌∷◌, ◌++◌, drop, length, codes, Option, Some, None, if◌then◌else◌}
+use Rattle.std.specs.Prelude.{ℕ, ◌-◌, Bool, true, false, ◌&&◌, ◌||◌, ◌==◌, List, [], ◌∷◌, ◌++◌, length, codes, Option, Some, None}
 use Rattle.ec_ctypes.specs.trees.Embedded.{HostData, TextArgData, word_arg, OutsData, no_outs, listed_outs, area_outs, PartData, bytes_part, host_part, EmbKindData, server_text, trans, declare_cursor}
 use Rattle.ec_ctypes.specs.trees.Exprs.{ExprData, identifier}
 use Rattle.ec_shapes.specs.ReadShapes.{done, stuck, and_then}
 use Rattle.ec_language.specs.Letters.{Text}
 use Rattle.ec_language.specs.SqlTokens.{SqlToken}
 use Rattle.ec_embedded.specs.References.{unquoted, text_of_host}
-use Rattle.ec_embedded.specs.ServerText.{Tokens, begins_host, begins_indicator, begins_area, begins_into, begins_more, is_member, is_arrow, is_index, depth_behind, blank, put, parts, bytes_in, Cut, outs_in}
+use Rattle.ec_embedded.specs.ServerText.{Tokens, begins_host, begins_indicator, begins_area, begins_into, begins_more, is_member, is_arrow, is_index, depth_behind, blank, bytes_in}
 use Rattle.ec_embedded.specs.Terminals.{Begins, input, reference, keyword, any_word, glued_word, sign, colon, plain_quote}
 use Rattle.ec_references.specs.Readers.{Reader, returns, ◌>>=◌, ◌>>◌, taken, if_next, turns_from, suffix_behind}
 
@@ -16,26 +16,36 @@ abbrev pub begins_suffix : Tokens → Bool
 begins_suffix [] = false
 begins_suffix (a ∷ []) = false
 begins_suffix (a ∷ b ∷ []) = elim (is_member a b) [ true ↦ true | false ↦ is_arrow a b ]
-begins_suffix (a ∷ b ∷ c ∷ w) = elim (is_member a b) [ true ↦ true | false ↦ elim (is_arrow a b) [ true ↦ true | false ↦ is_index a b c ] ]
+begins_suffix (a ∷ b ∷ c ∷ w) =
+    elim (is_member a b) [
+      | true ↦ true
+      | false ↦ elim (is_arrow a b)
+          [ true ↦ true | false ↦ is_index a b c ]
+    ]
 
 unfoldable pub long_suffixes : ExprData → Reader ExprData
 long_suffixes e = λ n w. turns_from begins_suffix suffix_behind (length w) e n w
 
 unfoldable pub long_reference : Begins → Reader ExprData
-long_reference b = taken (colon b) >> (taken glued_word >>= (λ t. long_suffixes (identifier t.bytes)))
+long_reference b =
+    taken (colon b) >> (taken glued_word >>= (λ t. long_suffixes (identifier t.bytes)))
 
 -- by whether a host begins here
 abbrev pub if_host : {A : Type 0} → Reader A → Reader A → Reader A
 if_host p q = λ n w. elim (begins_host w) [ true ↦ p n w | false ↦ q n w ]
 
 unfoldable pub long_indicator : Reader (Option ExprData)
-long_indicator = if_host (long_reference reference >>= (λ i. returns (Some i))) (λ n w. elim (begins_indicator w) [
-  | true ↦ (taken (keyword (codes "INDICATOR")) >> (long_reference reference >>= (λ i. returns (Some i)))) n w
-  | false ↦ done None n w
-])
+long_indicator =
+    if_host (long_reference reference >>= (λ i. returns (Some i)))
+    (λ n w. elim (begins_indicator w) [
+      | true ↦ (taken (keyword (codes "INDICATOR")) >> (long_reference reference >>= (λ i. returns (Some i)))) n w
+      | false ↦ done None n w
+    ])
 
 unfoldable pub long_host : Begins → Reader HostData
-long_host b = long_reference b >>= (λ e. long_indicator >>= (λ i. returns (record { value = e; indicator = i })))
+long_host b =
+    long_reference b >>= (λ e. long_indicator
+    >>= (λ i. returns (record { value = e; indicator = i })))
 
 unfoldable pub long_text : Reader TextArgData
 long_text =
@@ -46,7 +56,8 @@ long_text =
 -- ---- the list of an INTO
 
 abbrev pub further_host : List HostData → Reader (List HostData)
-further_host hs = taken (sign (codes ",")) >> (long_host reference >>= (λ h. returns (hs ++ h ∷ [])))
+further_host hs =
+    taken (sign (codes ",")) >> (long_host reference >>= (λ h. returns (hs ++ h ∷ [])))
 
 unfoldable pub further_hosts : List HostData → Reader (List HostData)
 further_hosts hs = λ n w. turns_from begins_more further_host (length w) hs n w
@@ -85,13 +96,29 @@ abbrev pub spaced : Text → Bool → Bool → Text
 spaced b first gap = b ++ blank first gap
 
 abbrev pub with_token : Writing → SqlToken → Writing
-with_token s t = record { parts = s.parts; bytes = s.bytes ++ (blank s.first (t.gap || s.gap) ++ t.bytes); first = false; gap = false; outs = s.outs }
+with_token s t =
+    record {
+      parts = s.parts;
+      bytes = s.bytes ++ (blank s.first (t.gap || s.gap) ++ t.bytes);
+      first = false;
+      gap = false;
+      outs = s.outs;
+    }
 
 abbrev pub with_host : Writing → Bool → HostData → Writing
-with_host s gap h = record { parts = with_bytes s.parts (s.bytes ++ blank s.first (gap || s.gap)) ++ host_part h ∷ []; bytes = []; first = false; gap = false; outs = s.outs }
+with_host s gap h =
+    record {
+      parts = with_bytes s.parts (s.bytes ++ blank s.first (gap || s.gap)) ++ host_part h
+          ∷ [];
+      bytes = [];
+      first = false;
+      gap = false;
+      outs = s.outs;
+    }
 
 abbrev pub with_into : Writing → OutsData → Writing
-with_into s o = record { parts = s.parts; bytes = s.bytes; first = s.first; gap = true; outs = Some o }
+with_into s o =
+    record { parts = s.parts; bytes = s.bytes; first = s.first; gap = true; outs = Some o }
 
 -- the parts and the list, where nothing follows
 abbrev pub parts_of : Writing → List PartData
@@ -113,16 +140,22 @@ abbrev pub is_into : ℕ → Tokens → Bool
 is_into depth w = depth == 0 && begins_into w
 
 abbrev pub into_cut : Cutting → Reader Cutting
-into_cut s = taken (keyword (codes "INTO")) >> (outputs >>= (λ o. returns (record { writing = with_into s.writing o; depth = s.depth; free = false })))
+into_cut s =
+    taken (keyword (codes "INTO")) >> (outputs
+    >>= (λ o. returns (record { writing = with_into s.writing o; depth = s.depth; free = false })))
 
 abbrev pub with_host_cut : Cutting → Bool → HostData → Cutting
-with_host_cut s gap h = record { writing = with_host s.writing gap h; depth = s.depth; free = s.free }
+with_host_cut s gap h =
+    record { writing = with_host s.writing gap h; depth = s.depth; free = s.free }
 
 abbrev pub host_cut : Cutting → Bool → Reader Cutting
-host_cut s gap = long_host input >>= (λ h. returns (record { writing = with_host s.writing gap h; depth = s.depth; free = s.free }))
+host_cut s gap =
+    long_host input >>= (λ h. returns
+    (record { writing = with_host s.writing gap h; depth = s.depth; free = s.free }))
 
 abbrev pub token_cut : Cutting → SqlToken → Cutting
-token_cut s t = record { writing = with_token s.writing t; depth = depth_behind s.depth t; free = s.free }
+token_cut s t =
+    record { writing = with_token s.writing t; depth = depth_behind s.depth t; free = s.free }
 
 unfoldable pub one_cut : Cutting → Reader Cutting
 one_cut s n [] = done s n []
@@ -159,7 +192,8 @@ sending = all_cuts (cutting_from true) >>= (λ s. returns (sent_by s))
 
 unfoldable pub one_plain : Cutting → Reader Cutting
 one_plain s n [] = done s n []
-one_plain s n (t ∷ w) = elim (begins_host (t ∷ w)) [ true ↦ stuck (t ∷ w) | false ↦ done (token_cut s t) n w ]
+one_plain s n (t ∷ w) =
+    elim (begins_host (t ∷ w)) [ true ↦ stuck (t ∷ w) | false ↦ done (token_cut s t) n w ]
 
 abbrev pub plain_within : ℕ → Cutting → Reader Cutting
 plain_within k s = turns_from goes_on one_plain k s
@@ -184,7 +218,11 @@ declaring name = all_cuts (cutting_from false) >>= (λ s. returns (declared_by n
 
 -- for a prepared statement: the text up to its name, and a blank
 abbrev pub prepared_by : Text → Text → Cutting → EmbKindData
-prepared_by name prepared s = declare_cursor name (bytes_part (bytes_in (parts_of s.writing) ++ codes " ") ∷ []) (Some prepared)
+prepared_by name prepared s =
+    declare_cursor name (bytes_part (bytes_in (parts_of s.writing) ++ codes " ") ∷ [])
+    (Some prepared)
 
 unfoldable pub declaring_prepared : Text → Text → Reader EmbKindData
-declaring_prepared name prepared = λ n w. and_then (cuts_within (length w - 1) (cutting_from false) n w) (λ s m r. done (prepared_by name prepared s) m [])
+declaring_prepared name prepared =
+    λ n w. and_then (cuts_within (length w - 1) (cutting_from false) n w)
+    (λ s m r. done (prepared_by name prepared s) m [])

@@ -6,7 +6,13 @@ use Rattle.ec_server_text.specs.Readers.{Cutting}
 
 abbrev pub cutting_view : declared.Cutting → Cutting
 cutting_view c = record {
-  writing = record { parts = map part_view c.parts; bytes = c.bytes; first = c.first; gap = c.gap; outs = option_map outs_view c.outs };
+  writing = record {
+    parts = map part_view c.parts;
+    bytes = c.bytes;
+    first = c.first;
+    gap = c.gap;
+    outs = option_map outs_view c.outs;
+  };
   depth = c.depth;
   free = c.free;
 }

@@ -3,8 +3,7 @@
 ghost use Rattle.std.specs.Prelude.{◌≡◌, ◌≤◌, ◌<◌, ◌+◌, ◌^◌, IfOk, map};
 ghost use Rattle.ec_clex.specs.Sql.{sql_view, sql_views};
 ghost use Rattle.ec_ctypes.specs.views.Embedded.{emb_kind_view, host_view, outs_view, part_view};
-ghost use Rattle.ec_references.specs.Readers.{ReadsBy};
-ghost use Rattle.ec_references.specs.States.{seen};
+ghost use Rattle.ec_references.specs.States.{CursorReads};
 ghost use Rattle.ec_embedded.specs.ServerText.{bytes_in, depth_behind};
 ghost use Rattle.ec_server_text.specs.Readers as spec;
 ghost use Rattle.ec_server_text.specs.Views.{cutting_view};
@@ -130,7 +129,8 @@ fn with_host(
 
 /// Cuts the list of an INTO.
 fn into_cut(alloc: Global, cursor: &mut Cursor<'_>, cutting: Cutting) -> Result<Cutting, Failure>
-    ensures is { ReadsBy cutting_view (spec.into_cut (cutting_view cutting)) (seen cursor.old) result (seen cursor.new) }
+    ensures is { CursorReads cutting_view (spec.into_cut (cutting_view cutting))
+        cursor.old result cursor.new }
     ensures most { IfOk result (λ more. more.depth ≡ cutting.depth) }
 {
     cursor.word(b"INTO")?;
@@ -154,7 +154,8 @@ fn host_cut(
     cutting: Cutting,
     gap: bool,
 ) -> Result<Cutting, Failure>
-    ensures is { ReadsBy cutting_view (spec.host_cut (cutting_view cutting) gap) (seen cursor.old) result (seen cursor.new) }
+    ensures is { CursorReads cutting_view (spec.host_cut (cutting_view cutting) gap)
+        cursor.old result cursor.new }
     ensures most { IfOk result (λ more. more.depth ≡ cutting.depth) }
 {
     let host = input_host(alloc, cursor)?;
@@ -173,7 +174,8 @@ fn is_into(depth: u64, tokens: &[SqlToken]) -> bool
 #[tactic(auto, unfolding(crate::specs::Readers::one_cut))]
 fn one_cut(alloc: Global, cursor: &mut Cursor<'_>, cutting: Cutting) -> Result<Cutting, Failure>
     requires { cutting.depth + 1 < 2 ^ 64 }
-    ensures is { ReadsBy cutting_view (spec.one_cut (cutting_view cutting)) (seen cursor.old) result (seen cursor.new) }
+    ensures is { CursorReads cutting_view (spec.one_cut (cutting_view cutting))
+        cursor.old result cursor.new }
     ensures most { IfOk result (λ more. more.depth ≤ cutting.depth + 1) }
 {
     let tokens = cursor.rest();
@@ -202,7 +204,8 @@ fn all_cuts(
     mut cutting: Cutting,
 ) -> Result<Cutting, Failure>
     requires { cutting.depth ≡ 0 }
-    ensures { ReadsBy cutting_view (spec.all_cuts (cutting_view cutting)) (seen cursor.old) result (seen cursor.new) }
+    ensures { CursorReads cutting_view (spec.all_cuts (cutting_view cutting))
+        cursor.old result cursor.new }
 {
     for _turn in 0..cursor.left() {
         if cursor.left() == 0 {
@@ -249,7 +252,7 @@ fn sent_by(cutting: Cutting) -> Result<EmbKind, OutOfMemory>
 /// A statement that passes to the server.
 #[tactic(auto, unfolding(crate::specs::Readers::sending))]
 pub fn server(alloc: Global, cursor: &mut Cursor<'_>) -> Result<EmbKind, Failure>
-    ensures { ReadsBy emb_kind_view spec.sending (seen cursor.old) result (seen cursor.new) }
+    ensures { CursorReads emb_kind_view spec.sending cursor.old result cursor.new }
 {
     let cutting = all_cuts(alloc, cursor, cutting_from(alloc, true))?;
     Ok(sent_by(cutting)?)
@@ -259,7 +262,8 @@ pub fn server(alloc: Global, cursor: &mut Cursor<'_>) -> Result<EmbKind, Failure
 #[tactic(auto, unfolding(crate::specs::Readers::one_plain))]
 fn one_plain(cursor: &mut Cursor<'_>, cutting: Cutting) -> Result<Cutting, Failure>
     requires { cutting.depth + 1 < 2 ^ 64 }
-    ensures is { ReadsBy cutting_view (spec.one_plain (cutting_view cutting)) (seen cursor.old) result (seen cursor.new) }
+    ensures is { CursorReads cutting_view (spec.one_plain (cutting_view cutting))
+        cursor.old result cursor.new }
     ensures most { IfOk result (λ more. more.depth ≤ cutting.depth + 1) }
 {
     let tokens = cursor.rest();
@@ -278,7 +282,8 @@ fn one_plain(cursor: &mut Cursor<'_>, cutting: Cutting) -> Result<Cutting, Failu
 /// Takes all tokens.
 fn all_plain(cursor: &mut Cursor<'_>, mut cutting: Cutting) -> Result<Cutting, Failure>
     requires { cutting.depth ≡ 0 }
-    ensures { ReadsBy cutting_view (spec.all_plain (cutting_view cutting)) (seen cursor.old) result (seen cursor.new) }
+    ensures { CursorReads cutting_view (spec.all_plain (cutting_view cutting))
+        cursor.old result cursor.new }
 {
     for _turn in 0..cursor.left() {
         if cursor.left() == 0 {
@@ -311,7 +316,7 @@ fn controlled_by(alloc: Global, cutting: Cutting) -> Result<EmbKind, OutOfMemory
 /// Transaction control.
 #[tactic(auto, unfolding(crate::specs::Readers::controlling))]
 pub fn transaction(alloc: Global, cursor: &mut Cursor<'_>) -> Result<EmbKind, Failure>
-    ensures { ReadsBy emb_kind_view spec.controlling (seen cursor.old) result (seen cursor.new) }
+    ensures { CursorReads emb_kind_view spec.controlling cursor.old result cursor.new }
 {
     let cutting = all_plain(cursor, cutting_from(alloc, true))?;
     Ok(controlled_by(alloc, cutting)?)
@@ -319,7 +324,8 @@ pub fn transaction(alloc: Global, cursor: &mut Cursor<'_>) -> Result<EmbKind, Fa
 
 /// The declaration of a cursor that is written so.
 fn declared_by(cutting: Cutting, name: Name) -> Result<EmbKind, OutOfMemory>
-    ensures { IfOk result (λ kind. emb_kind_view kind ≡ spec.declared_by name (cutting_view cutting)) }
+    ensures { IfOk result
+        (λ kind. emb_kind_view kind ≡ spec.declared_by name (cutting_view cutting)) }
 {
     Ok(EmbKind::Declare {
         cursor: name,
@@ -331,7 +337,7 @@ fn declared_by(cutting: Cutting, name: Name) -> Result<EmbKind, OutOfMemory>
 /// DECLARE of a cursor for a statement, from its first token on. No list is cut out of it.
 #[tactic(auto, unfolding(crate::specs::Readers::declaring))]
 pub fn declare(alloc: Global, cursor: &mut Cursor<'_>, name: Name) -> Result<EmbKind, Failure>
-    ensures { ReadsBy emb_kind_view (spec.declaring name) (seen cursor.old) result (seen cursor.new) }
+    ensures { CursorReads emb_kind_view (spec.declaring name) cursor.old result cursor.new }
 {
     let cutting = all_cuts(alloc, cursor, cutting_from(alloc, false))?;
     Ok(declared_by(cutting, name)?)
@@ -345,7 +351,8 @@ fn cuts_within(
     mut cutting: Cutting,
 ) -> Result<Cutting, Failure>
     requires { cutting.depth ≡ 0 }
-    ensures { ReadsBy cutting_view (spec.cuts_within turns (cutting_view cutting)) (seen cursor.old) result (seen cursor.new) }
+    ensures { CursorReads cutting_view (spec.cuts_within turns (cutting_view cutting))
+        cursor.old result cursor.new }
 {
     for _turn in 0..turns {
         if cursor.left() == 0 {
@@ -386,7 +393,8 @@ pub fn declare_prepared(
     name: Name,
     prepared: Name,
 ) -> Result<EmbKind, Failure>
-    ensures { ReadsBy emb_kind_view (spec.declaring_prepared name prepared) (seen cursor.old) result (seen cursor.new) }
+    ensures { CursorReads emb_kind_view (spec.declaring_prepared name prepared)
+        cursor.old result cursor.new }
 {
     let turns = cursor.left().saturating_sub(1);
     let cutting = cuts_within(alloc, cursor, turns, cutting_from(alloc, false))?;

@@ -4,8 +4,7 @@ ghost use Rattle.std.specs.Prelude.{◌≡◌, map};
 ghost use Rattle.ec_ctypes.specs.views.Embedded.{host_view, outs_view, text_arg_view};
 ghost use Rattle.ec_ctypes.specs.views.Exprs.{expr_option_view, expr_view};
 ghost use Rattle.ec_embedded.specs.Terminals.{input, reference};
-ghost use Rattle.ec_references.specs.Readers.{ReadsBy};
-ghost use Rattle.ec_references.specs.States.{seen};
+ghost use Rattle.ec_references.specs.States.{CursorReads};
 ghost use Rattle.ec_server_text.specs.Readers as spec;
 
 use crate::lookahead::{begins_area, begins_host, begins_indicator, begins_more, begins_suffix};
@@ -17,7 +16,8 @@ use std::alloc::Global;
 
 /// All suffixes.
 fn long_suffixes(alloc: Global, cursor: &mut Cursor<'_>, mut of: Expr) -> Result<Expr, Failure>
-    ensures { ReadsBy expr_view (spec.long_suffixes (expr_view of)) (seen cursor.old) result (seen cursor.new) }
+    ensures { CursorReads expr_view (spec.long_suffixes (expr_view of))
+        cursor.old result cursor.new }
 {
     for _turn in 0..cursor.left() {
         if !begins_suffix(cursor.rest()) {
@@ -31,7 +31,7 @@ fn long_suffixes(alloc: Global, cursor: &mut Cursor<'_>, mut of: Expr) -> Result
 /// A reference that is no input.
 #[tactic(auto, unfolding(crate::specs::Readers::long_reference))]
 fn long_reference(alloc: Global, cursor: &mut Cursor<'_>) -> Result<Expr, Failure>
-    ensures { ReadsBy expr_view (spec.long_reference reference) (seen cursor.old) result (seen cursor.new) }
+    ensures { CursorReads expr_view (spec.long_reference reference) cursor.old result cursor.new }
 {
     cursor.take(Class::Colon)?;
     let token = cursor.take(Class::GluedWord)?;
@@ -42,7 +42,7 @@ fn long_reference(alloc: Global, cursor: &mut Cursor<'_>) -> Result<Expr, Failur
 /// A reference that is an input.
 #[tactic(auto, unfolding(crate::specs::Readers::long_reference))]
 fn long_input(alloc: Global, cursor: &mut Cursor<'_>) -> Result<Expr, Failure>
-    ensures { ReadsBy expr_view (spec.long_reference input) (seen cursor.old) result (seen cursor.new) }
+    ensures { CursorReads expr_view (spec.long_reference input) cursor.old result cursor.new }
 {
     cursor.take(Class::InputColon)?;
     let token = cursor.take(Class::GluedWord)?;
@@ -53,7 +53,7 @@ fn long_input(alloc: Global, cursor: &mut Cursor<'_>) -> Result<Expr, Failure>
 /// The indicator, if there is one.
 #[tactic(auto, unfolding(crate::specs::Readers::long_indicator))]
 fn long_indicator(alloc: Global, cursor: &mut Cursor<'_>) -> Result<Option<Boxed<Expr>>, Failure>
-    ensures { ReadsBy expr_option_view spec.long_indicator (seen cursor.old) result (seen cursor.new) }
+    ensures { CursorReads expr_option_view spec.long_indicator cursor.old result cursor.new }
 {
     if begins_host(cursor.rest()) {
         let value = long_reference(alloc, cursor)?;
@@ -70,7 +70,7 @@ fn long_indicator(alloc: Global, cursor: &mut Cursor<'_>) -> Result<Option<Boxed
 /// A host with its indicator.
 #[tactic(auto, unfolding(crate::specs::Readers::long_host))]
 pub fn long_host(alloc: Global, cursor: &mut Cursor<'_>) -> Result<Host, Failure>
-    ensures { ReadsBy host_view (spec.long_host reference) (seen cursor.old) result (seen cursor.new) }
+    ensures { CursorReads host_view (spec.long_host reference) cursor.old result cursor.new }
 {
     let value = long_reference(alloc, cursor)?;
     let value = Boxed::new(alloc, value)?;
@@ -84,7 +84,7 @@ pub fn long_host(alloc: Global, cursor: &mut Cursor<'_>) -> Result<Host, Failure
 /// A host that is an input.
 #[tactic(auto, unfolding(crate::specs::Readers::long_host))]
 pub fn input_host(alloc: Global, cursor: &mut Cursor<'_>) -> Result<Host, Failure>
-    ensures { ReadsBy host_view (spec.long_host input) (seen cursor.old) result (seen cursor.new) }
+    ensures { CursorReads host_view (spec.long_host input) cursor.old result cursor.new }
 {
     let value = long_input(alloc, cursor)?;
     let value = Boxed::new(alloc, value)?;
@@ -98,7 +98,7 @@ pub fn input_host(alloc: Global, cursor: &mut Cursor<'_>) -> Result<Host, Failur
 /// The name of a descriptor: a word, a quote or a host.
 #[tactic(auto, unfolding(crate::specs::Readers::long_text))]
 fn long_text(alloc: Global, cursor: &mut Cursor<'_>) -> Result<TextArg, Failure>
-    ensures { ReadsBy text_arg_view spec.long_text (seen cursor.old) result (seen cursor.new) }
+    ensures { CursorReads text_arg_view spec.long_text cursor.old result cursor.new }
 {
     if cursor.at(Class::AnyWord) {
         let token = cursor.take(Class::AnyWord)?;
@@ -121,7 +121,8 @@ fn further_host(
     cursor: &mut Cursor<'_>,
     mut hosts: List<Host>,
 ) -> Result<List<Host>, Failure>
-    ensures { ReadsBy (map host_view) (spec.further_host (map host_view hosts)) (seen cursor.old) result (seen cursor.new) }
+    ensures { CursorReads (map host_view) (spec.further_host (map host_view hosts))
+        cursor.old result cursor.new }
 {
     cursor.sign(b",")?;
     let host = long_host(alloc, cursor)?;
@@ -135,7 +136,8 @@ fn further_hosts(
     cursor: &mut Cursor<'_>,
     mut hosts: List<Host>,
 ) -> Result<List<Host>, Failure>
-    ensures { ReadsBy (map host_view) (spec.further_hosts (map host_view hosts)) (seen cursor.old) result (seen cursor.new) }
+    ensures { CursorReads (map host_view) (spec.further_hosts (map host_view hosts))
+        cursor.old result cursor.new }
 {
     for _turn in 0..cursor.left() {
         if !begins_more(cursor.rest()) {
@@ -148,7 +150,7 @@ fn further_hosts(
 
 /// A descriptor by its name.
 fn long_area(alloc: Global, cursor: &mut Cursor<'_>) -> Result<TextArg, Failure>
-    ensures { ReadsBy text_arg_view spec.long_area (seen cursor.old) result (seen cursor.new) }
+    ensures { CursorReads text_arg_view spec.long_area cursor.old result cursor.new }
 {
     cursor.word(b"SQL")?;
     cursor.word(b"DESCRIPTOR")?;
@@ -158,7 +160,7 @@ fn long_area(alloc: Global, cursor: &mut Cursor<'_>) -> Result<TextArg, Failure>
 /// What stands behind an INTO: hosts, or a descriptor.
 #[tactic(auto, unfolding(crate::specs::Readers::outputs))]
 pub fn outputs(alloc: Global, cursor: &mut Cursor<'_>) -> Result<Outs, Failure>
-    ensures { ReadsBy outs_view spec.outputs (seen cursor.old) result (seen cursor.new) }
+    ensures { CursorReads outs_view spec.outputs cursor.old result cursor.new }
 {
     if begins_area(cursor.rest()) {
         return Ok(Outs::Area(long_area(alloc, cursor)?));

@@ -76,7 +76,8 @@ fn is_arrow(first: &SqlToken, second: &SqlToken) -> bool
 
 /// A `[`, a word or a number, and a `]`.
 fn is_index(first: &SqlToken, second: &SqlToken, third: &SqlToken) -> bool
-    ensures { result ≡ text.is_index (sql_view first.now) (sql_view second.now) (sql_view third.now) }
+    ensures { result ≡ text.is_index (sql_view first.now) (sql_view second.now)
+        (sql_view third.now) }
 {
     is_glued_mark(first, b"[")
         && (is_class(second, Class::GluedWord) || is_class(second, Class::GluedNumber))

@@ -1,5 +1,5 @@
 -- The terminals of a front are told by its tokens: two lists of a shape have the same terminals for as long as they have the same tokens.
-use Rattle.std.proofs.Common.{◌≡◌, Bool, true, false, List, [], ◌∷◌, ◌++◌, refl, ap, sym, ◌∙◌, subst, ◌⊎◌, inl, inr, append_assoc}
+use Rattle.std.proofs.Common.{◌≡◌, true, false, List, [], ◌∷◌, ◌++◌, refl, ap, sym, ◌∙◌, subst, inl, inr, append_assoc}
 use Rattle.std.proofs.lemmas.Bool.{false≢true}
 use Rattle.std.proofs.lemmas.List.{append-nil}
 use Rattle.ec_shapes.specs.Shapes.{Shape, nothing, one, both, either, many, Alphabet, IsSound, Tree, Labelled, yields_of, yield_of, tokens_of, Fits, Front}

@@ -10,7 +10,7 @@ use Rattle.ec_shapes.proofs.Whole.{MetBy, met}
 use Rattle.ec_shapes.proofs.Stopped.{Got, Stuck, Explains, explain}
 
 -- the tokens from the one on where a reading stops
-last_is : {K : Type 0} (p q w : List K) (k : ℕ) → w ≡ p ++ q → length q ≡ k → last k w ≡ q
+pub last_is : {K : Type 0} (p q w : List K) (k : ℕ) → w ≡ p ++ q → length q ≡ k → last k w ≡ q
 last_is p q w k e f =
     let size : length w ≡ length p + k = ap length e ∙ length-append p q ∙ ap (λ n. length p + n) f in
     let n : length w - k ≡ length p = omega (arith, size) in
@@ -26,7 +26,7 @@ module _ {T K S : Type 0} (l : Alphabet T K S) (sound : (t u : T) (x : K) → l.
   met_more (Some i) v u m x r o h e = let f : done u m (x ∷ r) ≡ done v i [] = sym e ∙ h in cc
 
   -- the reading of a whole list
-  whole_text : (s : Shape T) → is_deterministic l s ≡ true → (v : Tree K s) (n : S) → Fits l (yield_of s v) → MetBy (counted l n (yield_of s v)) v (read l s n (tokens_of (yield_of s v))) []
+  pub whole_text : (s : Shape T) → is_deterministic l s ≡ true → (v : Tree K s) (n : S) → Fits l (yield_of s v) → MetBy (counted l n (yield_of s v)) v (read l s n (tokens_of (yield_of s v))) []
   whole_text s e v n h = subst (λ w. MetBy (counted l n (yield_of s v)) v (read l s n w) []) (append-nil (tokens_of (yield_of s v))) (met l sound s e v n [] h refl)
 
   -- A list with a token where the reading stops would be read.
@@ -37,10 +37,10 @@ module _ {T K S : Type 0} (l : Alphabet T K S) (sound : (t u : T) (x : K) → l.
       g (counted l n (yield_of s h.tree)) h.tree (tokens_of h.rest)
       (subst (λ a. MetBy (counted l n (yield_of s h.tree)) h.tree a []) (f (tokens_of h.rest)) (subst (λ y. MetBy (counted l n (yield_of s h.tree)) h.tree (read l s n y) []) w (whole_text s e h.tree n h.fits)))
 
-  front_whole : (s : Shape T) (v : Tree K s) → Fits l (yield_of s v) → Front l s (yield_of s v)
+  pub front_whole : (s : Shape T) (v : Tree K s) → Fits l (yield_of s v) → Front l s (yield_of s v)
   front_whole s v h = record { tree = v; rest = []; whole = sym (append-nil (yield_of s v)); fits = h }
 
-  stuck_judges : (s : Shape T) → is_deterministic l s ≡ true → (n : S) (w : List K) (k : ℕ) → read l s n w ≡ stopped (failure.Dead k) → (h : Stuck l s (read l s) n w k) → (left : List K) → h.left ≡ left → Judges l s n w (dead_at left)
+  pub stuck_judges : (s : Shape T) → is_deterministic l s ≡ true → (n : S) (w : List K) (k : ℕ) → read l s n w ≡ stopped (failure.Dead k) → (h : Stuck l s (read l s) n w k) → (left : List K) → h.left ≡ left → Judges l s n w (dead_at left)
   stuck_judges s e n w k d h [] f = record {
     before = h.before;
     whole = h.whole ∙ ap (λ y. tokens_of h.before ++ y) f ∙ append-nil (tokens_of h.before);
@@ -58,6 +58,10 @@ module _ {T K S : Type 0} (l : Alphabet T K S) (sound : (t u : T) (x : K) → l.
     dead = no_front s e n (tokens_of h.before) x (λ q. stuck q) (λ q. h.still (x ∷ q) (subst (λ y. SameNext y (x ∷ q)) (sym f) refl)) (λ c u q i. met_none c u (stuck (x ∷ q)) (length (x ∷ q)) i refl);
   }
 
+  -- behind a tree that is read no list of the shape goes on
+  pub tree_ends : (s : Shape T) → is_deterministic l s ≡ true → (n : S) (w : List K) (v : Tree K s) (m : S) (x : K) (r : List K) → Got l s (read l s) n w v m (x ∷ r) → (labelled : Labelled T K) → tokens_of labelled ≡ tokens_of (yield_of s v) ++ x ∷ [] → Front l s labelled → ⊥
+  tree_ends s e n w v m x r h = no_front s e n (tokens_of (yield_of s v)) x (λ q. done v m q) (λ q. h.still (x ∷ q) refl) (λ c u q k. met_more c u v m x q (done v m (x ∷ q)) k refl)
+
   tree_judges : (s : Shape T) → is_deterministic l s ≡ true → (n : S) (w : List K) (v : Tree K s) (m : S) (r : List K) → Got l s (read l s) n w v m r → Judges l s n w (tree_at v r)
   tree_judges s e n w v m [] h = record { whole = h.whole ∙ append-nil (tokens_of (yield_of s v)); fits = h.fits; count = m; within = h.within }
   tree_judges s e n w v m (x ∷ r) h = record {
@@ -66,7 +70,7 @@ module _ {T K S : Type 0} (l : Alphabet T K S) (sound : (t u : T) (x : K) → l.
     front = front_whole s v h.fits;
     count = m;
     within = h.within;
-    dead = no_front s e n (tokens_of (yield_of s v)) x (λ q. done v m q) (λ q. h.still (x ∷ q) refl) (λ c u q k. met_more c u v m x q (done v m (x ∷ q)) k refl);
+    dead = tree_ends s e n w v m x r h;
   }
 
   judges : (s : Shape T) → is_deterministic l s ≡ true → (n : S) (w : List K) (o : Outcome (Tree K s) K S) → read l s n w ≡ o → Explains l s (read l s) n w o → Judges l s n w (judged w o)
@@ -153,3 +157,10 @@ module _ {T K S : Type 0} (l : Alphabet T K S) (sound : (t u : T) (x : K) → l.
   -- The list before a dead token is not cut short.
   pub short_or_dead : (s : Shape T) (n : S) (w : List K) (x : K) (after : List K) → IsShort l s n w → IsDead l s n w x after → ⊥
   short_or_dead s n w x after h d = none_beyond s n w x after d h.before after h.front (sym h.whole ∙ d.whole ∙ sym (append_assoc (tokens_of d.before) (x ∷ []) after))
+
+-- a limit is passed at a token of the list
+pub over_last : {T K S : Type 0} (l : Alphabet T K S) (s : Shape T) → is_deterministic l s ≡ true → (n : S) (w : List K) (k : ℕ) → read l s n w ≡ stopped (failure.OverLimit k) → (x : K) × (r : List K) × (last k w ≡ x ∷ r)
+over_last {T} {K} {S} l s e n w k d = go (subst (λ o. Explains l s (read l s) n w o) d (explain l s e n w))
+  where
+    go : Explains l s (read l s) n w (stopped (failure.OverLimit k)) → (x : K) × (r : List K) × (last k w ≡ x ∷ r)
+    go h = (h.token, h.after, last_is (tokens_of h.before) (h.token ∷ h.after) w k h.whole h.size)

@@ -1,4 +1,6 @@
 pub mod Agree
+pub mod Beginnings
+pub mod Ended
 pub mod Exact
 pub mod Firsts
 pub mod Made

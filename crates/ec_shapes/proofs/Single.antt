@@ -1,5 +1,5 @@
 -- A list has one verdict at most.
-use Rattle.std.proofs.Common.{◌≡◌, Bool, true, List, [], ◌∷◌, ◌++◌, refl, ap, sym, ◌∙◌, subst, ◌⊎◌, inl, inr, Option, Some, None, append_assoc}
+use Rattle.std.proofs.Common.{◌≡◌, true, List, [], ◌∷◌, ◌++◌, refl, ap, sym, ◌∙◌, subst, inl, inr, Some, None, append_assoc}
 use Rattle.std.proofs.lemmas.List.{append-nil}
 use Rattle.ec_shapes.specs.Shapes.{Shape, Alphabet, IsSound, Tree, Labelled, yield_of, tokens_of, onward, counted, Fits, Front, IsTree, IsDead, IsShort, IsOver, Judged, tree, dead, short, over, Judges}
 use Rattle.ec_shapes.specs.ReadShapes.{is_deterministic}
@@ -31,17 +31,17 @@ module _ {T K S : Type 0} (l : Alphabet T K S) (sound : IsSound l) (s : Shape T)
   whole_front : (v : Tree K s) → Fits l (yield_of s v) → Front l s (yield_of s v)
   whole_front v h = record { tree = v; rest = []; whole = sym (append-nil (yield_of s v)); fits = h }
 
-  tree_or_over : (n : S) (w : List K) (v : Tree K s) (x : K) (after : List K) → IsTree l s n w v → IsOver l s n w x after → ⊥
+  pub tree_or_over : (n : S) (w : List K) (v : Tree K s) (x : K) (after : List K) → IsTree l s n w v → IsOver l s n w x after → ⊥
   tree_or_over n w v x after h k = within n h.count w x after after k (yield_of s v) (whole_front v h.fits) h.within (sym h.whole ∙ over_whole n w x after k)
 
-  short_or_over : (n : S) (w : List K) (x : K) (after : List K) → IsShort l s n w → IsOver l s n w x after → ⊥
+  pub short_or_over : (n : S) (w : List K) (x : K) (after : List K) → IsShort l s n w → IsOver l s n w x after → ⊥
   short_or_over n w x after h k = within n h.count w x after after k h.before h.front h.within (sym h.whole ∙ over_whole n w x after k)
 
   -- the front before the limit, without its last terminal
   front_before : (n : S) (w : List K) (x : K) (after : List K) (h : IsOver l s n w x after) → Front l s h.before
   front_before n w x after h = front_of_front l sound s (h.before ++ (h.terminal, x) ∷ []) h.before ((h.terminal, x) ∷ []) refl h.front
 
-  dead_or_over : (n : S) (w : List K) (y x : K) (b a : List K) → IsDead l s n w y b → IsOver l s n w x a → ⊥
+  pub dead_or_over : (n : S) (w : List K) (y x : K) (b a : List K) → IsDead l s n w y b → IsOver l s n w x a → ⊥
   dead_or_over n w y x b a d h = go (two_cuts (tokens_of d.before) (tokens_of h.before) y x b a (sym d.whole ∙ h.whole))
     where
       go : TwoCuts (tokens_of d.before) (tokens_of h.before) y x b a → ⊥

@@ -57,7 +57,7 @@ module _ {T K S : Type 0} (l : Alphabet T K S) where
   regroup : (p q r : Labelled T K) (u : Labelled T K) → u ≡ p ++ q → u ++ r ≡ p ++ (q ++ r)
   regroup p q r u e = ap (λ y. y ++ r) e ∙ append_assoc p q r
 
-  front_first : (a b : Shape T) → is_deterministic l b ≡ true → (p : Labelled T K) → Front l a p → Front l (both a b) p
+  pub front_first : (a b : Shape T) → is_deterministic l b ≡ true → (p : Labelled T K) → Front l a p → Front l (both a b) p
   front_first a b e p h = let y = some_tree b e in record {
     tree = (h.tree, y.0);
     rest = h.rest ++ yield_of b y.0;
@@ -65,7 +65,7 @@ module _ {T K S : Type 0} (l : Alphabet T K S) where
     fits = fits_append l (yield_of a h.tree) (yield_of b y.0) h.fits y.1;
   }
 
-  front_second : (a b : Shape T) (v : Tree K a) (q : Labelled T K) → Fits l (yield_of a v) → Front l b q → Front l (both a b) (yield_of a v ++ q)
+  pub front_second : (a b : Shape T) (v : Tree K a) (q : Labelled T K) → Fits l (yield_of a v) → Front l b q → Front l (both a b) (yield_of a v ++ q)
   front_second a b v q h k = record {
     tree = (v, k.tree);
     rest = k.rest;
@@ -73,13 +73,13 @@ module _ {T K S : Type 0} (l : Alphabet T K S) where
     fits = fits_append l (yield_of a v) (yield_of b k.tree) h k.fits;
   }
 
-  front_inl : (a b : Shape T) (p : Labelled T K) → Front l a p → Front l (either a b) p
+  pub front_inl : (a b : Shape T) (p : Labelled T K) → Front l a p → Front l (either a b) p
   front_inl a b p h = record { tree = inl h.tree; rest = h.rest; whole = h.whole; fits = h.fits }
 
-  front_inr : (a b : Shape T) (p : Labelled T K) → Front l b p → Front l (either a b) p
+  pub front_inr : (a b : Shape T) (p : Labelled T K) → Front l b p → Front l (either a b) p
   front_inr a b p h = record { tree = inr h.tree; rest = h.rest; whole = h.whole; fits = h.fits }
 
-  front_turn : (a : Shape T) (p : Labelled T K) → Front l a p → Front l (many a) p
+  pub front_turn : (a : Shape T) (p : Labelled T K) → Front l a p → Front l (many a) p
   front_turn a p h = record { tree = h.tree ∷ []; rest = h.rest ++ []; whole = regroup p h.rest [] (yield_of a h.tree) h.whole; fits = fits_append l (yield_of a h.tree) [] h.fits tt }
 
   front_turns : (a : Shape T) (v : Tree K a) (q : Labelled T K) → Fits l (yield_of a v) → Front l (many a) q → Front l (many a) (yield_of a v ++ q)
@@ -259,7 +259,7 @@ module _ {T K S : Type 0} (l : Alphabet T K S) where
   abbrev pub Turns : (a : Shape T) → S → List K → Outcome (List (Tree K a)) K S → Type 0
   Turns a n w o = (j : ℕ) → length w ≤ j → o ≡ turns l (is_next_among l (first_set a)) (read l a) j n w
 
-  abbrev Again : (a : Shape T) → S → List K → Outcome (List (Tree K a)) K S → Type 0
+  abbrev pub Again : (a : Shape T) → S → List K → Outcome (List (Tree K a)) K S → Type 0
   Again a n w (done v m r) = (w ≡ tokens_of (yields_of (yield_of a) v) ++ r) × Fits l (yields_of (yield_of a) v) × (counted l n (yields_of (yield_of a) v) ≡ Some m) × ((q : List K) → SameNext r q → Turns a n (tokens_of (yields_of (yield_of a) v) ++ q) (done v m q))
   Again a n w (stopped (failure.Dead k)) = (before : Labelled T K) × (left : List K) × (length left ≡ k) × (w ≡ tokens_of before ++ left) × Front l (many a) before × (count : S) × (counted l n before ≡ Some count) × ((q : List K) → SameNext left q → Turns a n (tokens_of before ++ q) (stuck q))
   Again a n w (stopped (failure.OverLimit k)) = OverLimit (many a) n w k
@@ -277,7 +277,7 @@ module _ {T K S : Type 0} (l : Alphabet T K S) where
   no_fewer [] q f le = f refl
   no_fewer (x ∷ p) q f le = omega (arith, le)
 
-  never_empty : (a : Shape T) → is_nullable a ≡ false → (v : Tree K a) → yield_of a v ≡ [] → ⊥
+  pub never_empty : (a : Shape T) → is_nullable a ≡ false → (v : Tree K a) → yield_of a v ≡ [] → ⊥
   never_empty a e v f = false≢true (sym e ∙ empty_nullable l a v f)
 
   one_turn : (a : Shape T) → is_nullable a ≡ false → (v : Tree K a) (p : Labelled T K) (n m : S) (q : List K) (o : Outcome (List (Tree K a)) K S) → is_next_among l (first_set a) (tokens_of (yield_of a v) ++ (tokens_of p ++ q)) ≡ true
@@ -368,7 +368,7 @@ module _ {T K S : Type 0} (l : Alphabet T K S) where
   no_tokens [] e = refl
   no_tokens (x ∷ w) e = absurd (omega (arith, e))
 
-  explain_turns : (a : Shape T) → is_nullable a ≡ false → ((n : S) (w : List K) → Explains a (read l a) n w (read l a n w)) → (k : ℕ) (n : S) (w : List K) → length w ≤ k → Again a n w (turns l (is_next_among l (first_set a)) (read l a) k n w)
+  pub explain_turns : (a : Shape T) → is_nullable a ≡ false → ((n : S) (w : List K) → Explains a (read l a) n w (read l a n w)) → (k : ℕ) (n : S) (w : List K) → length w ≤ k → Again a n w (turns l (is_next_among l (first_set a)) (read l a) k n w)
   explain_turns a e f zero n w le = (refl, tt, refl, λ q s. no_turn a n w q (ap (λ y. is_next_among l (first_set a) y) (no_tokens w le)) s)
   explain_turns a e f (suc k) n w le = go (λ m r z. explain_turns a e f k m r z) (is_next_among l (first_set a) w) refl
     where

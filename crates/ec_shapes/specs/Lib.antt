@@ -1,3 +1,4 @@
+pub mod Beginnings
 pub mod Laws
 pub mod ReadShapes
 pub mod Shapes

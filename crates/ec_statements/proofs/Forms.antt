@@ -1,18 +1,18 @@
 -- The readers of statements are the plain reading of their forms.
-use Rattle.std.proofs.Common.{◌≡◌, ℕ, List, [], ◌∷◌, ◌++◌, true, false, map, fold, refl, ap, sym, ◌∙◌, inl, inr, ◌⊎◌, codes, Option, Some, None, append_assoc, append-nil}
+use Rattle.std.proofs.Common.{◌≡◌, List, [], ◌∷◌, ◌++◌, true, false, map, fold, refl, ap, sym, ◌∙◌, inl, inr, ◌⊎◌, codes, Option, Some, None, append_assoc, append-nil}
 use Rattle.ec_ctypes.specs.trees.Embedded.{TextArgData, InputData}
 use Rattle.ec_ctypes.specs.trees.Exprs.{ExprData, ExprList, no_exprs}
 use Rattle.ec_ctypes.specs.views.Exprs.{exprs_of}
 use Rattle.ec_ctypes.specs.declared.embedded.emb.Item.{Item}
 use Rattle.ec_ctypes.specs.declared.embedded.emb.Item.TheVariants as item
-use Rattle.ec_shapes.specs.Shapes.{nothing, one, both, either, many}
+use Rattle.ec_shapes.specs.Shapes.{one, both, either, many}
 use Rattle.ec_shapes.specs.ReadShapes.{done, stopped, and_then, read, read_one}
 use Rattle.ec_shapes.proofs.Made.{made}
 use Rattle.ec_language.specs.Letters.{Text}
 use Rattle.ec_language.specs.SqlTokens.{SqlToken}
-use Rattle.ec_embedded.specs.Terminals.{alphabet, input, reference, keyword, sign, any_word, fitting_number, character_constant, target_start, target_more, target_behind, colon, plain_quote}
+use Rattle.ec_embedded.specs.Terminals.{alphabet, input, reference, sign, target_start, target_more, target_behind}
 use Rattle.ec_embedded.specs.ServerText.{Reading}
-use Rattle.ec_embedded.specs.References.{Form, Of, row, choice, optional, word, further, listed, gathered, unquoted, suffix_form, name_form, named, indicator_form, indicator_of, host_form, host_of, reference_form, text_form, text_of, spelled_text_form, spelled_text_of, statement_text_form, statement_text_of, constant_form, constant_of, value_form, value_of, spelled_value_form, spelled_value_of, ins_form, ins_of, outs_form, outs_of, using_form, using_of, text_of_host}
+use Rattle.ec_embedded.specs.References.{Form, Of, row, choice, optional, word, further, listed, gathered, name_form, named, indicator_form, indicator_of, reference_form, text_form, text_of, statement_text_form, outs_form, text_of_host}
 use Rattle.ec_embedded.specs.Connections as f
 use Rattle.ec_embedded.specs.Connections.{bytes_of, or_default, connection_of, password_form, password_of, user_form, connected, plain_tail, parted_tail, with_tail, with_parted_tail, target_bytes, target_form, target_of, connect_form, connect_of, set_connection_form, set_connection_of, disconnect_form, disconnect_of, autocommit_form, autocommit_of}
 use Rattle.ec_embedded.specs.Descriptors.{allocate_form, allocate_of, item_form, item_of, got_form, got_of, get_form, get_of, other_item_form, other_item_of, set_item_form, set_item_of, assigned_form, assigned_of, setting_form, setting_of, settings, behind_host_form, behind_host_of, index_host, set_value_form, set_value_of, set_form, set_of}

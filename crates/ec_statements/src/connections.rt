@@ -3,8 +3,8 @@
 ghost use Rattle.std.specs.Prelude.{◌≡◌, IfOk, option_map};
 ghost use Rattle.ec_clex.specs.Sql.{sql_view};
 ghost use Rattle.ec_ctypes.specs.views.Embedded.{emb_kind_view, text_arg_view};
-ghost use Rattle.ec_references.specs.Readers.{ReadsBy, next_is};
-ghost use Rattle.ec_references.specs.States.{seen};
+ghost use Rattle.ec_references.specs.Readers.{next_is};
+ghost use Rattle.ec_references.specs.States.{CursorReads, seen};
 ghost use Rattle.ec_statements.specs.Readers as spec;
 ghost use Rattle.ec_statements.specs.Views.{bytes_view};
 
@@ -21,7 +21,7 @@ use std::alloc::Global;
 /// DISCONNECT
 #[tactic(auto, unfolding(crate::specs::Readers::disconnecting))]
 pub fn disconnect(alloc: Global, cursor: &mut Cursor<'_>) -> Result<EmbKind, Failure>
-    ensures { ReadsBy emb_kind_view spec.disconnecting (seen cursor.old) result (seen cursor.new) }
+    ensures { CursorReads emb_kind_view spec.disconnecting cursor.old result cursor.new }
 {
     cursor.word(b"DISCONNECT")?;
     if begins_text(cursor) {
@@ -33,7 +33,8 @@ pub fn disconnect(alloc: Global, cursor: &mut Cursor<'_>) -> Result<EmbKind, Fai
 /// The name behind TO, or TO itself.
 #[tactic(auto, unfolding(crate::specs::Readers::name_or_to))]
 fn name_or_to(alloc: Global, cursor: &mut Cursor<'_>, to: &SqlToken) -> Result<EmbKind, Failure>
-    ensures { ReadsBy emb_kind_view (spec.name_or_to (sql_view to.now)) (seen cursor.old) result (seen cursor.new) }
+    ensures { CursorReads emb_kind_view (spec.name_or_to (sql_view to.now))
+        cursor.old result cursor.new }
 {
     if begins_text(cursor) {
         return Ok(EmbKind::SetConnection(connection(alloc, cursor)?));
@@ -44,7 +45,7 @@ fn name_or_to(alloc: Global, cursor: &mut Cursor<'_>, to: &SqlToken) -> Result<E
 /// A name with nothing before it.
 #[tactic(auto, unfolding(crate::specs::Readers::bare_name))]
 fn bare_name(alloc: Global, cursor: &mut Cursor<'_>) -> Result<EmbKind, Failure>
-    ensures { ReadsBy emb_kind_view spec.bare_name (seen cursor.old) result (seen cursor.new) }
+    ensures { CursorReads emb_kind_view spec.bare_name cursor.old result cursor.new }
 {
     if cursor.at(Class::NotTo) {
         let token = cursor.take(Class::NotTo)?;
@@ -64,7 +65,7 @@ fn bare_name(alloc: Global, cursor: &mut Cursor<'_>) -> Result<EmbKind, Failure>
 /// SET CONNECTION
 #[tactic(auto, unfolding(crate::specs::Readers::setting_connection))]
 pub fn set_connection(alloc: Global, cursor: &mut Cursor<'_>) -> Result<EmbKind, Failure>
-    ensures { ReadsBy emb_kind_view spec.setting_connection (seen cursor.old) result (seen cursor.new) }
+    ensures { CursorReads emb_kind_view spec.setting_connection cursor.old result cursor.new }
 {
     cursor.word(b"SET")?;
     cursor.word(b"CONNECTION")?;
@@ -81,7 +82,7 @@ pub fn set_connection(alloc: Global, cursor: &mut Cursor<'_>) -> Result<EmbKind,
 
 /// TO or `=`
 fn to_or_equal<'a>(cursor: &mut Cursor<'a>) -> Result<&'a SqlToken, Failure>
-    ensures { ReadsBy (λ t. sql_view t.now) spec.to_or_equal (seen cursor.old) result (seen cursor.new) }
+    ensures { CursorReads (λ t. sql_view t.now) spec.to_or_equal cursor.old result cursor.new }
 {
     if cursor.at_word(b"TO") {
         return cursor.word(b"TO");
@@ -92,7 +93,7 @@ fn to_or_equal<'a>(cursor: &mut Cursor<'a>) -> Result<&'a SqlToken, Failure>
 /// SET AUTOCOMMIT
 #[tactic(auto, unfolding(crate::specs::Readers::setting_autocommit))]
 pub fn set_autocommit(cursor: &mut Cursor<'_>) -> Result<EmbKind, Failure>
-    ensures { ReadsBy emb_kind_view spec.setting_autocommit (seen cursor.old) result (seen cursor.new) }
+    ensures { CursorReads emb_kind_view spec.setting_autocommit cursor.old result cursor.new }
 {
     cursor.word(b"SET")?;
     cursor.word(b"AUTOCOMMIT")?;
@@ -108,7 +109,7 @@ pub fn set_autocommit(cursor: &mut Cursor<'_>) -> Result<EmbKind, Failure>
 /// The connection that AT names.
 #[tactic(auto, unfolding(crate::specs::Readers::at_name))]
 pub fn at_name(alloc: Global, cursor: &mut Cursor<'_>) -> Result<TextArg, Failure>
-    ensures { ReadsBy text_arg_view spec.at_name (seen cursor.old) result (seen cursor.new) }
+    ensures { CursorReads text_arg_view spec.at_name cursor.old result cursor.new }
 {
     cursor.word(b"AT")?;
     connection(alloc, cursor)
@@ -117,7 +118,7 @@ pub fn at_name(alloc: Global, cursor: &mut Cursor<'_>) -> Result<TextArg, Failur
 /// A password behind the words before it.
 #[tactic(auto, unfolding(crate::specs::Readers::some_password))]
 fn some_password(alloc: Global, cursor: &mut Cursor<'_>) -> Result<TextArg, Failure>
-    ensures { ReadsBy text_arg_view spec.some_password (seen cursor.old) result (seen cursor.new) }
+    ensures { CursorReads text_arg_view spec.some_password cursor.old result cursor.new }
 {
     if cursor.at_word(b"IDENTIFIED") {
         cursor.word(b"IDENTIFIED")?;
@@ -142,7 +143,7 @@ fn begins_password(cursor: &Cursor<'_>) -> bool
 /// A password, if there is one.
 #[tactic(auto, unfolding(crate::specs::Readers::password))]
 fn password(alloc: Global, cursor: &mut Cursor<'_>) -> Result<Option<Boxed<TextArg>>, Failure>
-    ensures { ReadsBy (option_map text_arg_view) spec.password (seen cursor.old) result (seen cursor.new) }
+    ensures { CursorReads (option_map text_arg_view) spec.password cursor.old result cursor.new }
 {
     if begins_password(cursor) {
         let text = some_password(alloc, cursor)?;
@@ -159,7 +160,9 @@ fn user(
     target: Boxed<TextArg>,
     name: Option<Boxed<TextArg>>,
 ) -> Result<EmbKind, Failure>
-    ensures { ReadsBy emb_kind_view (spec.user (text_arg_view target) (option_map text_arg_view name)) (seen cursor.old) result (seen cursor.new) }
+    ensures { CursorReads emb_kind_view
+        (spec.user (text_arg_view target) (option_map text_arg_view name))
+        cursor.old result cursor.new }
 {
     let user = text_argument(alloc, cursor)?;
     let user = Boxed::new(alloc, user)?;
@@ -180,7 +183,9 @@ fn user_or_none(
     target: Boxed<TextArg>,
     name: Option<Boxed<TextArg>>,
 ) -> Result<EmbKind, Failure>
-    ensures { ReadsBy emb_kind_view (spec.user_or_none (text_arg_view target) (option_map text_arg_view name)) (seen cursor.old) result (seen cursor.new) }
+    ensures { CursorReads emb_kind_view
+        (spec.user_or_none (text_arg_view target) (option_map text_arg_view name))
+        cursor.old result cursor.new }
 {
     if cursor.at_word(b"USER") {
         cursor.word(b"USER")?;
@@ -201,7 +206,8 @@ fn plain_tail(
     cursor: &mut Cursor<'_>,
     target: Boxed<TextArg>,
 ) -> Result<EmbKind, Failure>
-    ensures { ReadsBy emb_kind_view (spec.plain_tail (text_arg_view target)) (seen cursor.old) result (seen cursor.new) }
+    ensures { CursorReads emb_kind_view (spec.plain_tail (text_arg_view target))
+        cursor.old result cursor.new }
 {
     if cursor.at_word(b"AS") {
         cursor.word(b"AS")?;
@@ -228,7 +234,8 @@ fn parted_tail(
     cursor: &mut Cursor<'_>,
     target: Boxed<TextArg>,
 ) -> Result<EmbKind, Failure>
-    ensures { ReadsBy emb_kind_view (spec.parted_tail (text_arg_view target)) (seen cursor.old) result (seen cursor.new) }
+    ensures { CursorReads emb_kind_view (spec.parted_tail (text_arg_view target))
+        cursor.old result cursor.new }
 {
     if cursor.at_parted(b"AS") {
         cursor.parted(b"AS")?;
@@ -258,7 +265,8 @@ pub struct TargetBytes {
 
 /// With the next token.
 fn one_more_token(cursor: &mut Cursor<'_>, mut target: TargetBytes) -> Result<TargetBytes, Failure>
-    ensures { ReadsBy bytes_view (spec.one_more_byte (bytes_view target)) (seen cursor.old) result (seen cursor.new) }
+    ensures { CursorReads bytes_view (spec.one_more_byte (bytes_view target))
+        cursor.old result cursor.new }
 {
     let token = cursor.take(Class::TargetMore)?;
     target.bytes.extend_from_slice(token.bytes.as_slice())?;
@@ -270,7 +278,8 @@ fn one_more_token(cursor: &mut Cursor<'_>, mut target: TargetBytes) -> Result<Ta
 
 /// With all tokens up to AS, USER or the end.
 fn more_tokens(cursor: &mut Cursor<'_>, mut target: TargetBytes) -> Result<TargetBytes, Failure>
-    ensures { ReadsBy bytes_view (spec.more_bytes (bytes_view target)) (seen cursor.old) result (seen cursor.new) }
+    ensures { CursorReads bytes_view (spec.more_bytes (bytes_view target))
+        cursor.old result cursor.new }
 {
     for _turn in 0..cursor.left() {
         if !cursor.at(Class::TargetMore) {
@@ -293,7 +302,7 @@ fn text_of_bytes(alloc: Global, target: TargetBytes) -> Result<TextArg, OutOfMem
 
 /// A target that is neither a quote nor a host.
 fn started_bytes(alloc: Global, cursor: &mut Cursor<'_>) -> Result<TextArg, Failure>
-    ensures { ReadsBy text_arg_view spec.started_bytes (seen cursor.old) result (seen cursor.new) }
+    ensures { CursorReads text_arg_view spec.started_bytes cursor.old result cursor.new }
 {
     let token = cursor.take(Class::TargetStart)?;
     let bytes = copy_bytes(alloc, token)?;
@@ -303,7 +312,8 @@ fn started_bytes(alloc: Global, cursor: &mut Cursor<'_>) -> Result<TextArg, Fail
 
 /// A target that begins with a `:` and is no host.
 fn colon_bytes(alloc: Global, cursor: &mut Cursor<'_>, colon: &SqlToken) -> Result<TextArg, Failure>
-    ensures { ReadsBy text_arg_view (spec.colon_bytes (sql_view colon.now)) (seen cursor.old) result (seen cursor.new) }
+    ensures { CursorReads text_arg_view (spec.colon_bytes (sql_view colon.now))
+        cursor.old result cursor.new }
 {
     let token = cursor.take(Class::TargetBehind)?;
     let mut bytes = copy_bytes(alloc, colon)?;
@@ -320,7 +330,7 @@ fn colon_bytes(alloc: Global, cursor: &mut Cursor<'_>, colon: &SqlToken) -> Resu
 
 /// A host behind its `:`.
 fn host_target(alloc: Global, cursor: &mut Cursor<'_>) -> Result<TextArg, Failure>
-    ensures { ReadsBy text_arg_view spec.host_target (seen cursor.old) result (seen cursor.new) }
+    ensures { CursorReads text_arg_view spec.host_target cursor.old result cursor.new }
 {
     let value = named_place(alloc, cursor)?;
     let value = Boxed::new(alloc, value)?;
@@ -337,7 +347,8 @@ fn host_target(alloc: Global, cursor: &mut Cursor<'_>) -> Result<TextArg, Failur
 /// The target that is a `:` alone, and what stands behind it.
 #[tactic(auto, unfolding(crate::specs::Readers::colon_alone))]
 fn colon_alone(alloc: Global, cursor: &mut Cursor<'_>, colon: &SqlToken) -> Result<EmbKind, Failure>
-    ensures { ReadsBy emb_kind_view (spec.colon_alone (sql_view colon.now)) (seen cursor.old) result (seen cursor.new) }
+    ensures { CursorReads emb_kind_view (spec.colon_alone (sql_view colon.now))
+        cursor.old result cursor.new }
 {
     let bytes = or_default(alloc, colon.bytes.as_slice())?;
     let target = Boxed::new(alloc, TextArg::Word(bytes))?;
@@ -351,7 +362,8 @@ fn target_behind_colon(
     cursor: &mut Cursor<'_>,
     colon: &SqlToken,
 ) -> Result<EmbKind, Failure>
-    ensures { ReadsBy emb_kind_view (spec.target_behind_colon (sql_view colon.now)) (seen cursor.old) result (seen cursor.new) }
+    ensures { CursorReads emb_kind_view (spec.target_behind_colon (sql_view colon.now))
+        cursor.old result cursor.new }
 {
     if cursor.at(Class::GluedWord) {
         let target = host_target(alloc, cursor)?;
@@ -369,7 +381,7 @@ fn target_behind_colon(
 /// The target, and what stands behind it.
 #[tactic(auto, unfolding(crate::specs::Readers::targeted))]
 fn targeted(alloc: Global, cursor: &mut Cursor<'_>) -> Result<EmbKind, Failure>
-    ensures { ReadsBy emb_kind_view spec.targeted (seen cursor.old) result (seen cursor.new) }
+    ensures { CursorReads emb_kind_view spec.targeted cursor.old result cursor.new }
 {
     if cursor.at(Class::Quote) {
         let token = cursor.take(Class::Quote)?;
@@ -389,7 +401,7 @@ fn targeted(alloc: Global, cursor: &mut Cursor<'_>) -> Result<EmbKind, Failure>
 /// CONNECT
 #[tactic(auto, unfolding(crate::specs::Readers::connecting))]
 pub fn connect(alloc: Global, cursor: &mut Cursor<'_>) -> Result<EmbKind, Failure>
-    ensures { ReadsBy emb_kind_view spec.connecting (seen cursor.old) result (seen cursor.new) }
+    ensures { CursorReads emb_kind_view spec.connecting cursor.old result cursor.new }
 {
     cursor.word(b"CONNECT")?;
     cursor.word(b"TO")?;

@@ -4,8 +4,7 @@ ghost use Rattle.std.specs.Prelude.{◌≡◌, IfOk, map};
 ghost use Rattle.ec_ctypes.specs.views.Embedded.{emb_kind_view, get_item_view, input_view, set_item_view, text_arg_view};
 ghost use Rattle.ec_ctypes.specs.views.Exprs.{expr_view, expr_option_view};
 ghost use Rattle.ec_references.specs.Readers as parts;
-ghost use Rattle.ec_references.specs.Readers.{ReadsBy};
-ghost use Rattle.ec_references.specs.States.{seen};
+ghost use Rattle.ec_references.specs.States.{CursorReads};
 ghost use Rattle.ec_statements.specs.Readers as spec;
 ghost use Rattle.ec_statements.specs.Views.{settings_view};
 ghost use Rattle.ec_embedded.specs.Descriptors.{index_host};
@@ -22,7 +21,7 @@ use std::alloc::Global;
 /// ALLOCATE DESCRIPTOR
 #[tactic(auto, unfolding(crate::specs::Readers::allocating))]
 pub fn allocate(alloc: Global, cursor: &mut Cursor<'_>) -> Result<EmbKind, Failure>
-    ensures { ReadsBy emb_kind_view spec.allocating (seen cursor.old) result (seen cursor.new) }
+    ensures { CursorReads emb_kind_view spec.allocating cursor.old result cursor.new }
 {
     cursor.word(b"ALLOCATE")?;
     cursor.word(b"DESCRIPTOR")?;
@@ -32,7 +31,7 @@ pub fn allocate(alloc: Global, cursor: &mut Cursor<'_>) -> Result<EmbKind, Failu
 /// An item that is got.
 #[tactic(auto, unfolding(crate::specs::Readers::got_item))]
 fn got_item(cursor: &mut Cursor<'_>) -> Result<Item, Failure>
-    ensures { ReadsBy (λ item. item) spec.got_item (seen cursor.old) result (seen cursor.new) }
+    ensures { CursorReads (λ item. item) spec.got_item cursor.old result cursor.new }
 {
     if cursor.at_word(b"DATA") {
         cursor.word(b"DATA")?;
@@ -57,7 +56,7 @@ fn got_item(cursor: &mut Cursor<'_>) -> Result<Item, Failure>
 /// A host and the item that it gets.
 #[tactic(auto, unfolding(crate::specs::Readers::got))]
 fn got(alloc: Global, cursor: &mut Cursor<'_>) -> Result<(Item, Host), Failure>
-    ensures { ReadsBy get_item_view spec.got (seen cursor.old) result (seen cursor.new) }
+    ensures { CursorReads get_item_view spec.got cursor.old result cursor.new }
 {
     let host = hosted(alloc, cursor)?;
     let host = Boxed::new(alloc, host)?;
@@ -72,7 +71,8 @@ fn further_got(
     cursor: &mut Cursor<'_>,
     mut items: List<(Item, Host)>,
 ) -> Result<List<(Item, Host)>, Failure>
-    ensures { ReadsBy (map get_item_view) (parts.one_further spec.got (map get_item_view items)) (seen cursor.old) result (seen cursor.new) }
+    ensures { CursorReads (map get_item_view) (parts.one_further spec.got (map get_item_view items))
+        cursor.old result cursor.new }
 {
     cursor.sign(b",")?;
     let item = got(alloc, cursor)?;
@@ -86,7 +86,8 @@ fn more_got(
     cursor: &mut Cursor<'_>,
     mut items: List<(Item, Host)>,
 ) -> Result<List<(Item, Host)>, Failure>
-    ensures { ReadsBy (map get_item_view) (parts.further spec.got (map get_item_view items)) (seen cursor.old) result (seen cursor.new) }
+    ensures { CursorReads (map get_item_view) (parts.further spec.got (map get_item_view items))
+        cursor.old result cursor.new }
 {
     for _turn in 0..cursor.left() {
         if !cursor.at_sign(b",") {
@@ -104,7 +105,8 @@ fn got_items(
     cursor: &mut Cursor<'_>,
     area: Boxed<TextArg>,
 ) -> Result<EmbKind, Failure>
-    ensures { ReadsBy emb_kind_view (spec.got_items (text_arg_view area)) (seen cursor.old) result (seen cursor.new) }
+    ensures { CursorReads emb_kind_view (spec.got_items (text_arg_view area))
+        cursor.old result cursor.new }
 {
     cursor.word(b"VALUE")?;
     let index = spelled_value(alloc, cursor)?;
@@ -127,7 +129,8 @@ fn got_count(
     cursor: &mut Cursor<'_>,
     area: Boxed<TextArg>,
 ) -> Result<EmbKind, Failure>
-    ensures { ReadsBy emb_kind_view (spec.got_count (text_arg_view area)) (seen cursor.old) result (seen cursor.new) }
+    ensures { CursorReads emb_kind_view (spec.got_count (text_arg_view area))
+        cursor.old result cursor.new }
 {
     let host = hosted(alloc, cursor)?;
     let host = Boxed::new(alloc, host)?;
@@ -139,7 +142,7 @@ fn got_count(
 /// GET DESCRIPTOR
 #[tactic(auto, unfolding(crate::specs::Readers::getting))]
 pub fn get(alloc: Global, cursor: &mut Cursor<'_>) -> Result<EmbKind, Failure>
-    ensures { ReadsBy emb_kind_view spec.getting (seen cursor.old) result (seen cursor.new) }
+    ensures { CursorReads emb_kind_view spec.getting cursor.old result cursor.new }
 {
     cursor.word(b"GET")?;
     cursor.word(b"DESCRIPTOR")?;
@@ -154,7 +157,7 @@ pub fn get(alloc: Global, cursor: &mut Cursor<'_>) -> Result<EmbKind, Failure>
 /// `=` and a value.
 #[tactic(auto, unfolding(crate::specs::Readers::assigned))]
 fn assigned(alloc: Global, cursor: &mut Cursor<'_>) -> Result<Input, Failure>
-    ensures { ReadsBy input_view spec.assigned (seen cursor.old) result (seen cursor.new) }
+    ensures { CursorReads input_view spec.assigned cursor.old result cursor.new }
 {
     cursor.sign(b"=")?;
     value(alloc, cursor)
@@ -163,7 +166,7 @@ fn assigned(alloc: Global, cursor: &mut Cursor<'_>) -> Result<Input, Failure>
 /// An item that is set, but INDICATOR.
 #[tactic(auto, unfolding(crate::specs::Readers::other_item))]
 fn other_item(cursor: &mut Cursor<'_>) -> Result<Item, Failure>
-    ensures { ReadsBy (λ item. item) spec.other_item (seen cursor.old) result (seen cursor.new) }
+    ensures { CursorReads (λ item. item) spec.other_item cursor.old result cursor.new }
 {
     if cursor.at_word(b"DATA") {
         cursor.word(b"DATA")?;
@@ -176,7 +179,7 @@ fn other_item(cursor: &mut Cursor<'_>) -> Result<Item, Failure>
 /// An item that is set.
 #[tactic(auto, unfolding(crate::specs::Readers::set_item))]
 fn set_item(cursor: &mut Cursor<'_>) -> Result<Item, Failure>
-    ensures { ReadsBy (λ item. item) spec.set_item (seen cursor.old) result (seen cursor.new) }
+    ensures { CursorReads (λ item. item) spec.set_item cursor.old result cursor.new }
 {
     if cursor.at_word(b"DATA") || cursor.at_word(b"TYPE") {
         return other_item(cursor);
@@ -188,7 +191,7 @@ fn set_item(cursor: &mut Cursor<'_>) -> Result<Item, Failure>
 /// An item and its value.
 #[tactic(auto, unfolding(crate::specs::Readers::setting))]
 fn setting(alloc: Global, cursor: &mut Cursor<'_>) -> Result<(Item, Input), Failure>
-    ensures { ReadsBy set_item_view spec.setting (seen cursor.old) result (seen cursor.new) }
+    ensures { CursorReads set_item_view spec.setting cursor.old result cursor.new }
 {
     let item = set_item(cursor)?;
     let value = assigned(alloc, cursor)?;
@@ -198,7 +201,7 @@ fn setting(alloc: Global, cursor: &mut Cursor<'_>) -> Result<(Item, Input), Fail
 /// An item but INDICATOR, and its value.
 #[tactic(auto, unfolding(crate::specs::Readers::other_setting))]
 fn other_setting(alloc: Global, cursor: &mut Cursor<'_>) -> Result<(Item, Input), Failure>
-    ensures { ReadsBy set_item_view spec.other_setting (seen cursor.old) result (seen cursor.new) }
+    ensures { CursorReads set_item_view spec.other_setting cursor.old result cursor.new }
 {
     let item = other_item(cursor)?;
     let value = assigned(alloc, cursor)?;
@@ -211,7 +214,8 @@ fn further_setting(
     cursor: &mut Cursor<'_>,
     mut items: List<(Item, Input)>,
 ) -> Result<List<(Item, Input)>, Failure>
-    ensures { ReadsBy (map set_item_view) (parts.one_further spec.setting (map set_item_view items)) (seen cursor.old) result (seen cursor.new) }
+    ensures { CursorReads (map set_item_view)
+        (parts.one_further spec.setting (map set_item_view items)) cursor.old result cursor.new }
 {
     cursor.sign(b",")?;
     let item = setting(alloc, cursor)?;
@@ -225,7 +229,8 @@ fn more_settings(
     cursor: &mut Cursor<'_>,
     mut items: List<(Item, Input)>,
 ) -> Result<List<(Item, Input)>, Failure>
-    ensures { ReadsBy (map set_item_view) (parts.further spec.setting (map set_item_view items)) (seen cursor.old) result (seen cursor.new) }
+    ensures { CursorReads (map set_item_view) (parts.further spec.setting (map set_item_view items))
+        cursor.old result cursor.new }
 {
     for _turn in 0..cursor.left() {
         if !cursor.at_sign(b",") {
@@ -250,7 +255,9 @@ fn settings_behind(
     index: Boxed<Input>,
     first: (Item, Input),
 ) -> Result<Settings, Failure>
-    ensures { ReadsBy settings_view (spec.settings_behind (input_view index) (set_item_view first)) (seen cursor.old) result (seen cursor.new) }
+    ensures { CursorReads settings_view
+        (spec.settings_behind (input_view index) (set_item_view first))
+        cursor.old result cursor.new }
 {
     let mut items = List::new(alloc);
     items.push(first)?;
@@ -264,7 +271,8 @@ fn all_settings(
     cursor: &mut Cursor<'_>,
     index: Boxed<Input>,
 ) -> Result<Settings, Failure>
-    ensures { ReadsBy settings_view (spec.all_settings (input_view index)) (seen cursor.old) result (seen cursor.new) }
+    ensures { CursorReads settings_view (spec.all_settings (input_view index))
+        cursor.old result cursor.new }
 {
     let first = setting(alloc, cursor)?;
     settings_behind(alloc, cursor, index, first)
@@ -276,7 +284,8 @@ fn host_index(
     value: Boxed<Expr>,
     indicator: Option<Boxed<Expr>>,
 ) -> Result<Boxed<Input>, OutOfMemory>
-    ensures { IfOk result (λ input. input_view input ≡ index_host (expr_view value) (expr_option_view indicator)) }
+    ensures { IfOk result
+        (λ input. input_view input ≡ index_host (expr_view value) (expr_option_view indicator)) }
 {
     Boxed::new(
         alloc,
@@ -294,7 +303,8 @@ fn indicated_settings(
     cursor: &mut Cursor<'_>,
     value: Boxed<Expr>,
 ) -> Result<Settings, Failure>
-    ensures { ReadsBy settings_view (spec.indicated_settings (expr_view value)) (seen cursor.old) result (seen cursor.new) }
+    ensures { CursorReads settings_view (spec.indicated_settings (expr_view value))
+        cursor.old result cursor.new }
 {
     let indicator = referenced(alloc, cursor)?;
     let indicator = Boxed::new(alloc, indicator)?;
@@ -309,7 +319,8 @@ fn behind_indicator(
     cursor: &mut Cursor<'_>,
     value: Boxed<Expr>,
 ) -> Result<Settings, Failure>
-    ensures { ReadsBy settings_view (spec.behind_indicator (expr_view value)) (seen cursor.old) result (seen cursor.new) }
+    ensures { CursorReads settings_view (spec.behind_indicator (expr_view value))
+        cursor.old result cursor.new }
 {
     if cursor.at(Class::Colon) {
         return indicated_settings(alloc, cursor, value);
@@ -326,7 +337,8 @@ fn behind_host(
     cursor: &mut Cursor<'_>,
     value: Boxed<Expr>,
 ) -> Result<Settings, Failure>
-    ensures { ReadsBy settings_view (spec.behind_host (expr_view value)) (seen cursor.old) result (seen cursor.new) }
+    ensures { CursorReads settings_view (spec.behind_host (expr_view value))
+        cursor.old result cursor.new }
 {
     if cursor.at(Class::Colon) {
         return indicated_settings(alloc, cursor, value);
@@ -343,7 +355,7 @@ fn behind_host(
 /// An index and the items.
 #[tactic(auto, unfolding(crate::specs::Readers::set_values))]
 fn set_values(alloc: Global, cursor: &mut Cursor<'_>) -> Result<Settings, Failure>
-    ensures { ReadsBy settings_view spec.set_values (seen cursor.old) result (seen cursor.new) }
+    ensures { CursorReads settings_view spec.set_values cursor.old result cursor.new }
 {
     if cursor.at(Class::InputColon) {
         let value = input_reference(alloc, cursor)?;
@@ -358,7 +370,7 @@ fn set_values(alloc: Global, cursor: &mut Cursor<'_>) -> Result<Settings, Failur
 /// SET DESCRIPTOR
 #[tactic(auto, unfolding(crate::specs::Readers::setting_area))]
 pub fn set(alloc: Global, cursor: &mut Cursor<'_>) -> Result<EmbKind, Failure>
-    ensures { ReadsBy emb_kind_view spec.setting_area (seen cursor.old) result (seen cursor.new) }
+    ensures { CursorReads emb_kind_view spec.setting_area cursor.old result cursor.new }
 {
     cursor.word(b"SET")?;
     cursor.word(b"DESCRIPTOR")?;

@@ -10,8 +10,8 @@ ghost use Rattle.ec_embedded.specs.Directives.{character_in};
 ghost use Rattle.ec_language.specs.Constants.{character_value};
 ghost use Rattle.ec_language.specs.Productions as c;
 ghost use Rattle.ec_references.specs.Readers as parts;
-ghost use Rattle.ec_references.specs.Readers.{ReadsBy, next_is};
-ghost use Rattle.ec_references.specs.States.{seen};
+ghost use Rattle.ec_references.specs.Readers.{next_is};
+ghost use Rattle.ec_references.specs.States.{CursorReads, seen};
 ghost use Rattle.ec_statements.specs.Readers as spec;
 
 use ec_base::{Boxed, List, Name, OutOfMemory};
@@ -24,7 +24,7 @@ use std::alloc::Global;
 /// The condition of a WHENEVER.
 #[tactic(auto, unfolding(crate::specs::Readers::condition))]
 fn condition(cursor: &mut Cursor<'_>) -> Result<Cond, Failure>
-    ensures { ReadsBy (λ cond. cond) spec.condition (seen cursor.old) result (seen cursor.new) }
+    ensures { CursorReads (λ cond. cond) spec.condition cursor.old result cursor.new }
 {
     if cursor.at_word(b"SQLERROR") {
         cursor.word(b"SQLERROR")?;
@@ -86,7 +86,7 @@ fn character(token: &SqlToken) -> Expr
 /// An argument: a name, a number or a character constant.
 #[tactic(auto, unfolding(crate::specs::Readers::argument))]
 fn argument(alloc: Global, cursor: &mut Cursor<'_>) -> Result<Expr, Failure>
-    ensures { ReadsBy expr_view spec.argument (seen cursor.old) result (seen cursor.new) }
+    ensures { CursorReads expr_view spec.argument cursor.old result cursor.new }
 {
     if cursor.at(Class::AnyWord) {
         let token = cursor.take(Class::AnyWord)?;
@@ -106,7 +106,8 @@ fn further_argument(
     cursor: &mut Cursor<'_>,
     mut values: List<Expr>,
 ) -> Result<List<Expr>, Failure>
-    ensures { ReadsBy (map expr_view) (parts.one_further spec.argument (map expr_view values)) (seen cursor.old) result (seen cursor.new) }
+    ensures { CursorReads (map expr_view) (parts.one_further spec.argument (map expr_view values))
+        cursor.old result cursor.new }
 {
     cursor.sign(b",")?;
     let value = argument(alloc, cursor)?;
@@ -120,7 +121,8 @@ fn more_arguments(
     cursor: &mut Cursor<'_>,
     mut values: List<Expr>,
 ) -> Result<List<Expr>, Failure>
-    ensures { ReadsBy (map expr_view) (parts.further spec.argument (map expr_view values)) (seen cursor.old) result (seen cursor.new) }
+    ensures { CursorReads (map expr_view) (parts.further spec.argument (map expr_view values))
+        cursor.old result cursor.new }
 {
     for _turn in 0..cursor.left() {
         if !cursor.at_sign(b",") {
@@ -141,7 +143,7 @@ fn begins_argument(cursor: &Cursor<'_>) -> bool
 /// Arguments, if there are any.
 #[tactic(auto, unfolding(crate::specs::Readers::some_arguments))]
 fn some_arguments(alloc: Global, cursor: &mut Cursor<'_>) -> Result<List<Expr>, Failure>
-    ensures { ReadsBy exprs_view spec.some_arguments (seen cursor.old) result (seen cursor.new) }
+    ensures { CursorReads exprs_view spec.some_arguments cursor.old result cursor.new }
 {
     if begins_argument(cursor) {
         let first = argument(alloc, cursor)?;
@@ -155,7 +157,7 @@ fn some_arguments(alloc: Global, cursor: &mut Cursor<'_>) -> Result<List<Expr>, 
 /// Arguments in their parentheses.
 #[tactic(auto, unfolding(crate::specs::Readers::arguments))]
 fn arguments(alloc: Global, cursor: &mut Cursor<'_>) -> Result<List<Expr>, Failure>
-    ensures { ReadsBy exprs_view spec.arguments (seen cursor.old) result (seen cursor.new) }
+    ensures { CursorReads exprs_view spec.arguments cursor.old result cursor.new }
 {
     cursor.sign(b"(")?;
     let values = some_arguments(alloc, cursor)?;
@@ -165,7 +167,8 @@ fn arguments(alloc: Global, cursor: &mut Cursor<'_>) -> Result<List<Expr>, Failu
 
 /// The call of the function with this name.
 fn call(alloc: Global, cursor: &mut Cursor<'_>, function: &SqlToken) -> Result<Action, Failure>
-    ensures { ReadsBy action_view (spec.call (sql_view function.now)) (seen cursor.old) result (seen cursor.new) }
+    ensures { CursorReads action_view (spec.call (sql_view function.now))
+        cursor.old result cursor.new }
 {
     let values = arguments(alloc, cursor)?;
     Ok(Action::Call(copy_name(alloc, function)?, values))
@@ -174,7 +177,7 @@ fn call(alloc: Global, cursor: &mut Cursor<'_>, function: &SqlToken) -> Result<A
 /// What stands behind DO.
 #[tactic(auto, unfolding(crate::specs::Readers::doing))]
 fn doing(alloc: Global, cursor: &mut Cursor<'_>) -> Result<Action, Failure>
-    ensures { ReadsBy action_view spec.doing (seen cursor.old) result (seen cursor.new) }
+    ensures { CursorReads action_view spec.doing cursor.old result cursor.new }
 {
     if cursor.at_word(b"BREAK") {
         let word = cursor.word(b"BREAK")?;
@@ -197,7 +200,7 @@ fn doing(alloc: Global, cursor: &mut Cursor<'_>) -> Result<Action, Failure>
 /// GOTO, GO TO, CALL and DO.
 #[tactic(auto, unfolding(crate::specs::Readers::long_action))]
 fn long_action(alloc: Global, cursor: &mut Cursor<'_>) -> Result<Action, Failure>
-    ensures { ReadsBy action_view spec.long_action (seen cursor.old) result (seen cursor.new) }
+    ensures { CursorReads action_view spec.long_action cursor.old result cursor.new }
 {
     if cursor.at_word(b"GOTO") {
         cursor.word(b"GOTO")?;
@@ -222,7 +225,7 @@ fn long_action(alloc: Global, cursor: &mut Cursor<'_>) -> Result<Action, Failure
 /// The action of a WHENEVER.
 #[tactic(auto, unfolding(crate::specs::Readers::action))]
 fn action(alloc: Global, cursor: &mut Cursor<'_>) -> Result<Action, Failure>
-    ensures { ReadsBy action_view spec.action (seen cursor.old) result (seen cursor.new) }
+    ensures { CursorReads action_view spec.action cursor.old result cursor.new }
 {
     if cursor.at_word(b"CONTINUE") {
         cursor.word(b"CONTINUE")?;
@@ -242,7 +245,7 @@ fn action(alloc: Global, cursor: &mut Cursor<'_>) -> Result<Action, Failure>
 /// WHENEVER
 #[tactic(auto, unfolding(crate::specs::Readers::setting_handler))]
 pub fn whenever(alloc: Global, cursor: &mut Cursor<'_>) -> Result<EmbKind, Failure>
-    ensures { ReadsBy emb_kind_view spec.setting_handler (seen cursor.old) result (seen cursor.new) }
+    ensures { CursorReads emb_kind_view spec.setting_handler cursor.old result cursor.new }
 {
     cursor.word(b"WHENEVER")?;
     let condition = condition(cursor)?;
@@ -253,7 +256,7 @@ pub fn whenever(alloc: Global, cursor: &mut Cursor<'_>) -> Result<EmbKind, Failu
 /// INCLUDE
 #[tactic(auto, unfolding(crate::specs::Readers::including))]
 pub fn include(cursor: &mut Cursor<'_>) -> Result<EmbKind, Failure>
-    ensures { ReadsBy emb_kind_view spec.including (seen cursor.old) result (seen cursor.new) }
+    ensures { CursorReads emb_kind_view spec.including cursor.old result cursor.new }
 {
     cursor.word(b"INCLUDE")?;
     cursor.word(b"sqlca")?;
@@ -263,7 +266,7 @@ pub fn include(cursor: &mut Cursor<'_>) -> Result<EmbKind, Failure>
 /// How the cursor is scrolled.
 #[tactic(auto, unfolding(crate::specs::Readers::some_mode))]
 fn some_mode(cursor: &mut Cursor<'_>) -> Result<(), Failure>
-    ensures { ReadsBy (λ u. tt) spec.some_mode (seen cursor.old) result (seen cursor.new) }
+    ensures { CursorReads (λ u. tt) spec.some_mode cursor.old result cursor.new }
 {
     if cursor.at_word(b"INSENSITIVE") {
         cursor.word(b"INSENSITIVE")?;
@@ -295,7 +298,7 @@ fn begins_mode(cursor: &Cursor<'_>) -> bool
 /// The same, if it is said.
 #[tactic(auto, unfolding(crate::specs::Readers::mode))]
 fn mode(cursor: &mut Cursor<'_>) -> Result<(), Failure>
-    ensures { ReadsBy (λ u. tt) spec.mode (seen cursor.old) result (seen cursor.new) }
+    ensures { CursorReads (λ u. tt) spec.mode cursor.old result cursor.new }
 {
     if begins_mode(cursor) {
         return some_mode(cursor);
@@ -305,7 +308,7 @@ fn mode(cursor: &mut Cursor<'_>) -> Result<(), Failure>
 
 /// WITH or WITHOUT.
 fn with_or_without<'a>(cursor: &mut Cursor<'a>) -> Result<&'a SqlToken, Failure>
-    ensures { ReadsBy (λ t. sql_view t.now) spec.with_or_without (seen cursor.old) result (seen cursor.new) }
+    ensures { CursorReads (λ t. sql_view t.now) spec.with_or_without cursor.old result cursor.new }
 {
     if cursor.at_word(b"WITH") {
         return cursor.word(b"WITH");
@@ -316,7 +319,7 @@ fn with_or_without<'a>(cursor: &mut Cursor<'a>) -> Result<&'a SqlToken, Failure>
 /// WITH HOLD or WITHOUT HOLD, if it is said.
 #[tactic(auto, unfolding(crate::specs::Readers::hold, crate::specs::Readers::some_hold))]
 fn hold(cursor: &mut Cursor<'_>) -> Result<(), Failure>
-    ensures { ReadsBy (λ u. tt) spec.hold (seen cursor.old) result (seen cursor.new) }
+    ensures { CursorReads (λ u. tt) spec.hold cursor.old result cursor.new }
 {
     if cursor.at_word(b"WITH") || cursor.at_word(b"WITHOUT") {
         with_or_without(cursor)?;
@@ -328,7 +331,7 @@ fn hold(cursor: &mut Cursor<'_>) -> Result<(), Failure>
 /// DECLARE up to FOR: the name of the cursor.
 #[tactic(auto, unfolding(crate::specs::Readers::cursor_head))]
 pub fn cursor_head(alloc: Global, cursor: &mut Cursor<'_>) -> Result<Name, Failure>
-    ensures { ReadsBy (λ name. name) spec.cursor_head (seen cursor.old) result (seen cursor.new) }
+    ensures { CursorReads (λ name. name) spec.cursor_head cursor.old result cursor.new }
 {
     cursor.word(b"DECLARE")?;
     let token = cursor.take(Class::AnyWord)?;

@@ -3,8 +3,7 @@
 ghost use Rattle.std.specs.Prelude.{◌≡◌};
 ghost use Rattle.ec_clex.specs.Sql.{sql_view};
 ghost use Rattle.ec_ctypes.specs.views.Embedded.{emb_kind_view, outs_view};
-ghost use Rattle.ec_references.specs.Readers.{ReadsBy};
-ghost use Rattle.ec_references.specs.States.{seen};
+ghost use Rattle.ec_references.specs.States.{CursorReads};
 ghost use Rattle.ec_statements.specs.Readers as spec;
 
 use ec_base::{Boxed, List, Name};
@@ -20,7 +19,7 @@ use std::alloc::Global;
 /// PREPARE
 #[tactic(auto, unfolding(crate::specs::Readers::preparing))]
 pub fn prepare(alloc: Global, cursor: &mut Cursor<'_>) -> Result<EmbKind, Failure>
-    ensures { ReadsBy emb_kind_view spec.preparing (seen cursor.old) result (seen cursor.new) }
+    ensures { CursorReads emb_kind_view spec.preparing cursor.old result cursor.new }
 {
     cursor.word(b"PREPARE")?;
     let token = cursor.take(Class::AnyWord)?;
@@ -33,7 +32,7 @@ pub fn prepare(alloc: Global, cursor: &mut Cursor<'_>) -> Result<EmbKind, Failur
 /// INTO with its list, or nothing.
 #[tactic(auto, unfolding(crate::specs::Readers::into_or_none))]
 fn into_or_none(alloc: Global, cursor: &mut Cursor<'_>) -> Result<Boxed<Outs>, Failure>
-    ensures { ReadsBy outs_view spec.into_or_none (seen cursor.old) result (seen cursor.new) }
+    ensures { CursorReads outs_view spec.into_or_none cursor.old result cursor.new }
 {
     if cursor.at_word(b"INTO") {
         cursor.word(b"INTO")?;
@@ -46,7 +45,7 @@ fn into_or_none(alloc: Global, cursor: &mut Cursor<'_>) -> Result<Boxed<Outs>, F
 /// INTO and USING, each once at most, in either order.
 #[tactic(auto, unfolding(crate::specs::Readers::lists_of))]
 fn lists_of(alloc: Global, cursor: &mut Cursor<'_>, name: Name) -> Result<EmbKind, Failure>
-    ensures { ReadsBy emb_kind_view (spec.lists_of name) (seen cursor.old) result (seen cursor.new) }
+    ensures { CursorReads emb_kind_view (spec.lists_of name) cursor.old result cursor.new }
 {
     if cursor.at_word(b"INTO") {
         cursor.word(b"INTO")?;
@@ -81,7 +80,8 @@ fn text_or_lists(
     cursor: &mut Cursor<'_>,
     immediate: &SqlToken,
 ) -> Result<EmbKind, Failure>
-    ensures { ReadsBy emb_kind_view (spec.text_or_lists (sql_view immediate.now)) (seen cursor.old) result (seen cursor.new) }
+    ensures { CursorReads emb_kind_view (spec.text_or_lists (sql_view immediate.now))
+        cursor.old result cursor.new }
 {
     if cursor.at(Class::Quote) || cursor.at(Class::Colon) {
         return Ok(EmbKind::Immediate(quote_or_host(alloc, cursor)?));
@@ -93,7 +93,7 @@ fn text_or_lists(
 /// EXECUTE
 #[tactic(auto, unfolding(crate::specs::Readers::executing))]
 pub fn execute(alloc: Global, cursor: &mut Cursor<'_>) -> Result<EmbKind, Failure>
-    ensures { ReadsBy emb_kind_view spec.executing (seen cursor.old) result (seen cursor.new) }
+    ensures { CursorReads emb_kind_view spec.executing cursor.old result cursor.new }
 {
     cursor.word(b"EXECUTE")?;
     if cursor.at_word(b"IMMEDIATE") {
@@ -108,7 +108,8 @@ pub fn execute(alloc: Global, cursor: &mut Cursor<'_>) -> Result<EmbKind, Failur
 /// The name of a prepared statement, or the word before it.
 #[tactic(auto, unfolding(crate::specs::Readers::name_or_word))]
 fn name_or_word(alloc: Global, cursor: &mut Cursor<'_>, word: &SqlToken) -> Result<EmbKind, Failure>
-    ensures { ReadsBy emb_kind_view (spec.name_or_word (sql_view word.now)) (seen cursor.old) result (seen cursor.new) }
+    ensures { CursorReads emb_kind_view (spec.name_or_word (sql_view word.now))
+        cursor.old result cursor.new }
 {
     if cursor.at(Class::AnyWord) {
         let token = cursor.take(Class::AnyWord)?;
@@ -120,7 +121,8 @@ fn name_or_word(alloc: Global, cursor: &mut Cursor<'_>, word: &SqlToken) -> Resu
 /// A descriptor, or the word before it as the name of a prepared statement.
 #[tactic(auto, unfolding(crate::specs::Readers::area_or_word))]
 fn area_or_word(alloc: Global, cursor: &mut Cursor<'_>, word: &SqlToken) -> Result<EmbKind, Failure>
-    ensures { ReadsBy emb_kind_view (spec.area_or_word (sql_view word.now)) (seen cursor.old) result (seen cursor.new) }
+    ensures { CursorReads emb_kind_view (spec.area_or_word (sql_view word.now))
+        cursor.old result cursor.new }
 {
     if begins_text(cursor) {
         return Ok(EmbKind::Free(text_argument(alloc, cursor)?));
@@ -131,7 +133,7 @@ fn area_or_word(alloc: Global, cursor: &mut Cursor<'_>, word: &SqlToken) -> Resu
 /// DEALLOCATE
 #[tactic(auto, unfolding(crate::specs::Readers::deallocating))]
 pub fn deallocate(alloc: Global, cursor: &mut Cursor<'_>) -> Result<EmbKind, Failure>
-    ensures { ReadsBy emb_kind_view spec.deallocating (seen cursor.old) result (seen cursor.new) }
+    ensures { CursorReads emb_kind_view spec.deallocating cursor.old result cursor.new }
 {
     cursor.word(b"DEALLOCATE")?;
     if cursor.at_word(b"PREPARE") {
@@ -149,7 +151,7 @@ pub fn deallocate(alloc: Global, cursor: &mut Cursor<'_>) -> Result<EmbKind, Fai
 /// DEALLOCATE behind AT, where descriptors have no place.
 #[tactic(auto, unfolding(crate::specs::Readers::deallocating_at))]
 pub fn deallocate_at(alloc: Global, cursor: &mut Cursor<'_>) -> Result<EmbKind, Failure>
-    ensures { ReadsBy emb_kind_view spec.deallocating_at (seen cursor.old) result (seen cursor.new) }
+    ensures { CursorReads emb_kind_view spec.deallocating_at cursor.old result cursor.new }
 {
     cursor.word(b"DEALLOCATE")?;
     if cursor.at_word(b"PREPARE") {
@@ -163,7 +165,7 @@ pub fn deallocate_at(alloc: Global, cursor: &mut Cursor<'_>) -> Result<EmbKind, 
 /// OPEN
 #[tactic(auto, unfolding(crate::specs::Readers::opening))]
 pub fn open_cursor(alloc: Global, cursor: &mut Cursor<'_>) -> Result<EmbKind, Failure>
-    ensures { ReadsBy emb_kind_view spec.opening (seen cursor.old) result (seen cursor.new) }
+    ensures { CursorReads emb_kind_view spec.opening cursor.old result cursor.new }
 {
     cursor.word(b"OPEN")?;
     let token = cursor.take(Class::AnyWord)?;

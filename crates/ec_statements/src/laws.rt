@@ -13,14 +13,18 @@ ghost use Rattle.ec_statements.specs.Readers as r;
 #[tactic(none)]
 pub fn readers_are_exact()
     ensures connect { IsReader connection.connect_form connection.connect_of r.connecting }
-    ensures set_connection { IsReader connection.set_connection_form connection.set_connection_of r.setting_connection }
-    ensures disconnect { IsReader connection.disconnect_form connection.disconnect_of r.disconnecting }
-    ensures autocommit { IsReader connection.autocommit_form connection.autocommit_of r.setting_autocommit }
+    ensures set_connection { IsReader connection.set_connection_form connection.set_connection_of
+        r.setting_connection }
+    ensures disconnect { IsReader connection.disconnect_form connection.disconnect_of
+        r.disconnecting }
+    ensures autocommit { IsReader connection.autocommit_form connection.autocommit_of
+        r.setting_autocommit }
     ensures at { IsReader at_form at_of r.at_name }
     ensures prepare { IsReader dynamic.prepare_form dynamic.prepare_of r.preparing }
     ensures execute { IsReader dynamic.execute_form dynamic.execute_of r.executing }
     ensures deallocate { IsReader dynamic.deallocate_form dynamic.deallocate_of r.deallocating }
-    ensures deallocate_at { IsReader dynamic.deallocate_at_form dynamic.deallocate_at_of r.deallocating_at }
+    ensures deallocate_at { IsReader dynamic.deallocate_at_form dynamic.deallocate_at_of
+        r.deallocating_at }
     ensures open_cursor { IsReader dynamic.open_form dynamic.open_of r.opening }
     ensures allocate { IsReader descriptor.allocate_form descriptor.allocate_of r.allocating }
     ensures get { IsReader descriptor.get_form descriptor.get_of r.getting }

@@ -1,4 +1,3 @@
-use Rattle.ec_base.specs.declared.stop.Stop.{Stop}
 use Rattle.std.proofs.Common.{Err}
 use Rattle.ec_clex.specs.Sql.{sql_views}
 use Rattle.ec_read_statement.proofs.Telling.{at_its_end, statement_told, answer_told, tokens_told, untold_statement, untold_answer, stop_is_told}
