@@ -1,0 +1,6 @@
+use Rattle.std.proofs.Common.{◌≡◌, ℕ, List, map, drop, Bor}
+use Rattle.ec_typing.specs.Tables.{is_one_of}
+use Rattle.ec_known.proofs.words.is_one_of.Given as goal
+
+abbrev pub invariant-loop-word : goal.invariant-loop-word
+invariant-loop-word l = is_one_of (map (λ (word : Bor (List ℕ)). word.now) l.words) l.text ≡ is_one_of (map (λ (word : Bor (List ℕ)). word.now) (drop l.word-index l.words)) l.text

@@ -1,0 +1,4 @@
+pub mod Conversions
+pub mod Forms
+pub mod Functions
+pub mod Taking
