@@ -1,0 +1,6 @@
+pub mod Entries
+pub mod Measures
+pub mod Puts
+pub mod Seen
+pub mod Starts
+pub mod Structs
