@@ -1,0 +1,3 @@
+pub mod Leanings
+pub mod Trees
+pub mod Steps
