@@ -1,0 +1,5 @@
+pub mod Firsts
+pub mod Listed
+pub mod Loops
+pub mod Seeing
+pub mod Told

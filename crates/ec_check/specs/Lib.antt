@@ -1,0 +1,6 @@
+pub mod Around
+pub mod Functions
+pub mod Answers
+pub mod Mains
+pub mod Members
+pub mod Objects

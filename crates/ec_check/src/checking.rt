@@ -1,0 +1,72 @@
+//! The checks of a whole program.
+
+ghost use Rattle.std.specs.Prelude.{◌≡◌, IfOk};
+ghost use Rattle.ec_ctypes.specs.views.Checked.{handlers_view};
+ghost use Rattle.ec_ctypes.specs.views.Units.{unit_view};
+ghost use Rattle.ec_language.specs.First.{stop_at};
+ghost use Rattle.ec_scopes.specs.Seen.{world_of, notes_of};
+ghost use Rattle.ec_typed.specs.Orders.{IsNumbered};
+ghost use Rattle.ec_typing.specs.Answers as spec;
+ghost use Rattle.ec_check.specs.Answers.{Checks};
+
+use crate::defined::add_defined;
+use crate::programs::unit_rule;
+use crate::structs::definitions;
+use ec_base::{OutOfMemory, Stop};
+use ec_ctypes::{HandlerTable, HostTable, Typed, Unit};
+use ec_scopes::{Checker, Table};
+use ec_typed::{Numbered, make_numbered};
+use std::alloc::Global;
+
+// What is known behind a program, and the first of its violations.
+fn checked(alloc: Global, unit: &Unit, written: bool) -> Result<Checker, OutOfMemory>
+    ensures world { IfOk result (λ checker. world_of checker
+        ≡ (spec.checked written (unit_view unit.now)).world) }
+    ensures first { IfOk result (λ checker. stop_at (notes_of checker)
+        ≡ spec.stop_of_unit written (unit_view unit.now)) }
+{
+    let mut defined = Table::new(alloc);
+    add_defined(alloc, unit.tops.as_slice(), &mut defined)?;
+    let mut checker = Checker::start(alloc, written, defined)?;
+    unit_rule(&mut checker, unit)?;
+    Ok(checker)
+}
+
+// The structs and the types of the declarations, by their numbers.
+fn found(alloc: Global, checker: &Checker) -> Result<Numbered, OutOfMemory>
+    ensures { IfOk result (λ n. IsNumbered n.structs n.names (world_of checker.now)) }
+{
+    let structs = definitions(alloc, checker.struct_rows())?;
+    make_numbered(alloc, structs.as_slice(), checker.closed(), checker.types())
+}
+
+/// Checks a program, as written C or not: the first of its violations, or the program with its types. The tables of the
+/// hosts and of the handlers are those of the program, and stand in the answer. A program with an embedded statement or a
+/// directive is answered with want of memory so far.
+pub fn check(
+    alloc: Global,
+    unit: Unit,
+    hosts: HostTable,
+    handlers: HandlerTable,
+    written: bool,
+) -> Result<Typed, Stop>
+    ensures { Checks written (unit_view unit) hosts.hosts (handlers_view handlers) result }
+{
+    let checker = checked(alloc, &unit, written)?;
+    match checker.first() {
+        Some(stop) => return Err(stop),
+        None => {}
+    }
+    let Numbered { structs, names } = match found(alloc, &checker) {
+        Ok(numbered) => numbered,
+        Err(_) => return Err(Stop::OutOfMemory),
+    };
+    Ok(Typed {
+        unit,
+        structs,
+        names,
+        hosts,
+        handlers,
+        denoted: checker.into_denoted(),
+    })
+}
