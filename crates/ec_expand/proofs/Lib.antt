@@ -1,0 +1,4 @@
+pub mod Dims
+pub mod Drops
+pub mod Members
+pub mod Pushing
