@@ -16,7 +16,7 @@ use Rattle.ec_evaluation.specs.Evaluate.{Context, Task, calls, turn_of, look_for
 use Rattle.ec_evaluation.specs.Execute.{tested, again, settle, inside, enter, declared, initialized, returning, run, run_all, look, look_all, body_run, in_function, called, act, meaning}
 use Rattle.ec_evaluation.specs.Whole.{opened, main_run, whole_within}
 use Rattle.ec_evaluation.specs.Expanded.{written, written_all, written_function, written_program, written_task}
-use Rattle.ec_evaluation.specs.Agree.{richer, before_goto, Beside, beside, Same, same_value, same_on, same_broke, same_continued, same_went, same_back, same_over, stops_first, Kept, Alike, before, Related, Agree, state_of}
+use Rattle.ec_evaluation.specs.Agree.{richer, before_goto, Beside, beside, Same, same_value, same_on, same_broke, same_continued, same_went, same_back, same_over, stops_first, Endings, IsOwn, Kept, Alike, before, Related, Agree, state_of}
 
 pub the_other : (a b : Bool) → (a || b) ≡ true → a ≡ false → b ≡ true
 the_other true b h e = cc
@@ -50,7 +50,7 @@ function_written text [] f = refl
 function_written text (g ∷ fs) zero = refl
 function_written text (g ∷ fs) (suc f) = function_written text fs f
 
-module _ (P : State → Type 0) (E : Ending → Type 0) (G : State → State → Type 0) (d : ℕ) (more : List Answer) (kept : Kept P E G d more) where
+module _ (P : State → Type 0) (E : Endings) (G : State → State → Type 0) (d : ℕ) (more : List Answer) (kept : Kept P E G d more) where
   abbrev Near : State → State → Type 0
   Near = Beside P d more
 
@@ -95,8 +95,8 @@ module _ (P : State → Type 0) (E : Ending → Type 0) (G : State → State →
   back_good : (v : Option ValueData) → Good (λ s. back v s) (λ s. back v s)
   back_good v = record { same = λ s s' p. same_back p; later = λ u. kept.same_later u }
 
-  pub over_good : (e : Ending) → Good (λ s. over e s) (λ s. over e s)
-  over_good e = record { same = λ s s' p. same_over p; later = λ u. kept.same_later u }
+  pub over_good : (e : Ending) → IsOwn e → Good (λ s. over e s) (λ s. over e s)
+  over_good e own = record { same = λ s s' p. same_over (kept.both e own) p; later = λ u. kept.same_later u }
 
   -- ---- one behind the other
 
@@ -116,9 +116,9 @@ module _ (P : State → Type 0) (E : Ending → Type 0) (G : State → State →
   value_same (same_continued p) h = same_continued p
   value_same (same_went p) h = same_went p
   value_same (same_back p) h = same_back p
-  value_same (same_over p) h = same_over p
-  value_same {k' = k'} (stops_first {s = s} {o = o} p e g) h =
-      stops_first p e (kept.later_still s (state_of o) (state_of (on_value o k')) g (value_later o k' (λ v u. (h v).later u)))
+  value_same (same_over b p) h = same_over b p
+  value_same {k' = k'} (stops_first {e = a} {s = s} {o = o} p e) h =
+      stops_first p (kept.first_later a s (state_of o) (state_of (on_value o k')) e (value_later o k' (λ v u. (h v).later u)))
 
   value_then : {m m' : State → Res} {k k' : ValueData → State → Res} → Good m m' → ((v : ValueData) → Good (k v) (k' v)) → Good (λ s. on_value (m s) k) (λ s. on_value (m' s) k')
   value_then {m' = m'} {k' = k'} a h = record {
@@ -142,9 +142,9 @@ module _ (P : State → Type 0) (E : Ending → Type 0) (G : State → State →
   done_same (same_continued p) h = same_continued p
   done_same (same_went p) h = same_went p
   done_same (same_back p) h = same_back p
-  done_same (same_over p) h = same_over p
-  done_same {k' = k'} (stops_first {s = s} {o = o} p e g) h =
-      stops_first p e (kept.later_still s (state_of o) (state_of (on_done o k')) g (done_later o k' h.later))
+  done_same (same_over b p) h = same_over b p
+  done_same {k' = k'} (stops_first {e = a} {s = s} {o = o} p e) h =
+      stops_first p (kept.first_later a s (state_of o) (state_of (on_done o k')) e (done_later o k' h.later))
 
   done_then : {m m' k k' : State → Res} → Good m m' → Good k k' → Good (λ s. on_done (m s) k) (λ s. on_done (m' s) k')
   done_then {m' = m'} {k' = k'} a h = record {
@@ -168,9 +168,9 @@ module _ (P : State → Type 0) (E : Ending → Type 0) (G : State → State →
   body_same (same_continued {s = s} {s' = s'} p) h = h.same s s' p
   body_same (same_went p) h = same_went p
   body_same (same_back p) h = same_back p
-  body_same (same_over p) h = same_over p
-  body_same {k' = k'} (stops_first {s = s} {o = o} p e g) h =
-      stops_first p e (kept.later_still s (state_of o) (state_of (after_body o k')) g (body_later o k' h.later))
+  body_same (same_over b p) h = same_over b p
+  body_same {k' = k'} (stops_first {e = a} {s = s} {o = o} p e) h =
+      stops_first p (kept.first_later a s (state_of o) (state_of (after_body o k')) e (body_later o k' h.later))
 
   body_then : {m m' k k' : State → Res} → Good m m' → Good k k' → Good (λ s. after_body (m s) k) (λ s. after_body (m' s) k')
   body_then {m' = m'} {k' = k'} a h = record {
@@ -186,7 +186,7 @@ module _ (P : State → Type 0) (E : Ending → Type 0) (G : State → State →
   }
 
   without_value_good : (line : ℕ) (used : Bool) → Good (λ s. without_value line used s) (λ s. without_value line used s)
-  without_value_good line true = over_good (trapped NoValue line)
+  without_value_good line true = over_good (trapped NoValue line) tt
   without_value_good line false = value_good no_value
 
   answered_later : (line : ℕ) (used : Bool) (o : Res) → G (state_of o) (state_of (answered line used o))
@@ -200,16 +200,16 @@ module _ (P : State → Type 0) (E : Ending → Type 0) (G : State → State →
   answered_later line used (over e s) = kept.same_later s
 
   answered_same : (line : ℕ) (used : Bool) {o o' : Res} → Like o o' → Like (answered line used o) (answered line used o')
-  answered_same line used (same_value p) = same_over p
-  answered_same line used (same_on p) = same_over p
-  answered_same line used (same_broke p) = same_over p
-  answered_same line used (same_continued p) = same_over p
-  answered_same line used (same_went p) = same_over (after_goto p)
+  answered_same line used (same_value p) = same_over (kept.both stuck tt) p
+  answered_same line used (same_on p) = same_over (kept.both stuck tt) p
+  answered_same line used (same_broke p) = same_over (kept.both stuck tt) p
+  answered_same line used (same_continued p) = same_over (kept.both stuck tt) p
+  answered_same line used (same_went p) = same_over (kept.both stuck tt) (after_goto p)
   answered_same line used (same_back {v = None} {s = s} {s' = s'} p) = (without_value_good line used).same s s' p
   answered_same line used (same_back {v = Some v} p) = same_value p
-  answered_same line used (same_over p) = same_over p
-  answered_same line used (stops_first {s = s} {o = o} p e g) =
-      stops_first p e (kept.later_still s (state_of o) (state_of (answered line used o)) g (answered_later line used o))
+  answered_same line used (same_over b p) = same_over b p
+  answered_same line used (stops_first {e = a} {s = s} {o = o} p e) =
+      stops_first p (kept.first_later a s (state_of o) (state_of (answered line used o)) e (answered_later line used o))
 
   answered_good : (line : ℕ) (used : Bool) {m m' : State → Res} → Good m m' → Good (λ s. answered line used (m s)) (λ s. answered line used (m' s))
   answered_good line used a = inside_good (answered line used) (λ o o' q. answered_same line used q) (answered_later line used) a
@@ -224,15 +224,15 @@ module _ (P : State → Type 0) (E : Ending → Type 0) (G : State → State →
   silent_later (over e s) = kept.same_later s
 
   silent_same : {o o' : Res} → Like o o' → Like (without_answer o) (without_answer o')
-  silent_same (same_value p) = same_over p
+  silent_same (same_value p) = same_over (kept.both stuck tt) p
   silent_same (same_on p) = same_value p
-  silent_same (same_broke p) = same_over p
-  silent_same (same_continued p) = same_over p
-  silent_same (same_went p) = same_over (after_goto p)
-  silent_same (same_back p) = same_over p
-  silent_same (same_over p) = same_over p
-  silent_same (stops_first {s = s} {o = o} p e g) =
-      stops_first p e (kept.later_still s (state_of o) (state_of (without_answer o)) g (silent_later o))
+  silent_same (same_broke p) = same_over (kept.both stuck tt) p
+  silent_same (same_continued p) = same_over (kept.both stuck tt) p
+  silent_same (same_went p) = same_over (kept.both stuck tt) (after_goto p)
+  silent_same (same_back p) = same_over (kept.both stuck tt) p
+  silent_same (same_over b p) = same_over b p
+  silent_same (stops_first {e = a} {s = s} {o = o} p e) =
+      stops_first p (kept.first_later a s (state_of o) (state_of (without_answer o)) e (silent_later o))
 
   silent_good : {m m' : State → Res} → Good m m' → Good (λ s. without_answer (m s)) (λ s. without_answer (m' s))
   silent_good a = inside_good without_answer (λ o o' q. silent_same q) silent_later a
@@ -253,9 +253,9 @@ module _ (P : State → Type 0) (E : Ending → Type 0) (G : State → State →
   closing_same n (same_continued p) = same_continued (ended_near n p)
   closing_same n (same_went p) = same_went (ended_goto n p)
   closing_same n (same_back p) = same_back (ended_near n p)
-  closing_same n (same_over p) = same_over p
-  closing_same n (stops_first {s = s} {o = o} p e g) =
-      stops_first p e (kept.later_still s (state_of o) (state_of (closing n o)) g (closing_later n o))
+  closing_same n (same_over b p) = same_over b p
+  closing_same n (stops_first {e = a} {s = s} {o = o} p e) =
+      stops_first p (kept.first_later a s (state_of o) (state_of (closing n o)) e (closing_later n o))
 
   -- the objects that were there before end in neither
   closing_near : {s s' : State} → Near s s' → {o o' : Res} → Like o o' → Like (closing (last_number s.memory) o) (closing (last_number s'.memory) o')
@@ -277,22 +277,22 @@ module _ (P : State → Type 0) (E : Ending → Type 0) (G : State → State →
   function_end_later otherwise (over e s) = kept.same_later s
 
   function_end_same : (otherwise : Option ValueData) {o o' : Res} → Like o o' → Like (function_end otherwise o) (function_end otherwise o')
-  function_end_same otherwise (same_value p) = same_over p
+  function_end_same otherwise (same_value p) = same_over (kept.both stuck tt) p
   function_end_same otherwise (same_on p) = same_back p
-  function_end_same otherwise (same_broke p) = same_over p
-  function_end_same otherwise (same_continued p) = same_over p
-  function_end_same otherwise (same_went p) = same_over (after_goto p)
+  function_end_same otherwise (same_broke p) = same_over (kept.both stuck tt) p
+  function_end_same otherwise (same_continued p) = same_over (kept.both stuck tt) p
+  function_end_same otherwise (same_went p) = same_over (kept.both stuck tt) (after_goto p)
   function_end_same otherwise (same_back p) = same_back p
-  function_end_same otherwise (same_over p) = same_over p
-  function_end_same otherwise (stops_first {s = s} {o = o} p e g) =
-      stops_first p e (kept.later_still s (state_of o) (state_of (function_end otherwise o)) g (function_end_later otherwise o))
+  function_end_same otherwise (same_over b p) = same_over b p
+  function_end_same otherwise (stops_first {e = a} {s = s} {o = o} p e) =
+      stops_first p (kept.first_later a s (state_of o) (state_of (function_end otherwise o)) e (function_end_later otherwise o))
 
   function_end_good : (otherwise : Option ValueData) {m m' : State → Res} → Good m m' → Good (λ s. function_end otherwise (m s)) (λ s. function_end otherwise (m' s))
   function_end_good otherwise a = inside_good (function_end otherwise) (λ o o' q. function_end_same otherwise q) (function_end_later otherwise) a
 
   exits_good : (v : Option ValueData) → Good (λ s. exits_with v s) (λ s. exits_with v s)
-  exits_good None = over_good stuck
-  exits_good (Some v) = over_good (exited (status_of (number_of v)))
+  exits_good None = over_good stuck tt
+  exits_good (Some v) = over_good (exited (status_of (number_of v))) tt
 
   returned_good : (first : Bool) (v : Option ValueData) → Good (λ s. returned first v s) (λ s. returned first v s)
   returned_good true v = exits_good v
@@ -308,15 +308,15 @@ module _ (P : State → Type 0) (E : Ending → Type 0) (G : State → State →
   finished_later otherwise (over e s) = kept.same_later s
 
   finished_same : (otherwise : Option ValueData) {o o' : Res} → Like o o' → Like (finished otherwise o) (finished otherwise o')
-  finished_same otherwise (same_value p) = same_over p
+  finished_same otherwise (same_value p) = same_over (kept.both stuck tt) p
   finished_same otherwise (same_on {s = s} {s' = s'} p) = (exits_good otherwise).same s s' p
-  finished_same otherwise (same_broke p) = same_over p
-  finished_same otherwise (same_continued p) = same_over p
-  finished_same otherwise (same_went p) = same_over (after_goto p)
-  finished_same otherwise (same_back p) = same_over p
-  finished_same otherwise (same_over p) = same_over p
-  finished_same otherwise (stops_first {s = s} {o = o} p e g) =
-      stops_first p e (kept.later_still s (state_of o) (state_of (finished otherwise o)) g (finished_later otherwise o))
+  finished_same otherwise (same_broke p) = same_over (kept.both stuck tt) p
+  finished_same otherwise (same_continued p) = same_over (kept.both stuck tt) p
+  finished_same otherwise (same_went p) = same_over (kept.both stuck tt) (after_goto p)
+  finished_same otherwise (same_back p) = same_over (kept.both stuck tt) p
+  finished_same otherwise (same_over b p) = same_over b p
+  finished_same otherwise (stops_first {e = a} {s = s} {o = o} p e) =
+      stops_first p (kept.first_later a s (state_of o) (state_of (finished otherwise o)) e (finished_later otherwise o))
 
   finished_good : (otherwise : Option ValueData) {m m' : State → Res} → Good m m' → Good (λ s. finished otherwise (m s)) (λ s. finished otherwise (m' s))
   finished_good otherwise a = inside_good (finished otherwise) (λ o o' q. finished_same otherwise q) (finished_later otherwise) a
@@ -325,7 +325,7 @@ module _ (P : State → Type 0) (E : Ending → Type 0) (G : State → State →
 
   result_same : {A : Type 0} (line : ℕ) (r : Result A Trap) {s s' : State} → Near s s' → {k k' : A → State → Res} → ((a : A) → Good (k a) (k' a)) → Like (tried line r s (λ a. k a s)) (tried line r s' (λ a. k' a s'))
   result_same line (Ok a) {s} {s'} p h = (h a).same s s' p
-  result_same line (Err trap) p h = same_over p
+  result_same line (Err trap) p h = same_over (kept.both (trapped trap line) tt) p
 
   tried_same : {A : Type 0} (line : ℕ) (f : Memory → Result A Trap) {s s' : State} → Near s s' → {k k' : A → State → Res} → ((a : A) → Good (k a) (k' a)) → Like (tried line (f s.memory) s (λ a. k a s)) (tried line (f s'.memory) s' (λ a. k' a s'))
   tried_same line f (beside {s = s} p) {k} {k'} h = result_same line (f s.memory) (beside p) {k = k} {k' = k'} h
@@ -352,8 +352,8 @@ module _ (P : State → Type 0) (E : Ending → Type 0) (G : State → State →
 
   work_same : (line : ℕ) (r : Worked) {s s' : State} → Near s s' → {k k' : ValueData → State → Res} → ((v : ValueData) → Good (k v) (k' v)) → Like (worked_out line r s (λ v. k v s)) (worked_out line r s' (λ v. k' v s'))
   work_same line (gives v) {s} {s'} p h = (h v).same s s' p
-  work_same line (traps trap) p h = same_over p
-  work_same line misfit p h = same_over p
+  work_same line (traps trap) p h = same_over (kept.both (trapped trap line) tt) p
+  work_same line misfit p h = same_over (kept.both stuck tt) p
 
   worked_same : (line : ℕ) (f : Memory → Worked) {s s' : State} → Near s s' → {k k' : ValueData → State → Res} → ((v : ValueData) → Good (k v) (k' v)) → Like (worked_out line (f s.memory) s (λ v. k v s)) (worked_out line (f s'.memory) s' (λ v. k' v s'))
   worked_same line f (beside {s = s} p) {k} {k'} h = work_same line (f s.memory) (beside p) {k = k} {k' = k'} h
@@ -371,21 +371,21 @@ module _ (P : State → Type 0) (E : Ending → Type 0) (G : State → State →
 
   address_good : (v : ValueData) {k k' : ℕ → State → Res} → ((a : ℕ) → Good (k a) (k' a)) → Good (λ t. at_address v t (λ a. k a t)) (λ t. at_address v t (λ a. k' a t))
   address_good (address a) h = h a
-  address_good (number z) h = over_good stuck
+  address_good (number z) h = over_good stuck tt
 
   number_good : (v : ValueData) {k k' : ℤ → State → Res} → ((z : ℤ) → Good (k z) (k' z)) → Good (λ t. on_number v t (λ z. k z t)) (λ t. on_number v t (λ z. k' z t))
   number_good (number z) h = h z
-  number_good (address a) h = over_good stuck
+  number_good (address a) h = over_good stuck tt
 
   present_good : {A : Type 0} (x : Option A) {k k' : A → State → Res} → ((a : A) → Good (k a) (k' a)) → Good (λ t. present x t (λ a. k a t)) (λ t. present x t (λ a. k' a t))
   present_good (Some a) h = h a
-  present_good None h = over_good stuck
+  present_good None h = over_good stuck tt
 
   effect_done : (line : ℕ) (effect : Effect) (s : State) → P s → Like (done_there line effect s) (done_there line effect (richer d more s))
   effect_done line (answers v m output errors) s p = same_value (beside (kept.printed (record s { memory = m }) output errors (kept.memory s m p)))
-  effect_done line (traps_there trap) s p = same_over (beside p)
-  effect_done line (ends status) s p = same_over (beside p)
-  effect_done line no_call s p = same_over (beside p)
+  effect_done line (traps_there trap) s p = same_over (kept.both (trapped trap line) tt) (beside p)
+  effect_done line (ends status) s p = same_over (kept.both (exited status) tt) (beside p)
+  effect_done line no_call s p = same_over (kept.both stuck tt) (beside p)
 
   effect_same : (line : ℕ) (f : Memory → Effect) {s s' : State} → Near s s' → Like (done_there line (f s.memory) s) (done_there line (f s'.memory) s')
   effect_same line f (beside {s = s} p) = effect_done line (f s.memory) s p
@@ -410,12 +410,12 @@ module _ (P : State → Type 0) (E : Ending → Type 0) (G : State → State →
   turn_beside : (s : State) (p : P s) (k k' : State → Res) → ((t t' : State) → before_goto t ≡ s → Near t t' → Like (k t) (k' t')) → ((t : State) → G t (state_of (k' t))) → Like (turn s k) (turn (richer d more s) k')
   turn_beside s p k k' h g = go s.turns refl
     where
-      none : (E turns_spent ⊎ (d ≡ 0)) → Like (over turns_spent s) (elim (0 + d) [ zero ↦ over turns_spent (richer d more s) | suc n ↦ k' (record (richer d more s) { turns = n }) ])
+      none : ((t u : State) → G t u → E.first turns_spent t u) ⊎ (d ≡ 0) → Like (over turns_spent s) (elim (0 + d) [ zero ↦ over turns_spent (richer d more s) | suc n ↦ k' (record (richer d more s) { turns = n }) ])
       none (inl e) =
-          stops_first p e (kept.later_still s (richer d more s) (state_of (elim (0 + d) [ zero ↦ over turns_spent (richer d more s) | suc n ↦ k' (record (richer d more s) { turns = n }) ])) (kept.richer_later s) (turn_grows (richer d more s) k' g (0 + d)))
+          stops_first p (e s _ (kept.later_still s (richer d more s) (state_of (elim (0 + d) [ zero ↦ over turns_spent (richer d more s) | suc n ↦ k' (record (richer d more s) { turns = n }) ])) (kept.richer_later s) (turn_grows (richer d more s) k' g (0 + d))))
       none (inr e) =
           subst (λ x. Like (over turns_spent s) (elim x [ zero ↦ over turns_spent (richer d more s) | suc n ↦ k' (record (richer d more s) { turns = n }) ]))
-          (sym (let f : 0 + d ≡ 0 = omega (arith, e) in f)) (same_over (beside p))
+          (sym (let f : 0 + d ≡ 0 = omega (arith, e) in f)) (same_over (kept.both turns_spent tt) (beside p))
 
       some : (n : ℕ) → s.turns ≡ suc n → Like (k (record s { turns = n })) (k' (richer d more (record s { turns = n })))
       some n e = h (record s { turns = n }) (richer d more (record s { turns = n })) (ap (λ m. record s { turns = m }) (sym e)) (beside (kept.turn s n e p))
@@ -451,7 +451,7 @@ module _ (P : State → Type 0) (E : Ending → Type 0) (G : State → State →
   given_good : (line : ℕ) (kinds : List ScalarType) (ps : List ℕ) (vs : List ValueData) {k k' : State → Res} → Good k k' → Good (λ s. given line kinds ps vs s k) (λ s. given line kinds ps vs s k')
   given_good line [] [] [] h = h
   given_good line (kind ∷ kinds) (a ∷ ps) (v ∷ vs) h = changed_good line (λ m. stored m a kind v) (given_good line kinds ps vs h)
-  given_good line _ _ _ h = over_good stuck
+  given_good line _ _ _ h = over_good stuck tt
 
   opened_good : (objects : List (List ℕ)) {k k' : State → Res} → Good k k' → Good (λ s. opened objects s k) (λ s. opened objects s k')
   opened_good [] h = h
@@ -533,7 +533,7 @@ module _ (P : State → Type 0) (E : Ending → Type 0) (G : State → State →
         eval_good c (call f used es) = collect_good c [] es (λ vs. answered_good c.line used (call_good c.line f vs))
         eval_good c (known f es) = collect_good c [] es (λ vs. effect_good c.line (λ m. effect_of f m vs))
         eval_good c (library_call n) = silent_good (agree.libraries w w' related c n)
-        eval_good c faulty = over_good stuck
+        eval_good c faulty = over_good stuck tt
 
         pub collect_good : (c : Context) (vs : List ValueData) (es : Exps) {k k' : List ValueData → State → Res} → ((vs : List ValueData) → Good (k vs) (k' vs)) → Good (λ s. collect step w c vs es s k) (λ s. collect step' w' c vs es s k')
         collect_good c vs no_exps h = h vs
@@ -569,9 +569,9 @@ module _ (P : State → Type 0) (E : Ending → Type 0) (G : State → State →
       settle_same c b (same_went {l = l} {s = s} {s' = s'} p) =
           pick_same (holds_any l b) (holds_any l (written_all text b)) (any_written text agree.no_label l b) (λ e. related.same (look_for c l b) s s' p) (λ e. same_went p)
       settle_same c b (same_back p) = same_back p
-      settle_same c b (same_over p) = same_over p
-      settle_same c b (stops_first {s = s} {o = o} p e g) =
-          stops_first p e (kept.later_still s (state_of o) (state_of (settle w' c (written_all text b) o)) g (settle_later c b o))
+      settle_same c b (same_over own p) = same_over own p
+      settle_same c b (stops_first {e = a} {s = s} {o = o} p e) =
+          stops_first p (kept.first_later a s (state_of o) (state_of (settle w' c (written_all text b) o)) e (settle_later c b o))
 
       settle_good : (c : Context) (b : Stms) {m m' : State → Res} → Good m m' → Good (λ s. settle w c b (m s)) (λ s. settle w' c (written_all text b) (m' s))
       settle_good c b {m' = m'} a = record {
@@ -646,7 +646,7 @@ module _ (P : State → Type 0) (E : Ending → Type 0) (G : State → State →
       body_run_good c f = settle_good c f.body (run_all_good c f.body)
 
       called_good : (line : ℕ) (f : Option Function) (vs : List ValueData) → Good (λ s. called step w line f vs s) (λ s. called step' w' line (option_map (written_function text) f) vs s)
-      called_good line None vs = over_good stuck
+      called_good line None vs = over_good stuck tt
       called_good line (Some f) vs =
           function_end_good f.otherwise (closing_good
           (made_good line (map scalar_size f.parameters) [] (λ ps. given_good line f.parameters ps vs
@@ -660,7 +660,7 @@ module _ (P : State → Type 0) (E : Ending → Type 0) (G : State → State →
       act_good fs (look_for c l b) = settle_good c b (look_all_good l c b)
 
       main_good : (f : Option Function) → Good (λ s. main_run step w f s) (λ s. main_run step' w' (option_map (written_function text) f) s)
-      main_good None = over_good stuck
+      main_good None = over_good stuck tt
       main_good (Some f) =
           finished_good f.otherwise (made_good 1 f.objects [] (λ objects. body_run_good (in_function 1 objects true) f))
 
@@ -687,7 +687,7 @@ module _ (P : State → Type 0) (E : Ending → Type 0) (G : State → State →
       tasks_later (look_for c l b) u = (acts (look_for c l b)).later u
 
     pub tasks_related : (fs : List Function) (n : ℕ) → Related P E G d more text (meaning step fs n) (meaning step' (map (written_function text) fs) n)
-    tasks_related fs zero = record { same = λ t s s' p. same_over (before_near t p); later = λ t u. kept.same_later u }
+    tasks_related fs zero = record { same = λ t s s' p. same_over (kept.both turns_spent tt) (before_near t p); later = λ t u. kept.same_later u }
     tasks_related fs (suc n) = record { same = tasks_same fs n (tasks_related fs n); later = tasks_later fs n (tasks_related fs n) }
 
     pub whole_same : (p : Program) (n : ℕ) (s s' : State) → Near s s' → Like (whole_within step p n s) (whole_within step' (written_program text p) n s')

@@ -1,15 +1,16 @@
 -- The laws on whole runs, from the induction.
 use Rattle.std.proofs.Common.{◌≡◌, ℕ, zero, suc, ◌+◌, ◌≤◌, inl, inr, List, [], ◌∷◌, ◌++◌, map, refl, sym, ap, ◌∙◌, subst, arith, append_assoc, append-nil}
-use Rattle.std.specs.Prelude.{slice_get}
+use Rattle.std.specs.Prelude.{slice_get, Option}
+use Rattle.ec_link.specs.declared.request.Request.{Request}
 use Rattle.ec_resolved.specs.Programs.{Function, Program, opening_objects}
 use Rattle.ec_resolved.specs.Resolved.{Stm, on_line, nothing, evaluate, declare, initialize, block, choose, loop, leave, next, return, goto, label, embedded_statement, Stms, no_stms, stms}
-use Rattle.ec_evaluation.specs.State.{Answer, State, Ending, turns_spent}
+use Rattle.ec_evaluation.specs.State.{Answer, State, Ending, exited, trapped, turns_spent, waits, stuck}
 use Rattle.ec_evaluation.specs.Results.{Res, value, on, broke, continued, went, back, over, turn}
 use Rattle.ec_evaluation.specs.Evaluate.{Task, calls, turn_of, look_for, World, Step}
 use Rattle.ec_evaluation.specs.Execute.{act, meaning}
 use Rattle.ec_evaluation.specs.Whole.{opened, main_run, whole_within, whole, without_atoms}
 use Rattle.ec_evaluation.specs.Expanded.{written, written_all, written_function, written_program, written_task, itself}
-use Rattle.ec_evaluation.specs.Agree.{richer, before_goto, Beside, beside, Same, same_value, same_on, same_broke, same_continued, same_went, same_back, same_over, stops_first, Kept, Alike, before, Related, Agree, Always, Never, IsSpent, IsWaiting, IsNot, Any, Grows, GoesOn, Below, Extends, state_of, richer_result, CountsTurns, OnlyAdds, TakesMoreTurns, TakesMoreAnswers}
+use Rattle.ec_evaluation.specs.Agree.{richer, before_goto, Beside, beside, Same, same_value, same_on, same_broke, same_continued, same_went, same_back, same_over, stops_first, Endings, IsOwn, Kept, Alike, before, Related, Agree, Always, Never, IsSpent, WhenSpent, IsWaiting, IsNot, Any, Grows, TakesFirst, GoesOnWith, WhenAnswered, GoesOn, Below, Extends, state_of, richer_result, CountsTurns, OnlyAdds, TakesMoreTurns, TakesMoreAnswers}
 use Rattle.ec_evaluation.proofs.Induction.{act_good, tasks_related, whole_by, whole_same, turn_same}
 
 -- ---- answers that are the same
@@ -26,18 +27,19 @@ alike P G (same_broke (beside {s = s} p)) = ap broke (plain s)
 alike P G (same_continued (beside {s = s} p)) = ap continued (plain s)
 alike P G (same_went {l = l} (beside {s = s} p)) = ap (λ t. went l t) (plain s)
 alike P G (same_back {v = v} (beside {s = s} p)) = ap (λ t. back v t) (plain s)
-alike P G (same_over {e = e} (beside {s = s} p)) = ap (λ t. over e t) (plain s)
-alike P G (stops_first p e g) = absurd e
+alike P G (same_over {e = e} b (beside {s = s} p)) = ap (λ t. over e t) (plain s)
+alike P G (stops_first p e) = absurd e
 
-pub richer_alike : (P : State → Type 0) (E : Ending → Type 0) (G : State → State → Type 0) (d : ℕ) (more : List Answer) {o o' : Res} → Same P E G d more o o' → IsNot E o → o' ≡ richer_result d more o
-richer_alike P E G d more (same_value (beside p)) n = refl
-richer_alike P E G d more (same_on (beside p)) n = refl
-richer_alike P E G d more (same_broke (beside p)) n = refl
-richer_alike P E G d more (same_continued (beside p)) n = refl
-richer_alike P E G d more (same_went (beside p)) n = refl
-richer_alike P E G d more (same_back (beside p)) n = refl
-richer_alike P E G d more (same_over (beside p)) n = refl
-richer_alike P E G d more (stops_first p e g) n = absurd (n e)
+pub richer_alike : (P : State → Type 0) (E : Endings) (D : Ending → Type 0) (G : State → State → Type 0) (d : ℕ) (more : List Answer)
+    → ((e : Ending) (s t : State) → E.first e s t → D e) → {o o' : Res} → Same P E G d more o o' → IsNot D o → o' ≡ richer_result d more o
+richer_alike P E D G d more h (same_value (beside p)) n = refl
+richer_alike P E D G d more h (same_on (beside p)) n = refl
+richer_alike P E D G d more h (same_broke (beside p)) n = refl
+richer_alike P E D G d more h (same_continued (beside p)) n = refl
+richer_alike P E D G d more h (same_went (beside p)) n = refl
+richer_alike P E D G d more h (same_back (beside p)) n = refl
+richer_alike P E D G d more h (same_over b (beside p)) n = refl
+richer_alike P E D G d more h (stops_first {e = a} {s = s} {o = o} p e) n = absurd (n (h a s (state_of o) e))
 
 -- what is kept holds at the end
 pub holds_at_end : (P : State → Type 0) (kept : Kept P Never Any 0 []) {o o' : Res} → Same P Never Any 0 [] o o' → P (state_of o)
@@ -47,8 +49,8 @@ holds_at_end P kept (same_broke (beside p)) = p
 holds_at_end P kept (same_continued (beside p)) = p
 holds_at_end P kept (same_went (beside {s = s} p)) = kept.turn (before_goto s) s.turns refl p
 holds_at_end P kept (same_back (beside p)) = p
-holds_at_end P kept (same_over (beside p)) = p
-holds_at_end P kept (stops_first p e g) = p
+holds_at_end P kept (same_over b (beside p)) = p
+holds_at_end P kept (stops_first p e) = p
 
 -- where the first waits, the second goes on from there
 grows_itself : (s : State) → Grows s s
@@ -58,19 +60,34 @@ grows_itself s = record {
   said = ([], sym (append-nil s.conversation));
 }
 
-pub goes_on : (more : List Answer) {o o' : Res} → Same Always IsWaiting Grows 0 more o o' → GoesOn o o'
+-- the ending of a run that waits, in both only where there are no further answers
+waits_still : (more : List Answer) (e : Ending) (s t : State) → Grows s t → (IsWaiting e → more ≡ []) → IsWaiting e → GoesOnWith more e s t
+waits_still more (exited n) s t g h w = w
+waits_still more (trapped trap line) s t g h w = w
+waits_still more turns_spent s t g h w = w
+waits_still [] (waits slot request) s t g h w = (g, tt)
+waits_still (a ∷ more) (waits slot request) s t g h w = absurd (not_none (h tt))
+  where
+    not_none : {A : Type 0} {x : A} {xs : List A} → (x ∷ xs) ≡ [] → ⊥
+    not_none e = cc e
+waits_still more stuck s t g h w = w
+
+grows_richer : (more : List Answer) (s : State) → Grows s (richer 0 more s)
+grows_richer more s = record {
+  printed = ([], sym (append-nil s.output));
+  complained = ([], sym (append-nil s.errors));
+  said = ([], sym (append-nil s.conversation));
+}
+
+pub goes_on : (more : List Answer) {o o' : Res} → Same Always (WhenAnswered more) Grows 0 more o o' → GoesOn more o o'
 goes_on more (same_value p) = tt
 goes_on more (same_on p) = tt
 goes_on more (same_broke p) = tt
 goes_on more (same_continued p) = tt
 goes_on more (same_went p) = tt
 goes_on more (same_back p) = tt
-goes_on more (same_over (beside {s = s} p)) = λ w. record {
-  printed = ([], sym (append-nil s.output));
-  complained = ([], sym (append-nil s.errors));
-  said = ([], sym (append-nil s.conversation));
-}
-goes_on more (stops_first p e g) = λ w. g
+goes_on more (same_over {e = e} b (beside {s = s} p)) = λ w. waits_still more e s (richer 0 more s) (grows_richer more s) b w
+goes_on more (stops_first p e) = λ w. e
 
 -- ---- a program that is written as itself
 
@@ -107,7 +124,7 @@ task_unwritten (look_for c l b) = ap (λ y. look_for c l y) (all_unwritten b)
 abbrev run_with : Step → Program → World → State → Res
 run_with step p w s = opened (opening_objects p) s (λ t. main_run step w (slice_get p.functions p.main) t)
 
-module _ (P : State → Type 0) (E : Ending → Type 0) (G : State → State → Type 0) (d : ℕ) (more : List Answer) (kept : Kept P E G d more) (step : Step) (agree : Agree P E G d more step step itself) where
+module _ (P : State → Type 0) (E : Endings) (G : State → State → Type 0) (d : ℕ) (more : List Answer) (kept : Kept P E G d more) (step : Step) (agree : Agree P E G d more step step itself) where
   -- tasks that do the same in one program
   record Twins (w w' : World) : Type 0 where
     same : (t : Task) (s s' : State) → Beside (λ u. P (before t u)) d more s s' → Same P E G d more (w t s) (w' t s')
@@ -146,7 +163,7 @@ module _ (P : State → Type 0) (E : Ending → Type 0) (G : State → State →
 -- ---- steps that agree
 
 pub always_kept : Kept Always Never Any 0 []
-always_kept = record { memory = λ s m p. tt; printed = λ s o e p. tt; turn = λ s k e p. tt; spent = inr refl; same_later = λ s. tt; later_still = λ s t u a b. tt; memory_later = λ s m. tt; printed_later = λ s o e. tt; turn_later = λ s k. tt; richer_later = λ s. tt }
+always_kept = record { memory = λ s m p. tt; printed = λ s o e p. tt; turn = λ s k e p. tt; both = λ e own. tt; spent = inr refl; first_later = λ e s t u a b. a; same_later = λ s. tt; later_still = λ s t u a b. tt; memory_later = λ s m. tt; printed_later = λ s o e. tt; turn_later = λ s k. tt; richer_later = λ s. tt }
 
 pub agreeing_same : (step step' : Step) (text : ℕ → Stm) → Agree Always Never Any 0 [] step step' text → (p : Program) (s : State) → whole step p s ≡ whole step' (written_program text p) s
 agreeing_same step step' text agree p s =
@@ -156,7 +173,7 @@ agreeing_same step step' text agree p s =
 -- ---- turns that are enough
 
 pub below_kept : (n : ℕ) → Kept (Below n) Never Any 0 []
-below_kept n = record { memory = λ s m p. p; printed = λ s o e p. p; turn = λ s k e p. omega (arith, e, p); spent = inr refl; same_later = λ s. tt; later_still = λ s t u a b. tt; memory_later = λ s m. tt; printed_later = λ s o e. tt; turn_later = λ s k. tt; richer_later = λ s. tt }
+below_kept n = record { memory = λ s m p. p; printed = λ s o e p. p; turn = λ s k e p. omega (arith, e, p); both = λ e own. tt; spent = inr refl; first_later = λ e s t u a b. a; same_later = λ s. tt; later_still = λ s t u a b. tt; memory_later = λ s m. tt; printed_later = λ s o e. tt; turn_later = λ s k. tt; richer_later = λ s. tt }
 
 near_weaker : (P Q : State → Type 0) (d : ℕ) (more : List Answer) → ((s : State) → P s → Q s) → {s s' : State} → Beside P d more s s' → Beside Q d more s s'
 near_weaker P Q d more h (beside {s = s} p) = beside (h s p)
@@ -168,15 +185,15 @@ same_weaker P Q d more h (same_broke p) = same_broke (near_weaker P Q d more h p
 same_weaker P Q d more h (same_continued p) = same_continued (near_weaker P Q d more h p)
 same_weaker P Q d more h (same_went p) = same_went (near_weaker (λ t. P (before_goto t)) (λ t. Q (before_goto t)) d more (λ s q. h (before_goto s) q) p)
 same_weaker P Q d more h (same_back p) = same_back (near_weaker P Q d more h p)
-same_weaker P Q d more h (same_over p) = same_over (near_weaker P Q d more h p)
-same_weaker P Q d more h (stops_first p e g) = absurd e
+same_weaker P Q d more h (same_over b p) = same_over b (near_weaker P Q d more h p)
+same_weaker P Q d more h (stops_first p e) = absurd e
 
 -- a turn that neither has
 spent_same : (s : State) (k : State → Res) → s.turns ≤ 0 → Same (Below 0) Never Any 0 [] (over turns_spent s) (turn (richer 0 [] s) k)
 spent_same s k h = go (s.turns + 0) (omega arith)
   where
     go : (m : ℕ) → m ≤ 0 → Same (Below 0) Never Any 0 [] (over turns_spent s) (elim m [ zero ↦ over turns_spent (richer 0 [] s) | suc n ↦ k (record (richer 0 [] s) { turns = n }) ])
-    go zero i = same_over (beside h)
+    go zero i = same_over tt (beside h)
     go (suc n) i = absurd (omega arith)
 
 -- the turn behind a state with at most n + 1 of them
@@ -185,8 +202,8 @@ one_less n {s = s} {t = t} (beside p) e (beside q) = beside (let f : suc t.turns
 
 module _ (step : Step) (counts : CountsTurns step) (fs : List Function) where
   fuel_same : (n m : ℕ) → n ≤ m → (t : Task) (s s' : State) → Beside (λ u. Below n (before t u)) 0 [] s s' → Same (Below n) Never Any 0 [] (meaning step fs n t s) (meaning step fs m t s')
-  fuel_same zero zero h (calls line f vs) s s' p = same_over p
-  fuel_same zero zero h (turn_of c test behind x) s s' p = same_over p
+  fuel_same zero zero h (calls line f vs) s s' p = same_over tt p
+  fuel_same zero zero h (turn_of c test behind x) s s' p = same_over tt p
   fuel_same zero zero h (look_for c l b) s s' (beside p) = absurd (omega (arith, p))
   fuel_same zero (suc m) h (calls line f vs) s s' (beside p) = spent_same s (λ u. act step fs (meaning step fs m) (calls line f vs) u) p
   fuel_same zero (suc m) h (turn_of c test behind x) s s' (beside p) = spent_same s (λ u. act step fs (meaning step fs m) (turn_of c test behind x) u) p
@@ -211,14 +228,14 @@ enough_turns step counts p n s h =
 
 -- ---- more turns, further answers
 
-pub spent_kept : (d : ℕ) → Kept Always IsSpent Any d []
-spent_kept d = record { memory = λ s m p. tt; printed = λ s o e p. tt; turn = λ s k e p. tt; spent = inl refl; same_later = λ s. tt; later_still = λ s t u a b. tt; memory_later = λ s m. tt; printed_later = λ s o e. tt; turn_later = λ s k. tt; richer_later = λ s. tt }
+pub spent_kept : (d : ℕ) → Kept Always WhenSpent Any d []
+spent_kept d = record { memory = λ s m p. tt; printed = λ s o e p. tt; turn = λ s k e p. tt; both = λ e own. tt; spent = inl (λ s t g. refl); first_later = λ e s t u a b. a; same_later = λ s. tt; later_still = λ s t u a b. tt; memory_later = λ s m. tt; printed_later = λ s o e. tt; turn_later = λ s k. tt; richer_later = λ s. tt }
 
 pub more_turns : (step : Step) → CountsTurns step → TakesMoreTurns step → (p : Program) (s : State) (d : ℕ) → IsNot IsSpent (whole step p s) → whole step p (richer d [] s) ≡ richer_result d [] (whole step p s)
 more_turns step counts takes p s d not_spent =
     let e = enough_turns step counts p (s.turns + d) s (omega arith) in
-    let same = within_twins Always IsSpent Any d [] (spent_kept d) step (takes d) p (s.turns + d) s (richer d [] s) (beside tt) in
-    richer_alike Always IsSpent Any d [] same (subst (IsNot IsSpent) (sym e) not_spent) ∙ ap (richer_result d []) e
+    let same = within_twins Always WhenSpent Any d [] (spent_kept d) step (takes d) p (s.turns + d) s (richer d [] s) (beside tt) in
+    richer_alike Always WhenSpent IsSpent Any d [] (λ e s t a. a) same (subst (IsNot IsSpent) (sym e) not_spent) ∙ ap (richer_result d []) e
 
 joined_front : {A : Type 0} (xs ys zs : List A) (f : (more : List A) × (ys ≡ xs ++ more)) (g : (more : List A) × (zs ≡ ys ++ more)) → (more : List A) × (zs ≡ xs ++ more)
 joined_front xs ys zs f g = (f.0 ++ g.0, g.1 ∙ ap (λ a. a ++ g.0) f.1 ∙ append_assoc xs f.0 g.0)
@@ -234,12 +251,46 @@ grows_on s t u a b = record {
 grows_printed : (s : State) (output errors : List ℕ) → Grows s (record s { output = s.output ++ output; errors = s.errors ++ errors })
 grows_printed s output errors = record { printed = (output, refl); complained = (errors, refl); said = ([], sym (append-nil s.conversation)) }
 
-pub waiting_kept : (more : List Answer) → Kept Always IsWaiting Grows 0 more
+takes_later : (more : List Answer) (slot : Option ℕ) (request : Request) (s t u : State) → TakesFirst slot request more s t → Grows t u → TakesFirst slot request more s u
+takes_later [] slot request s t u a g = tt
+takes_later (x ∷ more) slot request s t u a g = record {
+  exchange = a.exchange;
+  rest = a.rest ++ g.said.0;
+  said = g.said.1 ∙ ap (λ c. c ++ g.said.0) a.said ∙ append_assoc s.conversation (a.exchange ∷ a.rest) g.said.0;
+  asked = a.asked;
+  answered = a.answered;
+  over_slot = a.over_slot;
+}
+
+goes_later : (more : List Answer) (e : Ending) (s t u : State) → GoesOnWith more e s t → Grows t u → GoesOnWith more e s u
+goes_later more (exited n) s t u a g = a
+goes_later more (trapped trap line) s t u a g = a
+goes_later more turns_spent s t u a g = a
+goes_later more (waits slot request) s t u a g = (grows_on s t u a.0 g, takes_later more slot request s t u a.1 g)
+goes_later more stuck s t u a g = a
+
+own_both : (more : List Answer) (e : Ending) → IsOwn e → IsWaiting e → more ≡ []
+own_both more (exited n) own w = absurd w
+own_both more (trapped trap line) own w = absurd w
+own_both more turns_spent own w = absurd w
+own_both more (waits slot request) own w = absurd own
+own_both more stuck own w = absurd w
+
+is_waiting : (more : List Answer) (e : Ending) (s t : State) → GoesOnWith more e s t → IsWaiting e
+is_waiting more (exited n) s t a = a
+is_waiting more (trapped trap line) s t a = a
+is_waiting more turns_spent s t a = a
+is_waiting more (waits slot request) s t a = tt
+is_waiting more stuck s t a = a
+
+pub waiting_kept : (more : List Answer) → Kept Always (WhenAnswered more) Grows 0 more
 waiting_kept more = record {
   memory = λ s m p. tt;
   printed = λ s o e p. tt;
   turn = λ s k e p. tt;
+  both = own_both more;
   spent = inr refl;
+  first_later = goes_later more;
   same_later = grows_itself;
   later_still = grows_on;
   memory_later = λ s m. record { printed = ([], sym (append-nil s.output)); complained = ([], sym (append-nil s.errors)); said = ([], sym (append-nil s.conversation)) };
@@ -254,12 +305,12 @@ no_more_turns more s = omega arith
 pub more_answers : (step : Step) → TakesMoreAnswers step → (p : Program) (s : State) (more : List Answer) → IsNot IsWaiting (whole step p s) → whole step p (richer 0 more s) ≡ richer_result 0 more (whole step p s)
 more_answers step takes p s more not_waiting =
     ap (λ n. whole_within step p n (richer 0 more s)) (no_more_turns more s)
-    ∙ richer_alike Always IsWaiting Grows 0 more (within_twins Always IsWaiting Grows 0 more (waiting_kept more) step (takes more) p s.turns s (richer 0 more s) (beside tt)) not_waiting
+    ∙ richer_alike Always (WhenAnswered more) IsWaiting Grows 0 more (is_waiting more) (within_twins Always (WhenAnswered more) Grows 0 more (waiting_kept more) step (takes more) p s.turns s (richer 0 more s) (beside tt)) not_waiting
 
-pub more_go_on : (step : Step) → TakesMoreAnswers step → (p : Program) (s : State) (more : List Answer) → GoesOn (whole step p s) (whole step p (richer 0 more s))
+pub more_go_on : (step : Step) → TakesMoreAnswers step → (p : Program) (s : State) (more : List Answer) → GoesOn more (whole step p s) (whole step p (richer 0 more s))
 more_go_on step takes p s more =
-    subst (GoesOn (whole step p s)) (sym (ap (λ n. whole_within step p n (richer 0 more s)) (no_more_turns more s)))
-    (goes_on more (within_twins Always IsWaiting Grows 0 more (waiting_kept more) step (takes more) p s.turns s (richer 0 more s) (beside tt)))
+    subst (GoesOn more (whole step p s)) (sym (ap (λ n. whole_within step p n (richer 0 more s)) (no_more_turns more s)))
+    (goes_on more (within_twins Always (WhenAnswered more) Grows 0 more (waiting_kept more) step (takes more) p s.turns s (richer 0 more s) (beside tt)))
 
 -- ---- a run only adds
 
@@ -268,7 +319,9 @@ extends_kept old = record {
   memory = λ s m p. record { grows = record { printed = p.grows.printed; complained = p.grows.complained; said = p.grows.said }; turns = p.turns };
   printed = λ s o e p. record { grows = grows_on old s _ p.grows (grows_printed s o e); turns = p.turns };
   turn = λ s k e p. record { grows = record { printed = p.grows.printed; complained = p.grows.complained; said = p.grows.said }; turns = omega (arith, e, p.turns) };
+  both = λ e own. tt;
   spent = inr refl;
+  first_later = λ e s t u a b. a;
   same_later = λ s. tt;
   later_still = λ s t u a b. tt;
   memory_later = λ s m. tt;
@@ -286,21 +339,21 @@ only_adds step adds p s =
 
 -- ---- the step of programs without embedded statements and calls of the library
 
-without_agrees : (P : State → Type 0) (E : Ending → Type 0) (G : State → State → Type 0) (d : ℕ) (more : List Answer) → ((s : State) → G s s) → Agree P E G d more without_atoms without_atoms itself
-without_agrees P E G d more g = record {
+without_agrees : (P : State → Type 0) (E : Endings) (G : State → State → Type 0) (d : ℕ) (more : List Answer) → E.both stuck → ((s : State) → G s s) → Agree P E G d more without_atoms without_atoms itself
+without_agrees P E G d more b g = record {
   no_label = λ l n. refl;
-  embeds = λ w w' r c n. record { same = λ s s' p. same_over p; later = g };
-  libraries = λ w w' r c n. record { same = λ s s' p. same_over p; later = g };
+  embeds = λ w w' r c n. record { same = λ s s' p. same_over b p; later = g };
+  libraries = λ w w' r c n. record { same = λ s s' p. same_over b p; later = g };
 }
 
 pub without_counts : CountsTurns without_atoms
-without_counts n = without_agrees (Below n) Never Any 0 [] (λ s. tt)
+without_counts n = without_agrees (Below n) Never Any 0 [] tt (λ s. tt)
 
 pub without_adds : OnlyAdds without_atoms
-without_adds old = without_agrees (Extends old) Never Any 0 [] (λ s. tt)
+without_adds old = without_agrees (Extends old) Never Any 0 [] tt (λ s. tt)
 
 pub without_takes_turns : TakesMoreTurns without_atoms
-without_takes_turns d = without_agrees Always IsSpent Any d [] (λ s. tt)
+without_takes_turns d = without_agrees Always WhenSpent Any d [] tt (λ s. tt)
 
 pub without_takes_answers : TakesMoreAnswers without_atoms
-without_takes_answers more = without_agrees Always IsWaiting Grows 0 more grows_itself
+without_takes_answers more = without_agrees Always (WhenAnswered more) Grows 0 more (λ w. absurd w) grows_itself

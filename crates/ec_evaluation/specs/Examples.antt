@@ -1,7 +1,7 @@
 -- Programs as examples write them.
 use Rattle.std.specs.Prelude.{ℕ, pos, negsuc, Bool, true, false, List, [], ◌∷◌, ◌++◌, Some, None, codes}
 use Rattle.ec_ctypes.specs.declared.types.arith.Arith.TheVariants.{Bool as Boolean, Char, Short, Int, UInt}
-use Rattle.ec_functions.specs.Formats.{absent, plain, integer, signed_decimal}
+use Rattle.ec_functions.specs.Formats.{Field, absent, plain, integer, signed_decimal}
 use Rattle.ec_functions.specs.Functions.{standard_output, print, putchar}
 use Rattle.ec_link.specs.declared.reply.Reply.TheVariants.{Broken}
 use Rattle.ec_link.specs.declared.request.Request.TheVariants.{Close}
@@ -43,11 +43,18 @@ is_less a b = operate (compare less) a b
 
 -- `e += a` of an int
 abbrev pub increase : Exp → Exp → Exp
-increase e a = update (record { kind = int; widened = int; operation = integers Int plus; gives_old = false }) e a
+increase e a =
+    update (record {
+      kind = int;
+      widened = int;
+      operation = integers Int plus;
+      gives_old = false;
+    }) e a
 
 -- `++` and `--` of a type, whose operands are converted to another; whether the old value is the answer
 abbrev pub bump : ScalarType → ScalarType → Operation → Bool → Exp → Exp
-bump kind widened op old e = update (record { kind = kind; widened = widened; operation = op; gives_old = old }) e (lit 1)
+bump kind widened op old e =
+    update (record { kind = kind; widened = widened; operation = op; gives_old = old }) e (lit 1)
 
 -- the value at a place as an int
 abbrev pub read_as : ScalarType → Exp → Exp
@@ -84,8 +91,15 @@ args (e ∷ es) = exps e (args es)
 abbrev pub put : ℕ → Exp
 put b = known putchar (args (lit b ∷ []))
 
+-- a directive without flags and width
+abbrev pub plain_field : Field
+plain_field = record { minus = false; zeros = false; width = absent }
+
 abbrev pub print_int : Exp → Exp
-print_int e = known (print standard_output (integer (record { minus = false; zeros = false; width = absent }) false signed_decimal ∷ plain (codes ";") ∷ [])) (args (e ∷ []))
+print_int e =
+    known (print standard_output
+    (integer plain_field false signed_decimal ∷ plain (codes ";") ∷ []))
+    (args (e ∷ []))
 
 -- ---- statements
 
@@ -114,14 +128,29 @@ braces ss = block [] (all ss)
 -- ---- programs
 
 abbrev pub main_with : List ℕ → List Stm → Function
-main_with sizes ss = record { parameters = []; objects = sizes; body = all ss; otherwise = Some (number (pos 0)) }
+main_with sizes ss = record {
+  parameters = [];
+  objects = sizes;
+  body = all ss;
+  otherwise = Some (number (pos 0));
+}
 
 abbrev pub function : List ScalarType → List ℕ → List Stm → Function
-function kinds sizes ss = record { parameters = kinds; objects = sizes; body = all ss; otherwise = None }
+function kinds sizes ss = record {
+  parameters = kinds;
+  objects = sizes;
+  body = all ss;
+  otherwise = None;
+}
 
 -- `main` with objects of these sizes, and one global int, which is object 2
 abbrev pub program : List ℕ → List Stm → Program
-program sizes ss = record { globals = record { size = 4; values = [] } ∷ []; literals = []; functions = main_with sizes ss ∷ []; main = 0 }
+program sizes ss = record {
+  globals = record { size = 4; values = [] } ∷ [];
+  literals = [];
+  functions = main_with sizes ss ∷ [];
+  main = 0;
+}
 
 -- with further functions, from number 1 on
 abbrev pub with_functions : List Function → Program → Program
@@ -157,7 +186,11 @@ leaves turns p = behind_two (run_of p turns).memory
 abbrev pub asks : List Answer → State → Res
 asks [] s = over (waits None Close) s
 asks (a ∷ more) s =
-    on (record s { answers = more; output = s.output; conversation = s.conversation ++ record { slot = a.0; request = Close; reply = a.1 } ∷ [] })
+    on (record s {
+      answers = more;
+      output = s.output;
+      conversation = s.conversation ++ record { slot = a.0; request = Close; reply = a.1 } ∷ [];
+    })
 
 -- each of its statements takes a turn, makes one request and takes its answer
 abbrev pub asking : Step

@@ -13,12 +13,14 @@ use Rattle.ec_evaluation.specs.Evaluate.{Context, Task, calls, turn_of, look_for
 abbrev pub tested : Step → World → Context → Option Exp → Option Exp → Stm → State → Res
 tested step w c None behind x s = w (turn_of c None behind x) s
 tested step w c (Some e) behind x s =
-    on_value (eval step w c e s) (λ v t. elim (is_true v) [ true ↦ w (turn_of c (Some e) behind x) t | false ↦ on t ])
+    on_value (eval step w c e s) (λ v t.
+    elim (is_true v) [ true ↦ w (turn_of c (Some e) behind x) t | false ↦ on t ])
 
 -- a loop behind its body
 abbrev pub again : Step → World → Context → Option Exp → Option Exp → Stm → State → Res
 again step w c test None x s = tested step w c test None x s
-again step w c test (Some e) x s = on_value (eval step w c e s) (λ v t. tested step w c test (Some e) x t)
+again step w c test (Some e) x s =
+    on_value (eval step w c e s) (λ v t. tested step w c test (Some e) x t)
 
 -- a block that holds the label answers a `goto`
 abbrev pub settle : World → Context → Stms → Res → Res
@@ -36,16 +38,19 @@ inside c objects = record c { objects = objects }
 -- a block: its objects are made, its statements do what `go` says, and its objects end
 abbrev pub enter : World → Context → List ℕ → Stms → (Context → State → Res) → State → Res
 enter w c sizes b go s =
-    closing (last_number s.memory) (made c.line sizes c.objects s (λ objects t. settle w (inside c objects) b (go (inside c objects) t)))
+    closing (last_number s.memory) (made c.line sizes c.objects s (λ objects t.
+    settle w (inside c objects) b (go (inside c objects) t)))
 
 -- a declaration that is reached
 abbrev pub declared : Context → ℕ → ℕ → State → Res
-declared c i size s = present (slice_get c.objects i) s (λ p. changed c.line (unset s.memory p size) s (λ t. on t))
+declared c i size s =
+    present (slice_get c.objects i) s (λ p. changed c.line (unset s.memory p size) s (λ t. on t))
 
 -- an object with an initializer is filled with zero bytes first (6.7.8)
 abbrev pub initialized : Step → World → Context → ℕ → ℕ → Exps → State → Res
 initialized step w c i size es s =
-    present (slice_get c.objects i) s (λ p. changed c.line (fill s.memory p size 0) s (λ t. collect step w c [] es t (λ vs u. on u)))
+    present (slice_get c.objects i) s (λ p. changed c.line (fill s.memory p size 0) s (λ t.
+    collect step w c [] es t (λ vs u. on u)))
 
 abbrev pub returning : Step → World → Context → Option Exp → State → Res
 returning step w c None s = returned c.first None s
@@ -61,7 +66,8 @@ abbrev mutual
   run step w c (initialize i size es) s = initialized step w c i size es s
   run step w c (block sizes b) s = enter w c sizes b (λ d t. run_all step w d b t) s
   run step w c (choose e a b) s =
-      on_value (eval step w c e s) (λ v t. elim (is_true v) [ true ↦ run step w c a t | false ↦ run step w c b t ])
+      on_value (eval step w c e s) (λ v t.
+      elim (is_true v) [ true ↦ run step w c a t | false ↦ run step w c b t ])
   run step w c (loop first test behind x) s =
       elim first [ true ↦ tested step w c test behind x s | false ↦ w (turn_of c test behind x) s ]
   run step w c leave s = broke s
@@ -83,13 +89,16 @@ abbrev mutual
   look step w l c (declare i size) s = on s
   look step w l c (initialize i size es) s = on s
   look step w l c (block sizes b) s = enter w c sizes b (λ d t. look_all step w l d b t) s
-  look step w l c (choose e a b) s = elim (holds l a) [ true ↦ look step w l c a s | false ↦ look step w l c b s ]
-  look step w l c (loop first test behind x) s = after_body (look step w l c x s) (λ t. again step w c test behind x t)
+  look step w l c (choose e a b) s =
+      elim (holds l a) [ true ↦ look step w l c a s | false ↦ look step w l c b s ]
+  look step w l c (loop first test behind x) s =
+      after_body (look step w l c x s) (λ t. again step w c test behind x t)
   look step w l c leave s = on s
   look step w l c next s = on s
   look step w l c (return e) s = on s
   look step w l c (goto m) s = on s
-  look step w l c (label m x) s = elim (nat_eq m l) [ true ↦ run step w c x s | false ↦ look step w l c x s ]
+  look step w l c (label m x) s =
+      elim (nat_eq m l) [ true ↦ run step w c x s | false ↦ look step w l c x s ]
   look step w l c (embedded_statement n) s = on s
 
   pub look_all : Step → World → ℕ → Context → Stms → State → Res
@@ -118,7 +127,8 @@ called step w line (Some f) vs s =
 -- a task whose turn is taken, among these functions
 abbrev pub act : Step → List Function → World → Task → State → Res
 act step fs w (calls line f vs) s = called step w line (slice_get fs f) vs s
-act step fs w (turn_of c test behind x) s = after_body (run step w c x s) (λ t. again step w c test behind x t)
+act step fs w (turn_of c test behind x) s =
+    after_body (run step w c x s) (λ t. again step w c test behind x t)
 act step fs w (look_for c l b) s = settle w c b (look_all step w l c b s)
 
 -- a task, which takes its turn first. A `goto` has taken its turn where it stands

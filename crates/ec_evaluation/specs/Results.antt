@@ -87,7 +87,11 @@ or_no_value None = no_value
 -- what a known function does, at a line
 abbrev pub done_there : ℕ → Effect → State → Res
 done_there line (answers v m output errors) s =
-    value (or_no_value v) (record s { memory = m; output = s.output ++ output; errors = s.errors ++ errors })
+    value (or_no_value v) (record s {
+      memory = m;
+      output = s.output ++ output;
+      errors = s.errors ++ errors;
+    })
 done_there line (traps_there trap) s = over (trapped trap line) s
 done_there line (ends status) s = over (exited status) s
 done_there line no_call s = over stuck s
@@ -112,12 +116,14 @@ turn s k = elim s.turns [ zero ↦ over turns_spent s | suc n ↦ k (record s { 
 abbrev pub made : ℕ → List ℕ → List ℕ → State → (List ℕ → State → Res) → Res
 made line [] objects s k = k objects s
 made line (size ∷ sizes) objects s k =
-    tried line (make s.memory size) s (λ r. made line sizes (objects ++ r.0 ∷ []) (record s { memory = r.1 }) k)
+    tried line (make s.memory size) s (λ r.
+    made line sizes (objects ++ r.0 ∷ []) (record s { memory = r.1 }) k)
 
 -- arguments are stored in parameters of these types, in order
 abbrev pub given : ℕ → List ScalarType → List ℕ → List ValueData → State → (State → Res) → Res
 given line [] [] [] s k = k s
-given line (kind ∷ kinds) (p ∷ ps) (v ∷ vs) s k = changed line (store s.memory p kind v) s (λ t. given line kinds ps vs t k)
+given line (kind ∷ kinds) (p ∷ ps) (v ∷ vs) s k =
+    changed line (store s.memory p kind v) s (λ t. given line kinds ps vs t k)
 given line _ _ _ s k = over stuck s
 
 -- every object behind the first n ends
@@ -148,7 +154,8 @@ function_end otherwise (over e s) = over e s
 
 -- a call's value, where it has none
 abbrev pub without_value : ℕ → Bool → State → Res
-without_value line used s = elim used [ true ↦ over (trapped NoValue line) s | false ↦ value no_value s ]
+without_value line used s =
+    elim used [ true ↦ over (trapped NoValue line) s | false ↦ value no_value s ]
 
 -- the value of a call, from what the function led to: where it is used there has to be one (6.9.1, 12)
 abbrev pub answered : ℕ → Bool → Res → Res

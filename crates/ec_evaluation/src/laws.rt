@@ -33,13 +33,14 @@ pub fn more_turns_change_nothing()
 {}
 
 /// Further answers change nothing in a run that doesn't wait for one: they are left at the end. A run that waited goes on
-/// from there: what it printed and said are fronts of what is printed and said now.
+/// from there: what it printed and said are fronts of what is printed and said now, and the first that is said behind them
+/// is the request that had no answer, with the first of the further answers.
 pub fn further_answers()
     ensures not_waiting { (step : Step) → TakesMoreAnswers step → (p : Program) (s : State)
         (more : List Answer) → IsNot IsWaiting (whole step p s)
         → whole step p (richer 0 more s) ≡ richer_result 0 more (whole step p s) }
     ensures waiting { (step : Step) → TakesMoreAnswers step → (p : Program) (s : State)
-        (more : List Answer) → GoesOn (whole step p s) (whole step p (richer 0 more s)) }
+        (more : List Answer) → GoesOn more (whole step p s) (whole step p (richer 0 more s)) }
 {}
 
 /// A run only adds to what was printed and said, and takes no turn back.

@@ -18,12 +18,14 @@ error_object size t = alive (unset_cells 24 ++ set_cells (little_endian_bytes 4 
 
 -- the same with 149 bytes, which are all that there is
 abbrev pub long_error : ℕ → ObjectData
-long_error size = alive (unset_cells 24 ++ set_cells (little_endian_bytes 4 size ++ replicate 149 120))
+long_error size =
+    alive (unset_cells 24 ++ set_cells (little_endian_bytes 4 size ++ replicate 149 120))
 
 -- sqlca with an error; the texts "abc", "abd", "xyz" without its zero byte, and "a" before cells that are unset; an object that has ended; six unset cells
 abbrev pub objects : Memory
 objects =
-    error_object 3 "bad!" ∷ text_object "abc" ∷ text_object "abd" ∷ alive (set_cells (codes "xyz")) ∷ alive (set_cells (97 ∷ []) ++ unset_cells 2)
+    error_object 3 "bad!" ∷ text_object "abc" ∷ text_object "abd" ∷ alive (set_cells (codes "xyz"))
+    ∷ alive (set_cells (97 ∷ []) ++ unset_cells 2)
     ∷ ended ∷ alive (unset_cells 6) ∷ []
 
 abbrev pub abc : ℕ
@@ -61,5 +63,6 @@ called f vs = effect_of f objects vs
 -- the objects with the last one changed
 abbrev pub with_room : List Cell → Memory
 with_room cells =
-    error_object 3 "bad!" ∷ text_object "abc" ∷ text_object "abd" ∷ alive (set_cells (codes "xyz")) ∷ alive (set_cells (97 ∷ []) ++ unset_cells 2)
+    error_object 3 "bad!" ∷ text_object "abc" ∷ text_object "abd" ∷ alive (set_cells (codes "xyz"))
+    ∷ alive (set_cells (97 ∷ []) ++ unset_cells 2)
     ∷ ended ∷ alive cells ∷ []

@@ -59,7 +59,10 @@ amount_at [] = (absent, [])
 amount_at (b ∷ bs) =
     elim (b == 42) [
       | true ↦ (from_argument, bs)
-      | false ↦ (digits_amount (front_while is_digit (b ∷ bs)), drop (length (front_while is_digit (b ∷ bs))) (b ∷ bs))
+      | false ↦ (
+        digits_amount (front_while is_digit (b ∷ bs)),
+        drop (length (front_while is_digit (b ∷ bs))) (b ∷ bs),
+      )
     ]
 
 abbrev pub is_width : Amount → Bool
@@ -118,25 +121,36 @@ abbrev pub text_directive : Field → Amount → ℕ → Option Part
 text_directive field precision b =
     elim (b == 115) [
       | true ↦ Some (text field precision)
-      | false ↦ elim (b == 99 && is_absent precision) [ true ↦ Some (character field) | false ↦ None ]
+      | false ↦ elim (b == 99 && is_absent precision) [
+        | true ↦ Some (character field)
+        | false ↦ None
+      ]
     ]
 
 -- a directive with the letter at its end. A precision stands at `s` alone, and `l` at an integer alone
 abbrev pub lettered : Field → Amount → Bool → ℕ → Option Part
 lettered field precision wide b =
     elim (style_of b) [
-      | Some style ↦ elim (is_absent precision) [ true ↦ Some (integer field wide style) | false ↦ None ]
+      | Some style ↦ elim (is_absent precision) [
+        | true ↦ Some (integer field wide style)
+        | false ↦ None
+      ]
       | None ↦ elim wide [ true ↦ None | false ↦ text_directive field precision b ]
     ]
 
 abbrev pub with_letter : Field → Amount → Bool × List ℕ → Option (Part × List ℕ)
 with_letter field precision (wide, []) = None
-with_letter field precision (wide, b ∷ rest) = option_map (λ part. (part, rest)) (lettered field precision wide b)
+with_letter field precision (wide, b ∷ rest) =
+    option_map (λ part. (part, rest)) (lettered field precision wide b)
+
+abbrev pub field_of : List ℕ → Amount → Field
+field_of flags width = record { minus = has 45 flags; zeros = has 48 flags; width = width }
 
 abbrev pub with_width : List ℕ → Amount × List ℕ → Option (Part × List ℕ)
 with_width flags (width, rest) =
     elim (is_width width) [
-      | true ↦ option_and_then (λ p. with_letter (record { minus = has 45 flags; zeros = has 48 flags; width = width }) p.0 (wide_at p.1)) (precision_at rest)
+      | true ↦ option_and_then (λ p.
+          with_letter (field_of flags width) p.0 (wide_at p.1)) (precision_at rest)
       | false ↦ None
     ]
 
@@ -146,7 +160,8 @@ directive_at [] = None
 directive_at (b ∷ bs) =
     elim (b == 37) [
       | true ↦ Some (plain (37 ∷ []), bs)
-      | false ↦ with_width (front_while is_flag (b ∷ bs)) (amount_at (drop (length (front_while is_flag (b ∷ bs))) (b ∷ bs)))
+      | false ↦ with_width (front_while is_flag (b ∷ bs))
+          (amount_at (drop (length (front_while is_flag (b ∷ bs))) (b ∷ bs)))
     ]
 
 -- a part before others: plain bytes that stand together are one part
@@ -162,7 +177,8 @@ parts_within zero (b ∷ bs) = None
 parts_within (suc n) (zero ∷ bs) = Some []
 parts_within (suc n) (suc b ∷ bs) =
     elim (b == 36) [
-      | true ↦ option_and_then (λ d. option_map (before_parts d.0) (parts_within n d.1)) (directive_at bs)
+      | true ↦ option_and_then (λ d.
+          option_map (before_parts d.0) (parts_within n d.1)) (directive_at bs)
       | false ↦ option_map (before_parts (plain (suc b ∷ []))) (parts_within n bs)
     ]
 

@@ -87,7 +87,8 @@ taking_sizes k (address p ∷ address q ∷ rest) = taking_number (λ n. k p q (
 taking_sizes k _ = misfit
 
 abbrev pub taking_byte : (ℕ → ℕ → ℕ → Effect) → List ValueData → Effect
-taking_byte k (address p ∷ number c ∷ rest) = taking_number (λ n. k p (byte_of c) (unsigned_abs n)) rest
+taking_byte k (address p ∷ number c ∷ rest) =
+    taking_number (λ n. k p (byte_of c) (unsigned_abs n)) rest
 taking_byte k _ = misfit
 
 -- a function that answers its first argument
@@ -107,17 +108,22 @@ message_size v = if int_lt (number_of v) (pos 0) then 0 else min (unsigned_abs (
 
 abbrev pub error_printed : Memory → Effect
 error_printed m =
-    tried (load m message_length (integer_type Int)) (λ v. tried (span m message_bytes (message_size v)) (λ bytes.
+    tried (load m message_length (integer_type Int)) (λ v.
+    tried (span m message_bytes (message_size v)) (λ bytes.
     answers None m [] (codes "SQL error: " ++ bytes ++ 10 ∷ [])))
 
 -- what a call of a known function does
 abbrev pub effect_of : Known → Memory → List ValueData → Effect
 effect_of (print channel parts) m vs = printing channel m (printed m parts vs)
-effect_of puts m vs = taking_address (λ p. tried (text_at m p) (λ bytes. answers (Some (number (pos 1))) m (bytes ++ 10 ∷ []) [])) vs
-effect_of putchar m vs = taking_number (λ z. answers (Some (number (pos (byte_of z)))) m (byte_of z ∷ []) []) vs
+effect_of puts m vs =
+    taking_address (λ p. tried (text_at m p) (λ bytes.
+    answers (Some (number (pos 1))) m (bytes ++ 10 ∷ []) [])) vs
+effect_of putchar m vs =
+    taking_number (λ z. answers (Some (number (pos (byte_of z)))) m (byte_of z ∷ []) []) vs
 effect_of strlen m vs = taking_address (λ p. tried (text_length m p) (answers_number m)) vs
 effect_of strcmp m vs = taking_addresses (λ p q. tried (texts_compared m p q) (answers_number m)) vs
-effect_of strncmp m vs = taking_sizes (λ p q n. tried (fronts_compared m p q n) (answers_number m)) vs
+effect_of strncmp m vs =
+    taking_sizes (λ p q n. tried (fronts_compared m p q n) (answers_number m)) vs
 effect_of memcmp m vs = taking_sizes (λ p q n. tried (bytes_compared m p q n) (answers_number m)) vs
 effect_of strcpy m vs = taking_addresses (λ p q. writing p (text_copied m p q)) vs
 effect_of strncpy m vs = taking_sizes (λ p q n. writing p (front_copied m p q n)) vs

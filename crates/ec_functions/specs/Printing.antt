@@ -17,7 +17,8 @@ digits_before zero base capital n behind = behind
 digits_before (suc places) base capital n behind =
     elim (n / base) [
       | zero ↦ digit_byte capital (n % base) ∷ behind
-      | suc q ↦ digits_before places base capital (n / base) (digit_byte capital (n % base) ∷ behind)
+      | suc q ↦ digits_before places base capital (n / base)
+          (digit_byte capital (n % base) ∷ behind)
     ]
 
 -- a number of at most 64 bits
@@ -62,10 +63,13 @@ padded minus zeros width sign body =
 
 -- a field whose width is known. A negative width, which an argument may say, is the flag `-` and the width's amount
 abbrev pub in_field : Field → Bool → ℤ → List ℕ → List ℕ → List ℕ
-in_field field zeros width sign body = padded (field.minus || int_lt width (pos 0)) zeros (unsigned_abs width) sign body
+in_field field zeros width sign body =
+    padded (field.minus || int_lt width (pos 0)) zeros (unsigned_abs width) sign body
 
 abbrev pub integer_bytes : Field → ℤ → Style → ℤ → List ℕ
-integer_bytes field width style z = in_field field field.zeros width (sign_of z) (digits_of (base_of style) (is_capital style) (unsigned_abs z))
+integer_bytes field width style z =
+    in_field field field.zeros width (sign_of z)
+    (digits_of (base_of style) (is_capital style) (unsigned_abs z))
 
 -- what a part puts, and the arguments behind its own; or none where the arguments are not those of the format
 abbrev pub Put : Type 0
@@ -89,7 +93,11 @@ with_amount from_argument otherwise vs k = with_number vs k
 
 -- a text, or its front: a negative precision is none
 abbrev pub text_within : Memory → ℕ → ℤ → Result (List ℕ) Trap
-text_within m p precision = elim (int_lt precision (pos 0)) [ true ↦ text_at m p | false ↦ text_up_to m p (unsigned_abs precision) ]
+text_within m p precision =
+    elim (int_lt precision (pos 0)) [
+      | true ↦ text_at m p
+      | false ↦ text_up_to m p (unsigned_abs precision)
+    ]
 
 abbrev pub text_bytes : Field → ℤ → Result (List ℕ) Trap → Result (List ℕ) Trap
 text_bytes field width (Ok bytes) = Ok (in_field field false width [] bytes)
@@ -98,14 +106,18 @@ text_bytes field width (Err trap) = Err trap
 abbrev pub part_put : Memory → Part → List ValueData → Put
 part_put m (plain bytes) vs = Some (Ok bytes, vs)
 part_put m (integer field wide style) vs =
-    with_amount field.width (pos 0) vs (λ width us. with_number us (λ z ws. Some (Ok (integer_bytes field width style (converted (read_as wide style) z)), ws)))
+    with_amount field.width (pos 0) vs (λ width us. with_number us (λ z ws.
+    Some (Ok (integer_bytes field width style (converted (read_as wide style) z)), ws)))
 part_put m (character field) vs =
-    with_amount field.width (pos 0) vs (λ width us. with_number us (λ z ws. Some (Ok (in_field field false width [] (unsigned_abs (converted UChar z) ∷ [])), ws)))
+    with_amount field.width (pos 0) vs (λ width us. with_number us (λ z ws.
+    Some (Ok (in_field field false width [] (unsigned_abs (converted UChar z) ∷ [])), ws)))
 part_put m (text field precision) vs =
-    with_amount field.width (pos 0) vs (λ width us. with_amount precision (negsuc 0) us (λ most ts. with_address ts (λ p ws. Some (text_bytes field width (text_within m p most), ws))))
+    with_amount field.width (pos 0) vs (λ width us. with_amount precision (negsuc 0) us (λ most ts.
+    with_address ts (λ p ws. Some (text_bytes field width (text_within m p most), ws))))
 
 -- the bytes of a part, and of the parts behind it. The first text that traps ends it
-abbrev pub joined : Result (List ℕ) Trap → Option (Result (List ℕ) Trap) → Option (Result (List ℕ) Trap)
+abbrev pub joined : Result (List ℕ) Trap → Option (Result (List ℕ) Trap)
+    → Option (Result (List ℕ) Trap)
 joined (Err trap) rest = Some (Err trap)
 joined (Ok bytes) None = None
 joined (Ok bytes) (Some (Err trap)) = Some (Err trap)
@@ -115,4 +127,5 @@ joined (Ok bytes) (Some (Ok more)) = Some (Ok (bytes ++ more))
 abbrev pub printed : Memory → List Part → List ValueData → Option (Result (List ℕ) Trap)
 printed m [] [] = Some (Ok [])
 printed m [] (v ∷ vs) = None
-printed m (part ∷ parts) vs = elim (part_put m part vs) [ None ↦ None | Some done ↦ joined done.0 (printed m parts done.1) ]
+printed m (part ∷ parts) vs =
+    elim (part_put m part vs) [ None ↦ None | Some done ↦ joined done.0 (printed m parts done.1) ]

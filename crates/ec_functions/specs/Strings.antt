@@ -60,12 +60,14 @@ text_copied m to from = and_then (text_at m from) (λ bytes. put m to (bytes ++ 
 
 -- strncpy: exactly n bytes are written, of which those behind the text are zero
 abbrev pub front_copied : Memory → ℕ → ℕ → ℕ → Result Memory Trap
-front_copied m to from n = and_then (text_up_to m from n) (λ bytes. put m to (bytes ++ replicate (n - length bytes) 0))
+front_copied m to from n =
+    and_then (text_up_to m from n) (λ bytes. put m to (bytes ++ replicate (n - length bytes) 0))
 
 -- strcat: the text at the destination is read first
 abbrev pub text_appended : Memory → ℕ → ℕ → Result Memory Trap
 text_appended m to from =
-    and_then (text_at m to) (λ front. and_then (text_at m from) (λ bytes. put m (to + length front) (bytes ++ 0 ∷ [])))
+    and_then (text_at m to) (λ front. and_then (text_at m from) (λ bytes.
+    put m (to + length front) (bytes ++ 0 ∷ [])))
 
 -- memcpy
 abbrev pub bytes_copied : Memory → ℕ → ℕ → ℕ → Result Memory Trap

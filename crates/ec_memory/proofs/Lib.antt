@@ -7,3 +7,4 @@ pub mod Reading
 pub mod Calls
 pub mod Counts
 pub mod Strides
+pub mod Singles

@@ -1,3 +1,4 @@
+pub mod SingleBytes
 pub mod Objects
 pub mod Moves
 pub mod Store

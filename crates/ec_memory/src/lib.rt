@@ -6,6 +6,7 @@ mod moves;
 mod padded;
 mod place;
 mod pointers;
+mod reads;
 mod scalars;
 mod store;
 mod texts;

@@ -1,5 +1,5 @@
 -- Operations on values whose types are known: what they give, and when they trap (ISO/IEC 9899:1999, 6.3.1, 6.3.2.3, 6.5.3 and 6.5.5 to 6.5.12).
-use Rattle.std.specs.Prelude.{ℕ, ◌^◌, Bool, true, false, not, ◌&&◌, if◌then◌else◌, ℤ, pos, negsuc, ◌+ℤ◌, ◌-ℤ◌, ◌*ℤ◌, neg_ℤ, int_le, int_lt, int_div, unsigned_abs, bit_and, bit_or, bit_xor, Result, Ok, Err}
+use Rattle.std.specs.Prelude.{ℕ, ◌^◌, Bool, true, false, not, ◌&&◌, if◌then◌else◌, ℤ, pos, negsuc, ◌+ℤ◌, ◌-ℤ◌, ◌*ℤ◌, neg_ℤ, int_le, int_lt, int_div, int_rem, unsigned_abs, bit_and, bit_or, bit_xor, Result, Ok, Err}
 use Rattle.std.specs.Int.{int_rem_euclid, int_div_euclid}
 use Rattle.ec_base.specs.declared.stop.Trap.{Trap}
 use Rattle.ec_base.specs.declared.stop.Trap.TheVariants.{Overflow, Shift, Zero}
@@ -67,9 +67,9 @@ compares at_least a b = int_le b a
 abbrev pub quotient : Arith → ℤ → ℤ → Result ℤ Trap
 quotient t a b = elim (is_zero b) [ true ↦ Err Zero | false ↦ result_of t (int_div a b) ]
 
--- a remainder whose quotient doesn't fit traps too
+-- the remainder has the sign of the left operand (6.5.5). One whose quotient doesn't fit traps too
 abbrev pub remainder_of : Arith → ℤ → ℤ → Result ℤ Trap
-remainder_of t a b = and_then (quotient t a b) (λ q. Ok (a -ℤ (q *ℤ b)))
+remainder_of t a b = and_then (quotient t a b) (λ q. Ok (int_rem a b))
 
 -- the bits of a value of the type, as a number
 abbrev pub bits_of : Arith → ℤ → ℕ
