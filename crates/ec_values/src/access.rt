@@ -1,0 +1,51 @@
+//! Loads and stores of values in machine words.
+
+ghost use Rattle.std.specs.Prelude.{◌≡◌, OnErr};
+ghost use Rattle.ec_objects.specs.Kinds.{kind_type};
+ghost use Rattle.ec_objects.specs.Memory.{load, store as stored};
+ghost use Rattle.ec_memory.specs.Store.{outcome, seen};
+ghost use Rattle.ec_values.specs.Words.{word_view};
+
+use crate::word::Word;
+use ec_base::Trap;
+use ec_bytes::{Ptr, U8, U16, U32, U64};
+use ec_memory::{Store, Value};
+use ec_objects::Kind;
+
+/// The value at a pointer, read as one access (ISO/IEC 9899:1999, 6.3.2.1). The traps are `Null`, `Dead`, `Outside` and
+/// `Unset`.
+#[inline(always)]
+pub fn load(store: &Store, ptr: Ptr, kind: Kind) -> Result<Word, Trap>
+    ensures { seen word_view result ≡ load store.now ptr.0 (kind_type kind) }
+{
+    match store.load_kind(ptr, kind) {
+        Ok(Value::Int(number)) => Ok(Word::of_number(number)),
+        Ok(Value::Ptr(ptr)) => Ok(Word::Address(ptr)),
+        Err(trap) => Err(trap),
+    }
+}
+
+/// Stores a value at a pointer, as one access (6.5.16): as many of its low bytes as the type has. The traps are `Null`,
+/// `Dead` and `Outside`, after which nothing is changed.
+#[inline(always)]
+pub fn store(store: &mut Store, ptr: Ptr, kind: Kind, value: Word) -> Result<(), Trap>
+    ensures outcome { outcome result store.new
+        ≡ stored store.old ptr.0 (kind_type kind) (word_view value) }
+    ensures unchanged { OnErr result (store.new ≡ store.old) }
+{
+    let number = value.number();
+    match kind {
+        Kind::Bool => store.write(ptr, U8(number.rem_euclid(1 << 8) as u8)),
+        Kind::Char => store.write(ptr, U8(number.rem_euclid(1 << 8) as u8)),
+        Kind::UChar => store.write(ptr, U8(number.rem_euclid(1 << 8) as u8)),
+        Kind::Short => store.write(ptr, U16(number.rem_euclid(1 << 16) as u16)),
+        Kind::UShort => store.write(ptr, U16(number.rem_euclid(1 << 16) as u16)),
+        Kind::Int => store.write(ptr, U32(number.rem_euclid(1 << 32) as u32)),
+        Kind::UInt => store.write(ptr, U32(number.rem_euclid(1 << 32) as u32)),
+        Kind::Long => store.write(ptr, U64(number.rem_euclid(1 << 64) as u64)),
+        Kind::ULong => store.write(ptr, U64(number.rem_euclid(1 << 64) as u64)),
+        Kind::LLong => store.write(ptr, U64(number.rem_euclid(1 << 64) as u64)),
+        Kind::ULLong => store.write(ptr, U64(number.rem_euclid(1 << 64) as u64)),
+        Kind::Ptr => store.write(ptr, U64(number.rem_euclid(1 << 64) as u64)),
+    }
+}
