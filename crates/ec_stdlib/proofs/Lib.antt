@@ -1,0 +1,4 @@
+pub mod Numerals
+pub mod Parts
+pub mod SingleReads
+pub mod Texts

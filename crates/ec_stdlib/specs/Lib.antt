@@ -1,0 +1,4 @@
+pub mod Does
+pub mod Messages
+pub mod Parts
+pub mod Taken
