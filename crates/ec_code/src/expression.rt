@@ -1,0 +1,60 @@
+//! Expressions: a chain of operators to the left is a list of steps, so that none goes deep.
+
+use crate::step::{Binary, Leaf, Unary};
+use ec_base::List;
+use ec_formats::Known;
+
+/// An expression without calls: where it begins, and the steps that are taken from there.
+#[cycle(plain)]
+#[derive(Debug, Drop)]
+pub struct Plain {
+    pub leaf: Leaf,
+    pub steps: List<PlainStep>,
+}
+
+/// A step of an expression without calls.
+#[cycle(plain)]
+#[derive(Debug, Drop)]
+pub enum PlainStep {
+    One(Unary),
+    Two(Binary, Plain),
+}
+
+/// An expression (ISO/IEC 9899:1999, 6.5).
+#[cycle(full)]
+#[derive(Debug, Drop)]
+pub enum Expression {
+    /// One without calls.
+    Plain(Plain),
+    Full(Full),
+}
+
+/// An expression that holds a call: where it begins, and the steps that are taken from there.
+#[cycle(full)]
+#[derive(Debug, Drop)]
+pub struct Full {
+    pub head: Head,
+    pub steps: List<FullStep>,
+}
+
+/// Where an expression that holds a call begins.
+#[cycle(full)]
+#[derive(Debug, Drop)]
+pub enum Head {
+    /// An expression without calls, whose steps are done first.
+    Begun(Plain),
+    /// A call of the function of this number, and whether its value is used (6.5.2.2).
+    Call(u32, bool, List<Expression>),
+    /// A call of a known function.
+    Known(Known, List<Expression>),
+    /// A call of the library, by its number among these.
+    LibraryCall(u32),
+}
+
+/// A step of an expression that holds a call.
+#[cycle(full)]
+#[derive(Debug, Drop)]
+pub enum FullStep {
+    One(Unary),
+    Two(Binary, Expression),
+}

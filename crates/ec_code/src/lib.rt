@@ -1,0 +1,14 @@
+//! Resolved programs as a machine runs them: names and types have done their work, and an expression is a place where it
+//! begins and the steps that are taken from there.
+#![tactic(auto)]
+
+mod expression;
+mod making;
+mod program;
+mod statement;
+mod step;
+
+pub use expression::{Expression, Full, FullStep, Head, Plain, PlainStep};
+pub use program::{Function, GlobalVariable, Literal, ObjectSize, Program, Stored};
+pub use statement::{Loop, Statement};
+pub use step::{Binary, Leaf, Unary, Update};

@@ -1,0 +1,111 @@
+//! Expressions are made from what stands at their left: each operator adds a step.
+
+ghost use Rattle.std.specs.Prelude.{◌≡◌, IfOk};
+ghost use Rattle.ec_resolved.specs.Resolved as of;
+ghost use Rattle.ec_formats.specs.Known.{known_view};
+ghost use Rattle.ec_code.specs.Trees.{leaf_view, one_made, stepped, two_made};
+ghost use Rattle.ec_code.specs.Views.{expression_view, expressions_view, full_step_view, full_view, head_view, plain_step_view, plain_view};
+
+use crate::expression::{Expression, Full, FullStep, Head, Plain, PlainStep};
+use crate::step::{Binary, Leaf, Unary};
+use ec_base::{List, OutOfMemory};
+use ec_formats::Known;
+use std::alloc::Global;
+
+impl Expression {
+    /// An expression of one leaf. It takes no memory.
+    pub fn leaf(alloc: Global, leaf: Leaf) -> Expression
+        ensures { expression_view result ≡ leaf_view leaf }
+    {
+        Expression::Plain(Plain {
+            leaf,
+            steps: List::new(alloc),
+        })
+    }
+
+    /// A call of the function of this number, and whether its value is used. It takes no memory.
+    pub fn call(alloc: Global, function: u32, used: bool, arguments: List<Expression>) -> Expression
+        ensures { expression_view result ≡ of.call function used (expressions_view arguments) }
+    {
+        full(alloc, Head::Call(function, used, arguments))
+    }
+
+    /// A call of a known function. It takes no memory.
+    pub fn known(alloc: Global, known: Known, arguments: List<Expression>) -> Expression
+        ensures { expression_view result ≡ of.known (known_view known) (expressions_view arguments) }
+    {
+        full(alloc, Head::Known(known, arguments))
+    }
+
+    /// A call of the library, by its number among these. It takes no memory.
+    pub fn library_call(alloc: Global, number: u32) -> Expression
+        ensures { expression_view result ≡ of.library_call number }
+    {
+        full(alloc, Head::LibraryCall(number))
+    }
+
+    /// The expression with a unary step behind it.
+    pub fn unary(self, step: Unary) -> Result<Expression, OutOfMemory>
+        ensures { IfOk result (λ made. expression_view made ≡ one_made step (expression_view self)) }
+    {
+        match self {
+            Expression::Plain(plain) => plain_with(plain, PlainStep::One(step)),
+            Expression::Full(full) => full_with(full, FullStep::One(step)),
+        }
+    }
+
+    /// The expression with a binary step behind it.
+    pub fn binary(
+        alloc: Global,
+        step: Binary,
+        left: Expression,
+        right: Expression,
+    ) -> Result<Expression, OutOfMemory>
+        ensures { IfOk result (λ made. expression_view made
+            ≡ two_made step (expression_view left) (expression_view right)) }
+    {
+        match left {
+            Expression::Full(full) => full_with(full, FullStep::Two(step, right)),
+            Expression::Plain(left) => match right {
+                Expression::Plain(right) => plain_with(left, PlainStep::Two(step, right)),
+                Expression::Full(right) => {
+                    let begun = Full {
+                        head: Head::Begun(left),
+                        steps: List::new(alloc),
+                    };
+                    full_with(begun, FullStep::Two(step, Expression::Full(right)))
+                }
+            },
+        }
+    }
+}
+
+/// What begins with a call.
+fn full(alloc: Global, head: Head) -> Expression
+    ensures { expression_view result ≡ head_view head }
+{
+    Expression::Full(Full {
+        head,
+        steps: List::new(alloc),
+    })
+}
+
+/// An expression without calls, with a step behind it.
+fn plain_with(plain: Plain, step: PlainStep) -> Result<Expression, OutOfMemory>
+    ensures { IfOk result (λ made. expression_view made
+        ≡ stepped (plain_view plain) (plain_step_view step)) }
+{
+    let Plain { leaf, mut steps } = plain;
+    steps.push(step)?;
+    Ok(Expression::Plain(Plain { leaf, steps }))
+}
+
+/// An expression that holds a call, with a step behind it.
+fn full_with(full: Full, step: FullStep) -> Result<Expression, OutOfMemory>
+    ensures { IfOk result (λ made. expression_view made
+        ≡ stepped (full_view full) (full_step_view step)) }
+{
+    let Full { head, mut steps } = full;
+    steps.push(step)?;
+    Ok(Expression::Full(Full { head, steps }))
+}

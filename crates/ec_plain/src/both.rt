@@ -1,0 +1,160 @@
+//! Steps that take the value so far and that of another expression.
+
+ghost use Rattle.std.specs.Prelude.{◌≡◌, ℕ};
+ghost use Rattle.ec_evaluation.specs.Evaluate.{Context, World, Step as Knowing};
+ghost use Rattle.ec_evaluation.specs.State.{State};
+ghost use Rattle.ec_resolved.specs.Resolved.{Exp};
+ghost use Rattle.ec_values.specs.Words.{word_view};
+ghost use Rattle.ec_code.specs.declared.step.Binary.TheVariants as of;
+ghost use Rattle.ec_plain.specs.Answered.{answered, at};
+ghost use Rattle.ec_plain.specs.Ready.{readied};
+ghost use Rattle.ec_plain.specs.Steps.{both_on, old_on, two_on};
+
+use ec_code::{Binary, Update};
+use ec_memory::Store;
+use ec_objects::Kind;
+use ec_values::{Stop, Word, convert, load, store as stored, work};
+
+/// What a step does before the other expression is evaluated.
+#[derive(Clone, Copy, Debug)]
+pub enum Ready {
+    /// It has its value, and the other expression is not evaluated.
+    Done(Word),
+    /// It waits for the other value, with the old value where a place is updated.
+    Waits(Word),
+}
+
+/// What a step does with the value so far, before the other expression is evaluated.
+pub fn prepare(store: &Store, step: Binary, left: Word) -> Result<Ready, Stop>
+    ensures { (knowing : Knowing) (w : World) (c : Context) (a : Exp) (s : State)
+        → two_on knowing w c step a (word_view left) (at s store.now)
+        ≡ readied knowing w c step a (word_view left) result (at s store.now) }
+{
+    match step {
+        Binary::Both => {
+            if left.is_true() {
+                Ok(Ready::Waits(left))
+            } else {
+                Ok(Ready::Done(Word::truth(false)))
+            }
+        }
+        Binary::Either => {
+            if left.is_true() {
+                Ok(Ready::Done(Word::truth(true)))
+            } else {
+                Ok(Ready::Waits(left))
+            }
+        }
+        Binary::Update(update) => match old_value(store, update, left) {
+            Ok(old) => Ok(Ready::Waits(old)),
+            Err(stop) => Err(stop),
+        },
+        Binary::Store(_) => Ok(Ready::Waits(left)),
+        Binary::Copy(_) => Ok(Ready::Waits(left)),
+        Binary::Operate(_) => Ok(Ready::Waits(left)),
+    }
+}
+
+/// The old value of a place that is updated.
+fn old_value(store: &Store, update: Update, place: Word) -> Result<Word, Stop>
+    ensures { (line : ℕ) (s : State) → old_on line update (word_view place) (at s store.now)
+        ≡ answered line result (at s store.now) }
+{
+    match place {
+        Word::Address(ptr) => match load(store, ptr, update.kind) {
+            Ok(old) => Ok(old),
+            Err(trap) => Err(Stop::Trap(trap)),
+        },
+        Word::Signed(_) => Err(Stop::Misfit),
+        Word::Unsigned(_) => Err(Stop::Misfit),
+    }
+}
+
+/// What a step makes of both values, and of the old value where a place is updated.
+pub fn finish(
+    store: &mut Store,
+    step: Binary,
+    left: Word,
+    old: Word,
+    right: Word,
+) -> Result<Word, Stop>
+    ensures { (line : ℕ) (s : State)
+        → both_on line step (word_view left) (word_view old) (word_view right) (at s store.old)
+        ≡ answered line result (at s store.new) }
+{
+    match step {
+        Binary::Store(kind) => assign(store, kind, left, right),
+        Binary::Copy(size) => copy(store, size, left, right),
+        Binary::Update(update) => renew(store, update, left, old, right),
+        Binary::Operate(operation) => work(operation, store, left, right),
+        Binary::Both => Ok(Word::truth(right.is_true())),
+        Binary::Either => Ok(Word::truth(right.is_true())),
+    }
+}
+
+/// To a place, of a value.
+fn assign(store: &mut Store, kind: Kind, left: Word, right: Word) -> Result<Word, Stop>
+    ensures { (line : ℕ) (s : State)
+        → both_on line (of.Store kind) (word_view left) (word_view left) (word_view right) (at s store.old)
+        ≡ answered line result (at s store.new) }
+{
+    match left {
+        Word::Address(ptr) => match stored(store, ptr, kind, right) {
+            Ok(()) => Ok(right),
+            Err(trap) => Err(Stop::Trap(trap)),
+        },
+        Word::Signed(_) => Err(Stop::Misfit),
+        Word::Unsigned(_) => Err(Stop::Misfit),
+    }
+}
+
+/// To a place, of so many cells of another.
+fn copy(store: &mut Store, size: u64, left: Word, right: Word) -> Result<Word, Stop>
+    ensures { (line : ℕ) (s : State)
+        → both_on line (of.Copy size) (word_view left) (word_view left) (word_view right) (at s store.old)
+        ≡ answered line result (at s store.new) }
+{
+    match left {
+        Word::Address(to) => match right {
+            Word::Address(from) => match store.copy(to, from, size) {
+                Ok(()) => Ok(left),
+                Err(trap) => Err(Stop::Trap(trap)),
+            },
+            Word::Signed(_) => Err(Stop::Misfit),
+            Word::Unsigned(_) => Err(Stop::Misfit),
+        },
+        Word::Signed(_) => Err(Stop::Misfit),
+        Word::Unsigned(_) => Err(Stop::Misfit),
+    }
+}
+
+/// `a op= b`, `++` and `--`.
+fn renew(
+    store: &mut Store,
+    update: Update,
+    left: Word,
+    old: Word,
+    right: Word,
+) -> Result<Word, Stop>
+    ensures { (line : ℕ) (s : State)
+        → both_on line (of.Update update) (word_view left) (word_view old) (word_view right) (at s store.old)
+        ≡ answered line result (at s store.new) }
+{
+    match left {
+        Word::Address(ptr) => {
+            let widened = convert(update.widened, old);
+            match work(update.operation, store, widened, right) {
+                Ok(new) => {
+                    let new = convert(update.kind, new);
+                    match stored(store, ptr, update.kind, new) {
+                        Ok(()) => Ok(if update.gives_old { old } else { new }),
+                        Err(trap) => Err(Stop::Trap(trap)),
+                    }
+                }
+                Err(stop) => Err(stop),
+            }
+        }
+        Word::Signed(_) => Err(Stop::Misfit),
+        Word::Unsigned(_) => Err(Stop::Misfit),
+    }
+}

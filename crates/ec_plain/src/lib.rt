@@ -1,0 +1,10 @@
+//! Expressions without calls, evaluated over a memory: each gives its value, or stops as the definition says.
+#![tactic(auto)]
+
+mod both;
+mod one;
+mod whole;
+
+pub use both::{Ready, finish, prepare};
+pub use one::unary;
+pub use whole::evaluate;

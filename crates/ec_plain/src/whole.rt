@@ -1,0 +1,75 @@
+//! Whole expressions.
+
+ghost use Rattle.std.specs.Prelude.{◌≡◌, ℕ, Bool};
+ghost use Rattle.ec_evaluation.specs.Evaluate.{World, Step as Knowing, eval};
+ghost use Rattle.ec_evaluation.specs.State.{State};
+ghost use Rattle.ec_values.specs.Words.{word_view};
+ghost use Rattle.ec_code.specs.Trees.{leaf_view};
+ghost use Rattle.ec_code.specs.Views.{plain_step_view, plain_view};
+ghost use Rattle.ec_plain.specs.Answered.{answered, at, context};
+ghost use Rattle.ec_plain.specs.Steps.{step_on};
+
+use crate::both::{Ready, finish, prepare};
+use crate::one::unary;
+use ec_bytes::Ptr;
+use ec_code::{Binary, Leaf, Plain, PlainStep};
+use ec_memory::Store;
+use ec_values::{Stop, Word};
+
+/// The value of an expression without calls, with the objects in scope by their pointers (ISO/IEC 9899:1999, 6.5). What
+/// stops it is a trap, whose line is that of the statement.
+#[cycle(evaluation)]
+pub fn evaluate(store: &mut Store, scope: &[Ptr], expression: &Plain) -> Result<Word, Stop>
+    ensures { (knowing : Knowing) (w : World) (line : ℕ) (first : Bool) (s : State)
+        → eval knowing w (context line scope.now first) (plain_view expression.now) (at s store.old)
+        ≡ answered line result (at s store.new) }
+{
+    let steps = expression.steps.as_slice();
+    let mut value = match begin(scope, expression.leaf) {
+        Ok(value) => value,
+        Err(stop) => return Err(stop),
+    };
+    for step in steps {
+        match take_step(store, scope, step, value) {
+            Ok(next) => value = next,
+            Err(stop) => return Err(stop),
+        }
+    }
+    Ok(value)
+}
+
+/// Where an expression begins.
+fn begin(scope: &[Ptr], leaf: Leaf) -> Result<Word, Stop>
+    ensures { (knowing : Knowing) (w : World) (line : ℕ) (first : Bool) (s : State)
+        → eval knowing w (context line scope.now first) (leaf_view leaf) s ≡ answered line result s }
+{
+    match leaf {
+        Leaf::Object(number) => Ok(Word::Address(Ptr((number as u64) << 32))),
+        Leaf::Slot(index) => match scope.get(index as usize) {
+            Some(ptr) => Ok(Word::Address(*ptr)),
+            None => Err(Stop::Misfit),
+        },
+        Leaf::Constant(word) => Ok(word),
+        Leaf::Faulty => Err(Stop::Misfit),
+    }
+}
+
+/// What a step makes of the value so far.
+#[cycle(evaluation)]
+fn take_step(store: &mut Store, scope: &[Ptr], step: &PlainStep, value: Word) -> Result<Word, Stop>
+    ensures { (knowing : Knowing) (w : World) (line : ℕ) (first : Bool) (s : State)
+        → step_on knowing w (context line scope.now first) (plain_step_view step.now) (word_view value) (at s store.old)
+        ≡ answered line result (at s store.new) }
+{
+    match step {
+        PlainStep::One(step) => unary(store, step, value),
+        PlainStep::Two(step, right) => match prepare(store, *step, value) {
+            Ok(Ready::Done(done)) => Ok(done),
+            Ok(Ready::Waits(old)) => match evaluate(store, scope, right) {
+                Ok(right) => finish(store, *step, value, old, right),
+                Err(stop) => Err(stop),
+            },
+            Err(stop) => Err(stop),
+        },
+    }
+}
