@@ -1,0 +1,219 @@
+-- Parts of a call, one after the other.
+use Rattle.std.proofs.Common.{◌≡◌, ℕ, List, [], ◌∷◌, ◌++◌, Option, Some, None, Result, Ok, Err, true, false, refl, sym, subst, ◌∙◌, append_assoc, eq-eqb, arith}
+use Rattle.std.specs.declared.alloc.Global.{Global}
+use Rattle.std.specs.declared.dyn_box.DynBox.{DynBox}
+use Rattle.ec_link.specs.declared.logged.Logged.{Logged}
+use Rattle.ec_link.specs.declared.rack.Rack.{Rack}
+use Rattle.ec_link.specs.declared.reply.Reply.{Reply}
+use Rattle.ec_link.specs.declared.reply.Tx.{Tx}
+use Rattle.ec_link.specs.declared.request.Request.{Request}
+use Rattle.ec_link.specs.declared.request.Request.TheVariants as request
+use Rattle.ec_link.specs.Calls.{Asks}
+use Rattle.ec_link.specs.Conn.{slot_of}
+use Rattle.ec_link.specs.Logged.{Talk, last_reply_of}
+use Rattle.ec_link.specs.Rack.{log_of}
+use Rattle.ec_link.proofs.Runs.{Asks-nil, Asks-append}
+use Rattle.ec_objects.specs.Memory.{Memory}
+use Rattle.ec_observed.specs.Observed.{answers_in}
+use Rattle.ec_evaluation.specs.State.{Answer, Connection, State}
+use Rattle.ec_calls.specs.Growth.{state_of, IsFront, Grows}
+use Rattle.ec_calls.specs.Outcomes.{Text, Outcome, gives, next}
+use Rattle.ec_calls.specs.Connections.{told_by, with_told, changed_at, exchange, asked, controlled, control_sent, begins, begin_text, begun}
+use Rattle.ec_runtime.specs.declared.open.Open.{Open}
+use Rattle.ec_runtime.specs.declared.stop.Stop.{Stop}
+use Rattle.ec_runtime.specs.declared.stop.Stop.TheVariants as stops
+use Rattle.ec_runtime.specs.Does.{Seen, placed, saying, Left, Does, seen, Over}
+use Rattle.ec_runtime.specs.Opening.{open_view, Asked}
+use Rattle.ec_runtime.specs.Says.{Says, Quiet}
+use Rattle.ec_runtime.proofs.Grows.{same_front, front_next}
+use Rattle.ec_runtime.proofs.Targets.{stopped_next}
+
+nil_right : (xs : List Logged) → xs ++ [] ≡ xs
+nil_right [] = refl
+nil_right (x ∷ xs) = λ j. x ∷ nil_right xs j
+
+-- the answers of two logs, and others
+answers-append : (g h : List Logged) (rest : List Answer) → answers_in (g ++ h) ++ rest ≡ answers_in g ++ (answers_in h ++ rest)
+answers-append [] h rest = refl
+answers-append (x ∷ g) h rest = λ j. (x.slot, x.reply) ∷ answers-append g h rest j
+
+-- nothing more was said
+said_nothing : (s : State) → saying [] s ≡ s
+said_nothing s = λ j. record s { conversation = nil_right s.conversation j }
+
+said_both : (g h : List Logged) (s : State) → saying h (saying g s) ≡ saying (g ++ h) s
+said_both g h s = λ j. record s { conversation = append_assoc s.conversation g h j }
+
+-- ---- a part that asks nothing
+
+left_nothing : {A : Type 0} (action : State → Outcome A) (x : Seen) (r : Result A Stop) → Grows action → Left action x [] r
+left_nothing action x (Ok a) g = tt
+left_nothing action x (Err stops.Finished) g = tt
+left_nothing action x (Err (stops.Trapped trap)) g = tt
+left_nothing action x (Err stops.OutOfMemory) g = λ s rest. subst (λ c. IsFront c (state_of (action (placed x rest s))).conversation) (sym (nil_right s.conversation)) (g (placed x rest s))
+
+pub quiet : {A : Type 0} (action : State → Outcome A) (x : Seen) (m : Memory) (r : Result A Stop) → Grows action → Quiet r action x.memory m → Does action x (record x { memory = m }) [] r
+quiet action x m r g q = record {
+  says = λ s rest. subst (λ t. Says r (action (placed x rest s)) (placed (record x { memory = m }) rest t)) (sym (said_nothing s)) (q (placed x rest s));
+  left = left_nothing action x r g;
+}
+
+-- want of memory, before anything was asked
+pub no_memory : {A : Type 0} (action : State → Outcome A) (x y : Seen) → Grows action → Does {A = A} action x y [] (Err stops.OutOfMemory)
+no_memory action x y g = record { says = λ s rest. tt; left = left_nothing action x (Err stops.OutOfMemory) g }
+
+-- ---- one part, and then what follows
+
+module _ {A B : Type 0} (first : State → Outcome A) (go : A → State → Outcome B) (x y z : Seen) (a : A) (g h : List Logged) (r : Result B Stop) where
+  goes_on : Does first x y g (Ok a) → (s : State) (rest : List Answer) → next (first (placed x (answers_in (g ++ h) ++ rest) s)) go ≡ go a (placed y (answers_in h ++ rest) (saying g s))
+  goes_on p s rest = (λ j. next (first (placed x (answers-append g h rest j) s)) go) ∙ (λ j. next (p.says s (answers_in h ++ rest) j) go)
+
+  left_next : (r : Result B Stop) → ((s : State) (rest : List Answer) → next (first (placed x (answers_in (g ++ h) ++ rest) s)) go ≡ go a (placed y (answers_in h ++ rest) (saying g s)))
+      → Left (go a) y h r → Left (λ s. next (first s) go) x (g ++ h) r
+  left_next (Ok b) e l = tt
+  left_next (Err stops.Finished) e l = tt
+  left_next (Err (stops.Trapped trap)) e l = tt
+  left_next (Err stops.OutOfMemory) e l = λ s rest.
+      subst (λ c. IsFront c (state_of (next (first (placed x (answers_in (g ++ h) ++ rest) s)) go)).conversation) (append_assoc s.conversation g h)
+      (subst (λ o. IsFront ((s.conversation ++ g) ++ h) (state_of o).conversation) (sym (e s rest)) (l (saying g s) rest))
+
+  pub and_next : Does first x y g (Ok a) → Does (go a) y z h r → Does (λ s. next (first s) go) x z (g ++ h) r
+  and_next p q = record {
+    says = λ s rest.
+        subst (λ o. Says r o (placed z rest (saying (g ++ h) s))) (sym (goes_on p s rest))
+        (subst (λ t. Says r (go a (placed y (answers_in h ++ rest) (saying g s))) (placed z rest t)) (said_both g h s) (q.says (saying g s) rest));
+    left = left_next r (goes_on p) q.left;
+  }
+
+-- one part that stops
+left_stop : {A B : Type 0} (first : State → Outcome A) (go : A → State → Outcome B) (x : Seen) (g : List Logged) (stop : Stop) → ((a : A) → Grows (go a))
+    → Left {A = A} first x g (Err stop) → Left {A = B} (λ s. next (first s) go) x g (Err stop)
+left_stop first go x g stops.Finished h l = tt
+left_stop first go x g (stops.Trapped trap) h l = tt
+left_stop first go x g stops.OutOfMemory h l = λ s rest. front_next (s.conversation ++ g) (first (placed x (answers_in g ++ rest) s)) go (l s rest) h
+
+pub and_stop : {A B : Type 0} (first : State → Outcome A) (go : A → State → Outcome B) (x y : Seen) (g : List Logged) (stop : Stop) → ((a : A) → Grows (go a))
+    → Does {A = A} first x y g (Err stop) → Does {A = B} (λ s. next (first s) go) x y g (Err stop)
+and_stop first go x y g stop h p = record {
+  says = λ s rest. stopped_next stop (first (placed x (answers_in g ++ rest) s)) (placed y rest (saying g s)) go (p.says s rest);
+  left = left_stop first go x g stop h p.left;
+}
+
+-- ---- the action is another one in the states that are met
+
+left_same : {A : Type 0} (action other : State → Outcome A) (x y : Seen) (g : List Logged) (r : Result A Stop)
+    → ((s : State) (answers : List Answer) → action (placed x answers s) ≡ other (placed y answers s)) → Left other y g r → Left action x g r
+left_same action other x y g (Ok a) h l = tt
+left_same action other x y g (Err stops.Finished) h l = tt
+left_same action other x y g (Err (stops.Trapped trap)) h l = tt
+left_same action other x y g (Err stops.OutOfMemory) h l = λ s rest. subst (λ o. IsFront (s.conversation ++ g) (state_of o).conversation) (sym (h s (answers_in g ++ rest))) (l s rest)
+
+pub same_action : {A : Type 0} (action other : State → Outcome A) (x y z : Seen) (g : List Logged) (r : Result A Stop)
+    → ((s : State) (answers : List Answer) → action (placed x answers s) ≡ other (placed y answers s)) → Does other y z g r → Does action x z g r
+same_action action other x y z g r h p = record {
+  says = λ s rest. subst (λ o. Says r o (placed z rest (saying g s))) (sym (h s (answers_in g ++ rest))) (p.says s rest);
+  left = left_same action other x y g r h p.left;
+}
+
+-- ---- a request
+
+name_kept : (o : Option Tx) (c : Connection) → (with_told o c).name ≡ c.name
+name_kept None c = refl
+name_kept (Some tx) c = refl
+
+pub slot_kept : (o : Option Tx) (c : Connection) → (with_told o c).slot ≡ c.slot
+slot_kept None c = refl
+slot_kept (Some tx) c = refl
+
+-- the connection of a slot is the only one
+pub changed_only : (change : Connection → Connection) (c : Connection) → changed_at c.slot change (c ∷ []) ≡ change c ∷ []
+changed_only change c = λ j. elim (eq-eqb c.slot c.slot refl j) [ true ↦ change c ∷ [] | false ↦ c ∷ [] ]
+
+pub asked_does : (c : Connection) (m : Memory) (request : Request) (reply : Reply)
+    → Does (asked c.slot request) (record { memory = m; connection = Some c }) (record { memory = m; connection = Some (with_told (told_by reply) c) }) (exchange (Some c.slot) request reply ∷ []) (Ok reply)
+asked_does c m request reply = record {
+  says = λ s rest j. gives reply (record s {
+    memory = m;
+    connections = changed_only (with_told (told_by reply)) c j;
+    current = Some (sym (name_kept (told_by reply) c) j);
+    descriptors = [];
+    conversation = s.conversation ++ exchange (Some c.slot) request reply ∷ [];
+    answers = rest;
+  });
+  left = tt;
+}
+
+module _ {X : Type 0} {F : X → Type 0} (talk : DynBox X Global F → Option Talk) (faults : DynBox X Global F → ℕ) where
+  -- a request that was answered, and what is done with the reply
+  pub over_asked : {B : Type 0} (request : Request) (m m' : Memory) (old : Rack X F) (was : Open X F) (new : Rack X F) (now : Open X F) (go : Reply → State → Outcome B) (r : Result B Stop)
+      → (a : Asked talk faults request old was new now) → Grows (go a.reply) → Quiet r (go a.reply) m m'
+      → Over talk faults (λ s. next (asked (slot_of was.conn) request s) go) m old was m' new now r
+  over_asked {B} request m m' old was new now go r a grows q = record {
+    growth = exchange (Some (slot_of was.conn)) request a.reply ∷ [];
+    asks = a.asks;
+    does = and_next (asked (slot_of was.conn) request) go (seen m was) (seen m now) (seen m' now) a.reply (exchange (Some (slot_of was.conn)) request a.reply ∷ []) [] r
+        (subst (λ c. Does (asked (slot_of was.conn) request) (seen m was) (record { memory = m; connection = Some c }) (exchange (Some (slot_of was.conn)) request a.reply ∷ []) (Ok a.reply)) (sym a.view)
+        (asked_does (open_view was) m request a.reply))
+        (quiet (go a.reply) (seen m now) m' r grows q);
+  }
+
+  -- the same with the reply as it was read from the rack
+  pub over_answered : {B : Type 0} (request : Request) (m m' : Memory) (old : Rack X F) (was : Open X F) (new : Rack X F) (now : Open X F) (go : Reply → State → Outcome B) (r : Result B Stop) (reply : Reply)
+      → Asked talk faults request old was new now → Some reply ≡ last_reply_of (log_of new) → ((x : Reply) → Grows (go x)) → Quiet r (go reply) m m'
+      → Over talk faults (λ s. next (asked (slot_of was.conn) request s) go) m old was m' new now r
+  over_answered request m m' old was new now go r reply a e grows q =
+      let both : Some reply ≡ Some a.reply = e ∙ a.last in
+      let same : reply ≡ a.reply = cc in
+      over_asked request m m' old was new now go r a (grows a.reply) (subst (λ x. Quiet r (go x) m m') same q)
+
+  -- a request that found no memory
+  pub over_unasked : {B : Type 0} (action : State → Outcome B) (m : Memory) (old : Rack X F) (was : Open X F) (new : Rack X F) (now : Open X F) → Grows action
+      → Asks talk faults old was.conn new now.conn [] → Over {X = X} {F = F} talk faults {A = B} action m old was m new now (Err stops.OutOfMemory)
+  over_unasked action m old was new now grows asks = record { growth = []; asks = asks; does = no_memory action (seen m was) (seen m now) grows }
+
+  -- a part that asks nothing
+  pub over_quiet : {B : Type 0} (action : State → Outcome B) (m m' : Memory) (rack : Rack X F) (open' : Open X F) (r : Result B Stop) → Grows action → Quiet r action m m'
+      → Over talk faults action m rack open' m' rack open' r
+  over_quiet action m m' rack open' r grows q = record {
+    growth = [];
+    asks = Asks-nil talk faults rack rack open'.conn open'.conn refl refl refl refl (omega arith);
+    does = quiet action (seen m open') m' r grows q;
+  }
+
+  -- one part and then another
+  pub over_next : {A B : Type 0} (first : State → Outcome A) (go : A → State → Outcome B) (m1 m2 m3 : Memory) (r1 : Rack X F) (o1 : Open X F) (r2 : Rack X F) (o2 : Open X F) (r3 : Rack X F) (o3 : Open X F) (a : A) (r : Result B Stop)
+      → Over talk faults first m1 r1 o1 m2 r2 o2 (Ok a) → Over talk faults (go a) m2 r2 o2 m3 r3 o3 r → Over talk faults (λ s. next (first s) go) m1 r1 o1 m3 r3 o3 r
+  over_next first go m1 m2 m3 r1 o1 r2 o2 r3 o3 a r p q = record {
+    growth = p.growth ++ q.growth;
+    asks = Asks-append talk faults r1 o1.conn r2 o2.conn r3 o3.conn p.growth q.growth p.asks q.asks;
+    does = and_next first go (seen m1 o1) (seen m2 o2) (seen m3 o3) a p.growth q.growth r p.does q.does;
+  }
+
+  pub over_stop : {A B : Type 0} (first : State → Outcome A) (go : A → State → Outcome B) (m1 m2 : Memory) (r1 : Rack X F) (o1 : Open X F) (r2 : Rack X F) (o2 : Open X F) (stop : Stop) → ((a : A) → Grows (go a))
+      → Over {X = X} {F = F} talk faults {A = A} first m1 r1 o1 m2 r2 o2 (Err stop) → Over {X = X} {F = F} talk faults {A = B} (λ s. next (first s) go) m1 r1 o1 m2 r2 o2 (Err stop)
+  over_stop first go m1 m2 r1 o1 r2 o2 stop grows p = record {
+    growth = p.growth;
+    asks = p.asks;
+    does = and_stop first go (seen m1 o1) (seen m2 o2) p.growth stop grows p.does;
+  }
+
+  -- ---- `begin transaction`
+
+  pub begun_over : (line : ℕ) (m m' : Memory) (old : Rack X F) (was : Open X F) (new : Rack X F) (now : Open X F) (r : Result (Unit {0}) Stop) (text : Text) (params : List (Option Text))
+      → begins (open_view was) ≡ true → text ≡ begin_text → params ≡ []
+      → Over talk faults (λ s. next (asked (slot_of was.conn) (request.Text text params) s) (λ reply t. controlled line reply t)) m old was m' new now r
+      → Over talk faults (begun line (open_view was)) m old was m' new now r
+  begun_over line m m' old was new now r text params due is none p =
+      subst (λ b. Over talk faults (λ s. elim b [ true ↦ control_sent line (open_view was) begin_text s | false ↦ gives tt s ]) m old was m' new now r) (sym due)
+      (subst (λ ps. Over talk faults (λ s. next (asked (slot_of was.conn) (request.Text begin_text ps) s) (λ reply t. controlled line reply t)) m old was m' new now r) none
+      (subst (λ bs. Over talk faults (λ s. next (asked (slot_of was.conn) (request.Text bs params) s) (λ reply t. controlled line reply t)) m old was m' new now r) is p))
+
+  pub begun_not : (line : ℕ) (m : Memory) (rack : Rack X F) (was : Open X F) → begins (open_view was) ≡ false → Over talk faults (begun line (open_view was)) m rack was m rack was (Ok (tt {0}))
+  begun_not line m rack was e =
+      subst (λ b. Over talk faults (λ s. elim b [ true ↦ control_sent line (open_view was) begin_text s | false ↦ gives tt s ]) m rack was m rack was (Ok (tt {0}))) (sym e)
+      (over_quiet (λ s. gives tt s) m m rack was (Ok (tt {0})) (λ s. same_front s.conversation) (λ s. refl))
+
+  -- with the slot that a connection keeps
+  pub over_slot : {B : Type 0} (action : ℕ → State → Outcome B) (slot slot' : ℕ) (m m' : Memory) (old : Rack X F) (was : Open X F) (new : Rack X F) (now : Open X F) (r : Result B Stop) → slot ≡ slot'
+      → Over talk faults (action slot) m old was m' new now r → Over talk faults (action slot') m old was m' new now r
+  over_slot action slot slot' m m' old was new now r e p = subst (λ n. Over talk faults (action n) m old was m' new now r) e p

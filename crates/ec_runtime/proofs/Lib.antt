@@ -1,0 +1,11 @@
+pub mod Asking
+pub mod Calls
+pub mod Fits
+pub mod Grows
+pub mod Joining
+pub mod Kept
+pub mod Sending
+pub mod Starting
+pub mod Stored
+pub mod Targets
+pub mod Texts

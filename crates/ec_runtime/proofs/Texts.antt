@@ -1,0 +1,46 @@
+-- Texts and values that are read.
+use Rattle.std.proofs.Common.{◌≡◌, ℕ, List, Some, Result, Ok, Err, sym, ◌∙◌}
+use Rattle.ec_base.specs.declared.stop.Trap.{Trap}
+use Rattle.ec_bytes.specs.declared.scalar.address.Ptr.{Ptr}
+use Rattle.ec_convert.specs.declared.host.HostPlace.{HostPlace}
+use Rattle.ec_convert.specs.Host.{given_host}
+use Rattle.ec_objects.specs.Memory.{Memory, text_at}
+use Rattle.ec_transfer.specs.Conversion.{parameter}
+use Rattle.ec_transfer.specs.Hosts.{HostData}
+use Rattle.ec_evaluation.specs.State.{State}
+use Rattle.ec_calls.specs.Outcomes.{Field, trapped, gives, over, next, trying, present, with_memory}
+use Rattle.ec_calls.specs.Inputs.{text_read, value_read}
+use Rattle.ec_runtime.specs.declared.inputs.TextArg.{TextArg}
+use Rattle.ec_runtime.specs.declared.inputs.TextArg.TheVariants as texts
+use Rattle.ec_runtime.specs.Reading.{text_view, TextIs}
+use Rattle.ec_runtime.specs.Places.{place_view}
+use Rattle.ec_runtime.proofs.Targets.{same_host}
+use Rattle.std.proofs.Common.{subst}
+use Rattle.ec_convert.specs.Answers.{GivesParameter}
+use Rattle.ec_convert.specs.declared.stop.ConvStop.{ConvStop}
+use Rattle.ec_convert.specs.declared.stop.ConvStop.TheVariants as conv
+use Rattle.std.specs.Prelude.{ℤ}
+
+pub word_text : (t : TextArg) (bytes : List ℕ) (m : Memory) → t ≡ texts.Word bytes → TextIs (text_view t) m (Some bytes)
+word_text t bytes m e = λ s j. text_read (text_view (e j)) (with_memory m s)
+
+pub held_text : (t : TextArg) (at : Ptr) (bytes : List ℕ) (m : Memory) → t ≡ texts.Held at → Ok bytes ≡ text_at m at.0 → TextIs (text_view t) m (Some bytes)
+held_text t at bytes m e h = λ s.
+    (λ j. text_read (text_view (e j)) (with_memory m s)) ∙ (λ j. next (trying (sym h j) (with_memory m s)) (λ bs u. gives (Some bs) u))
+
+module _ (p : HostPlace) (h : HostData) (e : given_host p ≡ Some h) (m : Memory) where
+  given : (s : State) → value_read (place_view p) (with_memory m s) ≡ trying (parameter m h) (with_memory m s)
+  given s = λ j. next (present ((same_host p ∙ e) j) (with_memory m s)) (λ x t. trying (parameter t.memory x) t)
+
+  pub value_given : (text : Field) → parameter m h ≡ Ok text → (s : State) → value_read (place_view p) (with_memory m s) ≡ gives text (with_memory m s)
+  value_given text q s = given s ∙ (λ j. trying (q j) (with_memory m s))
+
+  pub value_trapped : (trap : Trap) → parameter m h ≡ Err trap → (s : State) → value_read (place_view p) (with_memory m s) ≡ over (trapped trap) (with_memory m s)
+  value_trapped trap q s = given s ∙ (λ j. trying (q j) (with_memory m s))
+
+-- what a conversion that stops says
+pub never_code : (x : ConvStop) (code : ℤ) (r : Result Field Trap) → x ≡ conv.Code code → GivesParameter (Err x) r → ⊥
+never_code x code r e h = subst (λ y. GivesParameter (Err y) r) e h
+
+pub trap_given : (x : ConvStop) (trap : Trap) (r : Result Field Trap) → x ≡ conv.Trapped trap → GivesParameter (Err x) r → r ≡ Err trap
+trap_given x trap r e h = subst (λ y. GivesParameter (Err y) r) e h

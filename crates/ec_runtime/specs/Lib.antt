@@ -1,0 +1,9 @@
+pub mod Calling
+pub mod Does
+pub mod Fitting
+pub mod Opening
+pub mod Places
+pub mod Reading
+pub mod Says
+pub mod Statements
+pub mod Views

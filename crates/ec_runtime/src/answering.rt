@@ -1,0 +1,167 @@
+//! What a reply makes of a statement.
+
+ghost use Rattle.std.specs.Prelude.{◌≡◌, Err};
+ghost use Rattle.ec_transfer.specs.Area.{IsArea};
+ghost use Rattle.ec_calls.specs.Answers.{server_code, count_of, done, replied};
+ghost use Rattle.ec_calls.specs.Connections.{controlled};
+ghost use Rattle.ec_calls.specs.Outcomes.{refused};
+ghost use Rattle.ec_calls.specs.Storing.{counted_rows};
+ghost use Rattle.ec_calls.specs.Running.{is_wanted, rows_stored, table_kept};
+ghost use Rattle.ec_runtime.specs.Says.{Quiet};
+ghost use Rattle.ec_runtime.specs.Views.{outputs_of};
+
+use crate::area::{refuse, tell, tell_count};
+use crate::host::Host;
+use crate::stop::Stop;
+use crate::storing::keep_rows;
+use ec_base::Line;
+use ec_link::{Reply, SqlState, Table};
+use ec_memory::Store;
+use ec_transfer::Finding;
+
+/// The code of a server's refusal.
+fn server_code(state: &SqlState) -> i64
+    ensures { result ≡ server_code state.now.0 }
+{
+    if state.0.as_slice() == b"23505".as_slice() {
+        return -403;
+    }
+    if state.0.as_slice() == b"21000".as_slice() {
+        return -404;
+    }
+    -400
+}
+
+/// The server's refusal ends the call.
+fn refused(store: &mut Store, line: Line, state: &SqlState, message: &[u8]) -> Stop
+    requires { IsArea store.old }
+    ensures quiet { Quiet {A = Unit {0}} (Err result)
+        (refused line.0 (server_code state.now.0) state.now.0 message.now) store.old store.new }
+    ensures kept { IsArea store.new }
+{
+    tell(store, line, server_code(state), *state, message)
+}
+
+/// A reply to transaction control.
+pub(crate) fn controlled(store: &mut Store, line: Line, reply: &Reply) -> Result<(), Stop>
+    requires { IsArea store.old }
+    ensures quiet { Quiet result (controlled line.0 reply.now) store.old store.new }
+    ensures kept { IsArea store.new }
+{
+    match reply {
+        Reply::Rows { .. } => Ok(()),
+        Reply::Done { .. } => Ok(()),
+        Reply::Refused { .. } => Err(refuse(store, line, Finding::ControlRefused)),
+        Reply::Connected => Err(refuse(store, line, Finding::ControlRefused)),
+        Reply::NoTarget => Err(refuse(store, line, Finding::ControlRefused)),
+        Reply::Broken => Err(refuse(store, line, Finding::ControlRefused)),
+    }
+}
+
+/// A statement without rows is done, where outputs are wanted or not.
+fn done(store: &mut Store, line: Line, wanted: bool, count: Option<u64>) -> Result<(), Stop>
+    requires { IsArea store.old }
+    ensures quiet { Quiet result (done line.0 wanted count) store.old store.new }
+    ensures kept { IsArea store.new }
+{
+    match count {
+        Some(0) => Err(refuse(store, line, Finding::NoData)),
+        _ => {
+            if wanted {
+                Err(refuse(store, line, Finding::TooManyTargets))
+            } else {
+                Ok(())
+            }
+        }
+    }
+}
+
+/// The count that is told.
+fn count_of(count: Option<u64>) -> u64
+    ensures { result ≡ count_of count }
+{
+    match count {
+        Some(rows) => rows,
+        None => 0,
+    }
+}
+
+/// Stores rows, where they are wanted.
+fn store_rows(store: &mut Store, line: Line, hosts: &[Host], table: &Table) -> Result<(), Stop>
+    requires { IsArea store.old }
+    ensures quiet { Quiet result (rows_stored line.0 (outputs_of hosts.now) table.now)
+        store.old store.new }
+    ensures kept { IsArea store.new }
+{
+    match hosts {
+        [] => Ok(()),
+        _ => keep_rows(
+            store,
+            line,
+            hosts,
+            table.cols().len(),
+            table.rows().as_slice(),
+        ),
+    }
+}
+
+/// Rows that are counted.
+fn counted_rows(store: &mut Store, line: Line, hosts: &[Host], table: &Table) -> Result<(), Stop>
+    requires { IsArea store.old }
+    ensures quiet { Quiet result (counted_rows line.0 table.now.rows
+        (rows_stored line.0 (outputs_of hosts.now) table.now)) store.old store.new }
+    ensures kept { IsArea store.new }
+{
+    match table.rows().as_slice() {
+        [] => Err(refuse(store, line, Finding::NoData)),
+        _ => store_rows(store, line, hosts, table),
+    }
+}
+
+/// Counts the rows of an answer, and stores them.
+fn keep_table(store: &mut Store, line: Line, hosts: &[Host], table: &Table) -> Result<(), Stop>
+    requires { IsArea store.old }
+    ensures quiet { Quiet result (table_kept line.0 (outputs_of hosts.now) table.now)
+        store.old store.new }
+    ensures kept { IsArea store.new }
+{
+    tell_count(store, table.rows().len() as u64);
+    counted_rows(store, line, hosts, table)
+}
+
+/// Whether outputs are wanted.
+fn is_wanted(hosts: &[Host]) -> bool
+    ensures { result ≡ is_wanted (outputs_of hosts.now) }
+{
+    match hosts {
+        [] => false,
+        _ => true,
+    }
+}
+
+/// What a reply makes of a statement with these hosts.
+pub(crate) fn answered(
+    store: &mut Store,
+    line: Line,
+    hosts: &[Host],
+    reply: &Reply,
+) -> Result<(), Stop>
+    requires { IsArea store.old }
+    ensures quiet { Quiet result (replied line.0 (is_wanted (outputs_of hosts.now))
+        (table_kept line.0 (outputs_of hosts.now)) reply.now) store.old store.new }
+    ensures kept { IsArea store.new }
+{
+    match reply {
+        Reply::Rows { table, .. } => keep_table(store, line, hosts, table),
+        Reply::Done { count, .. } => {
+            tell_count(store, count_of(*count));
+            done(store, line, is_wanted(hosts), *count)
+        }
+        Reply::Refused { state, message, .. } => {
+            Err(refused(store, line, state, message.as_slice()))
+        }
+        Reply::Connected => Err(refuse(store, line, Finding::ReplyOutOfPlace)),
+        Reply::NoTarget => Err(refuse(store, line, Finding::ReplyOutOfPlace)),
+        Reply::Broken => Err(refuse(store, line, Finding::ConnectionBroken)),
+    }
+}

@@ -1,0 +1,73 @@
+//! What a call tells in the communication area.
+
+ghost use Rattle.std.specs.Prelude.{◌≡◌};
+ghost use Rattle.ec_transfer.specs.Area.{IsArea};
+ghost use Rattle.ec_transfer.specs.Codes.{code_of, state_of, text_of_finding};
+ghost use Rattle.ec_calls.specs.Outcomes.{fresh_area, told_area, warned_area, counted_area};
+ghost use Rattle.ec_runtime.specs.declared.stop.Stop.TheVariants as stops;
+
+use crate::stop::Stop;
+use ec_base::Line;
+use ec_link::SqlState;
+use ec_memory::Store;
+use ec_sqlca::{raise, reset, rows, warn};
+use ec_transfer::Finding;
+
+/// The area as it is when a statement begins.
+#[tactic(auto, unfolding(ec_calls::specs::Outcomes::fresh_area))]
+pub(crate) fn begin_area(store: &mut Store)
+    requires { IsArea store.old }
+    ensures area { store.new ≡ fresh_area store.old }
+    ensures kept { IsArea store.new }
+{
+    reset(store);
+}
+
+/// A number of rows is told.
+#[tactic(auto, unfolding(ec_calls::specs::Outcomes::counted_area))]
+pub(crate) fn tell_count(store: &mut Store, count: u64)
+    requires { IsArea store.old }
+    ensures area { store.new ≡ counted_area count store.old }
+    ensures kept { IsArea store.new }
+{
+    rows(store, count);
+}
+
+/// A value that was cut is told.
+#[tactic(auto, unfolding(ec_calls::specs::Outcomes::warned_area))]
+pub(crate) fn tell_cut(store: &mut Store)
+    requires { IsArea store.old }
+    ensures area { store.new ≡ warned_area store.old }
+    ensures kept { IsArea store.new }
+{
+    warn(store);
+}
+
+/// A code with its state and its message ends the call.
+#[tactic(auto, unfolding(ec_calls::specs::Outcomes::told_area))]
+pub(crate) fn tell(
+    store: &mut Store,
+    line: Line,
+    code: i64,
+    state: SqlState,
+    message: &[u8],
+) -> Stop
+    requires { IsArea store.old }
+    ensures stop { result ≡ stops.Finished }
+    ensures area { store.new ≡ told_area code state.0 message.now line.0 store.old }
+    ensures kept { IsArea store.new }
+{
+    raise(store, code, state, message, line);
+    Stop::Finished
+}
+
+/// What the library finds wrong by itself ends the call.
+pub(crate) fn refuse(store: &mut Store, line: Line, finding: Finding) -> Stop
+    requires { IsArea store.old }
+    ensures stop { result ≡ stops.Finished }
+    ensures area { store.new
+        ≡ told_area (code_of finding) (state_of finding) (text_of_finding finding) line.0 store.old }
+    ensures kept { IsArea store.new }
+{
+    tell(store, line, finding.code(), finding.state(), finding.text())
+}

@@ -1,0 +1,105 @@
+//! What a call reads before it does anything.
+
+ghost use Rattle.std.specs.Prelude.{◌≡◌, map, IsSome};
+ghost use Rattle.ec_calls.specs.Inputs.{member_read};
+ghost use Rattle.ec_evaluation.specs.State.{Connection};
+ghost use Rattle.std.specs.declared.option.Option.{Option};
+ghost use Rattle.ec_runtime.specs.Reading.{values_read, input_view, text_view, Finds, Reads};
+ghost use Rattle.ec_runtime.specs.Says.{Quiet};
+
+use crate::host::Host;
+use crate::stop::Stop;
+use ec_base::{Bytes, List, Trap};
+use ec_bytes::Ptr;
+use ec_convert::{ConvStop, to_text};
+use ec_memory::Store;
+use std::alloc::Global;
+
+/// A text of a call: none, the bytes of a literal, or those that a pointer leads to up to the zero byte.
+#[derive(Debug, Drop)]
+pub enum TextArg {
+    Absent,
+    Word(Bytes),
+    Held(Ptr),
+}
+
+/// A value that a statement is given.
+#[derive(Debug, Drop)]
+pub enum Input {
+    Host(Host),
+    Constant(Bytes),
+}
+
+/// Reads the value of a host, or `None` for NULL.
+fn value(alloc: Global, store: &Store, host: &Host) -> Result<Option<Bytes>, Stop>
+    ensures { Quiet result (member_read (input_view (Input.Host host.now))) store.now store.now }
+{
+    match to_text(alloc, store, &host.place) {
+        Ok(text) => Ok(text),
+        Err(ConvStop::Trapped(trap)) => Err(Stop::Trapped(trap)),
+        Err(ConvStop::Code(_)) => unreachable!(),
+        Err(ConvStop::OutOfMemory) => Err(Stop::OutOfMemory),
+    }
+}
+
+/// Reads an input.
+fn field_of(alloc: Global, store: &Store, it: &Input) -> Result<Option<Bytes>, Stop>
+    ensures { Quiet result (member_read (input_view it.now)) store.now store.now }
+{
+    match it {
+        Input::Host(host) => value(alloc, store, host),
+        Input::Constant(bytes) => match List::from_slice(alloc, bytes.as_slice()) {
+            Ok(copy) => Ok(Some(copy)),
+            Err(_) => Err(Stop::OutOfMemory),
+        },
+    }
+}
+
+/// Reads the inputs in order.
+pub(crate) fn values(
+    alloc: Global,
+    store: &Store,
+    inputs: &[Input],
+) -> Result<List<Option<Bytes>>, Stop>
+    ensures { Quiet result (values_read (map input_view inputs.now)) store.now store.now }
+{
+    let mut texts = List::new(alloc);
+    for it in inputs {
+        match field_of(alloc, store, it) {
+            Err(stop) => return Err(stop),
+            Ok(text) => match texts.push(text) {
+                Err(_) => return Err(Stop::OutOfMemory),
+                Ok(()) => {}
+            },
+        }
+    }
+    Ok(texts)
+}
+
+/// Reads a text, of which nothing is kept.
+pub(crate) fn pass_text(store: &Store, text: &TextArg) -> Result<(), Trap>
+    ensures { Reads result (text_view text.now) store.now }
+{
+    match text {
+        TextArg::Absent => Ok(()),
+        TextArg::Word(_) => Ok(()),
+        TextArg::Held(at) => match store.text(*at) {
+            Ok(_) => Ok(()),
+            Err(trap) => Err(trap),
+        },
+    }
+}
+
+/// Whether a text names the connection: without a name the current one is meant.
+pub(crate) fn finds(store: &Store, name: &[u8], text: &TextArg) -> Result<bool, Trap>
+    ensures { Finds result (text_view text.now) name.now store.now }
+{
+    match text {
+        TextArg::Absent => Ok(true),
+        TextArg::Word(bytes) => Ok(name == bytes.as_slice()),
+        TextArg::Held(at) => match store.text(*at) {
+            Ok(bytes) => Ok(name == bytes),
+            Err(trap) => Err(trap),
+        },
+    }
+}

@@ -1,0 +1,19 @@
+//! The calls of the library, over a memory and a rack of links.
+#![tactic(auto)]
+
+mod answering;
+mod area;
+mod call;
+mod host;
+mod inputs;
+mod library;
+mod open;
+mod running;
+mod stop;
+mod storing;
+
+pub use call::Call;
+pub use host::{Host, places_that_fit};
+pub use inputs::{Input, TextArg};
+pub use library::Library;
+pub use stop::CallStop;
