@@ -10,6 +10,7 @@ use Rattle.ec_typing.specs.Worlds.{MembersData, StructInfo, struct_named, unlist
 use Rattle.ec_typing.specs.Expressions.{first_types, first_of_members, typed_members}
 use Rattle.ec_typing.specs.Expressions as rule
 use Rattle.ec_scopes.specs.declared.structs.StructRow.{StructRow}
+use Rattle.ec_scopes.specs.Counts.{counted}
 use Rattle.ec_scopes.specs.Measures.{rounded, measured, IsSmallMeasure}
 use Rattle.ec_scopes.specs.Structs.{members_view, listed_of, shapes_of, shape_by, stands_by, closed_of, opened, close_as, close_at, closings, infos, listed_at, members_at, is_begun, AreListed, AreSmall, IsKept}
 use Rattle.ec_scopes.specs.declared.measures.Measure.TheVariants.{Unknown}
@@ -307,33 +308,39 @@ pub none-listed : (o : Option StructRow) {m : MembersData} → option_map (λ r.
 none-listed None h e = refl
 none-listed (Some r) h e = let q : members_view r.members ≡ _ = cc in ap listed_of q ∙ e
 
-pub kept-push : (rows rows' : List StructRow) (ks : List ℕ) (r : StructRow) → rows' ≡ rows ++ r ∷ [] → r.measure ≡ Unknown → IsKept rows ks → IsKept rows' ks
-kept-push rows rows' ks r e m k = subst (λ l. IsKept l ks) (sym e) (record {
+pub kept-push : (rows rows' : List StructRow) (ks : List ℕ) (r : StructRow) → rows' ≡ rows ++ r ∷ [] → r.measure ≡ Unknown → r.stands_for ≡ 0 → IsKept rows ks → IsKept rows' ks
+kept-push rows rows' ks r e m n k = subst (λ l. IsKept l ks) (sym e) (record {
   lists = listed-more rows r ks k.lists;
   fits = small-more rows r k.fits (subst (λ x. IsSmallMeasure x) (sym m) tt);
   measures = map-append (λ x. x.measure) rows (r ∷ []) ∙ (λ i. k.measures i ++ m i ∷ [])
       ∙ sym (ap (map (λ s. measured s.shape)) (infos-more rows r ks k.lists) ∙ map-append (λ s. measured s.shape) (infos rows ks) (opened r ∷ []));
+  counts = map-append (λ x. x.stands_for) rows (r ∷ []) ∙ (λ i. k.counts i ++ n i ∷ [])
+      ∙ sym (ap (map (λ s. counted s.stands_for)) (infos-more rows r ks k.lists) ∙ map-append (λ s. counted s.stands_for) (infos rows ks) (opened r ∷ []));
 })
 
-pub kept-begin : (rows rows' : List StructRow) (ks : List ℕ) (k : ℕ) (r : StructRow) → rows' ≡ set rows k r → r.measure ≡ Unknown → listed_at rows k ≡ None → IsKept rows ks → IsKept rows' ks
-kept-begin rows rows' ks k r e m none kept =
+pub kept-begin : (rows rows' : List StructRow) (ks : List ℕ) (k : ℕ) (r : StructRow) → rows' ≡ set rows k r → r.measure ≡ Unknown → r.stands_for ≡ 0 → listed_at rows k ≡ None → IsKept rows ks → IsKept rows' ks
+kept-begin rows rows' ks k r e m n none kept =
     let d = apart-of rows ks k kept.lists none in
     subst (λ l. IsKept l ks) (sym e) (record {
       lists = listed-set rows r k ks d kept.lists;
       fits = small-set rows k r kept.fits (subst (λ x. IsSmallMeasure x) (sym m) tt);
       measures = map-set (λ x. x.measure) rows k r ∙ (λ i. set (kept.measures i) k (m i))
           ∙ sym (ap (map (λ s. measured s.shape)) (infos-set rows r ks k d) ∙ map-set (λ s. measured s.shape) (infos rows ks) k (opened r));
+      counts = map-set (λ x. x.stands_for) rows k r ∙ (λ i. set (kept.counts i) k (n i))
+          ∙ sym (ap (map (λ s. counted s.stands_for)) (infos-set rows r ks k d) ∙ map-set (λ s. counted s.stands_for) (infos rows ks) k (opened r));
     })
 
 pub kept-close : (rows rows' : List StructRow) (ks ks' : List ℕ) (k : ℕ) (r : StructRow) (ms : rule.Members) → rows' ≡ set rows k r → ks' ≡ ks ++ k ∷ [] → listed_of (members_view r.members) ≡ Some ms
-    → r.measure ≡ measured (shape_by (infos rows ks) ms) → IsSmallMeasure r.measure → listed_at rows k ≡ None → k < length rows → IsKept rows ks → IsKept rows' ks'
-kept-close rows rows' ks ks' k r ms e f l m small none h kept =
+    → r.measure ≡ measured (shape_by (infos rows ks) ms) → IsSmallMeasure r.measure → r.stands_for ≡ counted (stands_by r.varchar (infos rows ks) ms) → listed_at rows k ≡ None → k < length rows → IsKept rows ks → IsKept rows' ks'
+kept-close rows rows' ks ks' k r ms e f l m small n none h kept =
     let d = apart-of rows ks k kept.lists none in
     subst (λ l. IsKept l ks') (sym e) (subst (λ l. IsKept (set rows k r) l) (sym f) (record {
       lists = listed-last (set rows k r) ks k (listed-set rows r k ks d kept.lists) (subst (λ (o : Option StructRow). IsSome (option_and_then (λ r. listed_of (members_view r.members)) o)) (sym (get-set-same rows k r h)) (subst (λ (o : Option rule.Members). IsSome o) (sym l) refl));
       fits = small-set rows k r kept.fits small;
       measures = map-set (λ x. x.measure) rows k r ∙ (λ i. set (kept.measures i) k (m i))
           ∙ sym (ap (map (λ s. measured s.shape)) (infos-close rows r ks k ms d h l) ∙ map-set (λ s. measured s.shape) (infos rows ks) k (closed_of r.tag r.varchar ms (infos rows ks)));
+      counts = map-set (λ x. x.stands_for) rows k r ∙ (λ i. set (kept.counts i) k (n i))
+          ∙ sym (ap (map (λ s. counted s.stands_for)) (infos-close rows r ks k ms d h l) ∙ map-set (λ s. counted s.stands_for) (infos rows ks) k (closed_of r.tag r.varchar ms (infos rows ks)));
     }))
 
 -- ---- members

@@ -1,4 +1,5 @@
 pub mod Closings
+pub mod HostCounts
 pub mod Loops
 pub mod Sizes
 pub mod Steps

@@ -9,6 +9,7 @@ use Rattle.ec_language.specs.Letters.{Text}
 use Rattle.ec_typing.specs.Worlds.{MembersData, unlisted, begun, listed, StructInfo, World, Rule, out, is_listed, is_within}
 use Rattle.ec_typing.specs.Expressions as rule
 use Rattle.ec_scopes.specs.declared.measures.Measure.{Measure}
+use Rattle.ec_scopes.specs.Counts.{counted}
 use Rattle.ec_scopes.specs.Measures.{measured, IsSmallMeasure}
 use Rattle.ec_scopes.specs.declared.structs.Members.{Members}
 use Rattle.ec_scopes.specs.declared.structs.Members.TheVariants as m
@@ -85,11 +86,12 @@ abbrev pub AreSmall : List StructRow → Type 0
 AreSmall [] = Unit {0}
 AreSmall (r ∷ rs) = IsSmallMeasure r.measure × AreSmall rs
 
--- Those that have closed list their members, and each struct is measured as its shape says.
+-- Those that have closed list their members, and each struct is measured as its shape says, and counted as hosts of it stand for members.
 pub record IsKept (rows : List StructRow) (closed : List ℕ) : Type 0 where
   pub lists : AreListed rows closed
   pub fits : AreSmall rows
   pub measures : map (λ r. r.measure) rows ≡ map (λ s. measured s.shape) (infos rows closed)
+  pub counts : map (λ r. r.stands_for) rows ≡ map (λ s. counted s.stands_for) (infos rows closed)
 
 -- what is known of the size of a type among these structs
 abbrev pub measure_in : List StructInfo → TyData → Measure

@@ -1,6 +1,8 @@
 //! What is known where a part of a program stands: the scopes, the structs and the declarations so far, and the first violation.
 #![tactic(auto)]
 
+mod counts;
+mod embedded;
 mod entries;
 mod found;
 mod measures;

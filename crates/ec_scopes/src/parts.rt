@@ -81,8 +81,8 @@ impl Checker {
         }
     }
 
-    // What the name denotes here, if it stands for something.
-    fn denoted_by(&self, name: &[u8]) -> Option<u32>
+    /// The number of the declaration that the name denotes here, if it stands for something.
+    pub fn denoted_by(&self, name: &[u8]) -> Option<u32>
         ensures { result ≡ denoted_by (look_up name.now (world_of self.now)) }
     {
         match self.look_up(name) {

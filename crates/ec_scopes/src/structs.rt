@@ -5,11 +5,14 @@ ghost use Rattle.std.specs.Option.{option_copied};
 ghost use Rattle.ec_ctypes.specs.views.Types.{ty_view};
 ghost use Rattle.ec_typing.specs.Worlds as rule;
 ghost use Rattle.ec_scopes.specs.Entries.{named_view, type_view};
-ghost use Rattle.ec_scopes.specs.Structs.{members_view, infos, begun_at, closed_of, shape_by, members_at, complete_in, arrays_within_in, measure_in, member_shape, is_begun, opened};
+ghost use Rattle.ec_scopes.specs.Structs.{members_view, infos, begun_at, closed_of, shape_by, members_at, complete_in, arrays_within_in, measure_in, member_shape, is_begun, opened, stands_by};
+ghost use Rattle.ec_scopes.specs.Counts.{counted, member_stands, members_among};
+ghost use Rattle.ec_typing.specs.Expressions as expressions;
 ghost use Rattle.ec_scopes.specs.declared.measures.Measure.TheVariants as measures;
 ghost use Rattle.ec_scopes.specs.Measures.{measured, IsSmallMeasure};
 ghost use Rattle.ec_ctypes.specs.trees.Types.{structure};
 
+use crate::counts::joined_count;
 use crate::measures::{Measure, joined_measure, repeated_measure, rounded_measure, scalar_measure};
 use crate::shared::Shared;
 use crate::table::Table;
@@ -53,6 +56,8 @@ pub struct StructRow {
     pub members: Members,
     /// What is known of its size.
     pub measure: Measure,
+    /// How many members a host of it stands for, inner structs too: up to 1000, or 1001 for all above.
+    pub stands_for: u32,
 }
 
 /// The structs of a program, numbered as they are met, and the numbers of those whose members are closed, in this order. Each
@@ -175,6 +180,7 @@ impl StructTable {
             return Err(OutOfMemory);
         }
         let measure = self.struct_measure(&members);
+        let stands_for = self.host_count(varchar, &members);
         let alloc = self.rows.allocator();
         let members = Shared::new(alloc, members)?;
         self.closed.push(k)?;
@@ -185,6 +191,7 @@ impl StructTable {
                 varchar,
                 members: Members::Listed(members),
                 measure,
+                stands_for,
             },
         );
         Ok(measure)
@@ -269,6 +276,75 @@ impl StructTable {
         }
     }
 
+    /// How many members a host of this type stands for.
+    fn stands_for(&self, ty: &Ty) -> u32
+        ensures { result ≡ counted (expressions.stands_for (infos self.now.0 self.now.1)
+            (ty_view ty.now)) }
+    {
+        match ty {
+            Ty::Struct(k) => self.stands_for_at(*k),
+            _ => 1,
+        }
+    }
+
+    /// How many members a host of the struct of this number stands for.
+    fn stands_for_at(&self, k: u32) -> u32
+        ensures { result ≡ counted (expressions.stands_for (infos self.now.0 self.now.1)
+            (structure k)) }
+    {
+        match self.rows.get(k as usize) {
+            Some(row) => row.stands_for,
+            None => 0,
+        }
+    }
+
+    /// How many members a host of this type stands for. An array of structs stands for the members of one of them.
+    pub fn members_in(&self, ty: &Ty) -> u32
+        ensures { result ≡ counted (members_among (infos self.now.0 self.now.1)
+            (ty_view ty.now)) }
+    {
+        match ty {
+            Ty::Array(of, _) => self.stands_for(of.get()),
+            _ => self.stands_for(ty),
+        }
+    }
+
+    /// How many members a host of a struct with these members stands for. That of a VARCHAR stands for itself.
+    fn host_count(&self, varchar: bool, members: &Table<Option<Ty>>) -> u32
+        ensures { result ≡ counted (stands_by varchar (infos self.now.0 self.now.1)
+            (named_view type_view members.now)) }
+    {
+        if varchar {
+            1
+        } else {
+            self.members_count(members)
+        }
+    }
+
+    /// How many members these stand for.
+    fn members_count(&self, members: &Table<Option<Ty>>) -> u32
+        ensures { result ≡ counted (expressions.stands_for_all (infos self.now.0 self.now.1)
+            (named_view type_view members.now)) }
+    {
+        let mut all = 0;
+        for i in 0..members.len() {
+            all = joined_count(all, self.member_count(members, i));
+        }
+        all
+    }
+
+    /// How many members the one of this number stands for.
+    fn member_count(&self, members: &Table<Option<Ty>>, i: usize) -> u32
+        ensures { result ≡ counted (member_stands (infos self.now.0 self.now.1)
+            (option_map (λ e. e.1) (slice_get members.now i))) }
+    {
+        match members.value_at(i) {
+            Some(Some(ty)) => self.stands_for(ty),
+            Some(None) => 1,
+            None => 0,
+        }
+    }
+
     /// Whether no array type in this one is larger than the limit.
     #[tactic(auto, using(crate::proofs::Sizes::small_within))]
     pub fn arrays_within(&self, ty: &Ty) -> bool
@@ -297,6 +373,7 @@ impl StructTable {
 fn open_row(tag: Option<Name>, is_begun: bool) -> StructRow
     ensures opened { opened result ≡ rule.struct_named tag (begun_at is_begun) }
     ensures measure { result.measure ≡ measures.Unknown }
+    ensures count { result.stands_for ≡ 0 }
 {
     let members = if is_begun {
         Members::Begun
@@ -308,5 +385,6 @@ fn open_row(tag: Option<Name>, is_begun: bool) -> StructRow
         varchar: false,
         members,
         measure: Measure::Unknown,
+        stands_for: 0,
     }
 }

@@ -73,7 +73,7 @@ fn leaf(checker: &mut Checker, at: Place, e: &Expr, levels: u32) -> Result<Opera
             Ok(compound_rule(checker, at, *op, x, y))
         }
         Expr::Call(f, es) => {
-            let o = call(checker, at, f.as_slice(), es.get().as_slice(), levels)?;
+            let o = call_within(checker, at, f.as_slice(), es.get().as_slice(), levels)?;
             Ok(o)
         }
         Expr::CallOther(f, es) => {
@@ -113,7 +113,7 @@ fn leaf(checker: &mut Checker, at: Place, e: &Expr, levels: u32) -> Result<Opera
 
 /// A call of the function of a name.
 #[cycle(walk)]
-fn call(
+pub(crate) fn call_within(
     checker: &mut Checker,
     at: Place,
     name: &[u8],

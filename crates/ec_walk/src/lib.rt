@@ -7,4 +7,4 @@ mod members;
 mod spines;
 mod walk;
 
-pub use walk::{base, expr, last_length, lengths, outer_lengths};
+pub use walk::{base, call, expr, last_length, lengths, outer_lengths};

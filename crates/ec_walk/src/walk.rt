@@ -1,14 +1,15 @@
 //! The walk as callers have it.
 
 ghost use Rattle.std.specs.Prelude.{◌≡◌};
-ghost use Rattle.ec_ctypes.specs.views.Exprs.{expr_view, base_view, dims_view};
+ghost use Rattle.ec_ctypes.specs.trees.Exprs.{call};
+ghost use Rattle.ec_ctypes.specs.views.Exprs.{expr_view, exprs_view, base_view, dims_view};
 ghost use Rattle.ec_typing.specs.Expressions as rule;
 ghost use Rattle.ec_scopes.specs.Entries.{place_view, type_view};
 ghost use Rattle.ec_scopes.specs.Seen.{world_of, Does};
 ghost use Rattle.ec_rules.specs.Seen.{operand_view};
 
 use crate::cycle::{
-    base_within, expr_within, last_length_within, lengths_within, outer_lengths_within,
+    base_within, call_within, expr_within, last_length_within, lengths_within, outer_lengths_within,
 };
 use ec_base::{List, OutOfMemory};
 use ec_ctypes::{Base, Expr, Ty};
@@ -24,6 +25,19 @@ pub fn expr(checker: &mut Checker, at: Place, e: &Expr) -> Result<Operand, OutOf
     ensures { Does operand_view (rule.expr (place_view at) (expr_view e.now) (world_of checker.old)) checker.old result checker.new }
 {
     expr_within(checker, at, e, LEVELS)
+}
+
+/// What is found out about a call of the function of this name (ISO/IEC 9899:1999, 6.5.2.2).
+pub fn call(
+    checker: &mut Checker,
+    at: Place,
+    name: &[u8],
+    es: &[Expr],
+) -> Result<Operand, OutOfMemory>
+    ensures { Does operand_view (rule.expr (place_view at) (call name.now (exprs_view es.now))
+        (world_of checker.old)) checker.old result checker.new }
+{
+    call_within(checker, at, name, es, LEVELS)
 }
 
 /// The type that a declaration begins with (ISO/IEC 9899:1999, 6.7.2).

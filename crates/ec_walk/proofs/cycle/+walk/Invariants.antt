@@ -38,8 +38,8 @@ decreases-last_length_within l = 10 * l.levels + 3
 abbrev pub decreases-outer_lengths_within : goal.decreases-outer_lengths_within
 decreases-outer_lengths_within l = 10 * l.levels + 3
 
-abbrev pub decreases-call : goal.decreases-call
-decreases-call l = 10 * l.levels + 3
+abbrev pub decreases-call_within : goal.decreases-call_within
+decreases-call_within l = 10 * l.levels + 3
 
 abbrev pub decreases-args : goal.decreases-args
 decreases-args l = 10 * l.levels + 2

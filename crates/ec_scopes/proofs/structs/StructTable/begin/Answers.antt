@@ -4,7 +4,7 @@ use Rattle.ec_scopes.proofs.Closings.{kept-begin, infos-set, none-listed, apart-
 use Rattle.ec_scopes.proofs.structs.StructTable.begin.Goals as goal
 
 pub invariant_of-self : goal.invariant_of-self
-invariant_of-self c = kept-begin c.self.inside.rows _ c.self.inside.closed c.args.k c.open_row.result c.set.ensures c.open_row.ensures.measure (ap (λ l. listed_at l c.args.k) (λ i. (c.self.view_is i).0) ∙ none-listed (slice_get c.args.self.now.0 c.args.k) (members-kept c.args.self.now.0 c.args.self.now.1 c.args.k ∙ c.requires) refl) c.self.invariant
+invariant_of-self c = kept-begin c.self.inside.rows _ c.self.inside.closed c.args.k c.open_row.result c.set.ensures c.open_row.ensures.measure c.open_row.ensures.count (ap (λ l. listed_at l c.args.k) (λ i. (c.self.view_is i).0) ∙ none-listed (slice_get c.args.self.now.0 c.args.k) (members-kept c.args.self.now.0 c.args.self.now.1 c.args.k ∙ c.requires) refl) c.self.invariant
 
 pub returns-then-k-len-clause-infos : goal.returns-then-k-len-clause-infos
 returns-then-k-len-clause-infos c =

@@ -4,7 +4,7 @@ use Rattle.ec_scopes.proofs.Closings.{kept-push, infos-more}
 use Rattle.ec_scopes.proofs.structs.StructTable.push.Goals as goal
 
 pub invariant_of-self-2 : goal.invariant_of-self-2
-invariant_of-self-2 c = kept-push c.self.inside.rows _ c.self.inside.closed c.open_row.result c.in_ok-push.ensures.ok c.open_row.ensures.measure c.self.invariant
+invariant_of-self-2 c = kept-push c.self.inside.rows _ c.self.inside.closed c.open_row.result c.in_ok-push.ensures.ok c.open_row.ensures.measure c.open_row.ensures.count c.self.invariant
 
 pub returns-clause-infos : goal.returns-clause-infos
 returns-clause-infos c =
