@@ -1,0 +1,3 @@
+pub mod CursorTables
+pub mod Lists
+pub mod Ordered
