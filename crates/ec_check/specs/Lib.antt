@@ -1,4 +1,3 @@
-pub mod Around
 pub mod Functions
 pub mod Answers
 pub mod Mains

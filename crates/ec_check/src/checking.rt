@@ -7,6 +7,7 @@ ghost use Rattle.ec_language.specs.First.{stop_at};
 ghost use Rattle.ec_scopes.specs.Seen.{world_of, notes_of};
 ghost use Rattle.ec_typed.specs.Orders.{IsNumbered};
 ghost use Rattle.ec_typing.specs.Answers as spec;
+ghost use Rattle.ec_whenever.specs.Tables.{AnswersFor};
 ghost use Rattle.ec_check.specs.Answers.{Checks};
 
 use crate::defined::add_defined;
@@ -14,12 +15,19 @@ use crate::programs::unit_rule;
 use crate::structs::definitions;
 use ec_base::{OutOfMemory, Stop};
 use ec_ctypes::{HandlerTable, HostTable, Typed, Unit};
+use ec_parts::Statements;
 use ec_scopes::{Checker, Table};
 use ec_typed::{Numbered, make_numbered};
 use std::alloc::Global;
 
 // What is known behind a program, and the first of its violations.
-fn checked(alloc: Global, unit: &Unit, written: bool) -> Result<Checker, OutOfMemory>
+fn checked(
+    alloc: Global,
+    unit: &Unit,
+    handlers: &HandlerTable,
+    written: bool,
+) -> Result<Checker, OutOfMemory>
+    requires { AnswersFor (handlers_view handlers.now) (unit_view unit.now).embs }
     ensures world { IfOk result (λ checker. world_of checker
         ≡ (spec.checked written (unit_view unit.now)).world) }
     ensures first { IfOk result (λ checker. stop_at (notes_of checker)
@@ -28,7 +36,8 @@ fn checked(alloc: Global, unit: &Unit, written: bool) -> Result<Checker, OutOfMe
     let mut defined = Table::new(alloc);
     add_defined(alloc, unit.tops.as_slice(), &mut defined)?;
     let mut checker = Checker::start(alloc, written, defined)?;
-    unit_rule(&mut checker, unit)?;
+    let embedded = Statements::new(alloc, unit.embs.as_slice(), handlers)?;
+    unit_rule(&mut checker, unit, &embedded)?;
     Ok(checker)
 }
 
@@ -41,8 +50,7 @@ fn found(alloc: Global, checker: &Checker) -> Result<Numbered, OutOfMemory>
 }
 
 /// Checks a program, as written C or not: the first of its violations, or the program with its types. The tables of the
-/// hosts and of the handlers are those of the program, and stand in the answer. A program with an embedded statement or a
-/// directive is answered with want of memory so far.
+/// hosts and of the handlers are those of the program, and stand in the answer.
 pub fn check(
     alloc: Global,
     unit: Unit,
@@ -50,9 +58,10 @@ pub fn check(
     handlers: HandlerTable,
     written: bool,
 ) -> Result<Typed, Stop>
+    requires { AnswersFor (handlers_view handlers) (unit_view unit).embs }
     ensures { Checks written (unit_view unit) hosts.hosts (handlers_view handlers) result }
 {
-    let checker = checked(alloc, &unit, written)?;
+    let checker = checked(alloc, &unit, &handlers, written)?;
     match checker.first() {
         Some(stop) => return Err(stop),
         None => {}

@@ -13,12 +13,13 @@ ghost use Rattle.ec_typing.specs.Tables.{find};
 ghost use Rattle.ec_typing.specs.Worlds.{function};
 ghost use Rattle.ec_check.specs.Functions.{types_view, numbered_as, function_begins, function_known, function_inside};
 
-use crate::around::Around;
 use crate::labels::add_all_labels;
 use crate::objects::type_or_void;
 use crate::statements::statements;
 use ec_base::{Boxed, FaultKind, List, Name, OutOfMemory};
-use ec_ctypes::{Emb, Func, Param, Stmt, Ty};
+use ec_ctypes::{Func, Param, Stmt, Ty};
+use ec_embedded_rules::Around;
+use ec_parts::Statements;
 use ec_rules::{complete_rule, copy_type, declared_type, within_rule};
 use ec_scopes::{Checker, Entry, Place, Table};
 use ec_type_rules::{is_structure, is_void, same_type};
@@ -346,11 +347,11 @@ fn may_follow(defines: bool, r: &Option<Ty>, ps: &[Option<Ty>], before: &Option<
 // The body of a function, if it has one.
 fn body_rule(
     checker: &mut Checker,
-    embs: &[Emb],
+    embedded: &Statements<'_>,
     r: &Option<Ty>,
     body: &Option<List<Stmt>>,
 ) -> Result<(), OutOfMemory>
-    ensures { Does (λ u. u) (rule.body_rule (map emb_view embs.now) (type_view r.now)
+    ensures { Does (λ u. u) (rule.body_rule (map emb_view embedded.now) (type_view r.now)
         (option_map stmts_view body.now) (world_of checker.old)) checker.old result checker.new }
 {
     match body {
@@ -360,7 +361,7 @@ fn body_rule(
             add_all_labels(checker.alloc(), ss.as_slice(), &mut labels)?;
             checker.no_labels();
             let around = Around {
-                embs,
+                embedded,
                 is_body: false,
                 in_loop: false,
                 labels: &labels,
@@ -451,21 +452,21 @@ fn know_function(
 // The parameters and the body of a function, in a scope of their own.
 fn function_inside(
     checker: &mut Checker,
-    embs: &[Emb],
+    embedded: &Statements<'_>,
     f: &Func,
     at: Place,
     r: &Option<Ty>,
     number: u32,
     before: &Option<Entry>,
 ) -> Result<(), OutOfMemory>
-    ensures { Does (λ u. u) (function_inside (map emb_view embs.now) (func_view f.now)
+    ensures { Does (λ u. u) (function_inside (map emb_view embedded.now) (func_view f.now)
         (place_view at) (type_view r.now) number (option_map entry_view before.now)
         (world_of checker.old)) checker.old result checker.new }
 {
     checker.enter()?;
     let types = params(checker, at, defines(f), f.params.as_slice())?;
     know_function(checker, f, at, r, number, before, types)?;
-    body_rule(checker, embs, r, &f.body)?;
+    body_rule(checker, embedded, r, &f.body)?;
     checker.leave();
     Ok(())
 }
@@ -492,8 +493,12 @@ fn begin_function(
 }
 
 /// A function, which is a place. Its parameters and its body are one scope (ISO/IEC 9899:1999, 6.2.1, 4).
-pub fn function_rule(checker: &mut Checker, embs: &[Emb], f: &Func) -> Result<(), OutOfMemory>
-    ensures { Does (λ u. u) (rule.function_rule (map emb_view embs.now) (func_view f.now)
+pub fn function_rule(
+    checker: &mut Checker,
+    embedded: &Statements<'_>,
+    f: &Func,
+) -> Result<(), OutOfMemory>
+    ensures { Does (λ u. u) (rule.function_rule (map emb_view embedded.now) (func_view f.now)
         (world_of checker.old)) checker.old result checker.new }
 {
     let at = checker.place(f.line)?;
@@ -504,5 +509,5 @@ pub fn function_rule(checker: &mut Checker, embs: &[Emb], f: &Func) -> Result<()
     let number = checker.next_number()?;
     let before = entry_before(checker, f.name.as_slice())?;
     begin_function(checker, f, at, &r, number, &before)?;
-    function_inside(checker, embs, f, at, &r, number, &before)
+    function_inside(checker, embedded, f, at, &r, number, &before)
 }

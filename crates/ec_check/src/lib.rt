@@ -2,12 +2,10 @@
 //! the first violation of a program, and what later phases need where there is none.
 #![tactic(auto)]
 
-mod around;
 mod bodies;
 mod checking;
 mod declarations;
 mod defined;
-mod embedded;
 mod functions;
 mod labels;
 mod objects;

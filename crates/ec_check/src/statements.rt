@@ -7,14 +7,13 @@ ghost use Rattle.ec_ctypes.specs.views.Stmts.{stmt_view, kind_view, stmts_view, 
 ghost use Rattle.ec_scopes.specs.Entries.{place_view};
 ghost use Rattle.ec_scopes.specs.Seen.{world_of, Does};
 ghost use Rattle.ec_typing.specs.Statements as rule;
-ghost use Rattle.ec_check.specs.Around.{around_view};
+ghost use Rattle.ec_embedded_rules.specs.Around.{around_view};
 
-use crate::around::{Around, as_body, as_item, looping};
 use crate::bodies::{condition, optional, optional_condition, return_by};
 use crate::declarations::declaration;
-use crate::embedded::embedded_at;
 use ec_base::{Boxed, FaultKind, OutOfMemory};
 use ec_ctypes::{Stmt, StmtKind};
+use ec_embedded_rules::{Around, as_body, as_item, embedded_at, looping};
 use ec_scopes::{Checker, Place};
 
 /// A statement, which is a place.

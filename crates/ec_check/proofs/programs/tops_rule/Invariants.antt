@@ -8,5 +8,5 @@ use Rattle.ec_check.proofs.programs.tops_rule.Given as goal
 
 abbrev pub invariant-loop-top : goal.invariant-loop-top
 invariant-loop-top l =
-    Goes (tops_rule (map emb_view l.embs) (map top_view l.tops) (world_of l.fn.checker)) (notes_of l.fn.checker)
-    (tops_rule (map emb_view l.embs) (map top_view (drop l.top-index l.tops)) (world_of l.checker)) (notes_of l.checker) (λ u. u)
+    Goes (tops_rule (map emb_view l.embedded) (map top_view l.tops) (world_of l.fn.checker)) (notes_of l.fn.checker)
+    (tops_rule (map emb_view l.embedded) (map top_view (drop l.top-index l.tops)) (world_of l.checker)) (notes_of l.checker) (λ u. u)

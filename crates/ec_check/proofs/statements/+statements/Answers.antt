@@ -7,7 +7,7 @@ use Rattle.ec_scopes.specs.Entries.{place_view}
 use Rattle.ec_scopes.specs.Seen.{world_of}
 use Rattle.ec_scopes.proofs.Steps.{then_done, done_as}
 use Rattle.ec_check.proofs.Seeing.{if_seen, if_parts}
-use Rattle.ec_check.specs.Around.{around_view}
+use Rattle.ec_embedded_rules.specs.Around.{around_view}
 use Rattle.ec_check.proofs.Loops.{stmts_step}
 use Rattle.ec_check.proofs.statements.+statements.Goals as goal
 

@@ -2,16 +2,17 @@
 
 ghost use Rattle.std.specs.Prelude.{◌≡◌};
 ghost use Rattle.ec_typing.specs.Statements as rule;
-ghost use Rattle.ec_check.specs.Around.{around_view};
+ghost use Rattle.ec_embedded_rules.specs.Around.{around_view};
 
-use ec_ctypes::{Emb, Ty};
+use ec_ctypes::Ty;
+use ec_parts::Statements;
 use ec_scopes::Table;
 
 /// What stands round a statement.
 #[derive(Clone, Copy)]
 pub struct Around<'a> {
     /// The embedded statements of the program.
-    pub embs: &'a [Emb],
+    pub embedded: &'a Statements<'a>,
     /// Whether the statement is the body of `if`, `else`, a loop or a label.
     pub is_body: bool,
     /// Whether a loop stands round it.
@@ -27,7 +28,7 @@ pub fn looping(a: Around<'_>) -> Around<'_>
     ensures { around_view result ≡ rule.looping (around_view a.entry) }
 {
     Around {
-        embs: a.embs,
+        embedded: a.embedded,
         is_body: true,
         in_loop: true,
         labels: a.labels,
@@ -40,7 +41,7 @@ pub fn as_body(a: Around<'_>) -> Around<'_>
     ensures { around_view result ≡ rule.as_body (around_view a.entry) }
 {
     Around {
-        embs: a.embs,
+        embedded: a.embedded,
         is_body: true,
         in_loop: a.in_loop,
         labels: a.labels,
@@ -53,7 +54,7 @@ pub fn as_item(a: Around<'_>) -> Around<'_>
     ensures { around_view result ≡ rule.as_item (around_view a.entry) }
 {
     Around {
-        embs: a.embs,
+        embedded: a.embedded,
         is_body: false,
         in_loop: a.in_loop,
         labels: a.labels,
