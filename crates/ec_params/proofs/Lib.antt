@@ -1,0 +1,11 @@
+pub mod Adding
+pub mod Bound
+pub mod Declares
+pub mod Firsts
+pub mod Gotten
+pub mod Lowest
+pub mod Marking
+pub mod NamesIn
+pub mod Sent
+pub mod Shaping
+pub mod Walking

@@ -1,0 +1,11 @@
+pub mod Adding
+pub mod Answers
+pub mod Areas
+pub mod Least
+pub mod Naming
+pub mod Numbers
+pub mod Scenes
+pub mod Sending
+pub mod Shapes
+pub mod Tables
+pub mod Walks
