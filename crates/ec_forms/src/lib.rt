@@ -1,6 +1,7 @@
 //! The resolved form of each kind of expression, beside what is found out about it (ISO/IEC 9899:1999, 6.5).
 #![tactic(auto)]
 
+mod arguments;
 mod assignments;
 mod binary;
 mod casts;
@@ -11,6 +12,7 @@ mod sizes;
 mod unary;
 mod values;
 
+pub use arguments::{passed, promoted};
 pub use assignments::{assign_rule, bump_rule, compound_rule};
 pub use binary::{binary_rule, index_rule};
 pub use casts::{cast_rule, size_rule};
