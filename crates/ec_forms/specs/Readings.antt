@@ -1,0 +1,18 @@
+-- How the value behind an expression is had.
+use Rattle.std.specs.Prelude.{Option, Some, None}
+use Rattle.ec_objects.specs.Kinds.{kind_type}
+use Rattle.ec_resolved.specs.Resolved.{Exp, load, whole, faulty}
+use Rattle.ec_conversions.specs.Forms.{converted}
+use Rattle.ec_forms.specs.declared.casts.Casting.{Casting}
+use Rattle.ec_forms.specs.declared.values.Reading.{Reading}
+use Rattle.ec_forms.specs.declared.values.Reading.TheVariants.{Kept, Loaded, Whole, Missing}
+
+abbrev pub read_by : Reading → Exp → Exp
+read_by Kept e = e
+read_by (Loaded kind) e = load (kind_type kind) e
+read_by (Whole size) e = whole size e
+read_by Missing e = faulty
+
+-- an expression that is read, and then converted
+abbrev pub cast_by : Casting → Exp → Exp
+cast_by c e = converted c.conversion (read_by c.reading e)

@@ -1,0 +1,7 @@
+use Rattle.std.proofs.Common.{◌∙◌, ap, take}
+use Rattle.ec_functions.specs.Formats as of
+use Rattle.ec_printf.proofs.Joining.{front_taken}
+use Rattle.ec_printf.proofs.directives.front_flags.Goals as goal
+
+pub returns : goal.returns
+returns c = ap (λ n. take n c.args.text.now) c.flags.ensures.count ∙ front_taken of.is_flag c.args.text.now

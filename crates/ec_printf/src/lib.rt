@@ -1,0 +1,10 @@
+//! The formats of `printf`, taken apart (ISO/IEC 9899:1999, 7.19.6.1).
+#![tactic(auto)]
+
+mod amounts;
+mod directives;
+mod gathered;
+mod letters;
+mod parts;
+
+pub use parts::format_parts;

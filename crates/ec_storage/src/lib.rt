@@ -1,0 +1,15 @@
+//! Where the objects of a program are while it is resolved: the objects of its names, its globals and literals so far, and the
+//! objects of the innermost block.
+#![tactic(auto)]
+
+mod block;
+mod embedded;
+mod library;
+mod site;
+mod storage;
+
+pub use block::BlockObjects;
+pub use embedded::{Action, Actions, EmbeddedForm, Reference};
+pub use library::{Argument, LibraryCall};
+pub use site::{Site, site_leaf};
+pub use storage::Storage;
