@@ -2,7 +2,7 @@
 use Rattle.std.proofs.Common.{◌≡◌, ◌∙◌, ℕ, ◌||◌, ◌&&◌, ◌==◌, nat_lt, Bool, true, false, cond, List, [], ◌∷◌, Option, Some, None, refl, sym, ap, arith}
 use Rattle.std.proofs.lemmas.Bool.Decides.{nat_tests}
 use Rattle.ec_language.specs.First.{Violation, rank, comes_before, earlier, first_of}
-use Rattle.ec_scopes.specs.Seen.{noted, noted_one}
+use Rattle.ec_scopes.specs.Seen.{noted}
 
 lex_not : (a b c x y z : ℕ) → (nat_lt a b || (a == b && nat_lt x y)) ≡ false → (nat_lt b c || (b == c && nat_lt y z)) ≡ false → (nat_lt a c || (a == c && nat_lt x z)) ≡ false
 lex_not a b c x y z p q = grind (arith, nat_tests)

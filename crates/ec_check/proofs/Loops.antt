@@ -1,5 +1,5 @@
 -- Loops over declarators, statements, parameters and the top level.
-use Rattle.std.proofs.Common.{◌≡◌, ◌∙◌, ℕ, ◌+◌, ◌<◌, Bool, List, [], ◌∷◌, ◌++◌, length, drop, map, get_or, Option, ap}
+use Rattle.std.proofs.Common.{◌≡◌, ℕ, ◌+◌, ◌<◌, Bool, List, [], ◌∷◌, ◌++◌, length, drop, map, get_or, Option, ap}
 use Rattle.ec_ctypes.specs.declared.tree.decl.Declarator.{Declarator}
 use Rattle.ec_ctypes.specs.declared.tree.stmt.Stmt.{Stmt}
 use Rattle.ec_ctypes.specs.declared.tree.unit.Param.{Param}

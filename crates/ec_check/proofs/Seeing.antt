@@ -1,5 +1,5 @@
 -- Declarations and statements, seen.
-use Rattle.std.proofs.Common.{◌≡◌, ◌∙◌, ℕ, ◌≤◌, List, [], ◌∷◌, map, length, Option, Some, None, refl, ap, rules, arith}
+use Rattle.std.proofs.Common.{◌≡◌, ◌∙◌, ◌≤◌, List, [], ◌∷◌, map, length, Option, Some, None, refl, ap, rules, arith}
 use Rattle.ec_ctypes.specs.declared.tree.decl.Decl.{Decl}
 use Rattle.ec_ctypes.specs.declared.tree.decl.Decl as a
 use Rattle.ec_ctypes.specs.declared.tree.decl.Declarator.{Declarator}

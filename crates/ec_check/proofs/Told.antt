@@ -1,12 +1,12 @@
 -- The answer of the checks, from what is known behind a program.
-use Rattle.std.proofs.Common.{◌≡◌, ◌∙◌, ℕ, zero, suc, Bool, List, [], ◌∷◌, map, Option, Some, None, option_map, Result, Ok, Err, refl, sym, ap, slice_get, slice_set}
+use Rattle.std.proofs.Common.{◌≡◌, ◌∙◌, ℕ, zero, suc, Bool, List, [], ◌∷◌, map, Option, Some, None, option_map, Ok, Err, refl, sym, ap, slice_get, slice_set}
 use Rattle.ec_base.specs.declared.stop.Stop.{Stop}
 use Rattle.ec_base.specs.declared.stop.Stop.TheVariants.{Refused, Limit, OutOfMemory}
 use Rattle.ec_ctypes.specs.declared.types.ty.Ty.{Ty}
 use Rattle.ec_ctypes.specs.declared.types.ty.StructDef.{StructDef}
 use Rattle.ec_ctypes.specs.trees.Types.{StructData}
 use Rattle.ec_ctypes.specs.trees.Units.{UnitData}
-use Rattle.ec_ctypes.specs.trees.Checked.{MarkData, TypedData}
+use Rattle.ec_ctypes.specs.trees.Checked.{MarkData}
 use Rattle.ec_ctypes.specs.views.Types.{ty_view, structs_view}
 use Rattle.ec_typing.specs.Worlds.{MembersData, unlisted, begun, listed, StructInfo, World}
 use Rattle.ec_typing.specs.Answers.{checked, violations, stop_of_unit, answer_by, check_answer}

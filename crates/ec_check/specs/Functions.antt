@@ -1,5 +1,5 @@
 -- Parts of the rule on functions.
-use Rattle.std.specs.Prelude.{ℕ, Bool, ◌||◌, List, [], map, Option, Some, None, is_some}
+use Rattle.std.specs.Prelude.{ℕ, ◌||◌, List, map, Option, Some, None, is_some}
 use Rattle.ec_base.specs.declared.fault.FaultKind.TheVariants.{F10}
 use Rattle.ec_ctypes.specs.declared.types.ty.Ty.{Ty}
 use Rattle.ec_ctypes.specs.trees.Types.{TyData}

@@ -1,5 +1,5 @@
 -- What names denote, one after the other.
-use Rattle.std.proofs.Common.{◌≡◌, ◌∙◌, Option, List, [], ◌∷◌, ◌++◌, ℕ, map, ap, sym, append_assoc}
+use Rattle.std.proofs.Common.{◌≡◌, ◌∙◌, Option, List, ◌++◌, ℕ, ap, sym, append_assoc}
 use Rattle.std.proofs.lemmas.List.{map-append}
 use Rattle.ec_language.specs.Letters.{Text}
 use Rattle.ec_typing.specs.Worlds.{World, look_up}

@@ -1,5 +1,5 @@
 -- Loops over references.
-use Rattle.std.proofs.Common.{◌≡◌, ◌∙◌, ℕ, ◌+◌, ◌<◌, List, ◌∷◌, ◌++◌, length, drop, map, get_or, Option, ap, sym}
+use Rattle.std.proofs.Common.{◌≡◌, ◌∙◌, ℕ, ◌+◌, ◌<◌, List, ◌++◌, length, drop, map, get_or, Option, ap, sym}
 use Rattle.ec_language.specs.First.{Violation}
 use Rattle.ec_statement_parts.specs.References.{all_names, names_in}
 use Rattle.ec_parts.specs.declared.gathering.Reference.{Reference}

@@ -1,7 +1,6 @@
 //! What is asked and kept of embedded statements (PostgreSQL manual, "Using Host Variables").
 
 ghost use Rattle.std.specs.Prelude.{◌≡◌, nat_le, ◌++◌, ◌∷◌, []};
-ghost use Rattle.ec_ctypes.specs.views.Types.{ty_view};
 ghost use Rattle.ec_typing.specs.Embedded.{members_in, max_members};
 ghost use Rattle.ec_typing.specs.Worlds as rule;
 ghost use Rattle.ec_scopes.specs.Entries.{type_view};

@@ -1,4 +1,4 @@
-use Rattle.std.proofs.Common.{◌≡◌, ◌∙◌, refl, sym, ap}
+use Rattle.std.proofs.Common.{◌∙◌, refl, sym, ap}
 use Rattle.ec_ctypes.specs.trees.Stmts.{if_stmt}
 use Rattle.ec_ctypes.specs.views.Exprs.{expr_view}
 use Rattle.ec_ctypes.specs.views.Stmts.{stmt_view, kind_view, stmt_option_view}

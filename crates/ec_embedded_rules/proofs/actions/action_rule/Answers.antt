@@ -13,6 +13,6 @@ pub returns-in-Call : goal.returns-in-Call
 returns-in-Call c =
     let at = place_view c.args.at in
     let is : instead at F30 (called at c.as_slice-in-Call.result.now (exprs_view c.as_slice-in-Call-2.result.now)) ≡ action_rule c.args.a.in_loop c.args.a.labels.now at (Some (action_view c.args.action.now)) =
-        (λ i. instead at F30 (called at (c.as_slice-in-Call.ensures i) (exprs_view (c.as_slice-in-Call-2.ensures i))))
-        ∙ sym (ap (λ x. action_rule c.args.a.in_loop c.args.a.labels.now at (Some (action_view x))) c.in-Call.is) in
+    (λ i. instead at F30 (called at (c.as_slice-in-Call.ensures i) (exprs_view (c.as_slice-in-Call-2.ensures i))))
+    ∙ sym (ap (λ x. action_rule c.args.a.in_loop c.args.a.labels.now at (Some (action_view x))) c.in-Call.is) in
     subst (λ (r : Rule (Unit {0})). Does (λ u. u) (r (world_of c.args.checker.now)) c.args.checker.now c.call_rule.result c.call_rule.new.checker) is c.call_rule.ensures

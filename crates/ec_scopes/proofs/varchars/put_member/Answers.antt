@@ -1,4 +1,4 @@
-use Rattle.std.proofs.Common.{◌≡◌, ◌∙◌, ap}
+use Rattle.std.proofs.Common.{◌∙◌, ap}
 use Rattle.ec_scopes.specs.Entries.{named_view, type_view}
 use Rattle.ec_scopes.proofs.Views.{put-named}
 use Rattle.ec_scopes.proofs.varchars.put_member.Goals as goal

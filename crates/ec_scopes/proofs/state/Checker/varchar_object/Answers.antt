@@ -1,7 +1,6 @@
-use Rattle.std.proofs.Common.{◌≡◌, ◌∙◌, ℕ, List, Some, not, is_some, refl, sym, ap, subst}
-use Rattle.ec_base.specs.declared.fault.FaultKind.TheVariants.{F10}
+use Rattle.std.proofs.Common.{◌≡◌, ◌∙◌, ℕ, List, Some, is_some, ap, subst}
 use Rattle.ec_typing.specs.Tables.{find}
-use Rattle.ec_typing.specs.Worlds.{change, demand, with_tag}
+use Rattle.ec_typing.specs.Worlds.{change, with_tag}
 use Rattle.ec_typing.specs.Expressions.{varchar_object, varchar_struct, varchar_tag}
 use Rattle.ec_scopes.specs.Entries.{place_view}
 use Rattle.ec_scopes.specs.Seen.{world_of, IsDone}

@@ -1,4 +1,4 @@
-use Rattle.std.proofs.Common.{◌∙◌, set, refl, sym, ap, slice_get, Some}
+use Rattle.std.proofs.Common.{◌∙◌, set, sym, ap, slice_get, Some}
 use Rattle.ec_scopes.specs.declared.structs.Members.TheVariants.{Listed}
 use Rattle.ec_scopes.specs.Entries.{named_view, type_view}
 use Rattle.ec_scopes.specs.Counts.{counted}

@@ -1,4 +1,4 @@
-use Rattle.std.proofs.Common.{◌≡◌, ◌∙◌, ◌++◌, ◌∷◌, [], set, length, refl, sym, ap, true}
+use Rattle.std.proofs.Common.{◌∙◌, ◌++◌, ◌∷◌, [], set, sym, ap, true}
 use Rattle.ec_typing.specs.Worlds.{struct_named}
 use Rattle.ec_scopes.specs.Entries.{named_view, type_view}
 use Rattle.ec_scopes.specs.Measures.{measured}
