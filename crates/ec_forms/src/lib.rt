@@ -1,6 +1,7 @@
 //! The resolved form of each kind of expression, beside what is found out about it (ISO/IEC 9899:1999, 6.5).
 #![tactic(auto)]
 
+mod alone;
 mod arguments;
 mod assignments;
 mod binary;
@@ -12,6 +13,7 @@ mod sizes;
 mod unary;
 mod values;
 
+pub use alone::done_alone;
 pub use arguments::{passed, promoted};
 pub use assignments::{assign_rule, bump_rule, compound_rule};
 pub use binary::{binary_rule, index_rule};
