@@ -2,3 +2,4 @@ pub mod Dims
 pub mod Drops
 pub mod Members
 pub mod Pushing
+pub mod Written

@@ -1,2 +1,4 @@
+pub mod Blocks
+pub mod Items
 pub mod Lists
 pub mod Pushed

@@ -1,6 +1,7 @@
 //! The call of the library that is written for a statement (PostgreSQL manual, 36.17).
 
 ghost use Rattle.std.specs.Prelude.{◌≡◌, IfOk, OnOk, ◌∷◌, [], Some, None, map, option_map};
+ghost use Rattle.std.specs.Option.{option_copied};
 ghost use Rattle.ec_ctypes.specs.Texts.{library_text};
 ghost use Rattle.ec_ctypes.specs.declared.checked.library.Sym.TheVariants.{EndOfInputs, EndOfOutputs, EndOfItems};
 ghost use Rattle.ec_ctypes.specs.trees.Exprs.{call};
@@ -163,11 +164,11 @@ fn opening_call(alloc: Global, line: Line, name: &Name, bound: &Bound) -> Result
 fn open_call(
     alloc: Global,
     line: Line,
-    prepared: &Option<Name>,
+    prepared: Option<&Name>,
     bound: &Bound,
 ) -> Result<Expr, OutOfMemory>
     ensures { IfOk result (λ e. expr_view e ≡ call_expr line.0 (runs (bound_view bound.now)
-        (opens prepared.now (bound_view bound.now).text))) }
+        (opens (option_copied prepared.entry) (bound_view bound.now).text))) }
 {
     match prepared {
         Some(name) => opening_call(alloc, line, name, bound),
@@ -303,12 +304,12 @@ fn kinds_set(alloc: Global, items: &List<(Item, Input)>) -> Result<List<Item>, O
 pub fn call_of(
     alloc: Global,
     line: Line,
-    prepared: &Option<Name>,
+    prepared: Option<&Name>,
     kind: &EmbKind,
     bound: &Bound,
 ) -> Result<Option<Expr>, OutOfMemory>
     ensures { IfOk result (λ e. option_map expr_view e ≡ option_map (call_expr line.0)
-        (call_by prepared.now (emb_kind_view kind.now) (bound_view bound.now))) }
+        (call_by (option_copied prepared.entry) (emb_kind_view kind.now) (bound_view bound.now))) }
 {
     match kind {
         EmbKind::Connect { .. } => Ok(Some(connect_call(alloc, line, bound)?)),

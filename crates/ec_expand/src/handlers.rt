@@ -94,8 +94,8 @@ fn statement(alloc: Global, action: &Action) -> Result<Option<StmtKind>, OutOfMe
     }
 }
 
-// A statement on this line.
-fn on_line(alloc: Global, line: Line, kind: StmtKind) -> Result<Boxed<Stmt>, OutOfMemory>
+/// A statement on this line.
+pub(crate) fn on_line(alloc: Global, line: Line, kind: StmtKind) -> Result<Boxed<Stmt>, OutOfMemory>
     ensures { IfOk result (λ s. stmt_view s ≡ stmt line (kind_view kind)) }
 {
     Ok(Boxed::new(alloc, Stmt { line, kind })?)
@@ -120,7 +120,7 @@ fn test(alloc: Global, line: Line, cond: Cond, kind: StmtKind) -> Result<Stmt, O
 }
 
 /// The test for a condition, behind other statements, where the action that holds for it does anything.
-pub fn push_test(
+pub(crate) fn push_test(
     alloc: Global,
     list: &mut List<Stmt>,
     line: Line,

@@ -7,8 +7,8 @@ ghost use Rattle.ec_expansion.specs.Lines as lines;
 use ec_base::{Boxed, List, OutOfMemory};
 use ec_ctypes::{Stmt, StmtKind};
 
-// The next line. A number that could not be counted is want of memory.
-fn next(line: u32) -> Result<u32, OutOfMemory>
+/// The next line. A number that could not be counted is want of memory.
+pub(crate) fn next(line: u32) -> Result<u32, OutOfMemory>
     ensures { IfOk result (λ n. n ≡ suc line) }
 {
     line.checked_add(1).ok_or(OutOfMemory)
@@ -45,8 +45,9 @@ fn line_after_kind(line: u32, kind: &StmtKind) -> Result<u32, OutOfMemory>
     }
 }
 
+/// The line behind statements, the first of which begins on this line.
 #[cycle(lines)]
-fn line_after_all(line: u32, items: &List<Stmt>) -> Result<u32, OutOfMemory>
+pub(crate) fn line_after_all(line: u32, items: &List<Stmt>) -> Result<u32, OutOfMemory>
     ensures { IfOk result (λ n. n ≡ lines.line_after_all line (stmts_view items.now)) }
 {
     let mut line = line;

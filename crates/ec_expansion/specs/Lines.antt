@@ -1,6 +1,8 @@
--- The line behind a written statement, which begins with a line of its own; it does not depend on the lines before it.
-use Rattle.std.specs.Prelude.{ℕ, suc}
+-- The line behind a written statement, which begins with a line of its own; it does not depend on the lines before it. And the line behind a written program.
+use Rattle.std.specs.Prelude.{ℕ, suc, List, [], ◌∷◌, Option, Some, None}
 use Rattle.ec_ctypes.specs.trees.Stmts.{StmtData, stmt, StmtKindData, empty_stmt, expr_stmt, block_stmt, if_stmt, while_stmt, do_stmt, for_stmt, break_stmt, continue_stmt, return_stmt, goto_stmt, label_stmt, decl_stmt, emb_stmt, mark_stmt, StmtList, no_stmts, stmts, StmtOption, no_stmt, some_stmt}
+use Rattle.ec_ctypes.specs.trees.Units.{TopData, include_top, directive_top, decl_top, func_top, mark_top}
+use Rattle.ec_language.specs.Productions.{line_of}
 
 abbrev mutual
   pub line_after : StmtData → ℕ
@@ -31,3 +33,22 @@ abbrev mutual
   pub line_after_else : ℕ → StmtOption → ℕ
   line_after_else n no_stmt = n
   line_after_else n (some_stmt s) = line_after s
+
+-- ---- programs
+
+-- behind a function on this line: the braces of its body have lines of their own
+abbrev pub line_after_body : ℕ → Option StmtList → ℕ
+line_after_body n None = suc n
+line_after_body n (Some ss) = suc (line_after_all (suc (suc n)) ss)
+
+abbrev pub line_after_top : ℕ → TopData → ℕ
+line_after_top n (include_top bytes) = suc n
+line_after_top n (directive_top k) = n
+line_after_top n (decl_top d) = suc (line_of d).0
+line_after_top n (func_top f) = line_after_body f.line.0 f.body
+line_after_top n (mark_top opens line) = n
+
+-- behind what stands at the top level, from this line on
+abbrev pub line_after_tops : ℕ → List TopData → ℕ
+line_after_tops n [] = n
+line_after_tops n (t ∷ ts) = line_after_tops (line_after_top n t) ts

@@ -4,8 +4,10 @@
 
 mod call_examples;
 mod examples;
+mod laws;
 
 pub use call_examples::{
     connection_examples, descriptor_examples, prepared_examples, program_examples, server_examples,
 };
 pub use examples::{block_examples, declaration_examples, handler_examples, member_line_examples};
+pub use laws::lines_lead_behind;
