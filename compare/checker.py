@@ -964,8 +964,7 @@ class Checker:
         t = self.base(at, p.base)
         lengths = [self.length(at, n) for n in p.dims]
         if lengths:
-            t = self.declared(t, p.stars, lengths[1:])
-            t = None if lengths[0] is None else t
+            t = self.declared(t, p.stars, lengths[1:], at)
             t = self.complete_type(at, t)
             t = t and pointer(t)
         else:

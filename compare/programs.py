@@ -105,7 +105,7 @@ class Writer:
         for n in dims:
             self.put("[")
             if n is not None:
-                self.expression(n)
+                self.operand(n) if n[0] == "assign" else self.expression(n)
             self.put("]")
 
     def declaration(self, decl):
@@ -325,7 +325,7 @@ WORDS = [["int"], ["int"], ["int"], ["char"], ["char"], ["void"], ["bool"], ["un
          ["unsigned", "int"], ["long", "long"], ["unsigned", "long"], ["long", "int", "long", "unsigned"], ["signed", "char"],
          ["unsigned"], ["short", "unsigned"], ["const", "char"], ["long", "const"]]
 WRONG_WORDS = [["long", "long", "long"], ["unsigned", "bool"], ["signed", "unsigned"], ["int", "int"], ["short", "long"],
-               ["void", "int"], ["char", "long"], ["const", "const"]]
+               ["void", "int"], ["char", "long"], ["const", "unsigned", "const", "void"]]
 BINARY = ["+", "-", "*", "/", "%", "<<", ">>", "&", "|", "^", "<", ">", "<=", ">=", "==", "!=", "&&", "||"]
 FORMATS = [b"%d\n", b"%s", b"%c%%", b"%ld %u", b"%5.*s", b"%-08lx", b"%*d", b"%lli", b"none", b"%.3s%i", b"%d\0%s", b"%q", b"%.s", b"%1234d", b"%lc", b"%.2d"]
 NUMBERS = [0, 0, 1, 1, 2, 3, 7, 31, 32, 63, 64, 255, 2147483647]

@@ -1,0 +1,39 @@
+"""Asks ec_check_rows what the checks say of texts (docs/SHOWN.md), and what rows over the definitions need."""
+
+import re
+import subprocess
+from pathlib import Path
+
+TOP = Path(__file__).resolve().parent.parent
+
+
+def built():
+    """Proves and builds the program."""
+    folder = TOP / "crates" / "ec_check_rows"
+    subprocess.run(["rt", "run"], cwd=folder, input=b"", check=True, stdout=subprocess.DEVNULL)
+    return folder / "out" / "ec_check_rows"
+
+
+def by_program(program, texts):
+    """What the program prints of each text: `fine`, a fault with its line, or a limit."""
+    rows = "".join(f"=== {n}\n{text}\n" for n, text in enumerate(texts))
+    ended = subprocess.run([program], input=rows, capture_output=True, encoding="utf-8")
+    parts = re.split(r"^=== (.*)\n", ended.stdout, flags=re.M)
+    if ended.returncode or parts[1::2] != [str(n) for n in range(len(texts))]:
+        raise SystemExit(f"compare: {program} ended with {ended.returncode}: {ended.stderr}")
+    return [re.sub(r"^(F\d+) .* line (\d+)$|^limit (L\d+)$", lambda m: m[3] or f"{m[1]} {m[2]}", found.strip()) for found in parts[2::2]]
+
+
+def rules():
+    """The rules of ec_typing that have to be unfolded, by their modules."""
+    found = {}
+    for file in sorted((TOP / "crates/ec_typing/specs").glob("*.antt")):
+        names = re.findall(r"^unfoldable pub (\S+) :", file.read_text(), re.M)
+        if names:
+            found[file.stem] = names
+    return found
+
+
+def quoted(text):
+    """A text in quotes, as a clause has it."""
+    return text.replace("\\", "\\\\").replace('"', '\\"').replace("\n", "\\n")
