@@ -2,10 +2,12 @@
 
 ghost use Rattle.std.specs.Prelude.{length, ◌≤◌, ◌^◌};
 
-use ec_base::Stop;
+use ec_base::{LimitKind, Stop};
 use ec_clex::tokens;
 use ec_csyntax::parse;
+use ec_ctypes::{Emb, Piece, PieceKind};
 use ec_cwrite::write;
+use ec_read_statement::read_statement;
 use ec_split::split;
 use std::alloc::Global;
 
@@ -41,4 +43,28 @@ pub fn count_written(alloc: Global, text: &[u8]) -> Result<usize, Stop>
     let found = tokens(alloc, &pieces, false)?;
     let unit = parse(alloc, &found)?;
     Ok(write(&unit)?.len())
+}
+
+// The tree of a statement. (The limit isn't met: no line number of a text passes its length.)
+fn statement_of(alloc: Global, piece: &Piece) -> Result<Emb, Stop> {
+    let last = u64::from(piece.line.0).saturating_add(piece.bytes.len() as u64);
+    if last >= 1 << 32 {
+        return Err(Stop::Limit(LimitKind::L6));
+    }
+    read_statement(alloc, piece, 0)
+}
+
+// How many embedded statements, each of which is read.
+pub fn count_statements(alloc: Global, text: &[u8]) -> Result<usize, Stop>
+    requires { length text.now ≤ 2 ^ 24 }
+{
+    let pieces = split(alloc, text)?;
+    let mut count: usize = 0;
+    for piece in pieces.as_slice() {
+        if piece.kind == PieceKind::Emb {
+            let _ = statement_of(alloc, piece)?;
+            count = count.saturating_add(1);
+        }
+    }
+    Ok(count)
 }

@@ -1,10 +1,10 @@
 //! Reads a source on standard input by one part of the precompiler, and prints how much it found, so that the part can be
-//! measured: `ec_bench pieces`, `ec_bench tokens`, `ec_bench syntax` or `ec_bench written`.
+//! measured: `ec_bench pieces`, `ec_bench tokens`, `ec_bench syntax`, `ec_bench written` or `ec_bench statements`.
 #![tactic(auto)]
 
 mod count;
 
-use crate::count::{count_pieces, count_tokens, count_tops, count_written};
+use crate::count::{count_pieces, count_statements, count_tokens, count_tops, count_written};
 use ec_base::{InputStop, OutOfMemory, StdSource, Stop, read_all};
 use std::alloc::Global;
 use std::env;
@@ -52,6 +52,7 @@ enum Part {
     Tokens,
     Syntax,
     Written,
+    Statements,
 }
 
 // The part that a word names.
@@ -67,6 +68,9 @@ fn part_named(word: &str) -> Option<Part> {
     }
     if word == "written" {
         return Some(Part::Written);
+    }
+    if word == "statements" {
+        return Some(Part::Statements);
     }
     None
 }
@@ -95,6 +99,7 @@ fn count_of(alloc: Global, part: Part, text: &[u8]) -> Result<usize, Failure> {
         Part::Tokens => Ok(count_tokens(alloc, text)?),
         Part::Syntax => Ok(count_tops(alloc, text)?),
         Part::Written => Ok(count_written(alloc, text)?),
+        Part::Statements => Ok(count_statements(alloc, text)?),
     }
 }
 
