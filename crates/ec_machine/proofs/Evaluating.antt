@@ -1,6 +1,5 @@
 -- What expressions that hold calls do, one form at a time.
 use Rattle.std.proofs.Common.{◌≡◌, ◌∙◌, refl, sym, ap, ℕ, List, [], ◌∷◌, map, Bool}
-use Rattle.ec_base.specs.declared.line.Line.{Line}
 use Rattle.ec_code.specs.declared.expression.Expression.{Expression}
 use Rattle.ec_code.specs.declared.expression.Expression.TheVariants as expression
 use Rattle.ec_code.specs.declared.expression.Full.{Full, out-Full}
@@ -13,7 +12,7 @@ use Rattle.ec_code.specs.declared.step.Binary.{Binary}
 use Rattle.ec_code.specs.declared.step.Unary.{Unary}
 use Rattle.ec_code.specs.Views.{expression_view, expressions_view, full_step_view, full_view, head_view, plain_view}
 use Rattle.ec_evaluation.specs.Evaluate.{Context, World, calls, eval, collect}
-use Rattle.ec_evaluation.specs.Results.{Res, value, over, answered, done_there}
+use Rattle.ec_evaluation.specs.Results.{value, over, answered, done_there}
 use Rattle.ec_evaluation.specs.State.{State, stuck}
 use Rattle.ec_evaluation.specs.Whole.{without_atoms}
 use Rattle.ec_formats.specs.declared.known.Known.{Known}

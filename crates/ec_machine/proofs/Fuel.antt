@@ -1,8 +1,8 @@
 -- A task among tasks of more turns than are left is what its parts do among these same tasks.
-use Rattle.std.proofs.Common.{◌≡◌, ℕ, zero, suc, ◌+◌, ◌<◌, ◌≤◌, inl, inr, List, [], ◌∷◌, ◌++◌, map, refl, sym, ap, ◌∙◌, subst, arith}
+use Rattle.std.proofs.Common.{◌≡◌, ℕ, zero, suc, ◌+◌, ◌<◌, ◌≤◌, inr, List, [], ◌∷◌, map, refl, sym, ap, ◌∙◌, subst, arith}
 use Rattle.ec_resolved.specs.Programs.{Function}
 use Rattle.ec_resolved.specs.Resolved.{Stm, on_line, nothing, evaluate, declare, initialize, block, choose, loop, leave, next, return, goto, label, embedded_statement, Stms, no_stms, stms}
-use Rattle.ec_evaluation.specs.State.{Answer, State, Ending, turns_spent}
+use Rattle.ec_evaluation.specs.State.{Answer, State, turns_spent}
 use Rattle.ec_evaluation.specs.Results.{Res, over, turn}
 use Rattle.ec_evaluation.specs.Evaluate.{Task, calls, turn_of, look_for, World, Step}
 use Rattle.ec_evaluation.specs.Execute.{act, meaning, started}

@@ -1,5 +1,5 @@
 -- What pushing a frame keeps, and what passes every frame.
-use Rattle.std.proofs.Common.{◌≡◌, ℕ, zero, suc, ◌+◌, ◌-◌, ◌<◌, ◌≤◌, List, [], ◌∷◌, ◌++◌, length, map, take, drop, Option, Some, None, Bool, true, false, refl, sym, ap, ◌∙◌, subst, arith, Result, Ok, Err, append_assoc, append-nil, length-append}
+use Rattle.std.proofs.Common.{◌≡◌, ℕ, ◌+◌, ◌-◌, ◌≤◌, List, [], ◌∷◌, ◌++◌, length, map, take, drop, Option, Some, None, Bool, true, false, refl, sym, ap, ◌∙◌, subst, arith, Result, Ok, Err, append_assoc, length-append}
 use Rattle.std.specs.Prelude.{reverse, IsErrAnd}
 use Rattle.std.specs.Borrow.{Bor}
 use Rattle.std.specs.Option.{option_map}
@@ -17,7 +17,7 @@ use Rattle.ec_values.specs.declared.word.Word.{Word}
 use Rattle.ec_base.specs.declared.line.Line.{Line}
 use Rattle.ec_evaluation.specs.Evaluate.{Context, World, turn_of, eval}
 use Rattle.ec_evaluation.specs.Execute.{tested, again, settle}
-use Rattle.ec_evaluation.specs.Results.{Res, value, on, broke, continued, went, back, over, on_value, closing, function_end, answered, ended_to}
+use Rattle.ec_evaluation.specs.Results.{Res, on, over, on_value, closing, function_end, answered, ended_to}
 use Rattle.ec_evaluation.specs.State.{State, Ending}
 use Rattle.ec_evaluation.specs.Whole.{without_atoms}
 use Rattle.ec_objects.specs.Memory.{ValueData}

@@ -1,10 +1,8 @@
 -- Objects that are made, and those that are not.
-use Rattle.std.proofs.Common.{◌≡◌, ◌∙◌, refl, sym, ap, ℕ, ◌+◌, List, [], ◌∷◌, ◌++◌, Result, Ok, Err}
-use Rattle.ec_base.specs.declared.stop.Trap.{Trap}
-use Rattle.ec_base.specs.declared.stop.Trap.TheVariants.{Spent}
+use Rattle.std.proofs.Common.{◌≡◌, ◌∙◌, sym, ap, ℕ, ◌+◌, List, [], ◌∷◌, ◌++◌, Ok, Err}
 use Rattle.ec_bytes.specs.declared.scalar.address.Ptr.{Ptr}
 use Rattle.ec_evaluation.specs.Results.{Res, over, tried}
-use Rattle.ec_evaluation.specs.State.{State, Ending, trapped}
+use Rattle.ec_evaluation.specs.State.{State}
 use Rattle.ec_memory.specs.declared.store.MakeStop.{MakeStop}
 use Rattle.ec_memory.specs.declared.store.MakeStop.TheVariants as makes
 use Rattle.ec_objects.specs.Memory.{Memory, make}
@@ -13,7 +11,7 @@ use Rattle.ec_machine.specs.declared.scope.Scope.{Scope}
 use Rattle.ec_machine.specs.declared.stop.Stop.{Stop}
 use Rattle.ec_machine.specs.declared.stop.Stop.TheVariants as stop
 use Rattle.ec_machine.specs.Frames.{objects_of}
-use Rattle.ec_machine.specs.Goes.{IsNoRoom, IsOver, Makes, Stops, ending_view}
+use Rattle.ec_machine.specs.Goes.{IsNoRoom, Makes, Stops}
 use Rattle.ec_machine.proofs.Moves.{scope_push}
 
 pub object_made : (s : State) (go : List ℕ → State → Res) (sc sc' : Scope) (p : Ptr) (m m' : Memory) (size line : ℕ) → make m size ≡ Ok (p.0, m') → sc' ≡ record { pointers = sc.pointers ++ p ∷ []; count = sc.count + 1 }

@@ -1,5 +1,5 @@
 -- What statements do, one form at a time.
-use Rattle.std.proofs.Common.{◌≡◌, ◌∙◌, refl, sym, ap, subst, ℕ, List, map, Option, Some, None, Bool, true, false}
+use Rattle.std.proofs.Common.{◌≡◌, ◌∙◌, sym, ap, ℕ, List, map, Some, None, true, false}
 use Rattle.std.specs.Borrow.{Bor}
 use Rattle.ec_base.specs.declared.line.Line.{Line}
 use Rattle.ec_code.specs.declared.expression.Expression.{Expression}
@@ -8,15 +8,14 @@ use Rattle.ec_code.specs.declared.statement.Loop.{Loop, out-Loop}
 use Rattle.ec_code.specs.declared.statement.Statement.{Statement}
 use Rattle.ec_code.specs.declared.statement.Statement.TheVariants as statement
 use Rattle.ec_code.specs.Views.{expression_view, expressions_view, size_view, statement_view, statements_view}
-use Rattle.ec_evaluation.specs.Evaluate.{Context, World, turn_of, eval}
-use Rattle.ec_evaluation.specs.Execute.{run, run_all, look, look_all, tested, again, declared, initialized, enter}
-use Rattle.ec_evaluation.specs.Results.{Res, went, over, turn, returned, after_body}
+use Rattle.ec_evaluation.specs.Evaluate.{World, turn_of, eval}
+use Rattle.ec_evaluation.specs.Execute.{run, run_all, look, look_all, tested, declared, initialized, enter}
+use Rattle.ec_evaluation.specs.Results.{went, over, turn, returned}
 use Rattle.ec_evaluation.specs.State.{State, stuck}
 use Rattle.ec_evaluation.specs.Whole.{without_atoms}
 use Rattle.ec_resolved.specs.Labels.{holds}
 use Rattle.ec_resolved.specs.Resolved.{Stm}
 use Rattle.ec_resolved.specs.Resolved as of
-use Rattle.ec_machine.specs.declared.frame.Frame.{Frame}
 use Rattle.ec_machine.specs.declared.frame.Frame.TheVariants as frame
 use Rattle.ec_machine.specs.Frames.{Env, here, plug, test_of, behind_of, body_of}
 use Rattle.ec_machine.proofs.Views.{view-OnLine, view-Evaluate, view-Declare, view-Initialize, view-Block, view-Choose, view-loop, view-Loop, view-Return, view-Goto, view-Label, view-Embedded}

@@ -1,12 +1,11 @@
 -- Turns that are taken.
-use Rattle.std.proofs.Common.{◌≡◌, ◌∙◌, refl, sym, ap, subst, ℕ, ◌<◌, List, map, true, false}
+use Rattle.std.proofs.Common.{◌≡◌, ◌∙◌, sym, ap, subst, ℕ, ◌<◌, List, map, true, false}
 use Rattle.ec_code.specs.declared.program.Function.{Function}
-use Rattle.ec_code.specs.declared.statement.Loop.{Loop}
 use Rattle.ec_code.specs.declared.statement.Statement.{Statement}
 use Rattle.ec_code.specs.Views.{function_view, statements_view}
-use Rattle.ec_evaluation.specs.Evaluate.{Context, Task, World, calls, turn_of, look_for}
+use Rattle.ec_evaluation.specs.Evaluate.{Context, Task, World, look_for}
 use Rattle.ec_evaluation.specs.Execute.{act, started, settle, look_all}
-use Rattle.ec_evaluation.specs.Results.{Res, turn, went}
+use Rattle.ec_evaluation.specs.Results.{Res, went}
 use Rattle.ec_evaluation.specs.State.{State}
 use Rattle.ec_evaluation.specs.Whole.{without_atoms}
 use Rattle.ec_evaluation.proofs.WholeRuns.{without_counts}

@@ -1,13 +1,13 @@
 -- The views of statements and expressions, one level at a time.
-use Rattle.std.proofs.Common.{◌≡◌, refl, rules, ℕ, List, map, Option, Bool}
+use Rattle.std.proofs.Common.{◌≡◌, rules, ℕ, List, map, Option, Bool}
 use Rattle.std.specs.Option.{option_map}
 use Rattle.ec_base.specs.declared.line.Line.{Line}
 use Rattle.ec_code.specs.declared.expression.Expression.{Expression, the_lemmas as expression_lemmas}
 use Rattle.ec_code.specs.declared.expression.Expression.TheVariants as expression
 use Rattle.ec_code.specs.declared.expression.Full.{Full, out-Full, the_lemmas as full_lemmas}
-use Rattle.ec_code.specs.declared.expression.FullStep.{FullStep, the_lemmas as step_lemmas}
+use Rattle.ec_code.specs.declared.expression.FullStep.{the_lemmas as step_lemmas}
 use Rattle.ec_code.specs.declared.expression.FullStep.TheVariants as step
-use Rattle.ec_code.specs.declared.expression.Head.{Head, the_lemmas as head_lemmas}
+use Rattle.ec_code.specs.declared.expression.Head.{the_lemmas as head_lemmas}
 use Rattle.ec_code.specs.declared.expression.Head.TheVariants as head
 use Rattle.ec_code.specs.declared.expression.Plain.{Plain}
 use Rattle.ec_code.specs.declared.program.ObjectSize.{ObjectSize}
@@ -16,7 +16,7 @@ use Rattle.ec_code.specs.declared.statement.Statement.{Statement, the_lemmas}
 use Rattle.ec_code.specs.declared.statement.Statement.TheVariants as statement
 use Rattle.ec_code.specs.declared.step.Binary.{Binary}
 use Rattle.ec_code.specs.declared.step.Unary.{Unary}
-use Rattle.ec_code.specs.Trees.{one, two, walked, exps_of, stms_of}
+use Rattle.ec_code.specs.Trees.{one, two, walked}
 use Rattle.ec_code.specs.Views.{expression_view, expressions_view, full_step_view, full_view, head_view, plain_view, size_view, statement_view, statements_view, loop_view}
 use Rattle.ec_formats.specs.declared.known.Known.{Known}
 use Rattle.ec_formats.specs.Known.{known_view}

@@ -1,5 +1,5 @@
 -- What a step of the machine keeps: the answer of the whole run.
-use Rattle.std.specs.Prelude.{◌≡◌, ℕ, ◌<◌, List, map, Option, Some, None, reverse, Result, Ok, Err}
+use Rattle.std.specs.Prelude.{◌≡◌, ℕ, ◌<◌, List, map, Option, reverse, Result, Ok, Err}
 use Rattle.ec_base.specs.declared.stop.Trap.TheVariants.{Spent}
 use Rattle.ec_code.specs.declared.program.Function.{Function}
 use Rattle.ec_code.specs.Views.{function_view}
@@ -12,7 +12,6 @@ use Rattle.ec_memory.specs.declared.store.MakeStop.{MakeStop}
 use Rattle.ec_memory.specs.declared.store.MakeStop.TheVariants as makes
 use Rattle.ec_machine.specs.declared.frame.Focus.{Focus}
 use Rattle.ec_machine.specs.declared.frame.Focus.TheVariants as focus
-use Rattle.ec_machine.specs.declared.frame.Frame.{Frame}
 use Rattle.ec_machine.specs.declared.machine.Machine.{Machine}
 use Rattle.ec_machine.specs.declared.stop.End.{End}
 use Rattle.ec_machine.specs.declared.stop.End.TheVariants as ends

@@ -1,4 +1,4 @@
-use Rattle.std.proofs.Common.{◌≡◌, ℕ, length, map}
+use Rattle.std.proofs.Common.{◌≡◌, length, map}
 use Rattle.ec_evaluation.specs.Results.{Res, given}
 use Rattle.ec_evaluation.specs.State.{State}
 use Rattle.ec_objects.specs.Kinds.{kind_type}

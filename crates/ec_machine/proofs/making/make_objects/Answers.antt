@@ -1,6 +1,4 @@
-use Rattle.std.proofs.Common.{◌≡◌, ◌∙◌, refl, ap, sym, map, ℕ, ◌+◌, List, [], ◌∷◌, ◌++◌, drop, Option}
-use Rattle.std.specs.Prelude.{reverse}
-use Rattle.std.specs.Option.{option_map}
+use Rattle.std.proofs.Common.{◌∙◌, ap, map, ℕ, ◌+◌, List, [], ◌∷◌, ◌++◌, drop}
 use Rattle.ec_code.specs.Views.{size_view}
 use Rattle.ec_evaluation.specs.Results.{Res, made, tried}
 use Rattle.ec_evaluation.specs.State.{State}

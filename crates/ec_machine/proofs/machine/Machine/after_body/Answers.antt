@@ -1,6 +1,5 @@
-use Rattle.std.proofs.Common.{◌≡◌, ◌∙◌, refl, ap, sym, map, ℕ, ◌+◌, List, [], ◌∷◌, ◌++◌, drop, Option}
+use Rattle.std.proofs.Common.{ap}
 use Rattle.std.specs.Prelude.{reverse}
-use Rattle.std.specs.Option.{option_map}
 use Rattle.ec_machine.specs.Frames.{resume, behind_of, body_of, here, led, test_of}
 use Rattle.ec_machine.specs.Goes.{at, env_of, world}
 use Rattle.ec_evaluation.specs.Execute.{again}

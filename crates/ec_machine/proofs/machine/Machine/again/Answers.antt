@@ -1,4 +1,4 @@
-use Rattle.std.proofs.Common.{◌≡◌, ◌∙◌, refl, ap, sym, map, ℕ, ◌+◌, List, [], ◌∷◌, ◌++◌, drop, Option}
+use Rattle.std.proofs.Common.{◌∙◌, ap, sym}
 use Rattle.std.specs.Prelude.{reverse}
 use Rattle.std.specs.Option.{option_map}
 use Rattle.ec_code.specs.Views.{expression_view}
@@ -6,7 +6,7 @@ use Rattle.ec_machine.specs.Frames.{resume, behind_of, body_of, here, test_of}
 use Rattle.ec_machine.specs.Goes.{at, env_of, world}
 use Rattle.ec_evaluation.specs.Execute.{again, tested}
 use Rattle.ec_evaluation.specs.Whole.{without_atoms}
-use Rattle.ec_machine.proofs.Moves.{behind_none, stands_by}
+use Rattle.ec_machine.proofs.Moves.{stands_by}
 use Rattle.ec_machine.proofs.machine.Machine.again.Goals as goal
 
 pub returns-in-None-clause-goes : goal.returns-in-None-clause-goes

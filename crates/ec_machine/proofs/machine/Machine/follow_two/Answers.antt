@@ -1,22 +1,19 @@
-use Rattle.std.proofs.Common.{◌≡◌, ◌∙◌, refl, ap, sym, map, ℕ, List, [], ◌∷◌, ◌++◌, Ok, Err, Some, None, Option}
-use Rattle.std.specs.Prelude.{reverse, slice_get}
-use Rattle.std.specs.Option.{option_map}
-use Rattle.ec_code.specs.Views.{expression_view, full_step_view, plain_view}
+use Rattle.std.proofs.Common.{◌≡◌, ◌∙◌, ap, map, Ok}
+use Rattle.std.specs.Prelude.{reverse}
+use Rattle.ec_code.specs.Views.{expression_view, full_step_view}
 use Rattle.ec_evaluation.specs.Evaluate.{eval}
-use Rattle.ec_evaluation.specs.Execute.{declared}
-use Rattle.ec_evaluation.specs.Results.{value, over, on, present, changed, tried}
+use Rattle.ec_evaluation.specs.Results.{value}
 use Rattle.ec_evaluation.specs.Whole.{without_atoms}
-use Rattle.ec_objects.specs.Memory.{unset}
-use Rattle.ec_plain.specs.Answered.{answered, context, ending_of, scope_view}
+use Rattle.ec_plain.specs.Answered.{ending_of}
 use Rattle.ec_plain.specs.Ready.{readied}
-use Rattle.ec_plain.specs.Steps.{followed, one_on, two_on}
+use Rattle.ec_plain.specs.Steps.{followed, two_on}
 use Rattle.ec_plain.specs.declared.both.Ready.TheVariants as ready
 use Rattle.ec_plain.proofs.Walks.{followed_over}
 use Rattle.ec_values.specs.Words.{word_view}
 use Rattle.ec_machine.specs.declared.frame.Frame.TheVariants as frame
-use Rattle.ec_machine.specs.Frames.{here, objects_of, resume}
+use Rattle.ec_machine.specs.Frames.{here, resume}
 use Rattle.ec_machine.specs.Goes.{at, env_of, world}
-use Rattle.ec_machine.proofs.Moves.{pushed, over_stops, resume_over}
+use Rattle.ec_machine.proofs.Moves.{pushed, over_stops}
 use Rattle.ec_machine.proofs.machine.Machine.follow_two.Goals as goal
 
 pub returns-in_ok-push-in-Ok-Done-clause-goes : goal.returns-in_ok-push-in-Ok-Done-clause-goes
