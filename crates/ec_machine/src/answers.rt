@@ -22,7 +22,9 @@ impl<'p> Machine<'p> {
     /// The body of a loop is done.
     pub fn after_body(&mut self, inner: &'p Loop, flow: Flow) -> Result<Focus<'p>, Stop>
         ensures goes { (functions : List FunctionData) → Goes functions self.old (env_of self.old)
-            (λ w t. after_body (led flow t) (λ u. again without_atoms w (here (env_of self.old) self.old.line) (test_of inner.now) (behind_of inner.now) (body_of inner.now) u)) result self.new }
+            (λ w t. after_body (led flow t) (λ u. again without_atoms w (here (env_of self.old)
+            self.old.line) (test_of inner.now) (behind_of inner.now) (body_of inner.now) u))
+            result self.new }
         ensures turns { self.new.turns ≤ self.old.turns }
     {
         match flow {
@@ -42,7 +44,8 @@ pub fn returned<'p>(
     otherwise: Option<Word>,
     flow: Flow,
 ) -> Result<Focus<'p>, Stop>
-    ensures { Returns result (λ s. answered line.0 used (function_end (option_map word_view otherwise) (led flow s))) }
+    ensures { Returns result (λ s. answered line.0 used (function_end (option_map word_view
+        otherwise) (led flow s))) }
 {
     let value = match flow {
         Flow::On => otherwise,

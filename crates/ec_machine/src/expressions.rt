@@ -22,7 +22,8 @@ impl<'p> Machine<'p> {
     /// An expression without calls is evaluated.
     pub fn plain(&mut self, plain: &Plain) -> Result<Focus<'p>, Stop>
         ensures goes { (functions : List FunctionData) → Goes functions self.old (env_of self.old)
-            (λ w t. eval without_atoms w (here (env_of self.old) self.old.line) (plain_view plain.now) t) result self.new }
+            (λ w t. eval without_atoms w (here (env_of self.old) self.old.line) (plain_view
+            plain.now) t) result self.new }
         ensures turns { self.new.turns ≤ self.old.turns }
     {
         match evaluate(&mut self.store, self.scope.objects(), plain) {
@@ -40,8 +41,10 @@ impl<'p> Machine<'p> {
         value: Word,
     ) -> Result<Focus<'p>, Stop>
         ensures goes { (functions : List FunctionData) → Goes functions self.old (env_of self.old)
-            (λ w t. followed without_atoms w (here (env_of self.old) self.old.line) (map full_step_view rest.now)
-            (two_on without_atoms w (here (env_of self.old) self.old.line) step (expression_view right.now) (word_view value) t)) result self.new }
+            (λ w t. followed without_atoms w (here (env_of self.old) self.old.line) (map
+            full_step_view rest.now)
+            (two_on without_atoms w (here (env_of self.old) self.old.line) step (expression_view
+            right.now) (word_view value) t)) result self.new }
         ensures turns { self.new.turns ≤ self.old.turns }
     {
         match prepare(&self.store, step, value) {

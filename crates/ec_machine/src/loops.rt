@@ -21,7 +21,8 @@ impl<'p> Machine<'p> {
     /// Statements are run, one after the other.
     pub fn list(&mut self, statements: &'p [Statement]) -> Result<Focus<'p>, Stop>
         ensures goes { (functions : List FunctionData) → Goes functions self.old (env_of self.old)
-            (λ w t. run_all without_atoms w (here (env_of self.old) self.old.line) (statements_view statements.now) t) result self.new }
+            (λ w t. run_all without_atoms w (here (env_of self.old) self.old.line)
+            (statements_view statements.now) t) result self.new }
         ensures turns { self.new.turns ≤ self.old.turns }
     {
         match statements {
@@ -35,8 +36,10 @@ impl<'p> Machine<'p> {
 
     /// A block is entered: its objects are made. What is done in it is left to the caller.
     pub fn enter(&mut self, sizes: &'p [ObjectSize], body: &'p [Statement]) -> Result<(), Stop>
-        ensures enters { (w : World) (s : State) (go : Context → State → Res) → Enters w s self.old result self.new
-            (enter w (here (env_of self.old) self.old.line) (map size_view sizes.now) (statements_view body.now) go (at s self.old))
+        ensures enters { (w : World) (s : State) (go : Context → State → Res) → Enters w s
+            self.old result self.new
+            (enter w (here (env_of self.old) self.old.line) (map size_view sizes.now)
+            (statements_view body.now) go (at s self.old))
             (go (here (env_of self.new) self.new.line) (at s self.new)) }
         ensures turns { self.new.turns ≤ self.old.turns }
     {
@@ -55,7 +58,8 @@ impl<'p> Machine<'p> {
     /// The body of a loop is run once more, and costs a turn.
     pub fn turn(&mut self, inner: &'p Loop) -> Result<Focus<'p>, Stop>
         ensures goes { (functions : List FunctionData) → Goes functions self.old (env_of self.old)
-            (λ w t. w (turn_of (here (env_of self.old) self.old.line) (test_of inner.now) (behind_of inner.now) (body_of inner.now)) t) result self.new }
+            (λ w t. w (turn_of (here (env_of self.old) self.old.line) (test_of inner.now)
+            (behind_of inner.now) (body_of inner.now)) t) result self.new }
         ensures turns { self.new.turns ≤ self.old.turns }
     {
         take_turn(&mut self.turns)?;
@@ -66,7 +70,8 @@ impl<'p> Machine<'p> {
     /// A loop from its test.
     pub fn test(&mut self, inner: &'p Loop) -> Result<Focus<'p>, Stop>
         ensures goes { (functions : List FunctionData) → Goes functions self.old (env_of self.old)
-            (λ w t. tested without_atoms w (here (env_of self.old) self.old.line) (test_of inner.now) (behind_of inner.now) (body_of inner.now) t) result self.new }
+            (λ w t. tested without_atoms w (here (env_of self.old) self.old.line) (test_of
+            inner.now) (behind_of inner.now) (body_of inner.now) t) result self.new }
         ensures turns { self.new.turns ≤ self.old.turns }
     {
         match &inner.test {
@@ -81,7 +86,8 @@ impl<'p> Machine<'p> {
     /// A loop behind its body.
     pub fn again(&mut self, inner: &'p Loop) -> Result<Focus<'p>, Stop>
         ensures goes { (functions : List FunctionData) → Goes functions self.old (env_of self.old)
-            (λ w t. again without_atoms w (here (env_of self.old) self.old.line) (test_of inner.now) (behind_of inner.now) (body_of inner.now) t) result self.new }
+            (λ w t. again without_atoms w (here (env_of self.old) self.old.line) (test_of
+            inner.now) (behind_of inner.now) (body_of inner.now) t) result self.new }
         ensures turns { self.new.turns ≤ self.old.turns }
     {
         match &inner.behind {

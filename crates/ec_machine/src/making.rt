@@ -24,7 +24,8 @@ use ec_values::{Stop as NoValue, Word, store as stored};
 /// Takes a turn, if one is left.
 pub fn take_turn(turns: &mut u64) -> Result<(), Stop>
     ensures turn { (s : State) (go : State → Res) → Passes result
-        (turn (record s { turns = turns.old }) go) (go (record s { turns = turns.new })) (record s { turns = turns.new }) }
+        (turn (record s { turns = turns.old }) go) (go (record s { turns = turns.new })) (record s
+        { turns = turns.new }) }
     ensures fewer { turns.new ≤ turns.old }
     ensures taken { OnOk result (turns.old ≡ turns.new + 1) }
 {
@@ -67,7 +68,8 @@ pub fn make_object(store: &mut Store, scope: &mut Scope, size: u64) -> Result<()
     requires some { 1 ≤ size }
     requires small { size ≤ 2 ^ 24 }
     ensures made { (line : ℕ) (s : State) (go : List ℕ → State → Res) → Makes line result
-        (tried line (make store.old size) (at s store.old) (λ r. go (scope_view (objects_of scope.old) ++ r.0 ∷ []) (at s r.1)))
+        (tried line (make store.old size) (at s store.old) (λ r. go (scope_view (objects_of
+        scope.old) ++ r.0 ∷ []) (at s r.1)))
         (go (scope_view (objects_of scope.new)) (at s store.new)) (at s store.new) }
     ensures grown { OnOk result (Grown scope.old.pointers scope.new.pointers) }
 {
@@ -88,7 +90,8 @@ pub fn make_objects(
     sizes: &[ObjectSize],
 ) -> Result<(), MakeStop>
     ensures made { (line : ℕ) (s : State) (go : List ℕ → State → Res) → Makes line result
-        (made line (map size_view sizes.now) (scope_view (objects_of scope.old)) (at s store.old) go)
+        (made line (map size_view sizes.now) (scope_view (objects_of scope.old)) (at s store.old)
+        go)
         (go (scope_view (objects_of scope.new)) (at s store.new)) (at s store.new) }
     ensures grown { OnOk result (Grown scope.old.pointers scope.new.pointers) }
 {
@@ -110,7 +113,8 @@ pub fn give_arguments(
     values: &[Word],
 ) -> Result<(), Stop>
     ensures { (s : State) (go : State → Res) → Passes result
-        (given line.0 (map kind_type kinds.now) (scope_view pointers.now) (map word_view values.now) (at s store.old) go)
+        (given line.0 (map kind_type kinds.now) (scope_view pointers.now) (map word_view
+        values.now) (at s store.old) go)
         (go (at s store.new)) (at s store.new) }
 {
     let mut kinds = kinds;

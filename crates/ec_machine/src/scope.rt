@@ -36,7 +36,11 @@ impl Scope {
 
     /// Puts an object behind the others.
     pub fn push(&mut self, ptr: Ptr) -> Result<(), OutOfMemory>
-        ensures { OnOk result (self.new ≡ record { pointers = self.old.pointers ++ ptr ∷ []; count = self.old.count + 1 }) }
+        ensures { OnOk result (self.new ≡ record {
+          pointers = self.old.pointers ++ ptr ∷ [];
+          count
+              = self.old.count + 1;
+        }) }
     {
         let Some(count) = self.count.checked_add(1) else {
             return Err(OutOfMemory);
