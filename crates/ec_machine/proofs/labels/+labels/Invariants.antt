@@ -1,0 +1,8 @@
+use Rattle.std.proofs.Common.{◌≡◌, drop}
+use Rattle.ec_code.specs.Views.{statements_view}
+use Rattle.ec_resolved.specs.Labels.{holds_any}
+use Rattle.ec_machine.proofs.labels.+labels.Given as goal
+
+abbrev pub invariant-holds_any-loop-statement : goal.invariant-holds_any-loop-statement
+invariant-holds_any-loop-statement l =
+    holds_any l.label (statements_view l.statements) ≡ holds_any l.label (statements_view (drop l.statement-index l.statements))

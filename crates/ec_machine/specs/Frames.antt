@@ -1,0 +1,142 @@
+-- A run cut in two: what is looked at, and the frames that wait for its answer, the innermost last.
+use Rattle.std.specs.Prelude.{◌≡◌, ℕ, ◌-◌, List, [], ◌∷◌, ◌++◌, length, take, drop, map, Option, Some, Bool, true, false}
+use Rattle.std.specs.Option.{option_map}
+use Rattle.ec_bytes.specs.declared.scalar.address.Ptr.{Ptr}
+use Rattle.ec_code.specs.declared.statement.Loop.{Loop, out-Loop}
+use Rattle.ec_code.specs.Views.{expression_view, expressions_view, full_step_view, statement_view, statements_view}
+use Rattle.ec_evaluation.specs.Evaluate.{Context, World, calls, turn_of, eval, collect}
+use Rattle.ec_evaluation.specs.Execute.{run, run_all, look, tested, again, settle}
+use Rattle.ec_evaluation.specs.Results.{Res, value, on, broke, continued, went, back, on_value, on_done, after_body, closing, function_end, answered, returned, finished, done_there}
+use Rattle.ec_evaluation.specs.State.{State}
+use Rattle.ec_evaluation.specs.Whole.{without_atoms}
+use Rattle.ec_formats.specs.Known.{channel_view, known_view}
+use Rattle.ec_functions.specs.Functions.{effect_of, puts_bytes}
+use Rattle.ec_objects.specs.Memory.{ValueData}
+use Rattle.ec_plain.specs.Answered.{context}
+use Rattle.ec_plain.specs.Steps.{followed, both_on}
+use Rattle.ec_resolved.specs.Operations.{is_true}
+use Rattle.ec_resolved.specs.Resolved.{Exp, Stm}
+use Rattle.ec_values.specs.Words.{word_view}
+use Rattle.ec_values.specs.declared.word.Word.{Word}
+use Rattle.ec_base.specs.declared.line.Line.{Line}
+use Rattle.ec_machine.specs.declared.frame.Callee.{Callee}
+use Rattle.ec_machine.specs.declared.frame.Callee.TheVariants as callee
+use Rattle.ec_machine.specs.declared.frame.Flow.{Flow}
+use Rattle.ec_machine.specs.declared.frame.Flow.TheVariants as flow
+use Rattle.ec_machine.specs.declared.frame.Focus.{Focus}
+use Rattle.ec_machine.specs.declared.frame.Focus.TheVariants as focus
+use Rattle.ec_machine.specs.declared.frame.Frame.{Frame}
+use Rattle.ec_machine.specs.declared.frame.Frame.TheVariants as frame
+use Rattle.ec_machine.specs.declared.scope.Scope.{Scope}
+
+-- ---- where a frame stands
+
+abbrev pub last_of : {A : Type 0} → ℕ → List A → List A
+last_of n xs = drop (length xs - n) xs
+
+abbrev pub without_last : {A : Type 0} → ℕ → List A → List A
+without_last n xs = take (length xs - n) xs
+
+-- the scope with the first of its pointers alone, of which so many are those in scope
+abbrev pub cut : ℕ → ℕ → Scope → Scope
+cut height count sc = record { pointers = take height sc.pointers; count = count }
+
+-- pointers were put behind those that were there
+abbrev pub Grown : List Ptr → List Ptr → Type 0
+Grown old new = (more : List Ptr) × (new ≡ old ++ more)
+
+-- the objects in scope, whether the function is the first `main`, the values of arguments that wait, and what the first `main` gives where its body ends
+pub record Env : Type 0 where
+  pub scope : Scope
+  pub first : Bool
+  pub values : List Word
+  pub otherwise : Option Word
+
+abbrev pub objects_of : Scope → List Ptr
+objects_of sc = last_of sc.count sc.pointers
+
+abbrev pub here : Env → Line → Context
+here e line = context line.0 (objects_of e.scope) e.first
+
+abbrev pub waiting : ℕ → Env → List ValueData
+waiting n e = map word_view (last_of n e.values)
+
+-- ---- loops
+
+abbrev pub test_of : Loop → Option Exp
+test_of x = option_map expression_view (out-Loop x).test
+
+abbrev pub behind_of : Loop → Option Exp
+behind_of x = option_map expression_view (out-Loop x).behind
+
+abbrev pub body_of : Loop → Stm
+body_of x = statement_view (out-Loop x).body
+
+-- ---- frames
+
+-- what becomes of the values that were collected
+abbrev pub received : World → Line → Callee → List ValueData → State → Res
+received w line (callee.Function f used) vs t = answered line.0 used (w (calls line.0 f vs) t)
+received w line (callee.Known f) vs t = done_there line.0 (effect_of (known_view f.now) t.memory vs) t
+received w line callee.Object vs t = on t
+
+-- where the frames below stand
+abbrev pub below : Env → Frame → Env
+below e (frame.Arguments line callee n es xs) = record e { values = without_last n e.values }
+below e (frame.Call line used otherwise xs first) = record e { first = first }
+below e (frame.Close mark height count) = record e { scope = cut height count e.scope }
+below e f = e
+
+-- what a frame makes of the answer that it waits for
+abbrev pub plug : World → Env → Frame → Res → Res
+plug w e (frame.Steps line xs) o = followed without_atoms w (here e line) (map full_step_view xs.now) o
+plug w e (frame.Right line step v old xs) o =
+    followed without_atoms w (here e line) (map full_step_view xs.now) (on_value o (both_on line.0 step (word_view v) (word_view old)))
+plug w e (frame.Arguments line callee n es xs) o =
+    followed without_atoms w (here e line) (map full_step_view xs.now) (on_value o (λ v t.
+    collect without_atoms w (here e line) (waiting n e ++ v ∷ []) (expressions_view es.now) t (received w line callee)))
+plug w e (frame.Call line used otherwise xs first) o =
+    followed without_atoms w (here (record e { first = first }) line) (map full_step_view xs.now)
+    (answered line.0 used (function_end (option_map word_view otherwise) o))
+plug w e frame.Do o = on_value o (λ v t. on t)
+plug w e frame.Give o = on_value o (λ v t. returned e.first (Some v) t)
+plug w e (frame.Choose line a b) o =
+    on_value o (λ v t. elim (is_true v) [
+      | true ↦ run without_atoms w (here e line) (statement_view a.now) t
+      | false ↦ run without_atoms w (here e line) (statement_view b.now) t
+    ])
+plug w e (frame.Test line x) o =
+    on_value o (λ v t. elim (is_true v) [
+      | true ↦ w (turn_of (here e line) (test_of x.now) (behind_of x.now) (body_of x.now)) t
+      | false ↦ on t
+    ])
+plug w e (frame.Behind line x) o =
+    on_value o (λ v t. tested without_atoms w (here e line) (test_of x.now) (behind_of x.now) (body_of x.now) t)
+plug w e (frame.Body line x) o =
+    after_body o (λ t. again without_atoms w (here e line) (test_of x.now) (behind_of x.now) (body_of x.now) t)
+plug w e (frame.Rest line xs) o = on_done o (λ t. run_all without_atoms w (here e line) (statements_view xs.now) t)
+plug w e (frame.Settle line xs) o = settle w (here e line) (statements_view xs.now) o
+plug w e (frame.Close mark height count) o = closing mark o
+
+-- what the frames make of an answer, the innermost first, and the first `main` behind them
+abbrev pub resume : World → Env → List Frame → Res → Res
+resume w e [] o = finished (option_map word_view e.otherwise) o
+resume w e (f ∷ fs) o = resume w (below e f) fs (plug w e f o)
+
+-- ---- what is looked at
+
+-- what a statement led to
+abbrev pub led : Flow → State → Res
+led flow.On s = on s
+led flow.Broke s = broke s
+led flow.Continued s = continued s
+led (flow.Went l) s = went l s
+led (flow.Back v) s = back (option_map word_view v) s
+
+abbrev pub denote : World → Env → Line → List ℕ → Focus → State → Res
+denote w e line text (focus.Runs x) s = run without_atoms w (here e line) (statement_view x.now) s
+denote w e line text (focus.Looks l x) s = look without_atoms w l (here e line) (statement_view x.now) s
+denote w e line text (focus.Evaluates x) s = eval without_atoms w (here e line) (expression_view x.now) s
+denote w e line text (focus.Value v) s = value (word_view v) s
+denote w e line text (focus.Puts channel v) s = done_there line.0 (puts_bytes (channel_view channel) (option_map word_view v) s.memory text) s
+denote w e line text (focus.Leads f) s = led f s

@@ -1,0 +1,96 @@
+-- What a step of the machine keeps: the answer of the whole run.
+use Rattle.std.specs.Prelude.{◌≡◌, ℕ, ◌<◌, List, map, Option, reverse, Result, Ok, Err}
+use Rattle.ec_base.specs.declared.stop.Trap.TheVariants.{Spent}
+use Rattle.ec_code.specs.declared.program.Function.{Function}
+use Rattle.ec_code.specs.Views.{function_view}
+use Rattle.ec_evaluation.specs.Evaluate.{World}
+use Rattle.ec_evaluation.specs.Execute.{meaning}
+use Rattle.ec_evaluation.specs.Results.{Res, over, exits_with}
+use Rattle.ec_evaluation.specs.State.{State, Ending, exited, trapped, turns_spent, stuck}
+use Rattle.ec_evaluation.specs.Whole.{without_atoms}
+use Rattle.ec_memory.specs.declared.store.MakeStop.{MakeStop}
+use Rattle.ec_memory.specs.declared.store.MakeStop.TheVariants as makes
+use Rattle.ec_machine.specs.declared.frame.Focus.{Focus}
+use Rattle.ec_machine.specs.declared.frame.Focus.TheVariants as focus
+use Rattle.ec_machine.specs.declared.machine.Machine.{Machine}
+use Rattle.ec_machine.specs.declared.stop.End.{End}
+use Rattle.ec_machine.specs.declared.stop.End.TheVariants as ends
+use Rattle.ec_machine.specs.declared.stop.Stop.{Stop}
+use Rattle.ec_machine.specs.declared.stop.Stop.TheVariants as stop
+use Rattle.ec_machine.specs.Frames.{Env, denote, led, resume}
+use Rattle.ec_objects.specs.Memory.{ValueData}
+use Rattle.ec_values.specs.Words.{word_view}
+use Rattle.ec_evaluation.specs.Results.{value}
+
+abbrev pub world : List Function → ℕ → World
+world fs k = meaning without_atoms (map function_view fs) k
+
+abbrev pub ending_view : End → Ending
+ending_view (ends.Exited n) = exited n
+ending_view (ends.Trapped t line) = trapped t line.0
+ending_view ends.TurnsSpent = turns_spent
+ending_view ends.Stuck = stuck
+
+-- a state with the memory and the turns of a machine
+abbrev pub at : State → Machine → State
+at s m = record s { memory = m.store; turns = m.turns }
+
+abbrev pub env_of : Machine → Env
+env_of m = record { scope = m.scope; first = m.first; values = m.values; otherwise = m.otherwise }
+
+-- an answer is that of what stopped the machine
+abbrev pub Stops : Stop → State → Res → Type 0
+Stops (stop.Over e) s o = o ≡ over (ending_view e) s
+Stops stop.OutOfMemory s o = Unit {0}
+
+-- from an answer on, the machine stands at a focus with that answer
+abbrev pub Stands : World → State → Machine → Result Focus Stop → Res → Type 0
+Stands w s m (Ok f) o = o ≡ resume w (env_of m) (reverse m.frames) (denote w (env_of m) m.line m.text f (at s m))
+Stands w s m (Err x) o = Stops x (at s m) o
+
+-- what a part of the run leads to, from where the machine stood, is what it stands at now
+abbrev pub Goes : List Function → Machine → Env → (World → State → Res) → Result Focus Stop → Machine → Type 0
+Goes fs old e part result new =
+    (k : ℕ) (s : State) → old.turns < k
+    → Stands (world fs k) s new result (resume (world fs k) e (reverse old.frames) (part (world fs k) (at s old)))
+
+-- how the run ends, where there is an ending
+abbrev pub IsOver : Stop → Ending → Type 0
+IsOver (stop.Over e) x = x ≡ ending_view e
+IsOver stop.OutOfMemory x = ⊥
+
+-- what is left where objects were made: a computation goes on, or there was no room on this line
+abbrev pub Makes : ℕ → Result (Unit {0}) MakeStop → Res → Res → State → Type 0
+Makes line (Ok v) o next s = o ≡ next
+Makes line (Err makes.Spent) o next s = o ≡ over (trapped Spent line) s
+Makes line (Err makes.OutOfMemory) o next s = Unit {0}
+
+-- what is left of a computation that may end the run: it goes on, or it is over
+abbrev pub Passes : Result (Unit {0}) Stop → Res → Res → State → Type 0
+Passes (Ok v) o next s = o ≡ next
+Passes (Err x) o next s = Stops x s o
+
+-- the first `main` ends the run so
+abbrev pub EndsWith : Option ValueData → End → Type 0
+EndsWith v e = (s : State) → exits_with v s ≡ over (ending_view e) s
+
+-- what a computation without an effect leads to: a value or a flow, or the end of the run
+abbrev pub Returns : Result Focus Stop → (State → Res) → Type 0
+Returns (Ok (focus.Value v)) o = (s : State) → o s ≡ value (word_view v) s
+Returns (Ok (focus.Leads f)) o = (s : State) → o s ≡ led f s
+Returns (Ok f) o = ⊥
+Returns (Err x) o = (s : State) → Stops x s (o s)
+
+-- where no object was made, there was no room on this line, or no memory
+abbrev pub IsNoRoom : ℕ → MakeStop → Stop → Type 0
+IsNoRoom line makes.Spent x = IsOver x (trapped Spent line)
+IsNoRoom line makes.OutOfMemory x = x ≡ stop.OutOfMemory
+
+-- a computation is the end of the run
+abbrev pub Ends : End → (State → Res) → Type 0
+Ends e o = (s : State) → o s ≡ over (ending_view e) s
+
+-- from one computation on, the machine stands before another; or what stopped it is what the first leads to
+abbrev pub Enters : World → State → Machine → Result (Unit {0}) Stop → Machine → Res → Res → Type 0
+Enters w s old (Ok v) new o next = resume w (env_of old) (reverse old.frames) o ≡ resume w (env_of new) (reverse new.frames) next
+Enters w s old (Err x) new o next = Stops x (at s new) o

@@ -1,0 +1,45 @@
+//! Where labels stand.
+
+ghost use Rattle.std.specs.Prelude.{◌≡◌};
+ghost use Rattle.ec_code.specs.Views.{statement_view, statements_view};
+ghost use Rattle.ec_resolved.specs.Labels.{holds, holds_any};
+
+use ec_code::Statement;
+
+/// Whether a label stands in a statement, however deep (ISO/IEC 9899:1999, 6.8.1).
+#[cycle(labels)]
+pub fn holds(label: u32, statement: &Statement) -> bool
+    ensures { result ≡ holds label (statement_view statement.now) }
+{
+    match statement {
+        Statement::OnLine(_, inner) => holds(label, inner.get()),
+        Statement::Block(_, body) => holds_any(label, body.as_slice()),
+        Statement::Choose(_, first, second) => {
+            holds(label, first.get()) || holds(label, second.get())
+        }
+        Statement::Loop(inner) => holds(label, &inner.get().body),
+        Statement::Label(number, inner) => *number == label || holds(label, inner.get()),
+        Statement::Nothing => false,
+        Statement::Evaluate(_) => false,
+        Statement::Declare(_, _) => false,
+        Statement::Initialize(_, _, _) => false,
+        Statement::Leave => false,
+        Statement::Next => false,
+        Statement::Return(_) => false,
+        Statement::Goto(_) => false,
+        Statement::Embedded(_) => false,
+    }
+}
+
+/// Whether a label stands in one of some statements.
+#[cycle(labels)]
+pub fn holds_any(label: u32, statements: &[Statement]) -> bool
+    ensures { result ≡ holds_any label (statements_view statements.now) }
+{
+    for statement in statements {
+        if holds(label, statement) {
+            return true;
+        }
+    }
+    false
+}

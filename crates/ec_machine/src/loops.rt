@@ -1,0 +1,101 @@
+//! Lists of statements, blocks and loops.
+
+ghost use Rattle.std.specs.Prelude.{◌≡◌, ◌≤◌, ℕ, List, map};
+ghost use Rattle.ec_code.specs.declared.program.Function.{Function as FunctionData};
+ghost use Rattle.ec_code.specs.Views.{size_view, statements_view};
+ghost use Rattle.ec_evaluation.specs.Evaluate.{Context, World, turn_of};
+ghost use Rattle.ec_evaluation.specs.Execute.{again, enter, run_all, tested};
+ghost use Rattle.ec_evaluation.specs.Results.{Res};
+ghost use Rattle.ec_evaluation.specs.State.{State};
+ghost use Rattle.ec_evaluation.specs.Whole.{without_atoms};
+ghost use Rattle.ec_machine.specs.Frames.{behind_of, body_of, here, test_of};
+ghost use Rattle.ec_machine.specs.Goes.{Enters, Goes, at, env_of};
+
+use crate::frame::{Flow, Focus, Frame};
+use crate::machine::Machine;
+use crate::making::{make_objects, no_room, take_turn};
+use crate::stop::Stop;
+use ec_code::{Loop, ObjectSize, Statement};
+
+impl<'p> Machine<'p> {
+    /// Statements are run, one after the other.
+    pub fn list(&mut self, statements: &'p [Statement]) -> Result<Focus<'p>, Stop>
+        ensures goes { (functions : List FunctionData) → Goes functions self.old (env_of self.old)
+            (λ w t. run_all without_atoms w (here (env_of self.old) self.old.line)
+            (statements_view statements.now) t) result self.new }
+        ensures turns { self.new.turns ≤ self.old.turns }
+    {
+        match statements {
+            [] => Ok(Focus::Leads(Flow::On)),
+            [first, rest @ ..] => {
+                self.frames.push(Frame::Rest(self.line, rest))?;
+                Ok(Focus::Runs(first))
+            }
+        }
+    }
+
+    /// A block is entered: its objects are made. What is done in it is left to the caller.
+    pub fn enter(&mut self, sizes: &'p [ObjectSize], body: &'p [Statement]) -> Result<(), Stop>
+        ensures enters { (w : World) (s : State) (go : Context → State → Res) → Enters w s
+            self.old result self.new
+            (enter w (here (env_of self.old) self.old.line) (map size_view sizes.now)
+            (statements_view body.now) go (at s self.old))
+            (go (here (env_of self.new) self.new.line) (at s self.new)) }
+        ensures turns { self.new.turns ≤ self.old.turns }
+    {
+        let mark = self.store.mark();
+        let height = self.scope.pointers.len();
+        let count = self.scope.count;
+        match make_objects(&mut self.store, &mut self.scope, sizes) {
+            Ok(()) => (),
+            Err(why) => return Err(no_room(self.line, why)),
+        }
+        self.frames.push(Frame::Close(mark, height, count))?;
+        self.frames.push(Frame::Settle(self.line, body))?;
+        Ok(())
+    }
+
+    /// The body of a loop is run once more, and costs a turn.
+    pub fn turn(&mut self, inner: &'p Loop) -> Result<Focus<'p>, Stop>
+        ensures goes { (functions : List FunctionData) → Goes functions self.old (env_of self.old)
+            (λ w t. w (turn_of (here (env_of self.old) self.old.line) (test_of inner.now)
+            (behind_of inner.now) (body_of inner.now)) t) result self.new }
+        ensures turns { self.new.turns ≤ self.old.turns }
+    {
+        take_turn(&mut self.turns)?;
+        self.frames.push(Frame::Body(self.line, inner))?;
+        Ok(Focus::Runs(&inner.body))
+    }
+
+    /// A loop from its test.
+    pub fn test(&mut self, inner: &'p Loop) -> Result<Focus<'p>, Stop>
+        ensures goes { (functions : List FunctionData) → Goes functions self.old (env_of self.old)
+            (λ w t. tested without_atoms w (here (env_of self.old) self.old.line) (test_of
+            inner.now) (behind_of inner.now) (body_of inner.now) t) result self.new }
+        ensures turns { self.new.turns ≤ self.old.turns }
+    {
+        match &inner.test {
+            None => self.turn(inner),
+            Some(test) => {
+                self.frames.push(Frame::Test(self.line, inner))?;
+                Ok(Focus::Evaluates(test))
+            }
+        }
+    }
+
+    /// A loop behind its body.
+    pub fn again(&mut self, inner: &'p Loop) -> Result<Focus<'p>, Stop>
+        ensures goes { (functions : List FunctionData) → Goes functions self.old (env_of self.old)
+            (λ w t. again without_atoms w (here (env_of self.old) self.old.line) (test_of
+            inner.now) (behind_of inner.now) (body_of inner.now) t) result self.new }
+        ensures turns { self.new.turns ≤ self.old.turns }
+    {
+        match &inner.behind {
+            None => self.test(inner),
+            Some(behind) => {
+                self.frames.push(Frame::Behind(self.line, inner))?;
+                Ok(Focus::Evaluates(behind))
+            }
+        }
+    }
+}

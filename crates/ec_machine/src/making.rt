@@ -1,0 +1,145 @@
+//! Objects of blocks and functions, and turns.
+
+ghost use Rattle.std.specs.Prelude.{◌≡◌, ◌≤◌, ◌+◌, ◌^◌, ℕ, ◌++◌, [], ◌∷◌, List, map, OnOk, slice_get};
+ghost use Rattle.std.specs.Option.{option_map};
+ghost use Rattle.ec_code.specs.Views.{size_view};
+ghost use Rattle.ec_evaluation.specs.Results.{Res, made, given, tried, turn};
+ghost use Rattle.ec_evaluation.specs.State.{State};
+ghost use Rattle.ec_objects.specs.Kinds.{kind_type};
+ghost use Rattle.ec_objects.specs.Memory.{make};
+ghost use Rattle.ec_plain.specs.Answered.{at, ending_of, scope_view};
+ghost use Rattle.ec_values.specs.Words.{word_view};
+ghost use Rattle.ec_machine.specs.Frames.{Grown, objects_of};
+ghost use Rattle.ec_machine.specs.Goes.{IsNoRoom, IsOver, Makes, Passes};
+
+use crate::scope::Scope;
+use crate::stop::{End, Stop};
+use ec_base::{Line, Trap};
+use ec_bytes::Ptr;
+use ec_code::ObjectSize;
+use ec_memory::{MakeStop, Store};
+use ec_objects::Kind;
+use ec_values::{Stop as NoValue, Word, store as stored};
+
+/// Takes a turn, if one is left.
+pub fn take_turn(turns: &mut u64) -> Result<(), Stop>
+    ensures turn { (s : State) (go : State → Res) → Passes result
+        (turn (record s { turns = turns.old }) go) (go (record s { turns = turns.new })) (record s
+        { turns = turns.new }) }
+    ensures fewer { turns.new ≤ turns.old }
+    ensures taken { OnOk result (turns.old ≡ turns.new + 1) }
+{
+    if *turns == 0 {
+        return Err(Stop::Over(End::TurnsSpent));
+    }
+    *turns -= 1;
+    Ok(())
+}
+
+/// How the run ends where a value is missing, on this line.
+pub fn stopped(line: Line, why: NoValue) -> Stop
+    ensures { IsOver result (ending_of line.0 why) }
+{
+    match why {
+        NoValue::Trap(trap) => Stop::Over(End::Trapped(trap, line)),
+        NoValue::Misfit => Stop::Over(End::Stuck),
+    }
+}
+
+/// How the run ends where no object was made, on this line.
+pub fn no_room(line: Line, why: MakeStop) -> Stop
+    ensures { IsNoRoom line.0 why result }
+{
+    match why {
+        MakeStop::Spent => Stop::Over(End::Trapped(Trap::Spent, line)),
+        MakeStop::OutOfMemory => Stop::OutOfMemory,
+    }
+}
+
+/// The object at a place among those in scope.
+pub fn place(scope: &Scope, slot: u32) -> Option<Ptr>
+    ensures { option_map (λ p. p.0) result ≡ slice_get (scope_view (objects_of scope.now)) slot }
+{
+    scope.objects().get(slot as usize).copied()
+}
+
+/// Makes an object, and puts it behind the others.
+pub fn make_object(store: &mut Store, scope: &mut Scope, size: u64) -> Result<(), MakeStop>
+    requires some { 1 ≤ size }
+    requires small { size ≤ 2 ^ 24 }
+    ensures made { (line : ℕ) (s : State) (go : List ℕ → State → Res) → Makes line result
+        (tried line (make store.old size) (at s store.old) (λ r. go (scope_view (objects_of
+        scope.old) ++ r.0 ∷ []) (at s r.1)))
+        (go (scope_view (objects_of scope.new)) (at s store.new)) (at s store.new) }
+    ensures grown { OnOk result (Grown scope.old.pointers scope.new.pointers) }
+{
+    match store.make(size) {
+        Ok(ptr) => {
+            scope.push(ptr)?;
+            Ok(())
+        }
+        Err(MakeStop::Spent) => Err(MakeStop::Spent),
+        Err(MakeStop::OutOfMemory) => Err(MakeStop::OutOfMemory),
+    }
+}
+
+/// Makes objects of these sizes, and puts them behind the others.
+pub fn make_objects(
+    store: &mut Store,
+    scope: &mut Scope,
+    sizes: &[ObjectSize],
+) -> Result<(), MakeStop>
+    ensures made { (line : ℕ) (s : State) (go : List ℕ → State → Res) → Makes line result
+        (made line (map size_view sizes.now) (scope_view (objects_of scope.old)) (at s store.old)
+        go)
+        (go (scope_view (objects_of scope.new)) (at s store.new)) (at s store.new) }
+    ensures grown { OnOk result (Grown scope.old.pointers scope.new.pointers) }
+{
+    for size in sizes {
+        match make_object(store, scope, size.bytes) {
+            Ok(()) => (),
+            Err(why) => return Err(why),
+        }
+    }
+    Ok(())
+}
+
+/// Stores arguments in parameters of these types, in order.
+pub fn give_arguments(
+    store: &mut Store,
+    line: Line,
+    kinds: &[Kind],
+    pointers: &[Ptr],
+    values: &[Word],
+) -> Result<(), Stop>
+    ensures { (s : State) (go : State → Res) → Passes result
+        (given line.0 (map kind_type kinds.now) (scope_view pointers.now) (map word_view
+        values.now) (at s store.old) go)
+        (go (at s store.new)) (at s store.new) }
+{
+    let mut kinds = kinds;
+    let mut pointers = pointers;
+    let mut values = values;
+    while let [kind, more_kinds @ ..] = kinds {
+        match pointers {
+            [] => return Err(Stop::Over(End::Stuck)),
+            [ptr, more_pointers @ ..] => match values {
+                [] => return Err(Stop::Over(End::Stuck)),
+                [value, more_values @ ..] => {
+                    match stored(store, *ptr, *kind, *value) {
+                        Ok(()) => (),
+                        Err(trap) => return Err(Stop::Over(End::Trapped(trap, line))),
+                    }
+                    kinds = more_kinds;
+                    pointers = more_pointers;
+                    values = more_values;
+                }
+            },
+        }
+    }
+    if pointers.is_empty() && values.is_empty() {
+        Ok(())
+    } else {
+        Err(Stop::Over(End::Stuck))
+    }
+}
