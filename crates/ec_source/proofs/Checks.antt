@@ -1,5 +1,5 @@
 -- What the checks of a source answer.
-use Rattle.std.proofs.Common.{◌≡◌, ◌⊎◌, inl, inr, ℕ, List, Result, Ok, Err, refl, sym, ap, ◌∙◌, subst}
+use Rattle.std.proofs.Common.{◌≡◌, inl, inr, ℕ, false, List, Result, Ok, Err, refl, sym, ap, ◌∙◌, subst}
 use Rattle.ec_base.specs.declared.stop.Stop.{Stop}
 use Rattle.ec_base.specs.declared.stop.Stop.TheVariants.{Refused, Limit, OutOfMemory}
 use Rattle.ec_ctypes.specs.declared.tree.unit.Unit.{Unit as Program}
@@ -14,8 +14,8 @@ use Rattle.ec_statement_parts.specs.Handlers.{marks_in}
 use Rattle.ec_typing.specs.Answers.{check_answer}
 use Rattle.ec_whenever.specs.Tables.{table_of}
 use Rattle.ec_check.specs.Answers.{Checks}
-use Rattle.ec_phases.specs.Sources.{checked_tree, checked_with, ReadsTree, ReadsChecked}
-use Rattle.ec_source.specs.Answers.{Tells, TellsTree, TellsChecked}
+use Rattle.ec_phases.specs.Sources.{checked_tree, checked_with, ReadsTree}
+use Rattle.ec_source.specs.Answers.{Tells, TellsChecked}
 
 -- what is told of an answer that is known
 abbrev Is : Result TypedData Stop → Result Typed Stop → Type 0
