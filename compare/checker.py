@@ -70,6 +70,7 @@ class Function:
     defined: bool
     result: object
     params: object
+    section: bool = False
 
 
 @dataclass
@@ -77,6 +78,7 @@ class Thing:
     number: int
     world: bool
     type: object
+    section: bool = False
 
 
 @dataclass
@@ -441,11 +443,11 @@ class Checker:
             here = self.place(decl.line)
             t = self.base(here, decl.base)
             for d in decl.items:
-                lengths = [self.length(here, n) for n in d.dims]
+                full = self.item_type(here, t, decl.base, d)
                 self.demand(here, "F14", d.init is None)
                 if d.init is not None:
                     self.pass_over(here, d.init)
-                full = self.complete_type(here, self.declared(t, d.stars, lengths, here))
+                full = self.complete_type(here, full)
                 self.demand(here, "F10", d.name not in members)
                 self.demand(here, "F12", not self.reserved(d.name))
                 members[d.name] = full
@@ -461,6 +463,10 @@ class Checker:
         else:
             for part in init[1]:
                 self.pass_over(at, part)
+
+    def item_type(self, at, t, base, d, tagged=False):
+        """The type of a declarator; `tagged` where it is no member of a struct."""
+        return self.declared(t, d.stars, [self.length(at, n) for n in d.dims], at)
 
     def declared(self, t, stars, lengths, at=None):
         """The type of a declarator: a length is 0 where it is left out and None where it has a fault."""
@@ -825,15 +831,14 @@ class Checker:
         at = self.place(decl.line)
         t = self.specifier(at, decl.base, decl.items)
         for d in decl.items:
-            lengths = [self.length(at, n) for n in d.dims]
-            full = self.declared(t, d.stars, lengths, at)
+            full = self.item_type(at, t, decl.base, d, True)
             waits = full is not None and d.init is not None and is_array(full) and full[2] == 0 and complete(full[1])
             full = full if waits else self.complete_type(at, full)
-            self.declare(at, d.name, Thing(len(self.numbers), world, full))
+            self.declare(at, d.name, Thing(len(self.numbers), world, full, decl.section))
             after = full if d.init is None else self.initializer(at, world, full, d.init)
             if after is not None and too_large(after):
                 self.limit(at, "L1")
-            self.scopes[-1].names[d.name] = Thing(len(self.numbers), world, after)
+            self.scopes[-1].names[d.name] = Thing(len(self.numbers), world, after, decl.section)
             self.count(after)
 
     # ---- statements
@@ -937,14 +942,15 @@ class Checker:
         if isinstance(before, Thing):
             self.fault(at, "F10")
         if not isinstance(before, Function):
-            here[f.name] = Function(k, False, t, None)
+            here[f.name] = Function(k, False, t, None, f.section)
         self.demand(at, "F12", not self.reserved(f.name))
         self.scopes.append(Scope())
         params = [self.param(at, p, f.body is not None) for p in f.params]
         if isinstance(before, Function):
             again = self.agrees(before, t, params) and not (before.defined and f.body is not None)
             self.demand(at, "F10", again)
-        here[f.name] = Function(k, f.body is not None or (isinstance(before, Function) and before.defined), t, params)
+        defined = f.body is not None or (isinstance(before, Function) and before.defined)
+        here[f.name] = Function(k, defined, t, params, f.section)
         if f.body is not None:
             if f.name == "main" and t == INT and not params:
                 self.mains = True
@@ -973,11 +979,14 @@ class Checker:
                 self.fault(at, "F14")
                 t = None
         if p.name is not None:
-            self.declare(at, p.name, Thing(len(self.numbers), False, t))
+            self.declare(at, p.name, Thing(len(self.numbers), False, t, p.section))
         elif defines:
             self.fault(at, "F14")
         self.count(t)
         return t
+
+    def other_top(self, top):
+        pass
 
     def check(self):
         for top in self.unit.tops:
@@ -986,6 +995,8 @@ class Checker:
                 self.function(top)
             elif top.kind == "declaration":
                 self.declaration(True, top.decl)
+            else:
+                self.other_top(top)
         self.demand(self.place(self.unit.last), "F20", self.mains)
         return self.first()
 

@@ -185,6 +185,9 @@ def pieces(text):
             found.append(Piece(kind, text[at:end], line_of(at)))
             start = at = end
             continue
+        if blanks := BLANKS.match(text, at):
+            at = blanks.end()
+            continue
         try:
             at = c_unit(text, at)
         except Unclosed as unclosed:

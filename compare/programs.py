@@ -21,6 +21,7 @@ class Declaration:
     items: list
     line: int = 0
     kind: str = "declaration"
+    section: bool = False
 
     @property
     def decl(self):
@@ -33,6 +34,7 @@ class Parameter:
     stars: int
     name: object
     dims: list
+    section: bool = False
 
 
 @dataclass
@@ -44,6 +46,7 @@ class Function:
     body: object
     line: int = 0
     kind: str = "function"
+    section: bool = False
 
 
 @dataclass

@@ -21,6 +21,8 @@ pub mod Sessions
 pub mod SourceLemmas
 pub mod Statements
 pub mod TextLemmas
+pub mod Tools
+pub mod Translations
 pub mod Walk
 pub mod WrittenFronts
 pub mod WrittenReadable

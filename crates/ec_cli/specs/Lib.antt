@@ -9,3 +9,5 @@ pub mod Refusals
 pub mod SourceBuilder
 pub mod SourceLines
 pub mod Statements
+pub mod Tools
+pub mod Translating

@@ -63,8 +63,8 @@ fn translate(alloc: Global, source: Source) -> Result<Written, OutOfMemory>
     }
 }
 
-// The ending of a text that is refused.
-fn refusal(stop: Stop) -> Ending
+/// The ending of a text that is refused.
+pub fn refusal(stop: Stop) -> Ending
     ensures { result ≡ refusal_of stop }
 {
     match stop {
@@ -109,7 +109,7 @@ fn run_text<O: Sink>(alloc: Global, text: Bytes, out: &mut O, rack: &mut Rack) -
     }
 }
 
-/// Does what the words name, but for the last line on standard error.
+/// Does what the words of a run name, but for the last line on standard error.
 pub fn command<I: Input, O: Sink>(
     alloc: Global,
     words: &[String],

@@ -9,6 +9,7 @@ mod message;
 mod pieces;
 mod source;
 mod tool;
+mod translation;
 mod written;
 
 pub use ec_words::{LinkSpec, links_named};

@@ -15,20 +15,44 @@ ghost use Rattle.ec_firstpath.specs.Source.{IsSource};
 ghost use Rattle.ec_cli.specs.Answers.{IsRun, IsCrowded, IsRefusal, IsOwn, Decides, Announces, RanPart, grown};
 ghost use Rattle.ec_cli.specs.Ending.{last_line};
 ghost use Rattle.ec_cli.specs.Machine.{RunsOver};
+ghost use Rattle.ec_cli.specs.Tools.{Does};
+ghost use Rattle.ec_cli.specs.Translating.{IsTranslating, IsOfTranslation, IsRefused, PassesLimit, WritesWhole, WritesPart, DecidesTranslation};
 ghost use Rattle.ec_link.specs.Links.{talk_by};
 
 use crate::command::command;
 use crate::ending::Ending;
 use crate::message::put_last_line;
+use crate::translation::translate_input;
 use ec_base::{Sink, Source};
 use ec_link::{Link, Rack};
+use ec_words::names_translation;
 use std::alloc::Global;
+
+// Does what the words name, but for the last line on standard error.
+fn perform<I: Source, O: Sink>(
+    alloc: Global,
+    words: &[String],
+    input: &mut I,
+    out: &mut O,
+    rack: &mut Rack,
+) -> Ending
+    ensures { Does I.left I.faults O.held O.faults (talk_by ⟦<dyn Link as Link>⟧) words.now
+        input.old input.new out.old out.new rack.old rack.new result }
+{
+    if names_translation(words) {
+        return translate_input(alloc, input, out);
+    }
+    command(alloc, words, input, out, rack)
+}
 
 /// Does what the words name, and puts a last line on `err` where the ending has one.
 ///
-/// The one command is `run`, with its options and links: the source that `input` gives is written as C, read back, and run
-/// over the first ready slot of the rack, if it has one. The program prints on `out`, which is flushed at its end, before
-/// the ending is decided. More than 64 slots are a limit, which is tested before the input is read.
+/// `translate` puts the C that is written of the source which `input` gives on `out`, which is flushed before the ending is
+/// decided. A source that is refused puts nothing there.
+///
+/// `run`, with its options and links, writes the source as C, reads that back, and runs it over the first ready slot of the
+/// rack, if it has one. The program prints on `out`, which is flushed at its end, before the ending is decided. More than
+/// 64 slots are a limit, which is tested before the input is read.
 ///
 /// A fault while the last line is put changes no ending.
 pub fn ec_main<I: Source, O: Sink, E: Sink>(
@@ -39,16 +63,25 @@ pub fn ec_main<I: Source, O: Sink, E: Sink>(
     err: &mut E,
     rack: &mut Rack,
 ) -> Ending
+    // The whole of what is written of the source was put, or a front of it. A translation leaves the rack as it was.
+    ensures wrote { result ≡ Ending.Wrote → WritesWhole (I.left input.old) (I.left input.new)
+        (O.held out.old) (O.held out.new) }
+    ensures written_part { IsTranslating words.now → result ≡ Ending.WriteFault →
+        WritesPart I.left I.faults O.held O.faults input.old input.new out.old out.new }
+    ensures written_want { IsTranslating words.now → result ≡ Ending.OutOfMemory →
+        out.new ≡ out.old }
+    ensures unlinked { IsTranslating words.now → rack.new ≡ rack.old }
+
     // A run to its end is the whole of what the source means, over the answers that the log got in this call.
     ensures whole { (status : ℕ) → result ≡ Ending.Exited status →
         RunsWhole IsSource direct_meaning (I.left input.old) (I.left input.new)
         (O.held out.old) (O.held out.new) (states (slots_of rack.old)) (grown rack.old rack.new) status }
 
     // A run that stopped is a part of it, and want of memory may also come before anything was done.
-    ensures part { result ≡ Ending.WriteFault →
+    ensures part { IsRun words.now → result ≡ Ending.WriteFault →
         RanPart I.left I.faults O.held O.faults (talk_by ⟦<dyn Link as Link>⟧)
         input.old input.new out.old out.new rack.old rack.new }
-    ensures want { result ≡ Ending.OutOfMemory →
+    ensures want { IsRun words.now → result ≡ Ending.OutOfMemory →
         ((rack.new ≡ rack.old) × (out.new ≡ out.old))
         ⊎ RanPart I.left I.faults O.held O.faults (talk_by ⟦<dyn Link as Link>⟧)
         input.old input.new out.old out.new rack.old rack.new }
@@ -66,22 +99,35 @@ pub fn ec_main<I: Source, O: Sink, E: Sink>(
     ensures logged { log_of rack.new ≡ log_of rack.old ++ grown rack.old rack.new }
 
     // A refusal touches nothing, and wrong words read nothing. No call reads far beyond the limit.
-    ensures unread { (result ≡ Ending.Usage) ⊎ (result ≡ Ending.Limit L7) → input.new ≡ input.old }
+    ensures unread { (result ≡ Ending.Usage) ⊎ (IsRun words.now × (result ≡ Ending.Limit L7))
+        → input.new ≡ input.old }
     ensures untouched { IsRefusal result → (rack.new ≡ rack.old) × (out.new ≡ out.old) }
     ensures within { ReadsWithin (I.left input.old) (I.left input.new) }
 
     // When each answer comes.
-    ensures own { IsOwn result }
-    ensures usage { (result ≡ Ending.Usage) ↔ (IsRun words.now → ⊥) }
-    ensures crowded { (result ≡ Ending.Limit L7) ↔ IsRun words.now × IsCrowded rack.old }
-    ensures refused { (kind : FaultKind) (line : Line) → result ≡ Ending.Refused kind line →
+    ensures usage { (result ≡ Ending.Usage)
+        ↔ ((IsRun words.now → ⊥) × (IsTranslating words.now → ⊥)) }
+    ensures own { IsRun words.now → IsOwn result }
+    ensures crowded { IsRun words.now → ((result ≡ Ending.Limit L7) ↔ IsCrowded rack.old) }
+    ensures refused { (kind : FaultKind) (line : Line) → IsRun words.now
+        → result ≡ Ending.Refused kind line →
         RefusesAt IsFault (I.left input.old) (I.left input.new) kind line.0 }
-    ensures limit { result ≡ Ending.Limit L6 → IsTooLong (I.left input.old) (I.left input.new) }
+    ensures limit { IsRun words.now → result ≡ Ending.Limit L6 →
+        IsTooLong (I.left input.old) (I.left input.new) }
+    ensures own_translation { IsTranslating words.now → IsOfTranslation result }
+    ensures source_refused { (kind : FaultKind) (line : Line) → IsTranslating words.now
+        → result ≡ Ending.Refused kind line →
+        RefusesAt IsRefused (I.left input.old) (I.left input.new) kind line.0 }
+    ensures source_limit { (kind : LimitKind) → IsTranslating words.now
+        → result ≡ Ending.Limit kind → PassesLimit (I.left input.old) (I.left input.new) kind }
     ensures read_fault { result ≡ Ending.ReadFault → Rose (I.faults input.old) (I.faults input.new) }
     ensures write_fault { result ≡ Ending.WriteFault → Rose (O.faults out.old) (O.faults out.new) }
     ensures decides { (text : List ℕ) → IsRun words.now → (IsCrowded rack.old → ⊥) → I.left input.old ≡ Some text
         → (Rose (I.faults input.old) (I.faults input.new) → ⊥)
         → (Rose (O.faults out.old) (O.faults out.new) → ⊥) → Decides text result }
+    ensures decides_translation { (text : List ℕ) → IsTranslating words.now
+        → I.left input.old ≡ Some text → (Rose (I.faults input.old) (I.faults input.new) → ⊥)
+        → (Rose (O.faults out.old) (O.faults out.new) → ⊥) → DecidesTranslation text result }
 
     // With every other answer, want of memory among them, no count rose.
     ensures read_steady { (result ≡ Ending.ReadFault → ⊥) → I.faults input.new ≡ I.faults input.old }
@@ -90,7 +136,7 @@ pub fn ec_main<I: Source, O: Sink, E: Sink>(
     // The last line, whole, or in part where the count of `err` rose.
     ensures last_line { Announces E.held E.faults err.old err.new (last_line result) }
 {
-    let ending = command(alloc, words, input, out, rack);
+    let ending = perform(alloc, words, input, out, rack);
     let _ = put_last_line(err, &ending);
     ending
 }

@@ -1,5 +1,7 @@
 -- What statements do, one form at a time.
-use Rattle.std.proofs.Common.{◌≡◌, ◌∙◌, sym, ap, ℕ, List, map, Some, None, true, false}
+use Rattle.std.proofs.Common.{◌≡◌, ◌∙◌, refl, sym, ap, subst, arith, ℕ, List, map, Option, Some, None, Bool, true, false}
+use Rattle.std.specs.Option.{option_map}
+use Rattle.std.specs.Prelude.{nat_eq}
 use Rattle.std.specs.Borrow.{Bor}
 use Rattle.ec_base.specs.declared.line.Line.{Line}
 use Rattle.ec_code.specs.declared.expression.Expression.{Expression}
@@ -7,21 +9,30 @@ use Rattle.ec_code.specs.declared.program.ObjectSize.{ObjectSize}
 use Rattle.ec_code.specs.declared.statement.Loop.{Loop, out-Loop}
 use Rattle.ec_code.specs.declared.statement.Statement.{Statement}
 use Rattle.ec_code.specs.declared.statement.Statement.TheVariants as statement
-use Rattle.ec_code.specs.Views.{expression_view, expressions_view, size_view, statement_view, statements_view}
-use Rattle.ec_evaluation.specs.Evaluate.{World, turn_of, eval}
-use Rattle.ec_evaluation.specs.Execute.{run, run_all, look, look_all, tested, declared, initialized, enter}
-use Rattle.ec_evaluation.specs.Results.{went, over, turn, returned}
+use Rattle.ec_code.specs.Views.{expression_view, expressions_view, size_view, loop_view, statement_view, statements_view}
+use Rattle.ec_evaluation.specs.Evaluate.{Context, World, turn_of, eval}
+use Rattle.ec_evaluation.specs.Execute.{run, run_all, look, look_all, tested, again, declared, initialized, enter, returning}
+use Rattle.ec_evaluation.specs.Results.{Res, on, broke, continued, went, over, turn, after_body}
 use Rattle.ec_evaluation.specs.State.{State, stuck}
 use Rattle.ec_evaluation.specs.Whole.{without_atoms}
 use Rattle.ec_resolved.specs.Labels.{holds}
 use Rattle.ec_resolved.specs.Resolved.{Stm}
 use Rattle.ec_resolved.specs.Resolved as of
+use Rattle.ec_machine.specs.declared.frame.Frame.{Frame}
 use Rattle.ec_machine.specs.declared.frame.Frame.TheVariants as frame
 use Rattle.ec_machine.specs.Frames.{Env, here, plug, test_of, behind_of, body_of}
-use Rattle.ec_machine.proofs.Views.{view-OnLine, view-Evaluate, view-Declare, view-Initialize, view-Block, view-Choose, view-loop, view-Loop, view-Return, view-Goto, view-Label, view-Embedded}
+use Rattle.ec_machine.proofs.Views.{view-Nothing, view-Leave, view-Next, view-OnLine, view-Evaluate, view-Declare, view-Initialize, view-Block, view-Choose, view-loop, view-Loop, view-Return, view-Goto, view-Label, view-Embedded}
 
 choice : (w : World) (e : Env) (s : State) (line : Line) (y : Expression) (a b : Statement) (a' b' : Bor Statement) → a'.now ≡ a → b'.now ≡ b → run without_atoms w (here e line) (of.choose (expression_view y) (statement_view a) (statement_view b)) s ≡ plug w e (frame.Choose line a' b') (eval without_atoms w (here e line) (expression_view y) s)
 choice w e s line y a b a' b' j m = λ i. run without_atoms w (here e line) (of.choose (expression_view y) (statement_view (sym j i)) (statement_view (sym m i))) s
+
+-- a loop that is reached
+module _ (w : World) (c : Context) (s : State) (y : Loop) where
+  pub loop_tested : (out-Loop y).tested ≡ true → run without_atoms w c (loop_view y) s ≡ tested without_atoms w c (test_of y) (behind_of y) (body_of y) s
+  loop_tested h = ap (λ z. run without_atoms w c z s) (view-loop y) ∙ ap (λ z. run without_atoms w c (of.loop z (test_of y) (behind_of y) (body_of y)) s) h
+
+  pub loop_turned : (out-Loop y).tested ≡ false → run without_atoms w c (loop_view y) s ≡ w (turn_of c (test_of y) (behind_of y) (body_of y)) s
+  loop_turned h = ap (λ z. run without_atoms w c z s) (view-loop y) ∙ ap (λ z. run without_atoms w c (of.loop z (test_of y) (behind_of y) (body_of y)) s) h
 
 module _ (w : World) (e : Env) (s : State) (line : Line) (x : Statement) where
   to : (y : Stm) → statement_view x ≡ y → run without_atoms w (here e line) (statement_view x) s ≡ run without_atoms w (here e line) y s
@@ -50,6 +61,18 @@ module _ (w : World) (e : Env) (s : State) (line : Line) (x : Statement) where
   view-of-loop : (y y' : Loop) → x ≡ statement.Loop y → y' ≡ y → statement_view x ≡ of.loop (out-Loop y').tested (test_of y') (behind_of y') (body_of y')
   view-of-loop y y' p q = ap statement_view p ∙ view-Loop y ∙ view-loop y ∙ ap (λ z. of.loop (out-Loop z).tested (test_of z) (behind_of z) (body_of z)) (sym q)
 
+  pub to_Loop : (y y' : Loop) → x ≡ statement.Loop y → y' ≡ y → run without_atoms w (here e line) (statement_view x) s ≡ run without_atoms w (here e line) (loop_view y') s
+  to_Loop y y' p q = to (loop_view y) (ap statement_view p ∙ view-Loop y) ∙ ap (λ z. run without_atoms w (here e line) (loop_view z) s) (sym q)
+
+  pub to_Nothing : x ≡ statement.Nothing → run without_atoms w (here e line) (statement_view x) s ≡ on s
+  to_Nothing p = to of.nothing (ap statement_view p ∙ view-Nothing)
+
+  pub to_Leave : x ≡ statement.Leave → run without_atoms w (here e line) (statement_view x) s ≡ broke s
+  to_Leave p = to of.leave (ap statement_view p ∙ view-Leave)
+
+  pub to_Next : x ≡ statement.Next → run without_atoms w (here e line) (statement_view x) s ≡ continued s
+  to_Next p = to of.next (ap statement_view p ∙ view-Next)
+
   pub to_tested : (y y' : Loop) → x ≡ statement.Loop y → y' ≡ y → (out-Loop y').tested ≡ true → run without_atoms w (here e line) (statement_view x) s ≡ tested without_atoms w (here e line) (test_of y') (behind_of y') (body_of y') s
   to_tested y y' p q h =
       to (of.loop (out-Loop y').tested (test_of y') (behind_of y') (body_of y')) (view-of-loop y y' p q)
@@ -60,11 +83,8 @@ module _ (w : World) (e : Env) (s : State) (line : Line) (x : Statement) where
       to (of.loop (out-Loop y').tested (test_of y') (behind_of y') (body_of y')) (view-of-loop y y' p q)
       ∙ ap (λ z. run without_atoms w (here e line) (of.loop z (test_of y') (behind_of y') (body_of y')) s) h
 
-  pub to_returned : x ≡ statement.Return None → run without_atoms w (here e line) (statement_view x) s ≡ returned e.first None s
-  to_returned p = to (of.return None) (ap statement_view p ∙ view-Return None)
-
-  pub to_Return : (y : Expression) → x ≡ statement.Return (Some y) → run without_atoms w (here e line) (statement_view x) s ≡ plug w e frame.Give (eval without_atoms w (here e line) (expression_view y) s)
-  to_Return y p = to (of.return (Some (expression_view y))) (ap statement_view p ∙ view-Return (Some y))
+  pub to_Return : (y : Option Expression) → x ≡ statement.Return y → run without_atoms w (here e line) (statement_view x) s ≡ returning without_atoms w (here e line) (option_map expression_view y) s
+  to_Return y p = to (of.return (option_map expression_view y)) (ap statement_view p ∙ view-Return y)
 
   pub to_Goto : (l : ℕ) → x ≡ statement.Goto l → run without_atoms w (here e line) (statement_view x) s ≡ turn s (λ t. went l t)
   to_Goto l p = to (of.goto l) (ap statement_view p ∙ view-Goto l)
@@ -102,3 +122,48 @@ module _ (w : World) (e : Env) (s : State) (line : Line) (x : Statement) where
 
   pub look_Loop : (l : ℕ) (y : Loop) (y' : Bor Loop) → x ≡ statement.Loop y → y'.now ≡ y → look without_atoms w l (here e line) (statement_view x) s ≡ plug w e (frame.Body line y') (look without_atoms w l (here e line) (body_of y'.now) s)
   look_Loop l y y' p q = looks l (of.loop (out-Loop y'.now).tested (test_of y'.now) (behind_of y'.now) (body_of y'.now)) (view-of-loop y y'.now p q)
+
+  pub look_there : (l m : ℕ) (y y' : Statement) → x ≡ statement.Label m y → y' ≡ y → m ≡ l → look without_atoms w l (here e line) (statement_view x) s ≡ run without_atoms w (here e line) (statement_view y') s
+  look_there l m y y' p q h =
+      looks l (of.label m (statement_view y)) (ap statement_view p ∙ view-Label m y)
+      ∙ ap (λ z. look without_atoms w l (here e line) (of.label m (statement_view z)) s) (sym q)
+      ∙ ap (λ t. elim t [ true ↦ run without_atoms w (here e line) (statement_view y') s | false ↦ look without_atoms w l (here e line) (statement_view y') s ]) (same m l h)
+    where
+      same : (m l : ℕ) → m ≡ l → nat_eq m l ≡ true
+      same m l h = grind (arith, h)
+
+  pub look_further : (l m : ℕ) (y y' : Statement) → x ≡ statement.Label m y → y' ≡ y → (m ≡ l → ⊥) → look without_atoms w l (here e line) (statement_view x) s ≡ look without_atoms w l (here e line) (statement_view y') s
+  look_further l m y y' p q h =
+      looks l (of.label m (statement_view y)) (ap statement_view p ∙ view-Label m y)
+      ∙ ap (λ z. look without_atoms w l (here e line) (of.label m (statement_view z)) s) (sym q)
+      ∙ ap (λ t. elim t [ true ↦ run without_atoms w (here e line) (statement_view y') s | false ↦ look without_atoms w l (here e line) (statement_view y') s ]) (other m l h)
+    where
+      other : (m l : ℕ) → (m ≡ l → ⊥) → nat_eq m l ≡ false
+      other m l h = grind (arith, h)
+
+  pub look_Nothing : (l : ℕ) → x ≡ statement.Nothing → look without_atoms w l (here e line) (statement_view x) s ≡ on s
+  look_Nothing l p = looks l (of.nothing) (ap statement_view p ∙ view-Nothing)
+
+  pub look_Evaluate : (l : ℕ) (y : Expression) → x ≡ statement.Evaluate y → look without_atoms w l (here e line) (statement_view x) s ≡ on s
+  look_Evaluate l y p = looks l (of.evaluate (expression_view y)) (ap statement_view p ∙ view-Evaluate y)
+
+  pub look_Declare : (l : ℕ) (i size : ℕ) → x ≡ statement.Declare i size → look without_atoms w l (here e line) (statement_view x) s ≡ on s
+  look_Declare l i size p = looks l (of.declare i size) (ap statement_view p ∙ view-Declare i size)
+
+  pub look_Initialize : (l : ℕ) (i size : ℕ) (es : List Expression) → x ≡ statement.Initialize i size es → look without_atoms w l (here e line) (statement_view x) s ≡ on s
+  look_Initialize l i size es p = looks l (of.initialize i size (expressions_view es)) (ap statement_view p ∙ view-Initialize i size es)
+
+  pub look_Leave : (l : ℕ) → x ≡ statement.Leave → look without_atoms w l (here e line) (statement_view x) s ≡ on s
+  look_Leave l p = looks l (of.leave) (ap statement_view p ∙ view-Leave)
+
+  pub look_Next : (l : ℕ) → x ≡ statement.Next → look without_atoms w l (here e line) (statement_view x) s ≡ on s
+  look_Next l p = looks l (of.next) (ap statement_view p ∙ view-Next)
+
+  pub look_Return : (l : ℕ) (y : Option Expression) → x ≡ statement.Return y → look without_atoms w l (here e line) (statement_view x) s ≡ on s
+  look_Return l y p = looks l (of.return (option_map expression_view y)) (ap statement_view p ∙ view-Return y)
+
+  pub look_Goto : (l : ℕ) (m : ℕ) → x ≡ statement.Goto m → look without_atoms w l (here e line) (statement_view x) s ≡ on s
+  look_Goto l m p = looks l (of.goto m) (ap statement_view p ∙ view-Goto m)
+
+  pub look_Embedded : (l : ℕ) (n : ℕ) → x ≡ statement.Embedded n → look without_atoms w l (here e line) (statement_view x) s ≡ on s
+  look_Embedded l n p = looks l (of.embedded_statement n) (ap statement_view p ∙ view-Embedded n)

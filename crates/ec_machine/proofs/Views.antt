@@ -26,6 +26,15 @@ use Rattle.ec_machine.specs.Frames.{test_of, behind_of, body_of}
 pub view-OnLine : (line : Line) (x : Statement) → statement_view (statement.OnLine line x) ≡ of.on_line line.0 (statement_view x)
 view-OnLine line x = search (rules, the_lemmas)
 
+pub view-Nothing : statement_view statement.Nothing ≡ of.nothing
+view-Nothing = search (rules, the_lemmas)
+
+pub view-Leave : statement_view statement.Leave ≡ of.leave
+view-Leave = search (rules, the_lemmas)
+
+pub view-Next : statement_view statement.Next ≡ of.next
+view-Next = search (rules, the_lemmas)
+
 pub view-Evaluate : (e : Expression) → statement_view (statement.Evaluate e) ≡ of.evaluate (expression_view e)
 view-Evaluate e = search (rules, the_lemmas)
 

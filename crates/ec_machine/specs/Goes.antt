@@ -17,7 +17,7 @@ use Rattle.ec_machine.specs.declared.stop.End.{End}
 use Rattle.ec_machine.specs.declared.stop.End.TheVariants as ends
 use Rattle.ec_machine.specs.declared.stop.Stop.{Stop}
 use Rattle.ec_machine.specs.declared.stop.Stop.TheVariants as stop
-use Rattle.ec_machine.specs.Frames.{Env, denote, led, resume}
+use Rattle.ec_machine.specs.Frames.{Env, denote, led, resume, without_last}
 use Rattle.ec_objects.specs.Memory.{ValueData}
 use Rattle.ec_values.specs.Words.{word_view}
 use Rattle.ec_evaluation.specs.Results.{value}
@@ -37,6 +37,10 @@ at s m = record s { memory = m.store; turns = m.turns }
 
 abbrev pub env_of : Machine → Env
 env_of m = record { scope = m.scope; first = m.first; values = m.values; otherwise = m.otherwise }
+
+-- where the frames stand once the last values were taken
+abbrev pub taken : ℕ → Env → Env
+taken n e = record e { values = without_last n e.values }
 
 -- an answer is that of what stopped the machine
 abbrev pub Stops : Stop → State → Res → Type 0

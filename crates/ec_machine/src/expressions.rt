@@ -1,26 +1,44 @@
 //! Expressions that hold calls.
 
-ghost use Rattle.std.specs.Prelude.{◌≡◌, ◌≤◌, ℕ, List, map};
+ghost use Rattle.std.specs.Prelude.{◌≡◌, ◌≤◌, ◌∷◌, ◌++◌, [], ℕ, List, map};
 ghost use Rattle.ec_code.specs.declared.program.Function.{Function as FunctionData};
-ghost use Rattle.ec_code.specs.Views.{expression_view, full_step_view, plain_view};
-ghost use Rattle.ec_evaluation.specs.Evaluate.{eval};
+ghost use Rattle.ec_code.specs.Views.{expression_view, expressions_view, full_step_view, full_view, plain_view};
+ghost use Rattle.ec_evaluation.specs.Evaluate.{collect, eval};
+ghost use Rattle.ec_evaluation.specs.Results.{value as valued};
 ghost use Rattle.ec_evaluation.specs.Whole.{without_atoms};
-ghost use Rattle.ec_plain.specs.Steps.{followed, two_on};
+ghost use Rattle.ec_plain.specs.Steps.{both_on, followed, one_on, two_on};
 ghost use Rattle.ec_values.specs.Words.{word_view};
-ghost use Rattle.ec_machine.specs.Frames.{here};
-ghost use Rattle.ec_machine.specs.Goes.{Goes, env_of};
+ghost use Rattle.ec_machine.specs.Frames.{here, received, waiting};
+ghost use Rattle.ec_machine.specs.Goes.{Goes, env_of, taken};
 
-use crate::frame::{Focus, Frame};
+use crate::frame::{Callee, Focus, Frame};
 use crate::machine::Machine;
 use crate::making::stopped;
-use crate::stop::Stop;
-use ec_code::{Binary, Expression, FullStep, Plain};
-use ec_plain::{Ready, evaluate, prepare};
+use crate::stop::{End, Stop};
+use ec_code::{Binary, Expression, Full, FullStep, Function, Head, Plain, Unary};
+use ec_plain::{Ready, evaluate, finish, prepare, unary};
 use ec_values::Word;
 
 impl<'p> Machine<'p> {
+    /// An expression is evaluated.
+    pub(crate) fn evaluate(
+        &mut self,
+        functions: &'p [Function],
+        expression: &'p Expression,
+    ) -> Result<Focus<'p>, Stop>
+        ensures goes { Goes functions.now self.old (env_of self.old)
+            (λ w t. eval without_atoms w (here (env_of self.old) self.old.line) (expression_view
+            expression.now) t) result self.new }
+        ensures turns { self.new.turns ≤ self.old.turns }
+    {
+        match expression {
+            Expression::Plain(plain) => self.plain(plain),
+            Expression::Full(full) => self.full(functions, full),
+        }
+    }
+
     /// An expression without calls is evaluated.
-    pub fn plain(&mut self, plain: &Plain) -> Result<Focus<'p>, Stop>
+    fn plain(&mut self, plain: &Plain) -> Result<Focus<'p>, Stop>
         ensures goes { (functions : List FunctionData) → Goes functions self.old (env_of self.old)
             (λ w t. eval without_atoms w (here (env_of self.old) self.old.line) (plain_view
             plain.now) t) result self.new }
@@ -32,8 +50,167 @@ impl<'p> Machine<'p> {
         }
     }
 
+    /// An expression that holds a call is begun.
+    fn full(&mut self, functions: &'p [Function], full: &'p Full) -> Result<Focus<'p>, Stop>
+        ensures goes { Goes functions.now self.old (env_of self.old)
+            (λ w t. eval without_atoms w (here (env_of self.old) self.old.line) (full_view
+            full.now) t) result self.new }
+        ensures turns { self.new.turns ≤ self.old.turns }
+    {
+        let steps = full.steps.as_slice();
+        match &full.head {
+            Head::Begun(plain) => self.begun(plain, steps),
+            Head::Call(function, used, arguments) => {
+                let callee = Callee::Function(*function, *used);
+                self.pass_all(functions, callee, arguments.as_slice(), steps)
+            }
+            Head::Known(known, arguments) => {
+                self.pass_all(functions, Callee::Known(known), arguments.as_slice(), steps)
+            }
+            Head::LibraryCall(_) => Err(Stop::Over(End::Stuck)),
+        }
+    }
+
+    /// An expression without calls is evaluated, behind which these steps are taken.
+    fn begun(&mut self, plain: &Plain, steps: &'p [FullStep]) -> Result<Focus<'p>, Stop>
+        ensures goes { (functions : List FunctionData) → Goes functions self.old (env_of self.old)
+            (λ w t. followed without_atoms w (here (env_of self.old) self.old.line) (map
+            full_step_view steps.now)
+            (eval without_atoms w (here (env_of self.old) self.old.line) (plain_view plain.now)
+            t)) result self.new }
+        ensures turns { self.new.turns ≤ self.old.turns }
+    {
+        self.frames.push(Frame::Steps(self.line, steps))?;
+        self.plain(plain)
+    }
+
+    /// All arguments of a call are evaluated.
+    pub(crate) fn pass_all(
+        &mut self,
+        functions: &'p [Function],
+        callee: Callee<'p>,
+        arguments: &'p [Expression],
+        steps: &'p [FullStep],
+    ) -> Result<Focus<'p>, Stop>
+        ensures goes { Goes functions.now self.old (env_of self.old)
+            (λ w t. followed without_atoms w (here (env_of self.old) self.old.line) (map
+            full_step_view steps.now)
+            (collect without_atoms w (here (env_of self.old) self.old.line) [] (expressions_view
+            arguments.now) t
+            (received w self.old.line callee.entry))) result self.new }
+        ensures turns { self.new.turns ≤ self.old.turns }
+    {
+        self.pass(functions, callee, 0, arguments, steps)
+    }
+
+    /// The further arguments of a call are evaluated, behind the last values that wait, of which so many are its own.
+    fn pass(
+        &mut self,
+        functions: &'p [Function],
+        callee: Callee<'p>,
+        count: usize,
+        arguments: &'p [Expression],
+        steps: &'p [FullStep],
+    ) -> Result<Focus<'p>, Stop>
+        ensures goes { Goes functions.now self.old (taken count (env_of self.old))
+            (λ w t. followed without_atoms w (here (env_of self.old) self.old.line) (map
+            full_step_view steps.now)
+            (collect without_atoms w (here (env_of self.old) self.old.line) (waiting count (env_of
+            self.old)) (expressions_view arguments.now) t
+            (received w self.old.line callee.entry))) result self.new }
+        ensures turns { self.new.turns ≤ self.old.turns }
+    {
+        match arguments {
+            [] => self.receive(functions, callee, count, steps),
+            [first, rest @ ..] => {
+                self.frames
+                    .push(Frame::Arguments(self.line, callee, count, rest, steps))?;
+                Ok(Focus::Evaluates(first))
+            }
+        }
+    }
+
+    /// An argument has this value, and the further ones are evaluated.
+    pub(crate) fn pass_on(
+        &mut self,
+        functions: &'p [Function],
+        callee: Callee<'p>,
+        count: usize,
+        value: Word,
+        arguments: &'p [Expression],
+        steps: &'p [FullStep],
+    ) -> Result<Focus<'p>, Stop>
+        ensures goes { Goes functions.now self.old (taken count (env_of self.old))
+            (λ w t. followed without_atoms w (here (env_of self.old) self.old.line) (map
+            full_step_view steps.now)
+            (collect without_atoms w (here (env_of self.old) self.old.line) (waiting count (env_of
+            self.old) ++ word_view value ∷ []) (expressions_view arguments.now) t
+            (received w self.old.line callee.entry))) result self.new }
+        ensures turns { self.new.turns ≤ self.old.turns }
+    {
+        let Some(more) = count.checked_add(1) else {
+            return Err(Stop::OutOfMemory);
+        };
+        self.values.push(value)?;
+        self.pass(functions, callee, more, arguments, steps)
+    }
+
+    /// The steps behind a value are taken, the first of them here.
+    pub(crate) fn follow(&mut self, steps: &'p [FullStep], value: Word) -> Result<Focus<'p>, Stop>
+        ensures goes { (functions : List FunctionData) → Goes functions self.old (env_of self.old)
+            (λ w t. followed without_atoms w (here (env_of self.old) self.old.line) (map
+            full_step_view steps.now) (valued (word_view value) t)) result self.new }
+        ensures turns { self.new.turns ≤ self.old.turns }
+    {
+        match steps {
+            [] => Ok(Focus::Value(value)),
+            [first, rest @ ..] => self.follow_first(first, rest, value),
+        }
+    }
+
+    /// A step behind a value is taken, and others wait behind it.
+    fn follow_first(
+        &mut self,
+        first: &'p FullStep,
+        rest: &'p [FullStep],
+        value: Word,
+    ) -> Result<Focus<'p>, Stop>
+        ensures goes { (functions : List FunctionData) → Goes functions self.old (env_of self.old)
+            (λ w t. followed without_atoms w (here (env_of self.old) self.old.line)
+            (full_step_view first.now ∷ map full_step_view rest.now) (valued (word_view value) t))
+            result self.new }
+        ensures turns { self.new.turns ≤ self.old.turns }
+    {
+        match first {
+            FullStep::One(step) => self.follow_one(step, rest, value),
+            FullStep::Two(step, right) => self.follow_two(*step, right, rest, value),
+        }
+    }
+
+    /// A step that takes the value alone.
+    fn follow_one(
+        &mut self,
+        step: &Unary,
+        rest: &'p [FullStep],
+        value: Word,
+    ) -> Result<Focus<'p>, Stop>
+        ensures goes { (functions : List FunctionData) → Goes functions self.old (env_of self.old)
+            (λ w t. followed without_atoms w (here (env_of self.old) self.old.line) (map
+            full_step_view rest.now)
+            (one_on self.old.line.0 step.now (word_view value) t)) result self.new }
+        ensures turns { self.new.turns ≤ self.old.turns }
+    {
+        match unary(&mut self.store, step, value) {
+            Ok(next) => {
+                self.frames.push(Frame::Steps(self.line, rest))?;
+                Ok(Focus::Value(next))
+            }
+            Err(why) => Err(stopped(self.line, why)),
+        }
+    }
+
     /// A step with another expression is begun.
-    pub fn follow_two(
+    fn follow_two(
         &mut self,
         step: Binary,
         right: &'p Expression,
@@ -56,6 +233,31 @@ impl<'p> Machine<'p> {
                 self.frames
                     .push(Frame::Right(self.line, step, value, old, rest))?;
                 Ok(Focus::Evaluates(right))
+            }
+            Err(why) => Err(stopped(self.line, why)),
+        }
+    }
+
+    /// A step with another expression has the value of that, and is done.
+    pub(crate) fn follow_right(
+        &mut self,
+        step: Binary,
+        left: Word,
+        old: Word,
+        right: Word,
+        rest: &'p [FullStep],
+    ) -> Result<Focus<'p>, Stop>
+        ensures goes { (functions : List FunctionData) → Goes functions self.old (env_of self.old)
+            (λ w t. followed without_atoms w (here (env_of self.old) self.old.line) (map
+            full_step_view rest.now)
+            (both_on self.old.line.0 step (word_view left) (word_view old) (word_view right) t))
+            result self.new }
+        ensures turns { self.new.turns ≤ self.old.turns }
+    {
+        match finish(&mut self.store, step, left, old, right) {
+            Ok(next) => {
+                self.frames.push(Frame::Steps(self.line, rest))?;
+                Ok(Focus::Value(next))
             }
             Err(why) => Err(stopped(self.line, why)),
         }

@@ -3,6 +3,7 @@
 ghost use Rattle.std.specs.Prelude.{◌≡◌};
 ghost use Rattle.ec_code.specs.Views.{statement_view, statements_view};
 ghost use Rattle.ec_resolved.specs.Labels.{holds, holds_any};
+ghost use Rattle.ec_machine.specs.Standing.{IsStanding};
 
 use ec_code::Statement;
 
@@ -42,4 +43,25 @@ pub fn holds_any(label: u32, statements: &[Statement]) -> bool
         }
     }
     false
+}
+
+/// Where a statement stands that holds a label, and what stands behind it.
+#[derive(Clone, Copy)]
+pub(crate) struct Standing<'p> {
+    pub first: &'p Statement,
+    pub rest: &'p [Statement],
+}
+
+/// The first of some statements that holds a label.
+pub(crate) fn first_holding<'p>(label: u32, statements: &'p [Statement]) -> Option<Standing<'p>>
+    ensures { IsStanding label statements.now result }
+{
+    let mut left = statements;
+    while let [first, rest @ ..] = left {
+        if holds(label, first) {
+            return Some(Standing { first, rest });
+        }
+        left = rest;
+    }
+    None
 }

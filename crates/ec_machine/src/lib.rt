@@ -15,13 +15,8 @@ mod statements;
 mod step;
 mod stop;
 
-pub use answers::returned;
-pub use calls::{drop_last, last};
 pub use frame::{Callee, Flow, Focus, Frame};
 pub use labels::{holds, holds_any};
 pub use machine::Machine;
-pub use making::{give_arguments, make_object, make_objects, no_room, place, stopped, take_turn};
 pub use scope::Scope;
-pub use statements::{exits, gives};
-pub use step::finish;
 pub use stop::{End, Stop};

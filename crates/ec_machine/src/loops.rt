@@ -4,7 +4,7 @@ ghost use Rattle.std.specs.Prelude.{◌≡◌, ◌≤◌, ℕ, List, map};
 ghost use Rattle.ec_code.specs.declared.program.Function.{Function as FunctionData};
 ghost use Rattle.ec_code.specs.Views.{size_view, statements_view};
 ghost use Rattle.ec_evaluation.specs.Evaluate.{Context, World, turn_of};
-ghost use Rattle.ec_evaluation.specs.Execute.{again, enter, run_all, tested};
+ghost use Rattle.ec_evaluation.specs.Execute.{again, enter, look_all, run_all, tested};
 ghost use Rattle.ec_evaluation.specs.Results.{Res};
 ghost use Rattle.ec_evaluation.specs.State.{State};
 ghost use Rattle.ec_evaluation.specs.Whole.{without_atoms};
@@ -12,6 +12,7 @@ ghost use Rattle.ec_machine.specs.Frames.{behind_of, body_of, here, test_of};
 ghost use Rattle.ec_machine.specs.Goes.{Enters, Goes, at, env_of};
 
 use crate::frame::{Flow, Focus, Frame};
+use crate::labels::first_holding;
 use crate::machine::Machine;
 use crate::making::{make_objects, no_room, take_turn};
 use crate::stop::Stop;
@@ -19,7 +20,7 @@ use ec_code::{Loop, ObjectSize, Statement};
 
 impl<'p> Machine<'p> {
     /// Statements are run, one after the other.
-    pub fn list(&mut self, statements: &'p [Statement]) -> Result<Focus<'p>, Stop>
+    pub(crate) fn list(&mut self, statements: &'p [Statement]) -> Result<Focus<'p>, Stop>
         ensures goes { (functions : List FunctionData) → Goes functions self.old (env_of self.old)
             (λ w t. run_all without_atoms w (here (env_of self.old) self.old.line)
             (statements_view statements.now) t) result self.new }
@@ -34,8 +35,32 @@ impl<'p> Machine<'p> {
         }
     }
 
+    /// A label is looked for in statements.
+    pub(crate) fn look_list(
+        &mut self,
+        label: u32,
+        statements: &'p [Statement],
+    ) -> Result<Focus<'p>, Stop>
+        ensures goes { (functions : List FunctionData) → Goes functions self.old (env_of self.old)
+            (λ w t. look_all without_atoms w label (here (env_of self.old) self.old.line)
+            (statements_view statements.now) t) result self.new }
+        ensures turns { self.new.turns ≤ self.old.turns }
+    {
+        match first_holding(label, statements) {
+            Some(found) => {
+                self.frames.push(Frame::Rest(self.line, found.rest))?;
+                Ok(Focus::Looks(label, found.first))
+            }
+            None => Ok(Focus::Leads(Flow::On)),
+        }
+    }
+
     /// A block is entered: its objects are made. What is done in it is left to the caller.
-    pub fn enter(&mut self, sizes: &'p [ObjectSize], body: &'p [Statement]) -> Result<(), Stop>
+    pub(crate) fn enter(
+        &mut self,
+        sizes: &'p [ObjectSize],
+        body: &'p [Statement],
+    ) -> Result<(), Stop>
         ensures enters { (w : World) (s : State) (go : Context → State → Res) → Enters w s
             self.old result self.new
             (enter w (here (env_of self.old) self.old.line) (map size_view sizes.now)
@@ -56,7 +81,7 @@ impl<'p> Machine<'p> {
     }
 
     /// The body of a loop is run once more, and costs a turn.
-    pub fn turn(&mut self, inner: &'p Loop) -> Result<Focus<'p>, Stop>
+    pub(crate) fn turn(&mut self, inner: &'p Loop) -> Result<Focus<'p>, Stop>
         ensures goes { (functions : List FunctionData) → Goes functions self.old (env_of self.old)
             (λ w t. w (turn_of (here (env_of self.old) self.old.line) (test_of inner.now)
             (behind_of inner.now) (body_of inner.now)) t) result self.new }
@@ -68,7 +93,7 @@ impl<'p> Machine<'p> {
     }
 
     /// A loop from its test.
-    pub fn test(&mut self, inner: &'p Loop) -> Result<Focus<'p>, Stop>
+    pub(crate) fn test(&mut self, inner: &'p Loop) -> Result<Focus<'p>, Stop>
         ensures goes { (functions : List FunctionData) → Goes functions self.old (env_of self.old)
             (λ w t. tested without_atoms w (here (env_of self.old) self.old.line) (test_of
             inner.now) (behind_of inner.now) (body_of inner.now) t) result self.new }
@@ -84,7 +109,7 @@ impl<'p> Machine<'p> {
     }
 
     /// A loop behind its body.
-    pub fn again(&mut self, inner: &'p Loop) -> Result<Focus<'p>, Stop>
+    pub(crate) fn again(&mut self, inner: &'p Loop) -> Result<Focus<'p>, Stop>
         ensures goes { (functions : List FunctionData) → Goes functions self.old (env_of self.old)
             (λ w t. again without_atoms w (here (env_of self.old) self.old.line) (test_of
             inner.now) (behind_of inner.now) (body_of inner.now) t) result self.new }

@@ -1,12 +1,13 @@
 //! Objects of blocks and functions, and turns.
 
-ghost use Rattle.std.specs.Prelude.{◌≡◌, ◌≤◌, ◌+◌, ◌^◌, ℕ, ◌++◌, [], ◌∷◌, List, map, OnOk, slice_get};
+ghost use Rattle.std.specs.Prelude.{◌≡◌, ◌≤◌, ◌+◌, ◌^◌, ℕ, ◌++◌, [], ◌∷◌, List, map, OnOk, Some, slice_get};
 ghost use Rattle.std.specs.Option.{option_map};
 ghost use Rattle.ec_code.specs.Views.{size_view};
 ghost use Rattle.ec_evaluation.specs.Results.{Res, made, given, tried, turn};
 ghost use Rattle.ec_evaluation.specs.State.{State};
 ghost use Rattle.ec_objects.specs.Kinds.{kind_type};
-ghost use Rattle.ec_objects.specs.Memory.{make};
+ghost use Rattle.ec_objects.specs.declared.kind.Kind.{Kind as KindData};
+ghost use Rattle.ec_objects.specs.Memory.{make, scalar_size};
 ghost use Rattle.ec_plain.specs.Answered.{at, ending_of, scope_view};
 ghost use Rattle.ec_values.specs.Words.{word_view};
 ghost use Rattle.ec_machine.specs.Frames.{Grown, objects_of};
@@ -16,7 +17,7 @@ use crate::scope::Scope;
 use crate::stop::{End, Stop};
 use ec_base::{Line, Trap};
 use ec_bytes::Ptr;
-use ec_code::ObjectSize;
+use ec_code::{Function, ObjectSize};
 use ec_memory::{MakeStop, Store};
 use ec_objects::Kind;
 use ec_values::{Stop as NoValue, Word, store as stored};
@@ -102,6 +103,111 @@ pub fn make_objects(
         }
     }
     Ok(())
+}
+
+/// Makes an object of this type, and puts it behind the others.
+fn make_parameter(store: &mut Store, scope: &mut Scope, kind: Kind) -> Result<(), MakeStop>
+    ensures made { (line : ℕ) (s : State) (go : List ℕ → State → Res) → Makes line result
+        (tried line (make store.old (scalar_size (kind_type kind))) (at s store.old) (λ r. go
+        (scope_view (objects_of scope.old) ++ r.0 ∷ []) (at s r.1)))
+        (go (scope_view (objects_of scope.new)) (at s store.new)) (at s store.new) }
+    ensures grown { OnOk result (Grown scope.old.pointers scope.new.pointers) }
+{
+    make_object(store, scope, size_of(kind))
+}
+
+/// Makes an object of the first of these types, if there is one, and puts it behind the others.
+fn make_first(store: &mut Store, scope: &mut Scope, kinds: &[Kind]) -> Result<(), MakeStop>
+    ensures made { (line : ℕ) (s : State) (go : List ℕ → State → Res) (kind : KindData) →
+        slice_get kinds.now 0 ≡ Some kind → Makes line result
+        (tried line (make store.old (scalar_size (kind_type kind))) (at s store.old) (λ r. go
+        (scope_view (objects_of scope.old) ++ r.0 ∷ []) (at s r.1)))
+        (go (scope_view (objects_of scope.new)) (at s store.new)) (at s store.new) }
+    ensures grown { OnOk result (Grown scope.old.pointers scope.new.pointers) }
+{
+    match first_kind(kinds) {
+        Some(kind) => make_parameter(store, scope, kind),
+        None => Ok(()),
+    }
+}
+
+/// The first of these types.
+fn first_kind(kinds: &[Kind]) -> Option<Kind>
+    ensures { result ≡ slice_get kinds.now 0 }
+{
+    kinds.first().copied()
+}
+
+/// Makes objects of these types, and puts them behind the others.
+fn make_parameters(store: &mut Store, scope: &mut Scope, kinds: &[Kind]) -> Result<(), MakeStop>
+    ensures made { (line : ℕ) (s : State) (go : List ℕ → State → Res) → Makes line result
+        (made line (map scalar_size (map kind_type kinds.now)) (scope_view (objects_of scope.old))
+        (at s store.old) go)
+        (go (scope_view (objects_of scope.new)) (at s store.new)) (at s store.new) }
+    ensures grown { OnOk result (Grown scope.old.pointers scope.new.pointers) }
+{
+    let mut kinds = kinds;
+    while let [_, more_kinds @ ..] = kinds {
+        match make_first(store, scope, kinds) {
+            Ok(()) => (),
+            Err(why) => return Err(why),
+        }
+        kinds = more_kinds;
+    }
+    Ok(())
+}
+
+/// The size of a value of a type.
+fn size_of(kind: Kind) -> u64
+    ensures value { result ≡ scalar_size (kind_type kind) }
+    ensures some { 1 ≤ result }
+    ensures small { result ≤ 8 }
+{
+    match kind {
+        Kind::Bool => 1,
+        Kind::Char => 1,
+        Kind::UChar => 1,
+        Kind::Short => 2,
+        Kind::UShort => 2,
+        Kind::Int => 4,
+        Kind::UInt => 4,
+        Kind::Long => 8,
+        Kind::ULong => 8,
+        Kind::LLong => 8,
+        Kind::ULLong => 8,
+        Kind::Ptr => 8,
+    }
+}
+
+/// Makes the objects of a function: its parameters with these values, and the objects of its body.
+pub(crate) fn make_locals(
+    store: &mut Store,
+    scope: &mut Scope,
+    line: Line,
+    function: &Function,
+    values: &[Word],
+) -> Result<(), Stop>
+    ensures made { (s : State) (go : List ℕ → State → Res) → Passes result
+        (made line.0 (map scalar_size (map kind_type function.now.parameters)) (scope_view
+        (objects_of scope.old)) (at s store.old) (λ ps t.
+        given line.0 (map kind_type function.now.parameters) ps (map word_view values.now) t (λ u.
+        made line.0 (map size_view function.now.objects) ps u go)))
+        (go (scope_view (objects_of scope.new)) (at s store.new)) (at s store.new) }
+    ensures grown { OnOk result (Grown scope.old.pointers scope.new.pointers) }
+{
+    let kinds = function.parameters.as_slice();
+    match make_parameters(store, scope, kinds) {
+        Ok(()) => (),
+        Err(why) => return Err(no_room(line, why)),
+    }
+    match give_arguments(store, line, kinds, scope.objects(), values) {
+        Ok(()) => (),
+        Err(stop) => return Err(stop),
+    }
+    match make_objects(store, scope, function.objects.as_slice()) {
+        Ok(()) => Ok(()),
+        Err(why) => Err(no_room(line, why)),
+    }
 }
 
 /// Stores arguments in parameters of these types, in order.

@@ -1,23 +1,194 @@
 //! Statements, run from their start or from a label.
 
-ghost use Rattle.std.specs.Prelude.{◌≡◌, ◌≤◌, ℕ, List};
+ghost use Rattle.std.specs.Prelude.{◌≡◌, ◌≤◌, ℕ, List, map};
 ghost use Rattle.std.specs.Option.{option_map};
 ghost use Rattle.ec_code.specs.declared.program.Function.{Function as FunctionData};
-ghost use Rattle.ec_evaluation.specs.Execute.{declared};
-ghost use Rattle.ec_evaluation.specs.Results.{returned};
+ghost use Rattle.ec_code.specs.Views.{expression_view, expressions_view, loop_view, size_view, statement_view, statements_view};
+ghost use Rattle.ec_evaluation.specs.Execute.{declared, enter, initialized, look, look_all, returning, run, run_all};
+ghost use Rattle.ec_evaluation.specs.Results.{returned, turn, went};
+ghost use Rattle.ec_evaluation.specs.Whole.{without_atoms};
 ghost use Rattle.ec_values.specs.Words.{word_view};
 ghost use Rattle.ec_machine.specs.Frames.{here};
 ghost use Rattle.ec_machine.specs.Goes.{EndsWith, Goes, Returns, env_of};
 
-use crate::frame::{Flow, Focus};
+use crate::frame::{Callee, Flow, Focus, Frame};
+use crate::labels::holds;
 use crate::machine::Machine;
-use crate::making::place;
+use crate::making::{place, take_turn};
 use crate::stop::{End, Stop};
+use ec_code::{Expression, Function, Loop, ObjectSize, Statement};
 use ec_values::Word;
 
 impl<'p> Machine<'p> {
+    /// A statement is run from its start.
+    pub(crate) fn run(
+        &mut self,
+        functions: &'p [Function],
+        statement: &'p Statement,
+    ) -> Result<Focus<'p>, Stop>
+        ensures goes { Goes functions.now self.old (env_of self.old)
+            (λ w t. run without_atoms w (here (env_of self.old) self.old.line) (statement_view
+            statement.now) t) result self.new }
+        ensures turns { self.new.turns ≤ self.old.turns }
+    {
+        match statement {
+            Statement::OnLine(line, inner) => {
+                self.line = *line;
+                Ok(Focus::Runs(inner.get()))
+            }
+            Statement::Nothing => Ok(Focus::Leads(Flow::On)),
+            Statement::Evaluate(expression) => {
+                self.frames.push(Frame::Do)?;
+                Ok(Focus::Evaluates(expression))
+            }
+            Statement::Declare(slot, size) => self.declare(*slot, *size),
+            Statement::Initialize(slot, size, values) => {
+                self.initialize(functions, *slot, *size, values.as_slice())
+            }
+            Statement::Block(sizes, body) => { self.run_block(sizes.as_slice(), body.as_slice()) }
+            Statement::Choose(test, first, second) => {
+                self.frames
+                    .push(Frame::Choose(self.line, first.get(), second.get()))?;
+                Ok(Focus::Evaluates(test))
+            }
+            Statement::Loop(inner) => { self.run_loop(inner.get()) }
+            Statement::Leave => Ok(Focus::Leads(Flow::Broke)),
+            Statement::Next => Ok(Focus::Leads(Flow::Continued)),
+            Statement::Return(value) => self.run_return(value),
+            Statement::Goto(label) => self.jump(*label),
+            Statement::Label(_, inner) => Ok(Focus::Runs(inner.get())),
+            Statement::Embedded(_) => Err(Stop::Over(End::Stuck)),
+        }
+    }
+
+    /// A statement that holds a label is run from there.
+    pub(crate) fn look(&mut self, label: u32, statement: &'p Statement) -> Result<Focus<'p>, Stop>
+        ensures goes { (functions : List FunctionData) → Goes functions self.old (env_of self.old)
+            (λ w t. look without_atoms w label (here (env_of self.old) self.old.line)
+            (statement_view statement.now) t) result self.new }
+        ensures turns { self.new.turns ≤ self.old.turns }
+    {
+        match statement {
+            Statement::OnLine(line, inner) => {
+                self.line = *line;
+                Ok(Focus::Looks(label, inner.get()))
+            }
+            Statement::Block(sizes, body) => {
+                self.look_block(label, sizes.as_slice(), body.as_slice())
+            }
+            Statement::Choose(_, first, second) => {
+                let first = first.get();
+                if holds(label, first) {
+                    Ok(Focus::Looks(label, first))
+                } else {
+                    Ok(Focus::Looks(label, second.get()))
+                }
+            }
+            Statement::Loop(inner) => {
+                let inner = inner.get();
+                self.frames.push(Frame::Body(self.line, inner))?;
+                Ok(Focus::Looks(label, &inner.body))
+            }
+            Statement::Label(number, inner) => {
+                if *number == label {
+                    Ok(Focus::Runs(inner.get()))
+                } else {
+                    Ok(Focus::Looks(label, inner.get()))
+                }
+            }
+            Statement::Nothing => Ok(Focus::Leads(Flow::On)),
+            Statement::Evaluate(_) => Ok(Focus::Leads(Flow::On)),
+            Statement::Declare(_, _) => Ok(Focus::Leads(Flow::On)),
+            Statement::Initialize(_, _, _) => Ok(Focus::Leads(Flow::On)),
+            Statement::Leave => Ok(Focus::Leads(Flow::On)),
+            Statement::Next => Ok(Focus::Leads(Flow::On)),
+            Statement::Return(_) => Ok(Focus::Leads(Flow::On)),
+            Statement::Goto(_) => Ok(Focus::Leads(Flow::On)),
+            Statement::Embedded(_) => Ok(Focus::Leads(Flow::On)),
+        }
+    }
+
+    /// A block is run.
+    fn run_block(
+        &mut self,
+        sizes: &'p [ObjectSize],
+        body: &'p [Statement],
+    ) -> Result<Focus<'p>, Stop>
+        ensures goes { (functions : List FunctionData) → Goes functions self.old (env_of self.old)
+            (λ w t. enter w (here (env_of self.old) self.old.line) (map size_view sizes.now)
+            (statements_view body.now) (λ d u. run_all without_atoms w d (statements_view
+            body.now) u) t) result self.new }
+        ensures turns { self.new.turns ≤ self.old.turns }
+    {
+        match self.enter(sizes, body) {
+            Ok(()) => self.list(body),
+            Err(stop) => Err(stop),
+        }
+    }
+
+    /// A block that holds a label is run from there.
+    fn look_block(
+        &mut self,
+        label: u32,
+        sizes: &'p [ObjectSize],
+        body: &'p [Statement],
+    ) -> Result<Focus<'p>, Stop>
+        ensures goes { (functions : List FunctionData) → Goes functions self.old (env_of self.old)
+            (λ w t. enter w (here (env_of self.old) self.old.line) (map size_view sizes.now)
+            (statements_view body.now) (λ d u. look_all without_atoms w label d (statements_view
+            body.now) u) t) result self.new }
+        ensures turns { self.new.turns ≤ self.old.turns }
+    {
+        match self.enter(sizes, body) {
+            Ok(()) => self.look_list(label, body),
+            Err(stop) => Err(stop),
+        }
+    }
+
+    /// A loop is reached. Its first body is tested for, or costs a turn at once.
+    fn run_loop(&mut self, inner: &'p Loop) -> Result<Focus<'p>, Stop>
+        ensures goes { (functions : List FunctionData) → Goes functions self.old (env_of self.old)
+            (λ w t. run without_atoms w (here (env_of self.old) self.old.line) (loop_view
+            inner.now) t) result self.new }
+        ensures turns { self.new.turns ≤ self.old.turns }
+    {
+        if inner.tested {
+            self.test(inner)
+        } else {
+            self.turn(inner)
+        }
+    }
+
+    /// `return` is reached, with a value or without one.
+    fn run_return(&mut self, value: &'p Option<Expression>) -> Result<Focus<'p>, Stop>
+        ensures goes { (functions : List FunctionData) → Goes functions self.old (env_of self.old)
+            (λ w t. returning without_atoms w (here (env_of self.old) self.old.line) (option_map
+            expression_view value.now) t) result self.new }
+        ensures turns { self.new.turns ≤ self.old.turns }
+    {
+        match value {
+            None => gives(self.first, None),
+            Some(value) => {
+                self.frames.push(Frame::Give)?;
+                Ok(Focus::Evaluates(value))
+            }
+        }
+    }
+
+    /// A `goto` is reached, and costs a turn.
+    fn jump(&mut self, label: u32) -> Result<Focus<'p>, Stop>
+        ensures goes { (functions : List FunctionData) → Goes functions self.old (env_of self.old)
+            (λ w t. turn t (λ u. went label u)) result self.new }
+        ensures turns { self.new.turns ≤ self.old.turns }
+    {
+        match take_turn(&mut self.turns) {
+            Ok(()) => Ok(Focus::Leads(Flow::Went(label))),
+            Err(stop) => Err(stop),
+        }
+    }
+
     /// A declaration without an initializer is reached.
-    pub fn declare(&mut self, slot: u32, size: u64) -> Result<Focus<'p>, Stop>
+    fn declare(&mut self, slot: u32, size: u64) -> Result<Focus<'p>, Stop>
         ensures goes { (functions : List FunctionData) → Goes functions self.old (env_of self.old)
             (λ w t. declared (here (env_of self.old) self.old.line) slot size t) result self.new }
         ensures turns { self.new.turns ≤ self.old.turns }
@@ -30,10 +201,32 @@ impl<'p> Machine<'p> {
             None => Err(Stop::Over(End::Stuck)),
         }
     }
+
+    /// A declaration with an initializer is reached.
+    fn initialize(
+        &mut self,
+        functions: &'p [Function],
+        slot: u32,
+        size: u64,
+        values: &'p [Expression],
+    ) -> Result<Focus<'p>, Stop>
+        ensures goes { Goes functions.now self.old (env_of self.old)
+            (λ w t. initialized without_atoms w (here (env_of self.old) self.old.line) slot size
+            (expressions_view values.now) t) result self.new }
+        ensures turns { self.new.turns ≤ self.old.turns }
+    {
+        match place(&self.scope, slot) {
+            Some(ptr) => match self.store.fill(ptr, size, 0) {
+                Ok(()) => self.pass_all(functions, Callee::Object, values, &[]),
+                Err(trap) => Err(Stop::Over(End::Trapped(trap, self.line))),
+            },
+            None => Err(Stop::Over(End::Stuck)),
+        }
+    }
 }
 
 /// How the first `main` ends the run.
-pub fn exits(value: Option<Word>) -> End
+pub(crate) fn exits(value: Option<Word>) -> End
     ensures { EndsWith (option_map word_view value) result }
 {
     match value {
@@ -43,7 +236,7 @@ pub fn exits(value: Option<Word>) -> End
 }
 
 /// What `return` leads to: the first `main` ends the run.
-pub fn gives<'p>(first: bool, value: Option<Word>) -> Result<Focus<'p>, Stop>
+pub(crate) fn gives<'p>(first: bool, value: Option<Word>) -> Result<Focus<'p>, Stop>
     ensures { Returns result (λ s. returned first (option_map word_view value) s) }
 {
     if first {

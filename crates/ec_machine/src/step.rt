@@ -1,20 +1,66 @@
-//! Single steps, and several of them.
+//! Single steps.
 
-ghost use Rattle.std.specs.Prelude.{◌≡◌};
+ghost use Rattle.std.specs.Prelude.{◌≡◌, ◌≤◌, ℕ, List, map};
 ghost use Rattle.std.specs.Option.{option_map};
-ghost use Rattle.ec_evaluation.specs.Results.{finished};
+ghost use Rattle.ec_code.specs.declared.program.Function.{Function as FunctionData};
+ghost use Rattle.ec_evaluation.specs.Results.{finished, value as valued};
 ghost use Rattle.ec_evaluation.specs.State.{State};
 ghost use Rattle.ec_values.specs.Words.{word_view};
-ghost use Rattle.ec_machine.specs.Frames.{led};
-ghost use Rattle.ec_machine.specs.Goes.{Ends};
+ghost use Rattle.ec_machine.specs.Frames.{denote, led};
+ghost use Rattle.ec_machine.specs.Goes.{Ends, Goes, env_of};
 
-use crate::frame::Flow;
+use crate::frame::{Flow, Focus};
+use crate::machine::Machine;
 use crate::statements::exits;
-use crate::stop::End;
+use crate::stop::{End, Stop};
+use ec_code::Function;
 use ec_values::Word;
 
+impl<'p> Machine<'p> {
+    /// One step of a run. Where bytes are to be put, nothing is done.
+    pub fn step(&mut self, functions: &'p [Function], focus: Focus<'p>) -> Result<Focus<'p>, Stop>
+        ensures goes { Goes functions.now self.old (env_of self.old)
+            (λ w t. denote w (env_of self.old) self.old.line self.old.text focus.entry t) result
+            self.new }
+        ensures turns { self.new.turns ≤ self.old.turns }
+    {
+        match focus {
+            Focus::Runs(statement) => self.run(functions, statement),
+            Focus::Looks(label, statement) => self.look(label, statement),
+            Focus::Evaluates(expression) => self.evaluate(functions, expression),
+            Focus::Value(value) => self.hand_value(functions, value),
+            Focus::Leads(flow) => self.hand_flow(flow),
+            Focus::Puts(_, _) => Ok(focus),
+        }
+    }
+
+    /// The innermost frame is given a value.
+    fn hand_value(&mut self, functions: &'p [Function], value: Word) -> Result<Focus<'p>, Stop>
+        ensures goes { Goes functions.now self.old (env_of self.old)
+            (λ w t. valued (word_view value) t) result self.new }
+        ensures turns { self.new.turns ≤ self.old.turns }
+    {
+        match self.frames.pop() {
+            Some(frame) => self.give_value(functions, frame, value),
+            None => Err(Stop::Over(End::Stuck)),
+        }
+    }
+
+    /// The innermost frame is told what a statement led to.
+    fn hand_flow(&mut self, flow: Flow) -> Result<Focus<'p>, Stop>
+        ensures goes { (functions : List FunctionData) → Goes functions self.old (env_of self.old)
+            (λ w t. led flow t) result self.new }
+        ensures turns { self.new.turns ≤ self.old.turns }
+    {
+        match self.frames.pop() {
+            Some(frame) => self.give_flow(frame, flow),
+            None => Err(Stop::Over(finish(self.otherwise, flow))),
+        }
+    }
+}
+
 /// How the run ends where the first `main` led to this.
-pub fn finish(otherwise: Option<Word>, flow: Flow) -> End
+fn finish(otherwise: Option<Word>, flow: Flow) -> End
     ensures { Ends result (λ s. finished (option_map word_view otherwise) (led flow s)) }
 {
     match flow {

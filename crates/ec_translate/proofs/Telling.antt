@@ -17,6 +17,7 @@ use Rattle.ec_phases.specs.Laws.{StandInOrder}
 use Rattle.ec_phases.specs.Sources.{ReadsTree, checked_with, checked_tree, ReadsChecked, program_with, bound_from, bound_program}
 use Rattle.ec_source.specs.Answers.{Tells}
 use Rattle.ec_translation.specs.Translations.{translated, IsTranslation}
+use Rattle.ec_translation.specs.Translations.IsTranslation.{translation}
 use Rattle.ec_translate.specs.Answers.{UnlessNoMemory, TellsTranslation, Is}
 
 -- ---- the table of handlers
@@ -46,15 +47,15 @@ no_bounds t view OutOfMemory h = tt
 
 -- what is told of a source that is checked
 pub of_checked : (text : Text) (t : TypedData) (answer : Result Text Stop) → ReadsChecked text (Ok t) → Is (translated (bound_program (Ok t))) answer → TellsTranslation text answer
-of_checked text t (Ok written) h e = (bound_program (Ok t), (Ok t, h, refl), e)
-of_checked text t (Err (Refused kind line)) h e = (bound_program (Ok t), (Ok t, h, refl), e)
-of_checked text t (Err (Limit limit)) h e = (bound_program (Ok t), (Ok t, h, refl), e)
+of_checked text t (Ok written) h e = translation (bound_program (Ok t)) (Ok t, h, refl) e
+of_checked text t (Err (Refused kind line)) h e = translation (bound_program (Ok t)) (Ok t, h, refl) e
+of_checked text t (Err (Limit limit)) h e = translation (bound_program (Ok t)) (Ok t, h, refl) e
 of_checked text t (Err OutOfMemory) h e = tt
 
 -- of one that is refused
 pub of_refused : (text : Text) (view : Typed → TypedData) (stop : Stop) → Tells view (ReadsChecked text) (Err stop) → TellsTranslation text (Err stop)
-of_refused text view (Refused kind line) h = (bound_program (Err _), (Err _, h, refl), refl)
-of_refused text view (Limit limit) h = (bound_program (Err _), (Err _, h, refl), refl)
+of_refused text view (Refused kind line) h = translation (bound_program (Err _)) (Err _, h, refl) refl
+of_refused text view (Limit limit) h = translation (bound_program (Err _)) (Err _, h, refl) refl
 of_refused text view OutOfMemory h = tt
 
 -- what is told of a text that has one translation is that

@@ -13,5 +13,7 @@ abbrev pub translated : Result BoundProgram Stop → Result Text Stop
 translated (Ok p) = Ok (text_of_program p)
 translated (Err stop) = Err stop
 
-abbrev pub IsTranslation : Text → Result Text Stop → Type 0
-IsTranslation text answer = (source : Result BoundProgram Stop) × ReadsSource text source × (answer ≡ translated source)
+-- What is written of a text, or what it is refused for: it is read as this source, and this is written of it.
+pub data IsTranslation (text : Text) (answer : Result Text Stop) : Type 0 where
+  translation : (source : Result BoundProgram Stop) → ReadsSource text source → answer ≡ translated source
+      → IsTranslation text answer

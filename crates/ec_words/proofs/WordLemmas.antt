@@ -1,8 +1,9 @@
 -- What the tally and the links of words are, one word after the other.
-use Rattle.std.proofs.Common.{◌≡◌, ℕ, Bool, true, false, List, [], ◌∷◌, ◌++◌, Option, Some, None, option_map, refl, ◌∙◌}
+use Rattle.std.proofs.Common.{◌≡◌, ◌≤◌, ℕ, length, arith, Bool, true, false, List, [], ◌∷◌, ◌++◌, Option, Some, None, option_map, if◌then◌else◌, refl, ◌∙◌}
+use Rattle.std.specs.Prelude.{codes}
 use Rattle.ec_words.specs.declared.links.LinkSpec.{LinkSpec}
 use Rattle.ec_words.specs.declared.words.Tally.{Tally}
-use Rattle.ec_words.specs.Words.{Said, wrong, turns, link, Expected, anything, value, no_option, RunWords, with_said, at_end, is_right, turns_in, links_in, run_with}
+use Rattle.ec_words.specs.Words.{Said, wrong, turns, link, Expected, anything, value, no_option, RunWords, with_said, at_end, is_right, turns_in, links_in, run_with, Word, is_word, text_behind, joined_or_link, sayings, is_nothing}
 use Rattle.ec_words.specs.Reading.{tally_with, tallied_over}
 
 pub tally_step : (t : Tally) (s : Option Said) (more : List Said) → tallied_over (tally_with s t) more ≡ tallied_over t (with_said s more)
@@ -49,3 +50,32 @@ tallied_run given (link l ∷ more) links = tallied_run given more links
 pub tallied_is : (said : List Said) (links : List LinkSpec) → tallied_over (record { is_right = true; turns = None }) said ≡ option_map (λ (r : RunWords). r.turns) (run_with (is_right said) (turns_in said) links)
 unfolding given_first
 tallied_is said links = tallied_run None said links
+
+-- ---- words that say nothing
+
+-- what a word says that no option stands before, and what the next one may be
+abbrev read_by : Word → Bool → Bool → Option Said × Expected
+read_by word ends is_option =
+    if ends then (None, no_option)
+    else (if is_option then (None, value) else (Some (joined_or_link (text_behind (codes "--turns=") word) word), anything))
+
+pub one_word : (word : Word) → is_nothing (sayings anything (word ∷ [])) ≡ is_word word (codes "--")
+one_word word = go (is_word word (codes "--")) (is_word word (codes "--turns"))
+  where
+    go : (a b : Bool) → is_nothing (with_said (read_by word a b).0 (sayings (read_by word a b).1 [])) ≡ a
+    go true b = refl
+    go false true = refl
+    go false false = refl
+
+pub two_words : (word next : Word) (words : List Word) → is_nothing (sayings anything (word ∷ next ∷ words)) ≡ false
+two_words word next words = go (is_word word (codes "--")) (is_word word (codes "--turns"))
+  where
+    go : (a b : Bool) → is_nothing (with_said (read_by word a b).0 (sayings (read_by word a b).1 (next ∷ words))) ≡ false
+    go true b = refl
+    go false true = refl
+    go false false = refl
+
+pub two_up : (words : List Word) → 2 ≤ length words → is_nothing (sayings anything words) ≡ false
+two_up [] h = absurd (omega (arith, h))
+two_up (word ∷ []) h = absurd (omega (arith, h))
+two_up (word ∷ next ∷ words) h = two_words word next words

@@ -153,7 +153,7 @@ run_with true (n ∷ m ∷ more) links = None
 abbrev pub run_words : List Word → Option RunWords
 run_words words = run_with (is_right (sayings anything words)) (turns_in (sayings anything words)) (links_in (sayings anything words))
 
--- What the words ask for, or none where they name no command. There is one command, `run`.
+-- What the words ask of a run, or none where they name another command, or none.
 abbrev pub words_of : List Word → Option RunWords
 words_of [] = None
 words_of (first ∷ words) = if is_word first (codes "run") then run_words words else None
@@ -166,3 +166,18 @@ links_of (Some run) = run.links
 -- a run with so many turns and these links
 abbrev pub run_of : ℕ → List LinkSpec → Option RunWords
 run_of n links = Some (record { turns = n; links = links })
+
+-- nothing stands behind a command but a `--`
+abbrev pub is_nothing : List Said → Bool
+is_nothing [] = true
+is_nothing (it ∷ more) = false
+
+-- The words name a translation: `translate` has no options, and nothing else stands behind it.
+abbrev pub names_translation : List Word → Bool
+names_translation [] = false
+names_translation (first ∷ words) =
+    if is_word first (codes "translate") then is_nothing (sayings anything words) else false
+
+-- whether `translate` with this word behind it names one
+abbrev pub translates_with : Word → Bool
+translates_with word = names_translation (codes "translate" ∷ word ∷ [])

@@ -1,6 +1,6 @@
 //! Worked examples of what words name.
 ghost use Rattle.std.specs.Prelude.{◌≡◌, codes, true, false, [], ◌∷◌, None, Some};
-ghost use Rattle.ec_words.specs.Words.{words_of, run_of};
+ghost use Rattle.ec_words.specs.Words.{words_of, run_of, names_translation, translates_with};
 ghost use Rattle.ec_words.specs.declared.links.LinkSpec.TheVariants.{Memory, File};
 
 /// What lists of words name, computed: a run with its turns and links, or nothing.
@@ -24,4 +24,10 @@ pub fn word_examples()
     ensures no_option { words_of (codes "run" ∷ codes "--" ∷ codes "--turns=2" ∷ []) ≡ None }
     ensures once { words_of (codes "run" ∷ codes "--" ∷ codes "--" ∷ []) ≡ None }
     ensures value { words_of (codes "run" ∷ codes "--turns" ∷ codes "--" ∷ []) ≡ None }
+    ensures no_run { words_of (codes "translate" ∷ []) ≡ None }
+    ensures translation { names_translation (codes "translate" ∷ []) ≡ true }
+    ensures translation_dashes { translates_with (codes "--") ≡ true }
+    ensures translation_turns { translates_with (codes "--turns=2") ≡ false }
+    ensures translation_link { translates_with (codes "a=memory") ≡ false }
+    ensures run_translation { names_translation (codes "run" ∷ []) ≡ false }
 {}

@@ -1,6 +1,7 @@
 //! What the words behind the program's name ask for.
 ghost use Rattle.std.specs.Prelude.{◌≡◌, ◌==◌, codes, map, option_map, position, string_bytes};
-ghost use Rattle.ec_words.specs.Words.{text_behind, number_from, turns_of, is_word, link_of, unmarked_link, named_link, file_of, said_turns, said_link, joined_or_link, reads, at_end, run_words, words_of};
+ghost use Rattle.ec_words.specs.Words.{text_behind, number_from, turns_of, is_word, link_of, unmarked_link, named_link, file_of, said_turns, said_link, joined_or_link, reads, at_end, sayings, anything, is_nothing, run_words, words_of};
+ghost use Rattle.ec_words.specs.Words as spec;
 ghost use Rattle.ec_words.specs.Reading.{spec_of, said_of, expected_of, tally_with, tallied_over};
 
 /// The most turns that can be given.
@@ -248,7 +249,29 @@ fn run_turns(words: &[String]) -> Option<u64>
     turns_in(tally, expecting)
 }
 
-/// How many turns the run has that the words ask for, or none where they name no command. It takes no memory.
+// Whether words say nothing: only a `--` may stand there.
+#[tactic(auto, using(crate::proofs::WordLemmas::one_word, crate::proofs::WordLemmas::two_words))]
+fn say_nothing(words: &[String]) -> bool
+    ensures { result ≡ is_nothing (sayings anything (map string_bytes words.now)) }
+{
+    match words {
+        [] => true,
+        [only] => is_word(only.as_bytes(), b"--"),
+        [_, _, ..] => false,
+    }
+}
+
+/// Whether the words name a translation: `translate`, with nothing behind it but a `--`. It takes no memory.
+pub fn names_translation(words: &[String]) -> bool
+    ensures { result ≡ spec.names_translation (map string_bytes words.now) }
+{
+    match words {
+        [first, rest @ ..] => is_word(first.as_bytes(), b"translate") && say_nothing(rest),
+        [] => false,
+    }
+}
+
+/// How many turns the run has that the words ask for, or none where they name no run. It takes no memory.
 pub fn read_words(words: &[String]) -> Option<u64>
     ensures { result ≡ option_map (λ it. it.turns) (words_of (map string_bytes words.now)) }
 {

@@ -1,9 +1,11 @@
-use Rattle.std.proofs.Common.{refl, sym, ap, ◌∙◌}
+use Rattle.std.proofs.Common.{refl}
 use Rattle.ec_translation.specs.Translations.{translated}
+use Rattle.ec_translation.specs.Translations.IsTranslation.{translation}
+use Rattle.ec_translation.proofs.Single.{single}
 use Rattle.ec_translation.proofs.laws.translations_are_single.Goals as goal
 
 pub returns : goal.returns
 returns c = record {
-  one = (λ text a b h k. h.2 ∙ ap translated (c.sources_are_read.ensures.one text h.0 k.0 h.1 k.1) ∙ sym k.2);
-  there = (λ text. let r = c.sources_are_read.ensures.read text in (translated r.0, (r.0, r.1, refl)));
+  one = (λ text a b. single text (c.sources_are_read.ensures.one text) a b);
+  there = (λ text. let r = c.sources_are_read.ensures.read text in (translated r.0, translation r.0 r.1 refl));
 }

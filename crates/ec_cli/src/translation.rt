@@ -1,0 +1,46 @@
+//! The command `translate`: a source is read, and the C that is written of it is put.
+ghost use Rattle.std.specs.Prelude.{◌≡◌, ◌≤◌, ◌^◌, length, OnOk, OnErr};
+ghost use Rattle.ec_base.specs.Putting.{Puts, PutsPart};
+ghost use Rattle.ec_cli.specs.Translating.{TranslatesText, Translates};
+
+use crate::command::{INPUT_LIMIT, refusal};
+use crate::ending::Ending;
+use ec_base::{Bytes, Failed, InputStop, LimitKind, Sink, Source as Input, put_all, read_all};
+use ec_translate::translate;
+use std::alloc::Global;
+
+// Puts a text, and passes on what was kept back.
+#[tactic(auto, using(ec_base::proofs::Transfers::putting))]
+fn put_text<O: Sink>(out: &mut O, text: &[u8]) -> Result<(), Failed>
+    ensures ok { OnOk result (Puts O.held O.faults out.old out.new text.now) }
+    ensures part { OnErr result (PutsPart O.held O.faults out.old out.new text.now) }
+{
+    put_all(out, text)?;
+    out.flush()
+}
+
+// Puts what is written of the source in a text, which is let go.
+fn translate_text<O: Sink>(alloc: Global, text: Bytes, out: &mut O) -> Ending
+    requires { length text ≤ 2 ^ 24 }
+    ensures { TranslatesText O.held O.faults text out.old out.new result }
+{
+    match translate(alloc, text.as_slice()) {
+        Ok(written) => match put_text(out, written.as_slice()) {
+            Ok(()) => Ending::Wrote,
+            Err(Failed) => Ending::WriteFault,
+        },
+        Err(stop) => refusal(stop),
+    }
+}
+
+/// Puts what is written of the source that the input gives, and flushes the output.
+pub fn translate_input<I: Input, O: Sink>(alloc: Global, input: &mut I, out: &mut O) -> Ending
+    ensures { Translates I.left I.faults O.held O.faults input.old input.new out.old out.new result }
+{
+    match read_all(alloc, input, INPUT_LIMIT) {
+        Ok(text) => translate_text(alloc, text, out),
+        Err(InputStop::Fault) => Ending::ReadFault,
+        Err(InputStop::TooLong) => Ending::Limit(LimitKind::L6),
+        Err(InputStop::OutOfMemory) => Ending::OutOfMemory,
+    }
+}

@@ -1,0 +1,2 @@
+pub mod CasesAre
+pub mod Found

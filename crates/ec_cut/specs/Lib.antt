@@ -1,0 +1,4 @@
+pub mod ByType
+pub mod Cases
+pub mod Reads
+pub mod Views

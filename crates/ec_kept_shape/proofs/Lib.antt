@@ -1,0 +1,9 @@
+mod Both
+mod EmbeddedRules
+mod Expressions
+mod Initializers
+mod Operands
+mod Programs
+mod Rules
+mod Sections
+mod Statements

@@ -1,0 +1,105 @@
+-- What parts of a step do, over plain variables.
+use Rattle.std.proofs.Common.{◌≡◌, ◌∙◌, refl, sym, ap, subst, arith, ℕ, ◌+◌, ◌-◌, ◌<◌, ◌≤◌, List, [], ◌∷◌, ◌++◌, length, get_or, map, take, drop, Option, Some, None, Bool, true, false, Result, Ok, Err}
+use Rattle.std.specs.Prelude.{reverse}
+use Rattle.std.specs.Borrow.{Bor}
+use Rattle.std.specs.Option.{option_map}
+use Rattle.std.proofs.lemmas.List.{map-append, take_all}
+use Rattle.ec_base.specs.declared.line.Line.{Line}
+use Rattle.ec_code.specs.declared.expression.FullStep.{FullStep}
+use Rattle.ec_code.specs.declared.expression.FullStep.TheVariants as step
+use Rattle.ec_code.specs.declared.expression.Expression.{Expression}
+use Rattle.ec_code.specs.declared.program.Function.{Function}
+use Rattle.ec_code.specs.declared.statement.Statement.{Statement}
+use Rattle.ec_code.specs.declared.step.Binary.{Binary}
+use Rattle.ec_code.specs.declared.step.Unary.{Unary}
+use Rattle.ec_code.specs.Trees.{Step}
+use Rattle.ec_code.specs.Views.{expression_view, full_step_view}
+use Rattle.ec_evaluation.specs.Evaluate.{Context, World}
+use Rattle.ec_evaluation.specs.Results.{Res, value, on, over, done_there}
+use Rattle.ec_evaluation.specs.State.{Ending, State}
+use Rattle.ec_evaluation.specs.Whole.{without_atoms}
+use Rattle.ec_functions.specs.Functions.{Channel, standard_output, standard_error, puts_bytes}
+use Rattle.ec_objects.specs.Memory.{Memory, ValueData}
+use Rattle.ec_plain.specs.Steps.{followed, one_on, two_on}
+use Rattle.ec_values.specs.Words.{word_view}
+use Rattle.ec_values.specs.declared.word.Word.{Word}
+use Rattle.ec_machine.specs.declared.frame.Focus.{Focus}
+use Rattle.ec_machine.specs.declared.frame.Frame.{Frame}
+use Rattle.ec_machine.specs.declared.machine.Machine.{Machine}
+use Rattle.ec_machine.specs.declared.stop.Stop.{Stop}
+use Rattle.ec_machine.specs.declared.stop.Stop.TheVariants as stop
+use Rattle.ec_machine.specs.Frames.{Env, below, denote, here, last_of, plug, without_last, waiting, resume}
+use Rattle.ec_machine.specs.Goes.{Goes, Stands, Stops, at, ending_view, env_of, taken, world}
+use Rattle.ec_machine.proofs.Moves.{last_push, rest_push, none_waits, all_rest}
+use Rattle.ec_machine.proofs.Views.{view-One, view-Two}
+
+-- ---- values that wait
+
+pub values_pushed : (fs : List Function) (m new : Machine) (r : Result Focus Stop) (count more : ℕ) (v : Word) (vs : List Word) (part : List ValueData → World → State → Res) → vs ≡ m.values ++ v ∷ [] → more ≡ count + 1
+    → Goes fs m (taken more (env_of (record m { values = vs }))) (part (waiting more (env_of (record m { values = vs })))) r new
+    → Goes fs m (taken count (env_of m)) (part (waiting count (env_of m) ++ word_view v ∷ [])) r new
+values_pushed fs m new r count more v vs part p q g =
+    subst (λ e. Goes fs m e (part (waiting count (env_of m) ++ word_view v ∷ [])) r new) there
+    (subst (λ xs. Goes fs m (taken more (env_of (record m { values = vs }))) (part xs) r new) joined g)
+  where
+    joined : waiting more (env_of (record m { values = vs })) ≡ waiting count (env_of m) ++ word_view v ∷ []
+    joined = (λ i. map word_view (last_of (q i) (p i))) ∙ ap (map word_view) (last_push m.values count v) ∙ map-append word_view (last_of count m.values) (v ∷ [])
+
+    left : without_last more vs ≡ without_last count m.values
+    left = (λ i. without_last (q i) (p i)) ∙ rest_push m.values count v
+
+    there : taken more (env_of (record m { values = vs })) ≡ taken count (env_of m)
+    there = λ i. record (env_of m) { values = left i }
+
+pub no_values : (fs : List Function) (m new : Machine) (r : Result Focus Stop) (part : List ValueData → World → State → Res)
+    → Goes fs m (taken 0 (env_of m)) (part (waiting 0 (env_of m))) r new → Goes fs m (env_of m) (part []) r new
+no_values fs m new r part g =
+    subst (λ e. Goes fs m e (part []) r new) there (subst (λ xs. Goes fs m (taken 0 (env_of m)) (part xs) r new) none g)
+  where
+    none : waiting 0 (env_of m) ≡ []
+    none = ap (map word_view) (none_waits m.values)
+
+    there : taken 0 (env_of m) ≡ env_of m
+    there = λ i. record (env_of m) { values = all_rest m.values i }
+
+-- ---- what is put
+
+pub puts_there : (channel : Channel) (line : ℕ) (v : Option ValueData) (m m' : Memory) (text : List ℕ) (s : State) → done_there line (puts_bytes channel v m text) s ≡ done_there line (puts_bytes channel v m text) (record s { memory = m' })
+puts_there standard_output line v m m' text s = refl
+puts_there standard_error line v m m' text s = refl
+
+-- ---- ends that pass
+
+pub stops_through : (f : Res → Res) → ((e : Ending) (s : State) → f (over e s) ≡ over e s) → (x : Stop) (s : State) (o : Res) → Stops x s o → Stops x s (f o)
+stops_through f h (stop.Over z) s o p = ap f p ∙ h (ending_view z) s
+stops_through f h stop.OutOfMemory s o p = tt
+
+-- ---- steps behind a value
+
+module _ (w : World) (c : Context) (s : State) (x : FullStep) (rest : List Step) (v : ValueData) where
+  pub first_One : (u : Unary) → x ≡ step.One u → followed without_atoms w c (full_step_view x ∷ rest) (value v s) ≡ followed without_atoms w c rest (one_on c.line u v s)
+  first_One u p = ap (λ z. followed without_atoms w c (z ∷ rest) (value v s)) (ap full_step_view p ∙ view-One u)
+
+  pub first_Two : (b : Binary) (e : Expression) → x ≡ step.Two b e → followed without_atoms w c (full_step_view x ∷ rest) (value v s) ≡ followed without_atoms w c rest (two_on without_atoms w c b (expression_view e) v s)
+  first_Two b e p = ap (λ z. followed without_atoms w c (z ∷ rest) (value v s)) (ap full_step_view p ∙ view-Two b e)
+
+-- ---- frames that are given an answer
+
+pub given_as : (fs : List Function) (m new : Machine) (e : Env) (f g : Frame) (r : Result Focus Stop) (o : State → Res) → f ≡ g → Goes fs m (below e g) (λ w t. plug w e g (o t)) r new → Goes fs m (below e f) (λ w t. plug w e f (o t)) r new
+given_as fs m new e f g r o p h = subst (λ z. Goes fs m (below e z) (λ w t. plug w e z (o t)) r new) (sym p) h
+
+pub focus_as : (fs : List Function) (m new : Machine) (f g : Focus) (r : Result Focus Stop) → f ≡ g → Goes fs m (env_of m) (λ w t. denote w (env_of m) m.line m.text g t) r new → Goes fs m (env_of m) (λ w t. denote w (env_of m) m.line m.text f t) r new
+focus_as fs m new f g r p h = subst (λ z. Goes fs m (env_of m) (λ w t. denote w (env_of m) m.line m.text z t) r new) (sym p) h
+
+-- ---- slices
+
+pub none_left : {A : Type 0} (xs : List A) → length xs < 1 → xs ≡ []
+none_left [] h = refl
+none_left (x ∷ xs) h = absurd (omega (arith, h))
+
+pub front_any : {A : Type 0} (xs : List A) (d : A) → 1 ≤ length xs → xs ≡ get_or xs 0 d ∷ take (length xs - 1) (drop 1 xs)
+front_any [] d h = absurd (omega (arith, h))
+front_any (x ∷ ys) d h = ap (λ zs. x ∷ zs) (sym (take_all (length (x ∷ ys) - 1) ys (omega arith)))
+
+pub front_is : {A : Type 0} (xs : List A) (x : A) → 1 ≤ length xs → x ≡ get_or xs 0 x → xs ≡ x ∷ take (length xs - 1) (drop 1 xs)
+front_is xs x h e = front_any xs x h ∙ ap (λ y. y ∷ take (length xs - 1) (drop 1 xs)) (sym e)

@@ -1,0 +1,24 @@
+use Rattle.std.proofs.Common.{ap, ◌∷◌, ◌-◌, length, map, drop, take}
+use Rattle.ec_code.specs.Views.{full_step_view}
+use Rattle.ec_evaluation.specs.Results.{value}
+use Rattle.ec_evaluation.specs.Whole.{without_atoms}
+use Rattle.ec_plain.specs.Steps.{followed}
+use Rattle.ec_values.specs.Words.{word_view}
+use Rattle.ec_machine.specs.Frames.{here}
+use Rattle.ec_machine.specs.Goes.{env_of}
+use Rattle.ec_machine.proofs.Moves.{goes_as}
+use Rattle.ec_machine.proofs.Parts.{front_is}
+use Rattle.ec_machine.proofs.machine.Machine.follow.Goals as goal
+
+pub returns-in-len1-up-clause-goes : goal.returns-in-len1-up-clause-goes
+returns-in-len1-up-clause-goes c = λ fs.
+    let m = c.args.self.now in
+    let d = here (env_of m) m.line in
+    let xs = c.args.steps.now in
+    let x = c.first-item.result in
+    let v = word_view c.args.value in
+    goes_as fs m c.follow_first.new.self (env_of m) c.follow_first.result
+    (λ w t. followed without_atoms w d (map full_step_view xs) (value v t))
+    (λ w t. followed without_atoms w d (full_step_view x ∷ map full_step_view (take (length xs - 1) (drop 1 xs))) (value v t))
+    (λ w t. ap (λ ys. followed without_atoms w d (map full_step_view ys) (value v t)) (front_is xs x c.in-len1-up.len_at_least c.first-item.is))
+    (c.follow_first.ensures.goes fs)

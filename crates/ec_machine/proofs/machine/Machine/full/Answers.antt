@@ -1,0 +1,55 @@
+use Rattle.std.proofs.Common.{◌∙◌, ap, map, []}
+use Rattle.std.specs.Prelude.{reverse}
+use Rattle.ec_code.specs.Views.{expressions_view, full_step_view, plain_view}
+use Rattle.ec_evaluation.specs.Evaluate.{collect, eval}
+use Rattle.ec_evaluation.specs.State.{stuck}
+use Rattle.ec_evaluation.specs.Whole.{without_atoms}
+use Rattle.ec_plain.specs.Steps.{followed}
+use Rattle.ec_machine.specs.declared.frame.Callee.TheVariants as callee
+use Rattle.ec_machine.specs.Frames.{here, received, resume}
+use Rattle.ec_machine.specs.Goes.{at, env_of, world}
+use Rattle.ec_machine.proofs.Evaluating.{to_Begun, to_Call, to_Known, to_LibraryCall}
+use Rattle.ec_machine.proofs.Moves.{goes_as, resume_over}
+use Rattle.ec_machine.proofs.machine.Machine.full.Goals as goal
+
+pub returns-in-Begun-clause-goes : goal.returns-in-Begun-clause-goes
+returns-in-Begun-clause-goes c =
+    let fs = c.args.functions.now in
+    let m = c.args.self.now in
+    let d = here (env_of m) m.line in
+    let xs = c.as_slice-steps.result.now in
+    goes_as fs m c.begun.new.self (env_of m) c.begun.result _
+    (λ w t. followed without_atoms w d (map full_step_view xs) (eval without_atoms w d (plain_view c.in-Begun.plain) t))
+    (λ w t. to_Begun w d t c.args.full.now c.in-Begun.plain xs c.in-Begun.is c.as_slice-steps.ensures)
+    (c.begun.ensures.goes fs)
+
+pub returns-in-Call-clause-goes : goal.returns-in-Call-clause-goes
+returns-in-Call-clause-goes c =
+    let fs = c.args.functions.now in
+    let m = c.args.self.now in
+    let d = here (env_of m) m.line in
+    let xs = c.as_slice-steps.result.now in
+    let es = c.as_slice.result.now in
+    goes_as fs m c.pass_all.new.self (env_of m) c.pass_all.result _
+    (λ w t. followed without_atoms w d (map full_step_view xs) (collect without_atoms w d [] (expressions_view es) t (received w m.line (callee.Function c.in-Call.function c.in-Call.used))))
+    (λ w t. to_Call w d t c.args.full.now c.in-Call.function c.in-Call.used c.in-Call.arguments es xs c.in-Call.is c.as_slice.ensures c.as_slice-steps.ensures)
+    c.pass_all.ensures.goes
+
+pub returns-in-Known-clause-goes : goal.returns-in-Known-clause-goes
+returns-in-Known-clause-goes c =
+    let fs = c.args.functions.now in
+    let m = c.args.self.now in
+    let d = here (env_of m) m.line in
+    let xs = c.as_slice-steps.result.now in
+    let es = c.as_slice-in-Known.result.now in
+    goes_as fs m c.pass_all-in-Known.new.self (env_of m) c.pass_all-in-Known.result _ _
+    (λ w t. to_Known w d t c.args.full.now c.in-Known.known c.in-Known.arguments es xs c.in-Known.is c.as_slice-in-Known.ensures c.as_slice-steps.ensures)
+    c.pass_all-in-Known.ensures.goes
+
+pub returns-in-LibraryCall-clause-goes : goal.returns-in-LibraryCall-clause-goes
+returns-in-LibraryCall-clause-goes c = λ k s l.
+    let w = world c.args.functions.now k in
+    let m = c.args.self.now in
+    let d = here (env_of m) m.line in
+    ap (resume w (env_of m) (reverse m.frames)) (to_LibraryCall w d (at s m) c.args.full.now c.in-LibraryCall.field-0 c.in-LibraryCall.is)
+    ∙ resume_over w (env_of m) (reverse m.frames) stuck (at s m)

@@ -1,0 +1,107 @@
+use Rattle.std.proofs.Common.{◌≡◌, ◌∙◌, ap, sym, map, Some}
+use Rattle.std.specs.Prelude.{reverse}
+use Rattle.std.specs.Option.{option_map}
+use Rattle.ec_code.specs.Views.{full_step_view, statements_view}
+use Rattle.ec_evaluation.specs.Evaluate.{collect}
+use Rattle.ec_evaluation.specs.Results.{answered, ended_to, function_end, over, returned, value}
+use Rattle.ec_evaluation.specs.State.{stuck}
+use Rattle.ec_evaluation.specs.Whole.{without_atoms}
+use Rattle.ec_plain.specs.Steps.{followed, both_on}
+use Rattle.ec_plain.proofs.Walks.{followed_over}
+use Rattle.ec_values.specs.Words.{word_view}
+use Rattle.ec_machine.specs.declared.frame.Frame.TheVariants as frame
+use Rattle.ec_machine.specs.Frames.{below, here, led, plug, resume}
+use Rattle.ec_machine.specs.Goes.{at, env_of, world}
+use Rattle.ec_machine.proofs.Moves.{closing_led, followed_led, led_passes, pushed, resume_over, returns_stand, right_led, stands_by}
+use Rattle.ec_machine.proofs.Parts.{given_as}
+use Rattle.ec_machine.proofs.machine.Machine.give_value.Goals as goal
+
+pub returns-in-Steps-clause-goes : goal.returns-in-Steps-clause-goes
+returns-in-Steps-clause-goes c =
+    let fs = c.args.functions.now in
+    let m = c.args.self.now in
+    given_as fs m c.follow.new.self (env_of m) c.args.frame (frame.Steps c.in-Steps.line c.in-Steps.steps) c.follow.result (λ t. value (word_view c.args.value) t) c.in-Steps.is
+    (c.follow.ensures.goes fs)
+
+pub returns-in-Right-clause-goes : goal.returns-in-Right-clause-goes
+returns-in-Right-clause-goes c =
+    let fs = c.args.functions.now in
+    let m = c.args.self.now in
+    given_as fs m c.follow_right.new.self (env_of m) c.args.frame (frame.Right c.in-Right.line c.in-Right.step c.in-Right.left c.in-Right.old c.in-Right.steps) c.follow_right.result (λ t. value (word_view c.args.value) t) c.in-Right.is
+    (c.follow_right.ensures.goes fs)
+
+pub returns-in-Arguments-clause-goes : goal.returns-in-Arguments-clause-goes
+returns-in-Arguments-clause-goes c =
+    let fs = c.args.functions.now in
+    let m = c.args.self.now in
+    given_as fs m c.pass_on.new.self (env_of m) c.args.frame (frame.Arguments c.in-Arguments.line c.in-Arguments.callee c.in-Arguments.count c.in-Arguments.rest c.in-Arguments.steps) c.pass_on.result (λ t. value (word_view c.args.value) t) c.in-Arguments.is
+    c.pass_on.ensures.goes
+
+pub returns-in-Call-clause-goes : goal.returns-in-Call-clause-goes
+returns-in-Call-clause-goes c = λ k s l.
+    let w = world c.args.functions.now k in
+    let m = c.args.self.now in
+    let e = record (env_of m) { first = c.in-Call.field-4 } in
+    ap (λ f. resume w (below (env_of m) f) (reverse m.frames) (plug w (env_of m) f (value (word_view c.args.value) (at s m)))) c.in-Call.is
+    ∙ ap (resume w e (reverse m.frames)) (followed_over without_atoms w (here e c.in-Call.field-0) (map full_step_view c.in-Call.field-3.now) stuck (at s m))
+    ∙ resume_over w e (reverse m.frames) stuck (at s m)
+
+pub returns-in-Do-clause-goes : goal.returns-in-Do-clause-goes
+returns-in-Do-clause-goes c = λ k s l.
+    let w = world c.args.functions.now k in
+    let m = c.args.self.now in
+    ap (λ f. resume w (below (env_of m) f) (reverse m.frames) (plug w (env_of m) f (value (word_view c.args.value) (at s m)))) c.in-Do.is
+
+pub returns-in-Give-clause-goes : goal.returns-in-Give-clause-goes
+returns-in-Give-clause-goes c = λ k s l.
+    let w = world c.args.functions.now k in
+    let m = c.args.self.now in
+    stands_by w s m c.gives.result _ _
+    (ap (λ f. resume w (below (env_of m) f) (reverse m.frames) (plug w (env_of m) f (value (word_view c.args.value) (at s m)))) c.in-Give.is)
+    (returns_stand w s m c.gives.result (λ t. returned m.first (Some (word_view c.args.value)) t) c.gives.ensures)
+
+pub returns-in-Choose-clause-goes : goal.returns-in-Choose-clause-goes
+returns-in-Choose-clause-goes c =
+    let fs = c.args.functions.now in
+    let m = c.args.self.now in
+    given_as fs m (record m { line = c.in-Choose.line }) (env_of m) c.args.frame (frame.Choose c.in-Choose.line c.in-Choose.first c.in-Choose.second) c.choose.result (λ t. value (word_view c.args.value) t) c.in-Choose.is
+    (c.choose.ensures.goes fs)
+
+pub returns-in-Test-clause-goes : goal.returns-in-Test-clause-goes
+returns-in-Test-clause-goes c =
+    let fs = c.args.functions.now in
+    let m = c.args.self.now in
+    given_as fs m c.tested.new.self (env_of m) c.args.frame (frame.Test c.in-Test.line c.in-Test.inner) c.tested.result (λ t. value (word_view c.args.value) t) c.in-Test.is
+    (c.tested.ensures.goes fs)
+
+pub returns-in-Behind-clause-goes : goal.returns-in-Behind-clause-goes
+returns-in-Behind-clause-goes c =
+    let fs = c.args.functions.now in
+    let m = c.args.self.now in
+    given_as fs m c.test.new.self (env_of m) c.args.frame (frame.Behind c.in-Behind.line c.in-Behind.inner) c.test.result (λ t. value (word_view c.args.value) t) c.in-Behind.is
+    (c.test.ensures.goes fs)
+
+pub returns-in-Body-clause-goes : goal.returns-in-Body-clause-goes
+returns-in-Body-clause-goes c = λ k s l.
+    let w = world c.args.functions.now k in
+    let m = c.args.self.now in
+    ap (λ f. resume w (below (env_of m) f) (reverse m.frames) (plug w (env_of m) f (value (word_view c.args.value) (at s m)))) c.in-Body.is
+
+pub returns-in-Rest-clause-goes : goal.returns-in-Rest-clause-goes
+returns-in-Rest-clause-goes c = λ k s l.
+    let w = world c.args.functions.now k in
+    let m = c.args.self.now in
+    ap (λ f. resume w (below (env_of m) f) (reverse m.frames) (plug w (env_of m) f (value (word_view c.args.value) (at s m)))) c.in-Rest.is
+
+pub returns-in-Settle-clause-goes : goal.returns-in-Settle-clause-goes
+returns-in-Settle-clause-goes c = λ k s l.
+    let w = world c.args.functions.now k in
+    let m = c.args.self.now in
+    ap (λ f. resume w (below (env_of m) f) (reverse m.frames) (plug w (env_of m) f (value (word_view c.args.value) (at s m)))) c.in-Settle.is
+
+pub returns-in-Close-clause-goes : goal.returns-in-Close-clause-goes
+returns-in-Close-clause-goes c = λ k s l.
+    let w = world c.args.functions.now k in
+    let m = c.args.self.now in
+    ap (λ f. resume w (below (env_of m) f) (reverse m.frames) (plug w (env_of m) f (value (word_view c.args.value) (at s m)))) c.in-Close.is
+    ∙ ap (λ sc. resume w (record (env_of m) { scope = sc }) (reverse m.frames) (value (word_view c.args.value) (at s m))) (sym c.cut.ensures)

@@ -1,0 +1,22 @@
+use Rattle.std.proofs.Common.{arith, map}
+use Rattle.std.specs.Prelude.{reverse}
+use Rattle.ec_code.specs.Views.{size_view, statements_view}
+use Rattle.ec_evaluation.specs.Execute.{enter, look_all}
+use Rattle.ec_evaluation.specs.Whole.{without_atoms}
+use Rattle.ec_machine.specs.Frames.{here}
+use Rattle.ec_machine.specs.Goes.{at, env_of, world}
+use Rattle.ec_machine.proofs.Moves.{lifted, stands_by}
+use Rattle.ec_machine.proofs.machine.Machine.look_block.Goals as goal
+
+pub returns-in-Ok-clause-goes : goal.returns-in-Ok-clause-goes
+returns-in-Ok-clause-goes c = λ fs k s l.
+    stands_by (world fs k) s c.look_list.new.self c.look_list.result _ _
+    (c.in-Ok.ensures.enters (world fs k) s (λ d u. look_all without_atoms (world fs k) c.args.label d (statements_view c.args.body.now) u))
+    (c.look_list.ensures.goes fs k s (omega (arith, l, c.in-Ok.ensures.turns)))
+
+pub returns-in-Err-clause-goes : goal.returns-in-Err-clause-goes
+returns-in-Err-clause-goes c = λ fs k s l.
+    let m = c.args.self.now in
+    lifted (world fs k) (env_of m) (reverse m.frames) (at s c.enter.new.self) c.in-Err.stop
+    (enter (world fs k) (here (env_of m) m.line) (map size_view c.args.sizes.now) (statements_view c.args.body.now) (λ d u. look_all without_atoms (world fs k) c.args.label d (statements_view c.args.body.now) u) (at s m))
+    (c.in-Err.ensures.enters (world fs k) s (λ d u. look_all without_atoms (world fs k) c.args.label d (statements_view c.args.body.now) u))

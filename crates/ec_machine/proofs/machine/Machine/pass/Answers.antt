@@ -1,0 +1,23 @@
+use Rattle.std.proofs.Common.{ap, map}
+use Rattle.ec_code.specs.Views.{expressions_view, full_step_view}
+use Rattle.ec_evaluation.specs.Evaluate.{collect}
+use Rattle.ec_evaluation.specs.Whole.{without_atoms}
+use Rattle.ec_plain.specs.Steps.{followed}
+use Rattle.ec_machine.specs.Frames.{here, received, waiting}
+use Rattle.ec_machine.specs.Goes.{env_of, taken}
+use Rattle.ec_machine.proofs.Moves.{goes_as}
+use Rattle.ec_machine.proofs.Parts.{none_left}
+use Rattle.ec_machine.proofs.machine.Machine.pass.Goals as goal
+
+pub returns-in-empty-clause-goes : goal.returns-in-empty-clause-goes
+returns-in-empty-clause-goes c =
+    let fs = c.args.functions.now in
+    let m = c.args.self.now in
+    let d = here (env_of m) m.line in
+    let xs = map full_step_view c.args.steps.now in
+    let vs = waiting c.args.count (env_of m) in
+    goes_as fs m c.receive.new.self (taken c.args.count (env_of m)) c.receive.result
+    (λ w t. followed without_atoms w d xs (collect without_atoms w d vs (expressions_view c.args.arguments.now) t (received w m.line c.args.callee)))
+    (λ w t. followed without_atoms w d xs (received w m.line c.args.callee vs t))
+    (λ w t. ap (λ es. followed without_atoms w d xs (collect without_atoms w d vs (expressions_view es) t (received w m.line c.args.callee))) (none_left c.args.arguments.now c.in-empty.len_below))
+    c.receive.ensures.goes

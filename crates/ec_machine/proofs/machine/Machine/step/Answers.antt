@@ -1,0 +1,23 @@
+use Rattle.ec_machine.proofs.Parts.{focus_as}
+use Rattle.ec_machine.specs.declared.frame.Focus.TheVariants as focus
+use Rattle.ec_machine.proofs.machine.Machine.step.Goals as goal
+
+pub returns-in-Runs-clause-goes : goal.returns-in-Runs-clause-goes
+returns-in-Runs-clause-goes c =
+    focus_as c.args.functions.now c.args.self.now c.run.new.self c.args.focus (focus.Runs c.in-Runs.statement) c.run.result c.in-Runs.is c.run.ensures.goes
+
+pub returns-in-Looks-clause-goes : goal.returns-in-Looks-clause-goes
+returns-in-Looks-clause-goes c =
+    focus_as c.args.functions.now c.args.self.now c.look.new.self c.args.focus (focus.Looks c.in-Looks.label c.in-Looks.statement) c.look.result c.in-Looks.is (c.look.ensures.goes c.args.functions.now)
+
+pub returns-in-Evaluates-clause-goes : goal.returns-in-Evaluates-clause-goes
+returns-in-Evaluates-clause-goes c =
+    focus_as c.args.functions.now c.args.self.now c.evaluate.new.self c.args.focus (focus.Evaluates c.in-Evaluates.expression) c.evaluate.result c.in-Evaluates.is c.evaluate.ensures.goes
+
+pub returns-in-Value-clause-goes : goal.returns-in-Value-clause-goes
+returns-in-Value-clause-goes c =
+    focus_as c.args.functions.now c.args.self.now c.hand_value.new.self c.args.focus (focus.Value c.in-Value.value) c.hand_value.result c.in-Value.is c.hand_value.ensures.goes
+
+pub returns-in-Leads-clause-goes : goal.returns-in-Leads-clause-goes
+returns-in-Leads-clause-goes c =
+    focus_as c.args.functions.now c.args.self.now c.hand_flow.new.self c.args.focus (focus.Leads c.in-Leads.flow) c.hand_flow.result c.in-Leads.is (c.hand_flow.ensures.goes c.args.functions.now)

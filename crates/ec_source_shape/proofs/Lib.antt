@@ -1,0 +1,6 @@
+mod Derived
+mod Includes
+mod SourceTokens
+mod Values
+mod Parts
+mod Steps

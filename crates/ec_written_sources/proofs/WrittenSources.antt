@@ -1,0 +1,155 @@
+-- What is written of an accepted source has the written shape.
+use Rattle.std.proofs.Common.{◌≡◌, ℕ, zero, suc, ◌≤◌, true, false, ◌&&◌, List, [], ◌∷◌, length, refl, sym, ap, ◌∙◌, subst, Option, Some, None, Result, Ok, Err}
+use Rattle.std.specs.Prelude.{slice_get, option_and_then}
+use Rattle.ec_base.specs.declared.stop.Stop.{Stop}
+use Rattle.ec_ctypes.specs.declared.text.piece.Piece.{Piece}
+use Rattle.ec_ctypes.specs.trees.Checked.{MarkData, BoundData, TypedData}
+use Rattle.ec_ctypes.specs.trees.Embedded.{EmbData}
+use Rattle.ec_ctypes.specs.trees.Stmts.{StmtKindData}
+use Rattle.ec_ctypes.specs.trees.Tokens.{TokenData}
+use Rattle.ec_ctypes.specs.trees.Units.{TopData, UnitData}
+use Rattle.ec_language.specs.First.{max_text}
+use Rattle.ec_language.specs.Letters.{Text, each}
+use Rattle.ec_language.specs.Pieces.{Pieces}
+use Rattle.ec_language.specs.Syntax.{TreeOrStop}
+use Rattle.ec_language.specs.Tokens.{Tokens}
+use Rattle.ec_language.proofs.Ends.{both}
+use Rattle.ec_sections.specs.Answers.{hosts_answer}
+use Rattle.ec_typing.specs.Worlds.{World}
+use Rattle.ec_typing.specs.Answers.{checked, stop_of_unit, answer_by, check_answer}
+use Rattle.ec_statement_parts.specs.Handlers.{marks_in, action_among}
+use Rattle.ec_whenever.specs.Tables.{table_of}
+use Rattle.ec_hosts.specs.Examples.{with_statements}
+use Rattle.ec_phases.specs.Sources.{ReadsTree, statements, checked_with, checked_tree, bound_from, BoundProgram, program_with, bound_program, ReadsSource}
+use Rattle.ec_writing.specs.Shapes.{is_byte, is_line, is_written_shape}
+use Rattle.ec_source_shape.specs.SourceShape.{are_source_tokens, are_source_tops, is_source_shape}
+use Rattle.ec_source_shape.specs.Kept.{written, is_kept}
+use Rattle.ec_kept_shape.specs.Phases.{by_lines}
+use Rattle.ec_expansion.specs.Programs.{block_for, embedded, unit_of}
+use Rattle.ec_expansion.specs.Statements.{written_tops}
+use Rattle.ec_written_shape.specs.Blocks.{IsBlockOption}
+use Rattle.ec_written_shape.specs.Bounds.{are_written_actions, is_written_statement, are_written_statements, is_written_bound}
+use Rattle.ec_written_sources.specs.Written.{written_of, is_written_with, are_written_with, has_written_statements}
+
+-- ---- the phases one after the other
+
+-- a program with types, of a tree
+record OfTree (u : UnitData) (t : TypedData) : Type 0 where
+  hosts : List ℕ
+  sections : hosts_answer u ≡ Ok hosts
+  checks : check_answer false u hosts (table_of (marks_in u.embs)) ≡ Ok t
+  same : t.unit ≡ u
+
+same_unit : (u : UnitData) (hosts : List ℕ) (handlers : List MarkData) (w : World) (t : TypedData) (x : Option Stop) → answer_by u hosts handlers w x ≡ Ok t → t.unit ≡ u
+same_unit u hosts handlers w t None e = ap unit_in (sym e)
+  where
+    unit_in : Result TypedData Stop → UnitData
+    unit_in (Ok t) = t.unit
+    unit_in (Err stop) = u
+same_unit u hosts handlers w t (Some stop) e = absurd (cc)
+
+of_tree : (u : UnitData) (t : TypedData) → checked_tree (Ok u) ≡ Ok t → OfTree u t
+of_tree u t e = go (hosts_answer u) refl e
+  where
+    go : (a : Result (List ℕ) Stop) → hosts_answer u ≡ a → checked_with u a ≡ Ok t → OfTree u t
+    go (Ok hosts) h e = record { hosts = hosts; sections = h; checks = e; same = same_unit u hosts (table_of (marks_in u.embs)) (checked false u).world t (stop_of_unit false u) e }
+    go (Err stop) h e = absurd (cc)
+
+record OfChecked (a : Result UnitData Stop) (t : TypedData) : Type 0 where
+  unit : UnitData
+  is : a ≡ Ok unit
+  made : OfTree unit t
+
+of_checked : (a : Result UnitData Stop) (t : TypedData) → checked_tree a ≡ Ok t → OfChecked a t
+of_checked (Ok u) t e = record { unit = u; is = refl; made = of_tree u t e }
+of_checked (Err stop) t e = absurd (cc)
+
+typed_is : (t : TypedData) (bs : Result (List BoundData) Stop) (p : BoundProgram) → program_with t bs ≡ Ok p → p.program ≡ t
+typed_is t (Ok bs) p e = sym (ap program_in e)
+  where
+    program_in : Result BoundProgram Stop → TypedData
+    program_in (Ok q) = q.program
+    program_in (Err stop) = t
+typed_is t (Err stop) p e = absurd (cc)
+
+record OfBoundProgram (a : Result TypedData Stop) (p : BoundProgram) : Type 0 where
+  typed : TypedData
+  is : a ≡ Ok typed
+  same : p.program ≡ typed
+
+of_bound : (a : Result TypedData Stop) (p : BoundProgram) → bound_program a ≡ Ok p → OfBoundProgram a p
+of_bound (Ok t) p e = record { typed = t; is = refl; same = typed_is t (bound_from t 0 t.unit.embs) p e }
+of_bound (Err stop) p e = absurd (cc)
+
+-- ---- the shape
+
+same_tops : (u v : UnitData) (es : Result (List EmbData) Stop) → Ok v ≡ with_statements u es → u.tops ≡ v.tops
+same_tops u v (Ok es) e = sym (ap tops_in e)
+  where
+    tops_in : Result UnitData Stop → List TopData
+    tops_in (Ok x) = x.tops
+    tops_in (Err stop) = u.tops
+same_tops u v (Err stop) e = absurd (cc)
+
+no_statement : (es : List EmbData) (handlers : List MarkData) (bounds : List BoundData) (n : ℕ) → es ≡ [] → IsBlockOption (embedded handlers es bounds n)
+no_statement [] handlers bounds n e = tt
+no_statement (x ∷ es) handlers bounds n e = absurd (cc)
+
+-- by the laws of the phases and of what is written
+module _
+    (tokens_are : (text : Text) (pieces : List Piece) (ts : List TokenData) → each is_byte text ≡ true → length text ≤ max_text → Pieces text pieces → Tokens false pieces ts → are_source_tokens ts ≡ true)
+    (derived_shape : (ts : List TokenData) (u : UnitData) → are_source_tokens ts ≡ true → TreeOrStop ts (Ok u) → is_source_shape u ≡ true)
+    (phases_kept : (u : UnitData) (hosts : List ℕ) (handlers : List MarkData) (t : TypedData) → hosts_answer u ≡ Ok hosts → check_answer false u hosts handlers ≡ Ok t → is_kept by_lines u ≡ true → is_kept written u ≡ true)
+    (program_is : (u : UnitData) (embedded : ℕ → Option StmtKindData) → is_source_shape u ≡ true → is_kept written u ≡ true → ((n : ℕ) → IsBlockOption (embedded n)) → is_written_shape (unit_of (written_tops embedded u.tops)) ≡ true)
+    (block_for_is : (handlers : List MarkData) (es : List EmbData) (n : ℕ) (e : EmbData) (b : BoundData) → is_line e.line.0 ≡ true → are_written_actions e.line.0 (action_among handlers e.place) ≡ true → are_written_statements es ≡ true → is_written_statement e.kind ≡ true
+    → is_written_bound e.line.0 b ≡ true → IsBlockOption (block_for handlers es n e b))
+  where
+    tree_shape : (text : Text) (v : UnitData) → each is_byte text ≡ true → ReadsTree text (Ok v) → is_source_shape v ≡ true
+    tree_shape text v b (statements pieces ts u es answer l c x is r e) = subst (λ ts. are_source_tops ts ≡ true) (same_tops u v es e) (derived_shape ts u (tokens_are text pieces ts b l c x) is)
+
+    embedded_is : (handlers : List MarkData) (all es : List EmbData) (bounds : List BoundData) (from n : ℕ) → are_written_statements all ≡ true → are_written_with handlers es bounds ≡ true
+        → IsBlockOption (option_and_then (λ e. option_and_then (block_for handlers all from e) (slice_get bounds n)) (slice_get es n))
+    embedded_is handlers all [] bounds from n a h = tt
+    embedded_is handlers all (e ∷ es) [] from zero a h = tt
+    embedded_is handlers all (e ∷ es) [] from (suc n) a h = none (slice_get es n)
+      where
+        none : (x : Option EmbData) → IsBlockOption (option_and_then (λ e. option_and_then (block_for handlers all from e) None) x)
+        none None = tt
+        none (Some e) = tt
+    embedded_is handlers all (e ∷ es) (b ∷ bs) from zero a h =
+        let p = (both (is_written_with handlers e b) (are_written_with handlers es bs) h).0 in
+        let q = both (is_line e.line.0) (are_written_actions e.line.0 (action_among handlers e.place) && (is_written_statement e.kind && is_written_bound e.line.0 b)) p in
+        let r = both (are_written_actions e.line.0 (action_among handlers e.place)) (is_written_statement e.kind && is_written_bound e.line.0 b) q.1 in
+        let s = both (is_written_statement e.kind) (is_written_bound e.line.0 b) r.1 in
+        block_for_is handlers all from e b q.0 r.0 a s.0 s.1
+    embedded_is handlers all (e ∷ es) (b ∷ bs) from (suc n) a h = embedded_is handlers all es bs from n a (both (is_written_with handlers e b) (are_written_with handlers es bs) h).1
+
+    -- ---- the law
+
+    module _ (text : Text) (p : BoundProgram) (b : each is_byte text ≡ true) (r : ReadsSource text (Ok p)) (k : is_kept by_lines p.program.unit ≡ true) where
+      bound : OfBoundProgram r.0 p
+      bound = of_bound r.0 p (sym r.2)
+
+      tree : OfChecked r.1.0 bound.typed
+      tree = of_checked r.1.0 bound.typed (sym r.1.2 ∙ bound.is)
+
+      same_program : p.program.unit ≡ tree.unit
+      same_program = ap (λ (t : TypedData). t.unit) bound.same ∙ tree.made.same
+
+      shape : is_source_shape p.program.unit ≡ true
+      shape = subst (λ u. is_source_shape u ≡ true) (sym same_program) (tree_shape text tree.unit b (subst (ReadsTree text) tree.is r.1.1))
+
+      kept : is_kept written p.program.unit ≡ true
+      kept = subst (λ u. is_kept written u ≡ true) (sym same_program)
+          (phases_kept tree.unit tree.made.hosts (table_of (marks_in tree.unit.embs)) bound.typed tree.made.sections tree.made.checks (subst (λ u. is_kept by_lines u ≡ true) same_program k))
+
+      by_blocks : ((n : ℕ) → IsBlockOption (embedded p.program.handlers p.program.unit.embs p.bounds n)) → is_written_shape (written_of p) ≡ true
+      by_blocks blocks = program_is p.program.unit (embedded p.program.handlers p.program.unit.embs p.bounds) shape kept blocks
+
+    pub with_statements_shape : (text : Text) (p : BoundProgram) → each is_byte text ≡ true → ReadsSource text (Ok p) → is_kept by_lines p.program.unit ≡ true → has_written_statements p ≡ true → is_written_shape (written_of p) ≡ true
+    with_statements_shape text p b r k h =
+        let q = both (are_written_statements p.program.unit.embs) (are_written_with p.program.handlers p.program.unit.embs p.bounds) h in
+        by_blocks text p b r k (λ n. embedded_is p.program.handlers p.program.unit.embs p.program.unit.embs p.bounds n n q.0 q.1)
+
+    pub without_statements_shape : (text : Text) (p : BoundProgram) → each is_byte text ≡ true → ReadsSource text (Ok p) → is_kept by_lines p.program.unit ≡ true → p.program.unit.embs ≡ [] → is_written_shape (written_of p) ≡ true
+    without_statements_shape text p b r k h = by_blocks text p b r k (λ n. no_statement p.program.unit.embs p.program.handlers p.bounds n h)

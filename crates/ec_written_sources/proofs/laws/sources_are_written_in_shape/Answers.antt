@@ -1,0 +1,11 @@
+use Rattle.ec_written_sources.proofs.WrittenSources.{with_statements_shape, without_statements_shape}
+use Rattle.ec_written_sources.proofs.laws.sources_are_written_in_shape.Goals as goal
+
+pub returns : goal.returns
+returns c =
+    let tokens = c.sources_have_source_shape.ensures.tokens in
+    let derived = c.derived_trees_have_source_shape.ensures in
+    let kept = c.phases_keep_what_is_written.ensures in
+    let programs = c.expanded_programs_have_written_shape.ensures in
+    let blocks = c.blocks_have_written_shape.ensures in
+    record { alone = without_statements_shape tokens derived kept programs blocks; embedded = with_statements_shape tokens derived kept programs blocks }
