@@ -44,13 +44,18 @@ abbrev pub ending_with : Result (List ℕ) Stop → Ending
 ending_with (Ok written) = Wrote
 ending_with (Err stop) = refusal_of stop
 
+-- the ending is that of what is written of the text, or of what it is refused for
+abbrev pub AnswersTranslation : List ℕ → Ending → Type 0
+AnswersTranslation text ending =
+    (answer : Result (List ℕ) Stop) × IsTranslation text answer × (ending ≡ ending_with answer)
+
 -- What a text decides, where nothing fails: more than 2^24 bytes pass the limit; any other text is translated, or refused
 -- as the phases say. Want of memory may come at any point.
 abbrev pub DecidesTranslation : List ℕ → Ending → Type 0
 DecidesTranslation text ending =
     (ending ≡ OutOfMemory)
     ⊎ ((2 ^ 24 < length text) × (ending ≡ Limit L6))
-    ⊎ ((length text ≤ 2 ^ 24) × ((answer : Result (List ℕ) Stop) × IsTranslation text answer × (ending ≡ ending_with answer)))
+    ⊎ ((length text ≤ 2 ^ 24) × AnswersTranslation text ending)
 
 -- the input was read to its end, and the whole of what is written of it was put
 pub record WritesWhole (input input' output output' : Option (List ℕ)) : Type 0 where
@@ -67,15 +72,20 @@ pub record LimitsText (input input' : Option (List ℕ)) (kind : LimitKind) : Ty
   pub limit : IsTranslation text (Err (stops.Limit kind))
 
 abbrev pub PassesLimit : Option (List ℕ) → Option (List ℕ) → LimitKind → Type 0
-PassesLimit input input' kind = ((kind ≡ L6) × IsTooLong input input') ⊎ LimitsText input input' kind
+PassesLimit input input' kind =
+    ((kind ≡ L6) × IsTooLong input input') ⊎ LimitsText input input' kind
 
 module _ {O : Type 0} (held : O → Option (List ℕ)) (puts : O → ℕ) where
   -- what a text is translated to was put, or a front of it; a text that is refused leaves the output
   abbrev pub TranslatesText : List ℕ → O → O → Ending → Type 0
-  TranslatesText text out out' Wrote = (written : List ℕ) × IsTranslation text (Ok written) × Puts held puts out out' written
-  TranslatesText text out out' WriteFault = (written : List ℕ) × IsTranslation text (Ok written) × PutsPart held puts out out' written
-  TranslatesText text out out' (Refused kind line) = IsTranslation text (Err (stops.Refused kind line)) × (out' ≡ out)
-  TranslatesText text out out' (Limit kind) = IsTranslation text (Err (stops.Limit kind)) × (out' ≡ out)
+  TranslatesText text out out' Wrote =
+      (written : List ℕ) × IsTranslation text (Ok written) × Puts held puts out out' written
+  TranslatesText text out out' WriteFault =
+      (written : List ℕ) × IsTranslation text (Ok written) × PutsPart held puts out out' written
+  TranslatesText text out out' (Refused kind line) =
+      IsTranslation text (Err (stops.Refused kind line)) × (out' ≡ out)
+  TranslatesText text out out' (Limit kind) =
+      IsTranslation text (Err (stops.Limit kind)) × (out' ≡ out)
   TranslatesText text out out' OutOfMemory = out' ≡ out
   TranslatesText text out out' (Exited status) = ⊥
   TranslatesText text out out' (Trapped trap line) = ⊥
@@ -83,7 +93,8 @@ module _ {O : Type 0} (held : O → Option (List ℕ)) (puts : O → ℕ) where
   TranslatesText text out out' Usage = ⊥
   TranslatesText text out out' ReadFault = ⊥
 
-module _ {I O : Type 0} (left : I → Option (List ℕ)) (reads : I → ℕ) (held : O → Option (List ℕ)) (puts : O → ℕ) where
+module _ {I O : Type 0} (left : I → Option (List ℕ)) (reads : I → ℕ)
+    (held : O → Option (List ℕ)) (puts : O → ℕ) where
   -- the input was read to its end, and a front of what is written of it was put
   pub record WritesPart (input input' : I) (out out' : O) : Type 0 where
     pub text : List ℕ
@@ -98,11 +109,15 @@ module _ {I O : Type 0} (left : I → Option (List ℕ)) (reads : I → ℕ) (he
     pub part : ending ≡ WriteFault → WritesPart input input' out out'
     pub untouched : (ending ≡ Wrote → ⊥) → (ending ≡ WriteFault → ⊥) → out' ≡ out
     pub ends : IsOfTranslation ending
-    pub refused : (kind : FaultKind) (line : Line) → ending ≡ Refused kind line → RefusesAt IsRefused (left input) (left input') kind line.0
-    pub limit : (kind : LimitKind) → ending ≡ Limit kind → PassesLimit (left input) (left input') kind
+    pub refused : (kind : FaultKind) (line : Line) → ending ≡ Refused kind line
+        → RefusesAt IsRefused (left input) (left input') kind line.0
+    pub limit : (kind : LimitKind) → ending ≡ Limit kind
+        → PassesLimit (left input) (left input') kind
     pub read_fault : ending ≡ ReadFault → Rose (reads input) (reads input')
     pub write_fault : ending ≡ WriteFault → Rose (puts out) (puts out')
     pub within : ReadsWithin (left input) (left input')
     pub reads_steady : (ending ≡ ReadFault → ⊥) → reads input' ≡ reads input
     pub puts_steady : (ending ≡ WriteFault → ⊥) → puts out' ≡ puts out
-    pub decides : (text : List ℕ) → left input ≡ Some text → (Rose (reads input) (reads input') → ⊥) → (Rose (puts out) (puts out') → ⊥) → DecidesTranslation text ending
+    pub decides : (text : List ℕ) → left input ≡ Some text
+        → (Rose (reads input) (reads input') → ⊥) → (Rose (puts out) (puts out') → ⊥)
+        → DecidesTranslation text ending

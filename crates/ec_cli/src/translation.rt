@@ -35,7 +35,8 @@ fn translate_text<O: Sink>(alloc: Global, text: Bytes, out: &mut O) -> Ending
 
 /// Puts what is written of the source that the input gives, and flushes the output.
 pub fn translate_input<I: Input, O: Sink>(alloc: Global, input: &mut I, out: &mut O) -> Ending
-    ensures { Translates I.left I.faults O.held O.faults input.old input.new out.old out.new result }
+    ensures { Translates I.left I.faults O.held O.faults
+        input.old input.new out.old out.new result }
 {
     match read_all(alloc, input, INPUT_LIMIT) {
         Ok(text) => translate_text(alloc, text, out),

@@ -48,10 +48,14 @@ module _ {A : Type 0} where
   abbrev pub indicators : Sym → TextArg A → ℕ → ℕ → ℕ → Option (Option (Indicator A))
   indicators s absent a b c = None
   indicators s (word bytes) a b c = None
-  indicators s (held p) a b c = some_if (nat_eq a 0) (Some (record { sym = s; value = p; count = b; step = c }))
+  indicators s (held p) a b c =
+      some_if (nat_eq a 0) (Some (record { sym = s; value = p; count = b; step = c }))
 
   abbrev pub indicator_by : Sym → TextArg A → ℕ → ℕ → ℕ → Option (Option (Indicator A))
-  indicator_by s value a b c = elim (is_no_indicator s) [ true ↦ no_indicators value a b c | false ↦ indicators s value a b c ]
+  indicator_by s value a b c = elim (is_no_indicator s) [
+    | true ↦ no_indicators value a b c
+    | false ↦ indicators s value a b c
+  ]
 
   abbrev pub is_none : Option (Indicator A) → Bool
   is_none None = true
@@ -68,13 +72,17 @@ module _ {A : Type 0} where
   abbrev pub host_by : Sym → TextArg A → ℕ → ℕ → ℕ → Option (Indicator A) → Option (Member A)
   host_by s absent a b c ind = None
   host_by s (word bytes) a b c ind = None
-  host_by s (held p) a b c ind = Some (host (record { sym = s; value = p; size = a; count = b; step = c; ind = ind }))
+  host_by s (held p) a b c ind =
+      Some (host (record { sym = s; value = p; size = a; count = b; step = c; ind = ind }))
 
   abbrev pub member_by : Sym → TextArg A → ℕ → ℕ → ℕ → Option (Indicator A) → Option (Member A)
   member_by s value a b c ind =
       elim (is_const s) [
         | true ↦ constant_by value a b c ind
-        | false ↦ elim (is_descriptor s) [ true ↦ descriptor_by value a b c ind | false ↦ host_by s value a b c ind ]
+        | false ↦ elim (is_descriptor s) [
+          | true ↦ descriptor_by value a b c ind
+          | false ↦ host_by s value a b c ind
+        ]
       ]
 
   -- an item with its member

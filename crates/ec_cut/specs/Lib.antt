@@ -2,3 +2,4 @@ pub mod ByType
 pub mod Cases
 pub mod Reads
 pub mod Views
+pub mod Keeping

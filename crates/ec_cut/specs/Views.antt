@@ -25,7 +25,14 @@ module _ {P D : Type 0} (view : P → D) where
   indicators_view i = option_map indicator_view i
 
   abbrev pub place_view : Place P → spec.Place D
-  place_view p = record { sym = p.sym; value = view p.value; size = p.size; count = p.count; step = p.step; ind = indicators_view p.ind }
+  place_view p = record {
+    sym = p.sym;
+    value = view p.value;
+    size = p.size;
+    count = p.count;
+    step = p.step;
+    ind = indicators_view p.ind;
+  }
 
 module _ {L P D : Type 0} (bytes : L → List ℕ) (view : P → D) where
   abbrev pub argument_view : Argument L P → spec.Arg D
@@ -70,20 +77,26 @@ module _ {L P D : Type 0} (bytes : L → List ℕ) (view : P → D) where
   statement_view (statements.Opening head name) = spec.opening (bytes head) (bytes name)
 
   abbrev pub call_view : Call L P → spec.Call D
-  call_view (calls.Run connection statement ins outs) = spec.run (text_view connection) (statement_view statement) (members_view ins) (members_view outs)
-  call_view (calls.Connect target user password name) = spec.connect (text_view target) (text_view user) (text_view password) (text_view name)
+  call_view (calls.Run connection statement ins outs) =
+      spec.run (text_view connection) (statement_view statement) (members_view ins)
+      (members_view outs)
+  call_view (calls.Connect target user password name) =
+      spec.connect (text_view target) (text_view user) (text_view password) (text_view name)
   call_view (calls.Disconnect name) = spec.disconnect (text_view name)
   call_view (calls.SetConnection name) = spec.set_connection (text_view name)
   call_view (calls.SetAutocommit on connection) = spec.set_autocommit on (text_view connection)
   call_view (calls.Control connection text) = spec.control (text_view connection) (bytes text)
-  call_view (calls.Prepare connection name text) = spec.prepare (text_view connection) (bytes name) (text_view text)
+  call_view (calls.Prepare connection name text) =
+      spec.prepare (text_view connection) (bytes name) (text_view text)
   call_view (calls.Deallocate connection name) = spec.deallocate (text_view connection) (bytes name)
   call_view (calls.AllocateDescriptor name) = spec.allocate_descriptor (text_view name)
   call_view (calls.DeallocateDescriptor name) = spec.deallocate_descriptor (text_view name)
   call_view (calls.GetCount name target) = spec.get_count (text_view name) (member_view target)
   call_view (calls.SetCount name value) = spec.set_count (text_view name) (member_view value)
-  call_view (calls.GetItems name index items) = spec.get_items (text_view name) (member_view index) (items_view items)
-  call_view (calls.SetItems name index items) = spec.set_items (text_view name) (member_view index) (items_view items)
+  call_view (calls.GetItems name index items) =
+      spec.get_items (text_view name) (member_view index) (items_view items)
+  call_view (calls.SetItems name index items) =
+      spec.set_items (text_view name) (member_view index) (items_view items)
 
   abbrev pub cut_view : Cut L P → spec.Cut D
   cut_view c = record { line = c.line; call = call_view c.call }

@@ -1,8 +1,7 @@
 //! The first argument of those that are left, by its kind.
 
 ghost use Rattle.ec_arguments.specs.Reading as spec;
-ghost use Rattle.ec_cut.specs.Reads.{Reads, same};
-ghost use Rattle.ec_cut.specs.Views.{text_view};
+ghost use Rattle.ec_cut.specs.Reads.{Reads, ReadsText, same};
 
 use crate::arguments::{Argument, Front, Text};
 use crate::pointers::{Literal, Pointer};
@@ -99,7 +98,7 @@ pub(crate) fn next_long<B: Literal + Copy, A: Pointer + Copy>(
 pub(crate) fn next_text<B: Literal + Copy, A: Pointer + Copy>(
     front: &mut Front<'_, B, A>,
 ) -> Option<Text<B, A>>
-    ensures { Reads B.bytes A.view (text_view B.bytes A.view) spec.next_text front.old result front.new }
+    ensures { ReadsText B.bytes A.view front.old result front.new }
 {
     match front.rest {
         [] => None,

@@ -3,6 +3,7 @@
 ghost use Rattle.std.specs.Prelude.{◌≡◌};
 ghost use Rattle.ec_arguments.specs.Rules as spec;
 ghost use Rattle.ec_cut.specs.Cases as cases;
+ghost use Rattle.ec_cut.specs.Keeping.{keeps_input, keeps_only_output, keep_outputs, keeps_statement};
 ghost use Rattle.ec_cut.specs.Views.{text_view, member_view, members_view, items_view, statement_view, call_view};
 
 use crate::arguments::{Call, Member, Statement, Text};
@@ -67,7 +68,7 @@ fn is_fitting_host<B: Literal + Copy, A: Pointer + Copy>(member: &Member<B, A>) 
 
 /// Whether it is an input: a descriptor is the last one.
 fn is_input<B: Literal + Copy, A: Pointer + Copy>(member: &Member<B, A>, last: bool) -> bool
-    ensures { result ≡ cases.is_input A.leads_to_text (member_view B.bytes A.view member.now) last }
+    ensures { result ≡ keeps_input B.bytes A.view A.leads_to_text member.now last }
 {
     match member {
         Member::Host(place) => is_single(place),
@@ -78,7 +79,7 @@ fn is_input<B: Literal + Copy, A: Pointer + Copy>(member: &Member<B, A>, last: b
 
 /// Whether it is the only output.
 fn is_only_output<B: Literal + Copy, A: Pointer + Copy>(member: &Member<B, A>) -> bool
-    ensures { result ≡ cases.is_only_output A.leads_to_text (member_view B.bytes A.view member.now) }
+    ensures { result ≡ keeps_only_output B.bytes A.view A.leads_to_text member.now }
 {
     match member {
         Member::Host(place) => fits_place(place),
@@ -118,7 +119,7 @@ fn are_hosts<B: Literal + Copy, A: Pointer + Copy>(members: &[Member<B, A>]) -> 
 /// Whether they are outputs: hosts, or a descriptor alone.
 #[tactic(auto, using(crate::proofs::CasesAre::one_output, crate::proofs::CasesAre::more_outputs))]
 fn are_outputs<B: Literal + Copy, A: Pointer + Copy>(members: &[Member<B, A>]) -> bool
-    ensures { result ≡ spec.are_outputs A.leads_to_text (members_view B.bytes A.view members.now) }
+    ensures { result ≡ keep_outputs B.bytes A.view A.leads_to_text members.now }
 {
     match members {
         [] => true,
@@ -167,7 +168,7 @@ fn are_settings<B: Literal + Copy, A: Pointer + Copy>(items: &[(Item, Member<B, 
 }
 
 fn is_statement<B: Literal + Copy, A: Pointer + Copy>(statement: &Statement<B, A>) -> bool
-    ensures { result ≡ spec.is_statement A.leads_to_text (statement_view B.bytes A.view statement.now) }
+    ensures { result ≡ keeps_statement B.bytes A.view A.leads_to_text statement.now }
 {
     match statement {
         Statement::Normal(_) => true,

@@ -6,7 +6,8 @@ use Rattle.ec_arguments.specs.Rules.{is_call, cut}
 use Rattle.ec_arguments.specs.Writing.{arguments}
 
 -- a list of arguments that was cut into a call under this name
-pub record IsWritten {A : Type 0} (is_text : A → Bool) (name : LibName) (args : List (Arg A)) (c : Cut A) : Type 0 where
+pub record IsWritten {A : Type 0} (is_text : A → Bool) (name : LibName) (args : List (Arg A))
+    (c : Cut A) : Type 0 where
   -- it is what is written for the call
   pub written : args ≡ arguments c
   -- which has the name
@@ -15,4 +16,5 @@ pub record IsWritten {A : Type 0} (is_text : A → Bool) (name : LibName) (args 
   pub rules : is_call is_text c.call ≡ true
 
 abbrev pub AreWritten : {A : Type 0} → (A → Bool) → Type 0
-AreWritten {A = A} is_text = (name : LibName) (args : List (Arg A)) (c : Cut A) → cut is_text name args ≡ Some c → IsWritten is_text name args c
+AreWritten {A = A} is_text = (name : LibName) (args : List (Arg A)) (c : Cut A)
+    → cut is_text name args ≡ Some c → IsWritten is_text name args c

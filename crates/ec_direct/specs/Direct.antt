@@ -31,9 +31,11 @@ references_in (Some f) = f.references
 module _ (t : TypedData) (forms : List StatementForm) where
   -- the number of the DECLARE of the cursor that a statement opens
   abbrev pub declare_number : ℕ → EmbData → Option ℕ
-  declare_number n e = option_and_then (λ name. declared_above t.unit.embs n name) (opened_cursor e)
+  declare_number n e =
+      option_and_then (λ name. declared_above t.unit.embs n name) (opened_cursor e)
 
-  -- the cursor that the statement of this number opens: its names are those of the statement's own row, behind its own
+  -- the cursor that the statement of this number opens: its names are those of the statement's own
+  -- row, behind its own
   abbrev pub cursor_at : ℕ → EmbData → Cursor
   cursor_at n e = record {
     parts = cursor_parts (declare_opened t.unit.embs n e);
@@ -50,7 +52,8 @@ module _ (t : TypedData) (forms : List StatementForm) where
       (record { denoted = row_at t.denoted n; references = f.references })
 
   -- its places, its turn, what it does, and then its handlers
-  abbrev pub executed_at : World → Context → ℕ → StatementForm → Option (Statement Exp) → State → Res
+  abbrev pub executed_at : World → Context → ℕ → StatementForm → Option (Statement Exp) → State
+      → Res
   executed_at w c line f None s = over stuck s
   executed_at w c line f (Some x) s =
       placed without_atoms w c x s (λ y s. turn s (λ s.
@@ -69,4 +72,5 @@ module _ (t : TypedData) (forms : List StatementForm) where
 -- what a source means, for so many turns, a connection that is ready or none, and the answers that come
 abbrev pub direct_meaning : TypedData → ℕ → Option (ℕ × List ℕ) → List Answer → Observed
 direct_meaning t turns ready answers =
-    program_meaning (direct_step t (embedded_statements_of false t.unit)) (resolve false t.unit) turns ready answers
+    let step = direct_step t (embedded_statements_of false t.unit) in
+    program_meaning step (resolve false t.unit) turns ready answers

@@ -54,7 +54,8 @@ has_indicator l = elim l.indicator [ None ↦ false | Some i ↦ true ]
 
 module _ (structs : List StructData) (line : ℕ) where
   -- a statement with what it read
-  abbrev pub carried_out : Option Text → Wanted → List Field → Option Text → Targets → State → Outcome (Unit {0})
+  abbrev pub carried_out : Option Text → Wanted → List Field → Option Text → Targets → State
+      → Outcome (Unit {0})
   carried_out name wanted values area to s =
       next (begun_area s) (λ _ s.
       next (connection_for line name s) (λ c s.
@@ -129,7 +130,8 @@ module _ (structs : List StructData) (line : ℕ) where
 
   abbrev pub statement_done : Statement ℕ → State → Outcome (Unit {0})
   statement_done (runs at wanted ins outs) s = run_over at wanted ins outs s
-  statement_done (connects target user password name) s = connect_call line target user password name s
+  statement_done (connects target user password name) s =
+      connect_call line target user password name s
   statement_done (disconnects name) s = disconnect_call line name s
   statement_done (sets_connection name) s = set_connection_call line name s
   statement_done (sets_autocommit on at) s = autocommit_call line on at s

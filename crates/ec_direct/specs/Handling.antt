@@ -30,7 +30,8 @@ when_code line holds s go =
 -- the first warning is a `W`
 abbrev pub when_warned : ℕ → State → (Bool → Res) → Res
 when_warned line s go =
-    tried line (load s.memory warning_place (integer_type Char)) s (λ v. go (is_number (number_of v) (pos 87)))
+    tried line (load s.memory warning_place (integer_type Char)) s (λ v.
+    go (is_number (number_of v) (pos 87)))
 
 abbrev pub when : ℕ → Cond → State → (Bool → Res) → Res
 when line NotFound s go = when_code line (λ z. is_number z (pos 100)) s go

@@ -21,11 +21,17 @@ module _ (structs : List StructData) where
 
   abbrev pub values_read : List (Input ℕ) → State → Outcome (List Field)
   values_read [] s = gives [] s
-  values_read (x ∷ xs) s = next (input_read x s) (λ field t. next (values_read xs t) (λ fields u. gives (field ∷ fields) u))
+  values_read (x ∷ xs) s =
+      next (input_read x s) (λ field t.
+      next (values_read xs t) (λ fields u.
+      gives (field ∷ fields) u))
 
   abbrev pub items_read : List (Item × Input ℕ) → State → Outcome (List (Item × Field))
   items_read [] s = gives [] s
-  items_read (i ∷ is) s = next (input_read i.1 s) (λ field t. next (items_read is t) (λ fields u. gives ((i.0, field) ∷ fields) u))
+  items_read (i ∷ is) s =
+      next (input_read i.1 s) (λ field t.
+      next (items_read is t) (λ fields u.
+      gives ((i.0, field) ∷ fields) u))
 
 -- the name of the descriptor, if there is one
 abbrev pub area_read : Option (TextArg ℕ) → State → Outcome (Option Text)

@@ -19,7 +19,8 @@ module _ (step : Step) (w : World) (c : Context) where
   text_placed (word bytes) s go = go (word bytes) s
   text_placed (held e) s go = address_of e s (λ p t. go (held p) t)
 
-  abbrev pub indicator_placed : Option (Exp × LeafData) → State → (Option (ℕ × LeafData) → State → Res) → Res
+  abbrev pub indicator_placed : Option (Exp × LeafData) → State
+      → (Option (ℕ × LeafData) → State → Res) → Res
   indicator_placed None s go = go None s
   indicator_placed (Some i) s go = address_of i.0 s (λ p t. go (Some (p, i.1)) t)
 
@@ -34,7 +35,8 @@ module _ (step : Step) (w : World) (c : Context) where
   input_placed (constant bytes) s go = go (constant bytes) s
 
   -- each of a list, one after the other
-  abbrev pub each_placed : {A B : Type 0} → (A → State → (B → State → Res) → Res) → List A → State → (List B → State → Res) → Res
+  abbrev pub each_placed : {A B : Type 0} → (A → State → (B → State → Res) → Res) → List A → State
+      → (List B → State → Res) → Res
   each_placed f [] s go = go [] s
   each_placed f (a ∷ as') s go = f a s (λ b t. each_placed f as' t (λ bs u. go (b ∷ bs) u))
 
@@ -50,7 +52,8 @@ module _ (step : Step) (w : World) (c : Context) where
 
   abbrev pub outputs_placed : Outputs Exp → State → (Outputs ℕ → State → Res) → Res
   outputs_placed nowhere s go = go nowhere s
-  outputs_placed (into_leaves ls) s go = each_placed leaf_placed ls s (λ ms t. go (into_leaves ms) t)
+  outputs_placed (into_leaves ls) s go =
+      each_placed leaf_placed ls s (λ ms t. go (into_leaves ms) t)
   outputs_placed (into_area a) s go = text_placed a s (λ b t. go (into_area b) t)
 
   abbrev pub asked_placed : Asked Exp → State → (Asked ℕ → State → Res) → Res

@@ -3,6 +3,7 @@ use Rattle.std.specs.Prelude.{ℕ, ◌+◌, Bool, List, [], ◌∷◌, ◌++◌,
 use Rattle.ec_arguments.specs.Arguments.{TextArg, absent, word, held}
 use Rattle.ec_ctypes.specs.declared.embedded.emb.Item.{Item}
 use Rattle.ec_ctypes.specs.trees.Types.{TyData, pointer, array, structure}
+use Rattle.ec_ctypes.specs.trees.Exprs.{ExprData}
 use Rattle.ec_ctypes.specs.trees.Embedded.{HostData, TextArgData, word_arg, host_arg, host_with_indicator, InputData, host_input, const_input, InsData, listed_ins, area_ins, OutsData, no_outs, listed_outs, area_outs, PartData, bytes_part, host_part, EmbData, connect, set_connection, disconnect, autocommit, trans, server_text, declare_cursor, open_cursor, execute_immediate, prepare, execute, deallocate, allocate_area, free_area, get_count, get_items, set_count, set_items, whenever, include_sqlca}
 use Rattle.ec_language.specs.Letters.{Text}
 use Rattle.ec_hosts.specs.Bound.{pairs_of, sent_from}
@@ -22,6 +23,10 @@ pub data Input (A : Type 0) : Type 0 where
 pub record Sent (A : Type 0) : Type 0 where
   pub values : List (Input A)
   pub area : Option (TextArg A)
+
+-- values alone
+abbrev pub without_area : {A : Type 0} → List (Input A) → Sent A
+without_area values = record { values = values; area = None }
 
 -- where an answer goes: nowhere, into leaves, or into a descriptor
 pub data Outputs (A : Type 0) : Type 0 where
@@ -82,7 +87,8 @@ each_of f (a ∷ as') x =
 
 -- behind so many names and so many references
 abbrev pub behind : ℕ → ℕ → Around → Around
-behind names count x = record { denoted = drop names x.denoted; references = drop count x.references }
+behind names count x =
+    record { denoted = drop names x.denoted; references = drop count x.references }
 
 -- the address of the reference of this number
 abbrev pub reference_at : ℕ → Around → Exp
@@ -122,13 +128,17 @@ module _ (p : ProgramData) where
   part (bytes_part bytes) x = made [] x
   part (host_part h) x = let ls = host_leaves h x in made (map stored ls.made) ls.left
 
+  -- the type of the reference that comes next
+  abbrev pub type_of : ExprData → Around → Option TyData
+  type_of e x = reference_type p e (take (names_count e) x.denoted)
+
   abbrev pub text_arg : TextArgData → Around → Made (TextArg Exp)
   text_arg (word_arg bytes) x = made (word bytes) x
   text_arg (host_arg e) x =
-      made (held (text_place (reference_type p e (take (names_count e) x.denoted)) (reference_at 0 x)))
+      made (held (text_place (type_of e x) (reference_at 0 x)))
       (behind (names_count e) 1 x)
   text_arg (host_with_indicator e i) x =
-      made (held (text_place (reference_type p e (take (names_count e) x.denoted)) (reference_at 0 x)))
+      made (held (text_place (type_of e x) (reference_at 0 x)))
       (behind (names_count e + names_count i) 2 x)
 
   abbrev pub text_option : Option TextArgData → Around → Made (TextArg Exp)
@@ -138,7 +148,7 @@ module _ (p : ProgramData) where
   abbrev pub sent : InsData → Around → Made (Sent Exp)
   sent (listed_ins is) x =
       let values = each_of input is x in
-      made (record { values = values.made; area = None }) values.left
+      made (without_area values.made) values.left
   sent (area_ins a) x =
       let name = text_arg a x in
       made (record { values = []; area = Some name.made }) name.left
@@ -156,7 +166,8 @@ module _ (p : ProgramData) where
 
   -- ---- statements
 
-  abbrev pub connecting : TextArgData → Option TextArgData → Option TextArgData → Option TextArgData → Around → Statement Exp
+  abbrev pub connecting : TextArgData → Option TextArgData → Option TextArgData
+      → Option TextArgData → Around → Statement Exp
   connecting target name user password x =
       let t = text_arg target x in
       let n = text_option name t.left in
@@ -169,13 +180,15 @@ module _ (p : ProgramData) where
   first_of [] f = None
   first_of (b ∷ bs) f = Some (f b)
 
-  abbrev pub getting_items : TextArgData → InputData → List (Item × HostData) → Around → Option (Statement Exp)
+  abbrev pub getting_items : TextArgData → InputData → List (Item × HostData) → Around
+      → Option (Statement Exp)
   getting_items a index items x =
       let name = text_arg a x in
       let at = input index name.left in
       first_of at.made (λ i. gets_items name.made i (each_of get_leaves items at.left).made)
 
-  abbrev pub setting_items : TextArgData → InputData → List (Item × InputData) → Around → Option (Statement Exp)
+  abbrev pub setting_items : TextArgData → InputData → List (Item × InputData) → Around
+      → Option (Statement Exp)
   setting_items a index items x =
       let name = text_arg a x in
       let at = input index name.left in
@@ -184,7 +197,8 @@ module _ (p : ProgramData) where
   abbrev pub server_statement : TextArg Exp → List PartData → OutsData → Around → Statement Exp
   server_statement at parts outs x =
       let values = each_of part parts x in
-      runs at (sends (sent_from p 1 parts x.denoted)) (record { values = values.made; area = None }) (outputs outs values.left)
+      runs at (sends (sent_from p 1 parts x.denoted)) (without_area values.made)
+      (outputs outs values.left)
 
   abbrev pub execution : TextArg Exp → Text → InsData → OutsData → Around → Statement Exp
   execution at name ins outs x =
@@ -214,15 +228,20 @@ module _ (p : ProgramData) where
     | server_text parts outs ↦ Some (server_statement at parts outs x)
     | declare_cursor name parts prepared ↦ None
     | open_cursor name ins ↦ Some (opening at c ins x)
-    | execute_immediate text ↦ Some (runs at (reads_text (text_arg text x).made) (record { values = []; area = None }) nowhere)
+    | execute_immediate text ↦
+        Some (runs at (reads_text (text_arg text x).made) (without_area []) nowhere)
     | prepare name text ↦ Some (prepares at name (text_arg text x).made)
     | execute name ins outs ↦ Some (execution at name ins outs x)
     | deallocate name ↦ Some (deallocates at name)
     | allocate_area a ↦ Some (allocates (text_arg a x).made)
     | free_area a ↦ Some (frees (text_arg a x).made)
-    | get_count a host ↦ let name = text_arg a x in first_of (host_leaves host name.left).made (λ l. gets_count name.made l)
+    | get_count a host ↦
+        let name = text_arg a x in
+        first_of (host_leaves host name.left).made (λ l. gets_count name.made l)
     | get_items a index items ↦ getting_items a index items x
-    | set_count a value ↦ let name = text_arg a x in first_of (input value name.left).made (λ i. sets_count name.made i)
+    | set_count a value ↦
+        let name = text_arg a x in
+        first_of (input value name.left).made (λ i. sets_count name.made i)
     | set_items a index items ↦ setting_items a index items x
     | whenever condition action ↦ None
     | include_sqlca ↦ None

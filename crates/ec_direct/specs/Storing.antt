@@ -1,5 +1,5 @@
 -- What is done with the rows of an answer, leaf by leaf, and in each row by row.
-use Rattle.std.specs.Prelude.{ℕ, suc, nat_lt, Bool, true, false, List, [], ◌∷◌, length}
+use Rattle.std.specs.Prelude.{ℕ, suc, nat_lt, Bool, true, false, ◌||◌, List, [], ◌∷◌, length}
 use Rattle.ec_ctypes.specs.trees.Types.{StructData}
 use Rattle.ec_link.specs.Table.{Sheet}
 use Rattle.ec_transfer.specs.declared.finding.Finding.TheVariants as found
@@ -25,12 +25,13 @@ are_wanted (area_target name) = true
 abbrev pub rows_kept : ℕ → HostData → ℕ → ℕ → List (List Field) → State → Outcome (Unit {0})
 rows_kept line h column row [] s = gives tt s
 rows_kept line h column row (fields ∷ rows) s =
-    next (field_kept line h row (in_column column fields) s) (λ _ t. rows_kept line h column (suc row) rows t)
+    next (field_kept line h row (in_column column fields) s) (λ _ t.
+    rows_kept line h column (suc row) rows t)
 
 -- a leaf with fewer elements than there are rows
 abbrev pub any_smaller : ℕ → List (Leaf ℕ) → Bool
 any_smaller rows [] = false
-any_smaller rows (l ∷ ls) = elim (nat_lt l.leaf.count rows) [ true ↦ true | false ↦ any_smaller rows ls ]
+any_smaller rows (l ∷ ls) = nat_lt l.leaf.count rows || any_smaller rows ls
 
 -- columns and rows are counted before anything is stored
 abbrev pub counted : ℕ → ℕ → ℕ → List (Leaf ℕ) → State → Outcome (Unit {0})
@@ -38,7 +39,10 @@ counted line columns rows ls s = elim (nat_lt columns (length ls)) [
   | true ↦ raised line found.TooManyTargets s
   | false ↦ elim (nat_lt (length ls) columns) [
     | true ↦ raised line found.TooFewTargets s
-    | false ↦ elim (any_smaller rows ls) [ true ↦ raised line found.TooManyRows s | false ↦ gives tt s ]
+    | false ↦ elim (any_smaller rows ls) [
+      | true ↦ raised line found.TooManyRows s
+      | false ↦ gives tt s
+    ]
   ]
 ]
 
@@ -52,7 +56,8 @@ module _ (structs : List StructData) (line : ℕ) where
 
   abbrev pub into_leaves : List (Leaf ℕ) → Sheet → State → Outcome (Unit {0})
   into_leaves ls table s =
-      next (counted line (length table.cols) (length table.rows) ls s) (λ _ t. leaves_kept 0 ls table.rows t)
+      next (counted line (length table.cols) (length table.rows) ls s) (λ _ t.
+      leaves_kept 0 ls table.rows t)
 
   abbrev pub into_targets : Targets → Sheet → State → Outcome (Unit {0})
   into_targets no_targets table s = gives tt s

@@ -13,5 +13,9 @@ use Rattle.ec_machine.specs.declared.labels.Standing.{Standing}
 abbrev pub IsStanding : ℕ → List Statement → Option Standing → Type 0
 IsStanding l xs (Some x) =
     (w : World) (c : Context) (t : State) →
-    look_all without_atoms w l c (statements_view xs) t ≡ on_done (look without_atoms w l c (statement_view x.first.now) t) (λ u. run_all without_atoms w c (statements_view x.rest.now) u)
-IsStanding l xs None = (w : World) (c : Context) (t : State) → look_all without_atoms w l c (statements_view xs) t ≡ on t
+    look_all without_atoms w l c (statements_view xs) t
+    ≡ on_done (look without_atoms w l c (statement_view x.first.now) t)
+    (λ u. run_all without_atoms w c (statements_view x.rest.now) u)
+IsStanding l xs None =
+    (w : World) (c : Context) (t : State)
+    → look_all without_atoms w l c (statements_view xs) t ≡ on t

@@ -5,7 +5,8 @@ use Rattle.ec_language.specs.Letters.{Text}
 use Rattle.ec_translation.specs.Translations.{IsTranslation}
 
 abbrev pub HasOneTranslation : Type 0
-HasOneTranslation = (text : Text) (a b : Result Text Stop) → IsTranslation text a → IsTranslation text b → a ≡ b
+HasOneTranslation =
+    (text : Text) (a b : Result Text Stop) → IsTranslation text a → IsTranslation text b → a ≡ b
 
 abbrev pub HasTranslation : Type 0
 HasTranslation = (text : Text) → (answer : Result Text Stop) × IsTranslation text answer

@@ -1,4 +1,5 @@
--- What is written of a source: the text of the written C, by what is bound for its statements; or what the source is refused for.
+-- What is written of a source: the text of the written C, by what is bound for its statements; or
+-- what the source is refused for.
 use Rattle.std.specs.Prelude.{◌≡◌, Result, Ok, Err}
 use Rattle.ec_base.specs.declared.stop.Stop.{Stop}
 use Rattle.ec_expansion.specs.Programs.{written_program}
@@ -13,7 +14,8 @@ abbrev pub translated : Result BoundProgram Stop → Result Text Stop
 translated (Ok p) = Ok (text_of_program p)
 translated (Err stop) = Err stop
 
--- What is written of a text, or what it is refused for: it is read as this source, and this is written of it.
+-- What is written of a text, or what it is refused for: it is read as this source, and this is
+-- written of it.
 pub data IsTranslation (text : Text) (answer : Result Text Stop) : Type 0 where
-  translation : (source : Result BoundProgram Stop) → ReadsSource text source → answer ≡ translated source
-      → IsTranslation text answer
+  translation : (source : Result BoundProgram Stop) → ReadsSource text source
+      → answer ≡ translated source → IsTranslation text answer
