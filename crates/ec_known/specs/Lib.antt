@@ -1,4 +1,5 @@
 pub mod Conversions
 pub mod Forms
 pub mod Functions
+pub mod Library
 pub mod Taking

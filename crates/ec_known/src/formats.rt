@@ -12,7 +12,7 @@ ghost use Rattle.ec_known.specs.Taking.{types_view, taken, taken_one, met_by, co
 use crate::conversions::{Conversion, Need, read_conversion};
 use ec_ctypes::{Arith, Ty, promote};
 
-fn is_character(a: Arith) -> bool
+pub fn is_character(a: Arith) -> bool
     ensures { result ≡ types.is_character a }
 {
     a.rank() == Arith::Char.rank()

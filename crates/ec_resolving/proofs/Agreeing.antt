@@ -16,7 +16,7 @@ use Rattle.ec_typing.specs.Operands.{OperandData, unknown}
 use Rattle.ec_typing.specs.Expressions as checked_parts
 use Rattle.ec_typing.specs.Expressions.{Members, has_init}
 use Rattle.ec_resolving.specs.Storage.{Storage, Resolving, chain, pure, checks, ask, stored, arrange}
-use Rattle.ec_resolving.specs.Operands.{Found, no_expression, with_form, as_value, as_place, unary_found, name_rule, literal_rule, value_rule, unary_rule, library_exp, call_exp, called, call_rule, operands_of, is_library_literal}
+use Rattle.ec_resolving.specs.Operands.{Found, no_expression, with_form, as_value, as_place, unary_found, name_rule, literal_rule, value_rule, unary_rule, library_exp, function_called, called, call_rule, operands_of, is_library_literal}
 use Rattle.ec_resolving.specs.Expressions.{library_literal, expr, args, base, members, member_decl, member_items, member_item, lengths, last_length, outer_lengths, length_at, init_parts, init_exprs, all_init_exprs}
 use Rattle.ec_resolving.specs.Agreement.{Finds, itself, nothing_of, operand_of}
 
@@ -159,9 +159,9 @@ literal_finds text = record { answer = λ s w. refl; world = λ s w. refl }
 -- ---- calls
 
 named_call_silent : (name : Text) (es : ExprList) (fs : List Found) (of_library : Option LibName)
-    → Silent (elim of_library [ Some call_name ↦ library_exp call_name es fs | None ↦ ask (λ w. call_exp w name es fs (look_up name w)) ])
+    → Silent (elim of_library [ Some call_name ↦ library_exp call_name es fs | None ↦ function_called name es fs ])
 named_call_silent name es fs (Some call_name) = chain_silent _ _ (stored_silent _) (λ n. chain_silent _ _ (arrange_silent _) (λ _. pure_silent _))
-named_call_silent name es fs None = ask_silent _
+named_call_silent name es fs None = chain_silent _ _ (stored_silent _) (λ d. ask_silent _)
 
 called_silent : (name : Text) (es : ExprList) (fs : List Found) → Silent (called name es fs)
 called_silent name es fs = chain_silent _ _ (ask_silent _) (λ c. named_call_silent name es fs c)

@@ -20,14 +20,14 @@ use Rattle.ec_typing.specs.Expressions as checked_parts
 use Rattle.ec_typing.specs.Initializers as initial_rules
 use Rattle.ec_typing.specs.Initializers.{is_text_for, Frames}
 use Rattle.ec_typing.specs.Statements as checked
-use Rattle.ec_typing.specs.Statements.{Around, as_body, as_item, looping}
+use Rattle.ec_typing.specs.Statements.{Around, as_body, as_item, looping, labels_in_all}
 use Rattle.ec_typing.specs.Programs as programs
 use Rattle.ec_resolving.specs.Storage.{Site, numbered, slotted, nowhere, ActionForms, no_actions, Resolving, chain, pure, checks, stored, arrange, in_block, inside_block}
 use Rattle.ec_resolving.specs.Operands.{Found}
 use Rattle.ec_resolving.specs.Initializers.{PartData, stored_at, fixed_exp, init_value, Left, Filled, initializer, fill, fill_part}
 use Rattle.ec_resolving.specs.Statements.{object_made, initial, object_type, object_item, object_items, specifier, declaration, scoped, condition, alone, optional, optional_condition, return_by, embedded_at, statement, statement_kind, statements, otherwise}
 use Rattle.ec_resolving.specs.Programs.{param, params, body_rule, Body, function_made, function_rule, directive_rule, top_rule, tops_rule}
-use Rattle.ec_resolving.specs.Agreement.{Finds, itself, nothing_of, operand_of}
+use Rattle.ec_resolving.specs.Agreement.{Finds, around_of, itself, nothing_of, operand_of}
 use Rattle.ec_resolving.proofs.Agreeing.{chain_finds, pure_finds, checks_find, ask_finds, ask_first, stored_first, arrange_first, Silent, ask_silent, arrange_silent, pure_silent, chain_silent, silent_last, Quiet, quiet_first, quiet_last, nothing_quiet, demand_quiet, limit_quiet, value_finds, called_name_finds, expr_finds, base_finds, lengths_find, last_length_finds, outer_lengths_find}
 
 -- a rule, and then an answer made of its own
@@ -276,16 +276,16 @@ embedded_finds es is_body in_loop labels at n e =
     quiet_first _ _ _ (demand_quiet _ _ _) (chain_finds _ _ _ _ (references_find at (references e)) (λ rs.
     chain_finds _ _ _ _ (checks_find _) (λ _. and_silently _ _ _ (handlers_find es in_loop labels at e) (λ a. arrange_silent _))))
 
-embedded_at_finds : (a : Around) (at : Place) (n : ℕ) (e : Option EmbData) → Finds nothing_of (embedded_at a at n e) (checked.embedded_at a at n e)
+embedded_at_finds : (a : Around) (at : Place) (n : ℕ) (e : Option EmbData) → Finds nothing_of (embedded_at (around_of a) at n e) (checked.embedded_at a at n e)
 embedded_at_finds a at n None = pure_finds nothing_of _
 embedded_at_finds a at n (Some e) = embedded_finds a.embs a.is_body a.in_loop a.labels at n e
 
 mutual
-  pub statement_finds : (a : Around) (s : StmtData) → Finds nothing_of (statement a s) (checked.statement a s)
+  pub statement_finds : (a : Around) (s : StmtData) → Finds nothing_of (statement (around_of a) s) (checked.statement a s)
   statement_finds a (stmt line kind) =
       chain_finds _ _ _ _ (checks_find _) (λ at. then_pure nothing_of nothing_of _ _ _ (kind_finds a at kind) (λ x. refl))
 
-  kind_finds : (a : Around) (at : Place) (kind : StmtKindData) → Finds nothing_of (statement_kind a at kind) (checked.statement_kind a at kind)
+  kind_finds : (a : Around) (at : Place) (kind : StmtKindData) → Finds nothing_of (statement_kind (around_of a) at kind) (checked.statement_kind a at kind)
   kind_finds a at empty_stmt = pure_finds nothing_of _
   kind_finds a at (expr_stmt e) = then_pure nothing_of nothing_of _ _ _ (alone_finds at e) (λ x. refl)
   kind_finds a at (block_stmt ss) =
@@ -315,12 +315,12 @@ mutual
   kind_finds a at (emb_stmt n) = then_pure nothing_of nothing_of _ _ _ (embedded_at_finds a at n (slice_get a.embs n)) (λ x. refl)
   kind_finds a at (mark_stmt opens) = pure_finds nothing_of _
 
-  pub statements_find : (a : Around) (ss : StmtList) → Finds nothing_of (statements a ss) (checked.statements a ss)
+  pub statements_find : (a : Around) (ss : StmtList) → Finds nothing_of (statements (around_of a) ss) (checked.statements a ss)
   statements_find a no_stmts = pure_finds nothing_of _
   statements_find a (stmt_list s ss) =
       chain_finds _ _ _ _ (statement_finds a s) (λ x. then_pure nothing_of nothing_of _ _ _ (statements_find a ss) (λ xs. refl))
 
-  otherwise_finds : (a : Around) (other : StmtOption) → Finds nothing_of (otherwise a other) (checked.otherwise a other)
+  otherwise_finds : (a : Around) (other : StmtOption) → Finds nothing_of (otherwise (around_of a) other) (checked.otherwise a other)
   otherwise_finds a no_stmt = pure_finds nothing_of _
   otherwise_finds a (some_stmt s) = scoped_finds _ _ (statement_finds a s)
 
@@ -342,7 +342,7 @@ body_finds : (es : List EmbData) (r : Option TyData) (body : Option StmtList) �
 body_finds es r None = pure_finds nothing_of None
 body_finds es r (Some ss) =
     chain_finds _ _ _ _ (checks_find _) (λ _.
-    then_pure nothing_of nothing_of _ _ _ (block_finds nothing_of _ _ _ (statements_find _ ss)) (λ b. refl))
+    then_pure nothing_of nothing_of _ _ _ (block_finds nothing_of _ _ _ (statements_find (record { embs = es; is_body = false; in_loop = false; labels = labels_in_all ss []; result = r }) ss)) (λ b. refl))
 
 function_silently : (name : Text) (ps : List (Option TyData)) (b : Body) → Silent (function_made name ps b)
 function_silently name ps None = pure_silent _

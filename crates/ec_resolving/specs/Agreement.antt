@@ -1,9 +1,11 @@
 -- That a rule finds what a rule of the checks finds.
 use Rattle.std.specs.Prelude.{◌≡◌}
 use Rattle.ec_typing.specs.Operands.{OperandData}
+use Rattle.ec_typing.specs.Statements as Checked
 use Rattle.ec_typing.specs.Worlds.{World, Rule}
 use Rattle.ec_resolving.specs.Storage.{Storage, Resolving}
 use Rattle.ec_resolving.specs.Operands.{Found}
+use Rattle.ec_resolving.specs.Statements.{Around}
 
 -- Wherever things are, its answer is that of the checks, as far as they look, and so is what is known behind it.
 pub record Finds {A B : Type 0} (seen : A → B) (m : Resolving A) (n : Rule B) : Type 0 where
@@ -25,3 +27,7 @@ operand_of f = f.operand
 -- the type of an initializer
 abbrev pub type_of : {A B : Type 0} → A × B → A
 type_of p = p.0
+
+-- what stands round a statement, as far as resolving looks
+abbrev pub around_of : Checked.Around → Around
+around_of a = record { embs = a.embs; labels = a.labels; result = a.result }

@@ -1,5 +1,5 @@
 -- Conversions and operations of values whose types are known, written out (ISO/IEC 9899:1999, 6.3 and 6.5).
-use Rattle.std.specs.Prelude.{ℕ, Bool, true, false, not as negation, pos, Option, Some, None, if◌then◌else◌}
+use Rattle.std.specs.Prelude.{ℕ, Bool, true, false, not as negation, pos, nat_le, Option, Some, None, if◌then◌else◌}
 use Rattle.ec_ctypes.specs.declared.types.arith.Arith.{Arith}
 use Rattle.ec_ctypes.specs.declared.types.arith.Arith.TheVariants.{Int}
 use Rattle.ec_ctypes.specs.declared.types.sizes.Shape.{Shape}
@@ -11,9 +11,14 @@ use Rattle.ec_ctypes.specs.trees.Types.{TyData, void, arithmetic, pointer, array
 use Rattle.ec_ctypes.specs.Arithmetic.{promoted, usual_type}
 use Rattle.ec_objects.specs.Memory.{number, ScalarType, integer_type, pointer_type, scalar_type}
 use Rattle.ec_typing.specs.Types.{same_arith, is_shift}
-use Rattle.ec_typing.specs.Worlds.{World, shape_in}
+use Rattle.ec_typing.specs.Worlds.{World, shape_in, max_size}
 use Rattle.ec_resolved.specs.Operations.{Comparison, equal, unequal, less, greater, at_most, at_least, Operation, plus, minus, times, divided, remainder, bits_and, bits_or, bits_xor, integers, shift_left, shift_right, compare, pointer_plus, plus_pointer, pointer_minus, pointers_apart}
 use Rattle.ec_resolved.specs.Resolved.{Exp, constant, load, store, copy, update, convert, negate, flip, not, operate, both, either, faulty}
+
+-- a shape that is within the limit of types: what is larger has no size
+abbrev pub within_limit : Option Shape → Option Shape
+within_limit None = None
+within_limit (Some shape) = if nat_le shape.size max_size then Some shape else None
 
 abbrev pub size_or_none : Option Shape → ℕ
 size_or_none None = 0
@@ -21,7 +26,7 @@ size_or_none (Some shape) = shape.size
 
 -- the size of a type, in bytes
 abbrev pub size_in : World → TyData → ℕ
-size_in w t = size_or_none (shape_in w t)
+size_in w t = size_or_none (within_limit (shape_in w t))
 
 -- ---- conversions
 

@@ -14,7 +14,7 @@ use Rattle.ec_typing.specs.Initializers.{FrameData, elements_left, any_elements,
 use Rattle.ec_objects.specs.Memory.{ValueData, number, address, pointer_to, ScalarType, scalar_type, encoded}
 use Rattle.ec_resolved.specs.Operations.{value_as}
 use Rattle.ec_resolved.specs.Resolved.{Exp, object, member, constant, store, copy, put, convert, Exps, no_exps, exps}
-use Rattle.ec_resolving.specs.Conversions.{size_in, as_known_type}
+use Rattle.ec_resolving.specs.Conversions.{within_limit, size_in, as_known_type}
 use Rattle.ec_resolving.specs.Storage.{Resolving, ◌>>=◌, ◌>>◌, pure, checks, ask, arrange, without_last_literal}
 use Rattle.ec_resolving.specs.Operands.{Found, value_rule}
 use Rattle.ec_resolving.specs.Expressions.{expr}
@@ -118,7 +118,7 @@ shape_or_none (Some shape) = shape
 
 abbrev pub part_shape : World → Option TyData → Shape
 part_shape w None = no_members
-part_shape w (Some t) = shape_or_none (shape_in w t)
+part_shape w (Some t) = shape_or_none (within_limit (shape_in w t))
 
 -- the offset of the next part, of this type, and what stands behind it
 abbrev pub next_offset : Spot → Shape → ℕ

@@ -7,16 +7,15 @@ use Rattle.ec_ctypes.specs.trees.Types.{TyData, arithmetic, pointer}
 use Rattle.ec_ctypes.specs.trees.Exprs.{ExprData, integer, string, identifier, call as call_expr, cast as cast_expr, ExprList, no_exprs, exprs}
 use Rattle.ec_ctypes.specs.declared.types.arith.Arith.TheVariants.{Int, Long}
 use Rattle.ec_ctypes.specs.declared.checked.library.Sym.{Sym}
-use Rattle.ec_ctypes.specs.declared.checked.library.Sym.TheVariants as sym
 use Rattle.ec_ctypes.specs.declared.checked.library.LibName.{LibName}
-use Rattle.ec_ctypes.specs.declared.checked.library.LibName.TheVariants as library
-use Rattle.ec_ctypes.specs.Texts.{symbol_text, library_text}
+use Rattle.ec_ctypes.specs.Texts.{symbol_text}
 use Rattle.ec_arguments.specs.Arguments.{Arg, symbol, literal, null, int_constant, long_constant, pointer as pointer_arg, stray}
 use Rattle.ec_ctypes.specs.Layout.{no_members, member_behind}
 use Rattle.ec_language.specs.Letters.{Text, same_text}
 use Rattle.ec_typing.specs.Tables.{Named, find}
 use Rattle.ec_typing.specs.Types.{is_void, is_structure, decayed, pointed_to, struct_number}
-use Rattle.ec_typing.specs.Known.{ArgumentsData, with_symbols, KnownData, plain, formatted, known_function, literal_at}
+use Rattle.ec_typing.specs.Known.{ArgumentsData, with_symbols, symbols, KnownData, plain, formatted, known_function, literal_at}
+use Rattle.ec_typing.specs.Library.{named_among, library_call as library_named}
 use Rattle.ec_typing.specs.Worlds.{Place, EntryData, object as object_entry, function as function_entry, MembersData, listed, World, Rule, look_up, members_of, shapes_in, is_complete}
 use Rattle.ec_typing.specs.Operands as checked
 use Rattle.ec_typing.specs.Operands.{OperandData, unknown, integer_operand, literal_operand}
@@ -230,10 +229,9 @@ abbrev pub has_result : Option TyData → Bool
 has_result None = false
 has_result (Some t) = negation (is_void t)
 
-abbrev pub own_call : World → Text → Option TyData → Option (List (Option TyData)) → List Found
-    → Exp
-own_call w name r None fs = faulty
-own_call w name r (Some ps) fs = call (place_in name w.defined) (has_result r) (passed ps fs)
+abbrev pub own_call : ℕ → Option TyData → Option (List (Option TyData)) → List Found → Exp
+own_call n r None fs = faulty
+own_call n r (Some ps) fs = call n (has_result r) (passed ps fs)
 
 -- the known functions that take no format
 abbrev pub plain_functions : Named Known
@@ -275,34 +273,13 @@ known_call name es fs (Some (plain r ps)) = plain_call (find name plain_function
 known_call name es fs (Some (formatted n)) =
     printing (channel_of n es) (option_and_then format_parts (literal_at n es)) (drop (n + 1) fs)
 
-abbrev pub call_exp : World → Text → ExprList → List Found → Option EntryData → Exp
-call_exp w name es fs (Some (object_entry k global t)) = faulty
-call_exp w name es fs (Some (function_entry k done r ps)) = own_call w name r ps fs
-call_exp w name es fs None = known_call name es fs (known_function name)
+abbrev pub call_exp : Named (Unit {0}) → Text → ExprList → List Found → Option EntryData → Exp
+call_exp defined name es fs (Some (object_entry k global t)) = faulty
+call_exp defined name es fs (Some (function_entry k done r ps)) =
+    own_call (place_in name defined) r ps fs
+call_exp defined name es fs None = known_call name es fs (known_function name)
 
 -- ---- calls of the library
-
--- the symbol, or the call, that a name is
-abbrev pub symbols : List Sym
-symbols =
-    sym.Char ∷ sym.UnsignedChar ∷ sym.Short ∷ sym.UnsignedShort ∷ sym.Int ∷ sym.UnsignedInt
-    ∷ sym.Long ∷ sym.UnsignedLong ∷ sym.LongLong ∷ sym.UnsignedLongLong ∷ sym.Bool ∷ sym.Varchar
-    ∷ sym.Const ∷ sym.Descriptor ∷ sym.NoIndicator ∷ sym.EndOfInputs ∷ sym.EndOfOutputs
-    ∷ sym.StatementNormal ∷ sym.StatementExecute ∷ sym.StatementExecImmediate ∷ sym.StatementOpen
-    ∷ sym.ItemData ∷ sym.ItemIndicator ∷ sym.ItemName ∷ sym.ItemType ∷ sym.ItemOctets
-    ∷ sym.EndOfItems ∷ []
-
-abbrev pub calls_of_library : List LibName
-calls_of_library =
-    library.Do ∷ library.Connect ∷ library.Disconnect ∷ library.SetConn ∷ library.SetCommit
-    ∷ library.Trans ∷ library.Prepare ∷ library.Deallocate ∷ library.AllocateDesc
-    ∷ library.DeallocateDesc ∷ library.GetDescHeader ∷ library.SetDescHeader ∷ library.GetDesc
-    ∷ library.SetDesc ∷ []
-
-abbrev pub named_among : {A : Type 0} → (A → Text) → Text → List A → Option A
-named_among text name [] = None
-named_among text name (x ∷ xs) =
-    if same_text name (text x) then Some x else named_among text name xs
 
 -- a pointer, or what no call takes
 abbrev pub pointer_argument : Option TyData → Exp → Arg Exp
@@ -338,16 +315,18 @@ library_exp name es fs = do
   arrange (with_call (name, arguments_of_call es fs))
   pure (library_call n)
 
--- the library is known in written C alone
-abbrev pub library_name : World → Text → Option LibName
-library_name w name = if w.written then named_among library_text name calls_of_library else None
+-- a call of a function of the program, or of a known one
+abbrev pub function_called : Text → ExprList → List Found → Resolving Exp
+function_called name es fs = do
+  defined ← stored (λ s. s.defined)
+  ask (λ w. call_exp defined name es fs (look_up name w))
 
 abbrev pub called : Text → ExprList → List Found → Resolving Exp
 called name es fs = do
-  of_library ← ask (λ w. library_name w name)
+  of_library ← ask (λ w. library_named w.written name)
   elim of_library [
     | Some call_name ↦ library_exp call_name es fs
-    | None ↦ ask (λ w. call_exp w name es fs (look_up name w))
+    | None ↦ function_called name es fs
   ]
 
 abbrev pub operands_of : List Found → List OperandData

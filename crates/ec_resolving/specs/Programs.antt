@@ -10,9 +10,9 @@ use Rattle.ec_language.specs.First.{Violation}
 use Rattle.ec_typing.specs.Tables.{find}
 use Rattle.ec_typing.specs.Worlds.{Place, place, function as function_entry, EntryData, World, next_number, number_as, enter, leave as leave_scope, change}
 use Rattle.ec_typing.specs.Operands.{declared_type}
-use Rattle.ec_typing.specs.Statements.{Around, type_or_void, labels_in_all}
+use Rattle.ec_typing.specs.Statements.{type_or_void, labels_in_all}
 use Rattle.ec_typing.specs.Programs as checked
-use Rattle.ec_typing.specs.Programs.{is_done, start}
+use Rattle.ec_typing.specs.Programs.{is_done, defined_in, start}
 use Rattle.ec_typing.specs.Answers.{violations}
 use Rattle.ec_objects.specs.Memory.{ValueData, number, ScalarType, pointer_type, scalar_type}
 use Rattle.ec_resolved.specs.Programs.{Program}
@@ -21,7 +21,7 @@ use Rattle.ec_resolving.specs.Storage.{nowhere, LibraryCall, StatementForm, Stor
 use Rattle.ec_resolving.specs.Operands.{place_in}
 use Rattle.ec_resolving.specs.Embedded.{embedded_rule}
 use Rattle.ec_resolving.specs.Expressions.{base, lengths}
-use Rattle.ec_resolving.specs.Statements.{declaration, declarators_in, objects_in_all, statements, size_of_type}
+use Rattle.ec_resolving.specs.Statements.{Around, declaration, declarators_in, objects_in_all, statements, size_of_type}
 
 -- ---- functions
 
@@ -53,13 +53,7 @@ Body = Option (List ℕ × Stms)
 
 -- what stands round the statements of a body
 abbrev pub in_body : List EmbData → Option TyData → StmtList → Around
-in_body es r ss = record {
-  embs = es;
-  is_body = false;
-  in_loop = false;
-  labels = labels_in_all ss [];
-  result = r;
-}
+in_body es r ss = record { embs = es; labels = labels_in_all ss []; result = r }
 
 abbrev pub body_rule : List EmbData → Option TyData → Option StmtList → Resolving Body
 body_rule es r None = pure None
@@ -148,6 +142,7 @@ globals_in (t ∷ ts) = globals_in ts
 
 abbrev pub no_storage : UnitData → Storage
 no_storage u = record {
+  defined = defined_in u.tops [];
   before_literals = globals_in u.tops + 1;
   sites = [];
   globals = [];
@@ -158,12 +153,12 @@ no_storage u = record {
   block = record { below = 0; count = 0; sizes = [] };
 }
 
-abbrev pub program_by : Storage → World → Program
-program_by s w = record {
+abbrev pub program_by : Storage → Program
+program_by s = record {
   globals = s.globals;
   literals = s.literals;
   functions = s.functions;
-  main = place_in (codes "main") w.defined;
+  main = place_in (codes "main") s.defined;
 }
 
 -- a program whatever the checks say of it, as written C or not
@@ -191,8 +186,7 @@ resolved_by (v ∷ vs) p = stuck_program
 -- What is left of a program
 abbrev pub resolve : Bool → UnitData → Program
 resolve written u =
-    resolved_by (violations written u)
-    (program_by (walked written u).storage (walked written u).world)
+    resolved_by (violations written u) (program_by (walked written u).storage)
 
 -- the embedded statements of it, in the order of the text
 abbrev pub embedded_statements_of : Bool → UnitData → List StatementForm

@@ -6,11 +6,12 @@ use Rattle.ec_ctypes.specs.trees.Stmts.{StmtData, stmt, StmtKindData, empty_stmt
 use Rattle.ec_ctypes.specs.trees.Embedded.{EmbData}
 use Rattle.ec_language.specs.Letters.{Text}
 use Rattle.ec_statement_parts.specs.Handlers.{is_directive}
+use Rattle.ec_typing.specs.Tables.{Named}
 use Rattle.ec_typing.specs.Worlds.{Place, place, object as object_entry, World, next_number, number_as, declare, know_better, declare_label, enter, leave as leave_scope}
 use Rattle.ec_typing.specs.Operands.{declared_type}
 use Rattle.ec_typing.specs.Expressions.{has_init, is_varchar, varchar_object}
 use Rattle.ec_typing.specs.Statements as checked
-use Rattle.ec_typing.specs.Statements.{type_or_void, Around, as_body, as_item, looping}
+use Rattle.ec_typing.specs.Statements.{type_or_void}
 use Rattle.ec_resolved.specs.Resolved.{Exp, slot, Stm, on_line, nothing, evaluate, declare as declare_unset, initialize, block, choose, loop, leave, next, return, goto, label, embedded_statement, Stms, no_stms, stms}
 use Rattle.ec_resolving.specs.Conversions.{size_in, as_known_type}
 use Rattle.ec_resolving.specs.Storage.{Site, numbered, slotted, nowhere, next_site, with_site, with_global, with_object_of, Resolving, ◌>>=◌, ◌>>◌, pure, checks, ask, stored, arrange, in_block}
@@ -138,6 +139,12 @@ abbrev mutual
 
 -- ---- statements
 
+-- what stands round a statement: the embedded statements of the program, the labels of the function, and the type of its result
+pub record Around : Type 0 where
+  pub embs : List EmbData
+  pub labels : Named (Unit {0})
+  pub result : Option TyData
+
 abbrev pub condition : Place → ExprData → Resolving Exp
 condition at e = do
   f ← expr at e >>= value_rule at
@@ -199,26 +206,26 @@ abbrev mutual
     x ← alone at e
     pure (evaluate x)
   statement_kind a at (block_stmt ss) = do
-    b ← in_block (objects_in_all ss) (scoped (statements (as_item a) ss))
+    b ← in_block (objects_in_all ss) (scoped (statements a ss))
     pure (with_sizes b)
   statement_kind a at (if_stmt e s other) = scoped (do
     x ← condition at e
-    y ← scoped (statement (as_body a) s)
-    z ← otherwise (as_body a) other
+    y ← scoped (statement a s)
+    z ← otherwise a other
     pure (choose x y z))
   statement_kind a at (while_stmt e s) = scoped (do
     x ← condition at e
-    y ← scoped (statement (looping a) s)
+    y ← scoped (statement a s)
     pure (loop true (Some x) None y))
   statement_kind a at (do_stmt s e) = scoped (do
-    y ← scoped (statement (looping a) s)
+    y ← scoped (statement a s)
     x ← condition at e
     pure (loop false (Some x) None y))
   statement_kind a at (for_stmt x y z s) = scoped (do
     first ← optional at x
     test ← optional_condition at y
     behind ← optional at z
-    body ← scoped (statement (looping a) s)
+    body ← scoped (statement a s)
     pure (behind_first_part first (loop true test behind body)))
   statement_kind a at break_stmt = pure leave
   statement_kind a at continue_stmt = pure next
@@ -226,7 +233,7 @@ abbrev mutual
   statement_kind a at (goto_stmt l) = pure (goto (place_in l a.labels))
   statement_kind a at (label_stmt l s) = do
     checks (declare_label at l)
-    x ← statement (as_body a) s
+    x ← statement a s
     pure (label (place_in l a.labels) x)
   statement_kind a at (decl_stmt d) = do
     ss ← declaration false d

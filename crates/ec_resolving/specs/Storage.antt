@@ -4,6 +4,7 @@ use Rattle.ec_ctypes.specs.declared.checked.library.LibName.{LibName}
 use Rattle.ec_ctypes.specs.trees.Types.{TyData}
 use Rattle.ec_arguments.specs.Arguments.{Arg}
 use Rattle.ec_language.specs.Letters.{Text}
+use Rattle.ec_typing.specs.Tables.{Named}
 use Rattle.ec_typing.specs.Worlds.{World, Out, Rule}
 use Rattle.ec_resolved.specs.Resolved.{Exp, object, slot, faulty}
 use Rattle.ec_resolved.specs.Programs.{Function, Global}
@@ -55,11 +56,13 @@ pub record BlockObjects : Type 0 where
   pub sizes : List ℕ
 
 pub record Storage : Type 0 where
+  -- the functions that the program defines, which have their numbers in this order
+  pub defined : Named (Unit {0})
   -- how many objects stand before the first literal's: `sqlca` and the globals
   pub before_literals : ℕ
   -- where the declarations so far are, by their numbers
   pub sites : List Site
-  -- the globals so far, the literals that make an object, the calls of the library, the functions that are defined
+  -- the globals so far, the literals that make an object, the calls of the library, the functions so far
   pub globals : List Global
   pub literals : List Text
   pub calls : List LibraryCall

@@ -17,7 +17,7 @@ ghost use Rattle.ec_resolving.specs.Expressions.{expr, args, base, lengths};
 ghost use Rattle.ec_resolving.specs.Initializers.{initializer};
 ghost use Rattle.ec_resolving.specs.Statements.{declaration, statement};
 ghost use Rattle.ec_resolving.specs.Programs.{tops_rule, walked};
-ghost use Rattle.ec_resolving.specs.Agreement.{Finds, itself, nothing_of, type_of, operand_of};
+ghost use Rattle.ec_resolving.specs.Agreement.{Finds, around_of, itself, nothing_of, type_of, operand_of};
 
 /// Resolving finds what the checks find, wherever things are: of each expression its operand, of each type, length and
 /// initializer its type, and behind each part the same is known. So the types of a resolved program are those of the checks.
@@ -34,7 +34,7 @@ pub fn operands_are_those_of_the_checks()
     ensures declarations { (global : Bool) (d : DeclData)
         → Finds nothing_of (declaration global d) (statements.declaration global d) }
     ensures statements { (a : Around) (s : StmtData)
-        → Finds nothing_of (statement a s) (statements.statement a s) }
+        → Finds nothing_of (statement (around_of a) s) (statements.statement a s) }
     ensures programs { (written : Bool) (u : UnitData)
         → (walked written u).world
         ≡ (programs.tops_rule u.embs u.tops (programs.start written u)).world }

@@ -9,6 +9,7 @@ ghost use Rattle.ec_scopes.specs.Entries.{place_view, type_view};
 ghost use Rattle.ec_scopes.specs.Seen.{world_of, IsDone, Does};
 ghost use Rattle.ec_typing.specs.Formats as formats;
 ghost use Rattle.ec_typing.specs.Known as known;
+ghost use Rattle.ec_typing.specs.Library as library;
 ghost use Rattle.ec_typing.specs.Operands as rule;
 ghost use Rattle.ec_rules.specs.Seen.{operand_view, operands_view, are_counted, are_taken};
 
@@ -16,17 +17,19 @@ use crate::declared::copy_type;
 use crate::faults::fault;
 use crate::operand::Operand;
 use ec_base::{FaultKind, List, OutOfMemory};
-use ec_ctypes::{Expr, Ty};
+use ec_ctypes::{Expr, LibName, Ty};
 use ec_known::{
-    Known, has_stream, is_format_of, known_function, literal_at, optional_types, takes_stream,
+    Known, cuts, has_stream, is_format_of, known_function, library_call, literal_at,
+    optional_types, takes_stream,
 };
 use ec_scopes::{Checker, Entry, Place};
 use ec_type_rules::is_assignable;
 use std::alloc::Global;
 
 /// A call of the function of this name, with these arguments: as they are written, and what is found out about them. F16
-/// for a call of what is no function, of one that the program doesn't define, and for another number of arguments; F14
-/// for one of another type; F17 for a format that its arguments don't fit.
+/// for a call of what is no function, of one that the program doesn't define, of the library with arguments that it
+/// doesn't take, and for another number of arguments; F14 for one of another type; F17 for a format that its arguments
+/// don't fit.
 pub fn call_rule(
     checker: &mut Checker,
     at: Place,
@@ -49,8 +52,45 @@ pub fn call_rule(
             checker.demand(at, FaultKind::F14, taken);
             Ok(Operand::computed(ty))
         }
+        None => call_undeclared(checker, at, name, forms, arguments),
+    }
+}
+
+/// A call of what the program doesn't declare: of the library, which is known in written C, or of a known function.
+fn call_undeclared(
+    checker: &mut Checker,
+    at: Place,
+    name: &[u8],
+    forms: &[Expr],
+    arguments: List<Operand>,
+) -> Result<Operand, OutOfMemory>
+    ensures { Does operand_view (rule.undeclared_call (place_view at) name.now
+        (exprs_view forms.now) (operands_view arguments)
+        (library.library_call (world_of checker.old).written name.now) (world_of checker.old))
+        checker.old result checker.new }
+{
+    match library_call(checker.written(), name) {
+        Some(call) => library_rule(checker, at, call, forms, arguments),
         None => call_known(checker, at, name, forms, arguments),
     }
+}
+
+/// A call of the library, which gives no value; F16 where it doesn't take these arguments.
+fn library_rule(
+    checker: &mut Checker,
+    at: Place,
+    call: LibName,
+    forms: &[Expr],
+    arguments: List<Operand>,
+) -> Result<Operand, OutOfMemory>
+    ensures { Does operand_view (rule.library_rule (place_view at) call (exprs_view forms.now)
+        (operands_view arguments) (world_of checker.old)) checker.old result checker.new }
+{
+    let types = types_of(checker.alloc(), arguments)?;
+    if cuts(checker.alloc(), call, forms, types.as_slice())? {
+        return Ok(Operand::computed(Some(Ty::Void)));
+    }
+    Ok(fault(checker, at, FaultKind::F16))
 }
 
 /// A call of a known function; F16 where there is none of this name.

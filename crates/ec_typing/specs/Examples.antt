@@ -46,6 +46,10 @@ among_functions text = verdict_behind "int f(int a, char *b) { return a; } void 
 abbrev pub written_verdict : String → Verdict
 written_verdict text = verdict_by true (read_text true (codes text))
 
+-- of statements of written C behind these declarations
+abbrev pub among_written : String → Verdict
+among_written text = verdict_by true (read_text true (codes "int main(void) { int i; char *c; unsigned char *u; char a[3]; struct varchar_v { int len; char arr[5]; } v; " ++ codes text ++ codes " }"))
+
 abbrev pub refused : FaultKind → ℕ → Verdict
 refused kind line = Ok (Some (Refused kind (record { 0 = line })))
 

@@ -1,7 +1,9 @@
 -- The names that are known without a declaration, and those that may not be declared.
 use Rattle.std.specs.Prelude.{ℕ, zero, suc, ◌-◌, Bool, true, false, ◌&&◌, ◌||◌, not, nat_le, List, [], ◌∷◌, map, Option, Some, None, if◌then◌else◌, codes, length, take}
 use Rattle.ec_ctypes.specs.Texts.{symbol_text, library_text}
+use Rattle.ec_ctypes.specs.declared.checked.library.Sym.{Sym}
 use Rattle.ec_ctypes.specs.declared.checked.library.Sym.TheVariants as symbol
+use Rattle.ec_ctypes.specs.declared.checked.library.LibName.{LibName}
 use Rattle.ec_ctypes.specs.declared.checked.library.LibName.TheVariants as library
 use Rattle.ec_ctypes.specs.trees.Types.{TyData, void, pointer}
 use Rattle.ec_ctypes.specs.trees.Exprs.{ExprData, string, identifier, ExprList, no_exprs, exprs}
@@ -84,12 +86,18 @@ is_stream (identifier x) = is_one_of (codes "stdout" ∷ codes "stderr" ∷ []) 
 is_stream _ = false
 
 -- the calls of the library
+abbrev pub calls : List LibName
+calls = library.Do ∷ library.Connect ∷ library.Disconnect ∷ library.SetConn ∷ library.SetCommit ∷ library.Trans ∷ library.Prepare ∷ library.Deallocate ∷ library.AllocateDesc ∷ library.DeallocateDesc ∷ library.GetDescHeader ∷ library.SetDescHeader ∷ library.GetDesc ∷ library.SetDesc ∷ []
+
 abbrev pub library_calls : List Text
-library_calls = map library_text (library.Do ∷ library.Connect ∷ library.Disconnect ∷ library.SetConn ∷ library.SetCommit ∷ library.Trans ∷ library.Prepare ∷ library.Deallocate ∷ library.AllocateDesc ∷ library.DeallocateDesc ∷ library.GetDescHeader ∷ library.SetDescHeader ∷ library.GetDesc ∷ library.SetDesc ∷ [])
+library_calls = map library_text calls
 
 -- the symbols of the library
+abbrev pub symbols : List Sym
+symbols = symbol.Char ∷ symbol.UnsignedChar ∷ symbol.Short ∷ symbol.UnsignedShort ∷ symbol.Int ∷ symbol.UnsignedInt ∷ symbol.Long ∷ symbol.UnsignedLong ∷ symbol.LongLong ∷ symbol.UnsignedLongLong ∷ symbol.Bool ∷ symbol.Varchar ∷ symbol.Const ∷ symbol.Descriptor ∷ symbol.NoIndicator ∷ symbol.EndOfInputs ∷ symbol.EndOfOutputs ∷ symbol.StatementNormal ∷ symbol.StatementExecute ∷ symbol.StatementExecImmediate ∷ symbol.StatementOpen ∷ symbol.ItemData ∷ symbol.ItemIndicator ∷ symbol.ItemName ∷ symbol.ItemType ∷ symbol.ItemOctets ∷ symbol.EndOfItems ∷ []
+
 abbrev pub library_symbols : List Text
-library_symbols = map symbol_text (symbol.Char ∷ symbol.UnsignedChar ∷ symbol.Short ∷ symbol.UnsignedShort ∷ symbol.Int ∷ symbol.UnsignedInt ∷ symbol.Long ∷ symbol.UnsignedLong ∷ symbol.LongLong ∷ symbol.UnsignedLongLong ∷ symbol.Bool ∷ symbol.Varchar ∷ symbol.Const ∷ symbol.Descriptor ∷ symbol.NoIndicator ∷ symbol.EndOfInputs ∷ symbol.EndOfOutputs ∷ symbol.StatementNormal ∷ symbol.StatementExecute ∷ symbol.StatementExecImmediate ∷ symbol.StatementOpen ∷ symbol.ItemData ∷ symbol.ItemIndicator ∷ symbol.ItemName ∷ symbol.ItemType ∷ symbol.ItemOctets ∷ symbol.EndOfItems ∷ [])
+library_symbols = map symbol_text symbols
 
 abbrev pub is_symbol : ExprData → Bool
 is_symbol (identifier x) = is_one_of library_symbols x

@@ -6,6 +6,7 @@ pub mod Expressions
 pub mod Formats
 pub mod Initializers
 pub mod Known
+pub mod Library
 pub mod Operands
 pub mod Programs
 pub mod Statements

@@ -3,6 +3,7 @@ use Rattle.std.specs.Prelude.{ℕ, zero, suc, ◌+◌, Bool, true, false, not, �
 use Rattle.ec_base.specs.declared.fault.FaultKind.TheVariants.{F11, F14, F15, F16, F17, F19}
 use Rattle.ec_base.specs.declared.fault.LimitKind.TheVariants.{L1}
 use Rattle.ec_ctypes.specs.declared.types.sizes.Shape.{Shape}
+use Rattle.ec_ctypes.specs.declared.checked.library.LibName.{LibName}
 use Rattle.ec_ctypes.specs.declared.tree.expr.BinOp.{BinOp}
 use Rattle.ec_ctypes.specs.declared.tree.expr.UnOp.{UnOp}
 use Rattle.ec_ctypes.specs.declared.tree.expr.UnOp.TheVariants.{Deref, Not}
@@ -12,6 +13,7 @@ use Rattle.ec_language.specs.Letters.{Text, same_text}
 use Rattle.ec_typing.specs.Tables.{find}
 use Rattle.ec_typing.specs.Types.{int_type, char_type, size_type, is_void, is_scalar, is_structure, is_array, decayed, pointed_to, struct_number, is_assignable, binary_type, is_compound, is_counter, sign_type, element_type, may_be_cast}
 use Rattle.ec_typing.specs.Constants.{ConstData, variable, trapping, known, binary_constant, unary_constant, cast_constant, is_known_zero}
+use Rattle.ec_typing.specs.Library.{library_call, cuts}
 use Rattle.ec_typing.specs.Known.{KnownData, plain, formatted, known_function, takes_stream, has_stream, literal_at}
 use Rattle.ec_typing.specs.Formats.{is_format_of}
 use Rattle.ec_typing.specs.Worlds.{Place, EntryData, object, function, MembersData, unlisted, begun, listed, Rule, ◌>>=◌, ◌>>◌, pure, ask, note, demand, keep_within, look_up, members_of, shape_in, is_complete, is_within, arrays_within}
@@ -245,6 +247,18 @@ known_rule at name es os None = note at F16 >> pure unknown
 known_rule at name es os (Some (plain r ps)) = arguments_rule at (Some (map Some ps)) os >> pure (computed (Some r))
 known_rule at name es os (Some (formatted n)) = format_rule at n name es os
 
+-- A call of the library gives no value; F16 where its arguments are none that it takes.
+abbrev pub library_rule : Place → LibName → ExprList → List OperandData → Rule OperandData
+library_rule at call es os = elim (cuts call es (types_of os)) [
+  | false ↦ note at F16 >> pure unknown
+  | true ↦ pure (computed (Some void))
+]
+
+-- a call of what the program doesn't declare: of the library, or of a known function
+abbrev pub undeclared_call : Place → Text → ExprList → List OperandData → Option LibName → Rule OperandData
+undeclared_call at name es os (Some call) = library_rule at call es os
+undeclared_call at name es os None = known_rule at name es os (known_function name)
+
 -- F16 for a call of what is no function, and of a function that the program doesn't define
 unfoldable pub call_by : Place → Text → ExprList → List OperandData → Option EntryData → Rule OperandData
 call_by at name es os (Some (object k global t)) = note at F16 >> pure unknown
@@ -253,7 +267,9 @@ call_by at name es os (Some (function k done r ps)) = do
   demand at F16 defined
   arguments_rule at ps os
   pure (computed r)
-call_by at name es os None = known_rule at name es os (known_function name)
+call_by at name es os None = do
+  of_library ← ask (λ w. library_call w.written name)
+  undeclared_call at name es os of_library
 
 unfoldable pub call_rule : Place → Text → ExprList → List OperandData → Rule OperandData
 call_rule at name es os = do

@@ -3,7 +3,7 @@
 
 ghost use Rattle.std.specs.Prelude.{◌≡◌};
 ghost use Rattle.ec_base.specs.declared.fault.FaultKind.TheVariants.{F11, F14, F16, F17, F18, F20};
-ghost use Rattle.ec_typing.specs.Examples.{verdict, written_verdict, in_main, among_functions, refused, fine};
+ghost use Rattle.ec_typing.specs.Examples.{verdict, written_verdict, in_main, among_functions, among_written, refused, fine};
 
 /// F16, and F14 of arguments (6.5.2.2).
 pub fn argument_examples()
@@ -36,7 +36,7 @@ pub fn argument_examples()
     ensures library_call { among_functions "ECPGdisconnect(1, \"x\");" ≡ refused F16 1 }
     ensures library_call_in_written_c { written_verdict
         "int main(void) {\nECPGdo(2, NULL, ECPGst_normal, \"SELECT\", ECPGt_EOIT, ECPGt_EORT);\nECPGt_int; }"
-        ≡ refused F16 2 }
+        ≡ refused F11 3 }
     ensures unknown_name_in_a_library_call { written_verdict
         "int main(void) { ECPGdo(1, NULL, k); }"
         ≡ refused F11 1 }
@@ -55,6 +55,46 @@ pub fn argument_examples()
     ensures known_with_fewer { among_functions "strlen();" ≡ refused F16 1 }
     ensures known_with_more { among_functions "sqlprint(1);" ≡ refused F16 1 }
     ensures value_of_exit { among_functions "i = exit(1);" ≡ refused F14 1 }
+{}
+
+/// Calls of the library in written C: F16 for one that it doesn't take (PostgreSQL manual, chapter ECPG).
+pub fn library_examples()
+    ensures nothing_stored { among_written
+        "ECPGdo(1, NULL, ECPGst_normal, \"x\", ECPGt_EOIT, ECPGt_EORT);"
+        ≡ fine }
+    ensures one_host { among_written
+        "ECPGdo(1, NULL, ECPGst_normal, \"x\", ECPGt_EOIT, ECPGt_int, &i, 0L, 1L, 4L, ECPGt_NO_INDICATOR, NULL, 0L, 0L, 0L, ECPGt_EORT);"
+        ≡ fine }
+    ensures nine_values { among_written
+        "ECPGdo(1, NULL, ECPGst_normal, \"x\", ECPGt_EOIT, ECPGt_int, &i, 0L, 1L, 4L, ECPGt_NO_INDICATOR, NULL, 0L, 0L, ECPGt_EORT);"
+        ≡ refused F16 1 }
+    ensures a_value_for_a_pointer { among_written
+        "ECPGdo(1, NULL, ECPGst_normal, \"x\", ECPGt_EOIT, ECPGt_int, i, 0L, 1L, 4L, ECPGt_NO_INDICATOR, NULL, 0L, 0L, 0L, ECPGt_EORT);"
+        ≡ refused F16 1 }
+    ensures int_for_a_long { among_written
+        "ECPGdo(1, NULL, ECPGst_normal, \"x\", ECPGt_EOIT, ECPGt_int, &i, 0, 1L, 4L, ECPGt_NO_INDICATOR, NULL, 0L, 0L, 0L, ECPGt_EORT);"
+        ≡ refused F16 1 }
+    ensures varchar_without_length { among_written
+        "ECPGdo(1, NULL, ECPGst_normal, \"x\", ECPGt_EOIT, ECPGt_varchar, &v, 0L, 1L, 12L, ECPGt_NO_INDICATOR, NULL, 0L, 0L, 0L, ECPGt_EORT);"
+        ≡ refused F16 1 }
+    ensures varchar { among_written
+        "ECPGdo(1, NULL, ECPGst_normal, \"x\", ECPGt_EOIT, ECPGt_varchar, &v, 5L, 1L, 12L, ECPGt_NO_INDICATOR, NULL, 0L, 0L, 0L, ECPGt_EORT);"
+        ≡ fine }
+    ensures texts { among_written
+        "ECPGdisconnect(1, \"x\"); ECPGdisconnect(1, c); ECPGdisconnect(1, u); ECPGdisconnect(1, a);"
+        ≡ fine }
+    ensures no_name { among_written "ECPGdisconnect(1, NULL);" ≡ refused F16 1 }
+    ensures pointer_to_no_text { among_written "ECPGdisconnect(1, &i);" ≡ refused F16 1 }
+    ensures switches { among_written
+        "ECPGsetcommit(1, \"on\", NULL); ECPGsetcommit(1, \"off\", c);"
+        ≡ fine }
+    ensures no_switch { among_written "ECPGsetcommit(1, \"yes\", NULL);" ≡ refused F16 1 }
+    ensures long_line { among_written "ECPGdisconnect(1L, c);" ≡ refused F16 1 }
+    ensures no_arguments { among_written "ECPGdo();" ≡ refused F16 1 }
+    ensures more_behind { among_written "ECPGdisconnect(1, c, c);" ≡ refused F16 1 }
+    ensures symbol_for_a_text { among_written "ECPGdisconnect(1, ECPGt_int);" ≡ refused F16 1 }
+    ensures value_of_a_call { among_written "i = ECPGdisconnect(1, c);" ≡ refused F14 1 }
+    ensures other_name { among_written "ECPGnothing(1, c);" ≡ refused F16 1 }
 {}
 
 /// F17, and what comes before a format (7.19.6.1).

@@ -8,7 +8,7 @@ mod object_examples;
 mod order_examples;
 mod type_examples;
 
-pub use call_examples::{argument_examples, format_examples, jump_examples};
+pub use call_examples::{argument_examples, format_examples, jump_examples, library_examples};
 pub use laws::answers_are_first;
 pub use name_examples::{redeclared_examples, reserved_examples, undeclared_examples};
 pub use object_examples::{constant_examples, initializer_examples, limit_examples};

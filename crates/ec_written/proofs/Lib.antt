@@ -1,0 +1,2 @@
+pub mod CallsBack
+pub mod OneReading
