@@ -1,10 +1,10 @@
 //! Functions, objects and programs.
 
-ghost use Rattle.std.specs.Prelude.{◌≡◌, ◌⊎◌, ◌≤◌, ◌<◌, [], ◌^◌, map, length, MatchOption};
+ghost use Rattle.std.specs.Prelude.{◌≡◌, ◌⊎◌, ◌≤◌, ◌<◌, [], ◌∷◌, ◌++◌, ◌^◌, map, length, MatchOption, OnOk};
 ghost use Rattle.ec_code.specs.Objects.{AreInside, stored_view};
 
 use crate::statement::Statement;
-use ec_base::{Bytes, List};
+use ec_base::{Bytes, List, OutOfMemory};
 use ec_objects::Kind;
 use ec_values::Word;
 use std::alloc::Global;
@@ -78,6 +78,23 @@ impl GlobalVariable {
             size: size.bytes,
             values: List::new(alloc),
         }
+    }
+
+    /// One part more of its initializer. There is no memory for one that doesn't lie in it.
+    pub fn add(&mut self, part: Stored) -> Result<(), OutOfMemory>
+        ensures { OnOk result (self.new ≡ record {
+          size = self.old.size;
+          values = self.old.values ++ stored_view part ∷ [];
+        }) }
+    {
+        let Some(end) = part.at.checked_add(part.bytes.len() as u64) else {
+            return Err(OutOfMemory);
+        };
+        if end > self.size {
+            return Err(OutOfMemory);
+        }
+        self.values.push(part)?;
+        Ok(())
     }
 
     /// How many bytes it has.

@@ -1,3 +1,5 @@
+pub mod Following
 pub mod Passing
 pub mod Reaching
+pub mod Sizing
 pub mod Uses

@@ -33,3 +33,7 @@ pub record IsReached {A : Type 0} (r : Reached A) (new : Resolver) (answer : A) 
 -- the same, with the answer as `view` shows it, unless memory ran out
 abbrev pub Reaches : {A B : Type 0} → (B → A) → Reached A → Result B OutOfMemory → Resolver → Type 0
 Reaches view r result new = IfOk result (λ b. IsReached r new (view b))
+
+-- the same, with the answer put into another
+abbrev pub mapped : {A B : Type 0} → (A → B) → Reached A → Reached B
+mapped f r = record { answer = f r.answer; storage = r.storage; world = r.world }

@@ -27,23 +27,19 @@ use ec_scopes::{Checker, Place};
 use ec_values::Word;
 
 /// What `=` does with a place of the first type and a value of the second.
-fn assign_form(
-    checker: &Checker,
-    to: &Option<Ty>,
-    from: &Option<Ty>,
-) -> Result<Option<Joined>, OutOfMemory>
-    ensures { IfOk result (λ made. (x y : Exp) → joined_by made x y
+fn assign_form(checker: &Checker, to: &Option<Ty>, from: &Option<Ty>) -> Option<Joined>
+    ensures { (x y : Exp) → joined_by result x y
         ≡ rule.over_types (type_view to.now) (type_view from.now)
-        (λ s t. form.assigned (world_of checker.now) s x t y)) }
+        (λ s t. form.assigned (world_of checker.now) s x t y) }
 {
     match (to, from) {
         (Some(to), Some(from)) => {
-            let size = struct_size(checker, to)?;
-            Ok(assignment(to, size, from))
+            let size = struct_size(checker, to);
+            assignment(to, size, from)
         }
-        (Some(_), None) => Ok(None),
-        (None, Some(_)) => Ok(None),
-        (None, None) => Ok(None),
+        (Some(_), None) => None,
+        (None, Some(_)) => None,
+        (None, None) => None,
     }
 }
 
@@ -65,25 +61,20 @@ pub fn assign_rule(
 
 /// What `op=` does with a place of the first type and a value of the second.
 #[tactic(auto, using(ec_conversions::proofs::Cases::compound))]
-fn compound_form(
-    checker: &Checker,
-    op: BinOp,
-    to: &Option<Ty>,
-    by: &Option<Ty>,
-) -> Result<Option<Joined>, OutOfMemory>
-    ensures { IfOk result (λ made. (x y : Exp) → joined_by made x y
+fn compound_form(checker: &Checker, op: BinOp, to: &Option<Ty>, by: &Option<Ty>) -> Option<Joined>
+    ensures { (x y : Exp) → joined_by result x y
         ≡ rule.over_types (type_view to.now) (type_view by.now)
-        (λ s t. form.compound (world_of checker.now) op false s x t y)) }
+        (λ s t. form.compound (world_of checker.now) op false s x t y) }
 {
     match (to, by) {
         (Some(s), Some(t)) => {
-            let to = scalar_of(checker, s)?;
-            let by = scalar_of(checker, t)?;
-            Ok(compound(op, false, to, by))
+            let to = scalar_of(checker, s);
+            let by = scalar_of(checker, t);
+            compound(op, false, to, by)
         }
-        (Some(_), None) => Ok(None),
-        (None, Some(_)) => Ok(None),
-        (None, None) => Ok(None),
+        (Some(_), None) => None,
+        (None, Some(_)) => None,
+        (None, None) => None,
     }
 }
 
@@ -105,22 +96,17 @@ pub fn compound_rule(
 }
 
 /// What `++` or `--` does with a place of this type and an `int` 1.
-fn bump_form(
-    checker: &Checker,
-    before: bool,
-    up: bool,
-    ty: &Option<Ty>,
-) -> Result<Option<Joined>, OutOfMemory>
-    ensures { IfOk result (λ made. (x y : Exp) → joined_by made x y
+fn bump_form(checker: &Checker, before: bool, up: bool, ty: &Option<Ty>) -> Option<Joined>
+    ensures { (x y : Exp) → joined_by result x y
         ≡ rule.over_type (type_view ty.now)
-        (λ t. bumped_of before up (scalar_in (world_of checker.now) t) x y)) }
+        (λ t. bumped_of before up (scalar_in (world_of checker.now) t) x y) }
 {
     match ty {
         Some(ty) => {
-            let of = scalar_of(checker, ty)?;
-            Ok(bump(before, up, of))
+            let of = scalar_of(checker, ty);
+            bump(before, up, of)
         }
-        None => Ok(None),
+        None => None,
     }
 }
 

@@ -27,20 +27,20 @@ fn binary_form(
     op: BinOp,
     left: &Option<Ty>,
     right: &Option<Ty>,
-) -> Result<Option<Joined>, OutOfMemory>
-    ensures { IfOk result (λ made. (x y : Exp) → joined_by made x y
+) -> Option<Joined>
+    ensures { (x y : Exp) → joined_by result x y
         ≡ rule.over_types (type_view left.now) (type_view right.now)
-        (λ s t. form.binary_exp (world_of checker.now) op s x t y)) }
+        (λ s t. form.binary_exp (world_of checker.now) op s x t y) }
 {
     match (left, right) {
         (Some(s), Some(t)) => {
-            let left = scalar_of(checker, s)?;
-            let right = scalar_of(checker, t)?;
-            Ok(binary(op, left, right))
+            let left = scalar_of(checker, s);
+            let right = scalar_of(checker, t);
+            binary(op, left, right)
         }
-        (Some(_), None) => Ok(None),
-        (None, Some(_)) => Ok(None),
-        (None, None) => Ok(None),
+        (Some(_), None) => None,
+        (None, Some(_)) => None,
+        (None, None) => None,
     }
 }
 
@@ -62,24 +62,20 @@ pub fn binary_rule(
 }
 
 /// The address of an element of values of these types.
-fn element_form(
-    checker: &Checker,
-    left: &Option<Ty>,
-    right: &Option<Ty>,
-) -> Result<Option<Joined>, OutOfMemory>
-    ensures { IfOk result (λ made. (x y : Exp) → joined_by made x y
+fn element_form(checker: &Checker, left: &Option<Ty>, right: &Option<Ty>) -> Option<Joined>
+    ensures { (x y : Exp) → joined_by result x y
         ≡ rule.over_types (type_view left.now) (type_view right.now)
-        (λ s t. form.element_exp (world_of checker.now) s x t y)) }
+        (λ s t. form.element_exp (world_of checker.now) s x t y) }
 {
     match (left, right) {
         (Some(s), Some(t)) => {
-            let left = scalar_of(checker, s)?;
-            let right = scalar_of(checker, t)?;
-            Ok(element(left, right))
+            let left = scalar_of(checker, s);
+            let right = scalar_of(checker, t);
+            element(left, right)
         }
-        (Some(_), None) => Ok(None),
-        (None, Some(_)) => Ok(None),
-        (None, None) => Ok(None),
+        (Some(_), None) => None,
+        (None, Some(_)) => None,
+        (None, None) => None,
     }
 }
 

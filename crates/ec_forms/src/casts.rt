@@ -17,7 +17,7 @@ ghost use Rattle.ec_scopes.specs.Seen.{world_of};
 ghost use Rattle.ec_type_rules.specs.Views.{type_view};
 ghost use Rattle.ec_typing.specs.Types as types;
 ghost use Rattle.ec_forms.specs.Readings.{cast_by};
-ghost use Rattle.ec_forms.specs.Seen.{found_view, from, Reaches};
+ghost use Rattle.ec_forms.specs.Seen.{found_view, from, IsReached, Reaches};
 
 use crate::found::{Found, with_form};
 use crate::resolver::Resolver;
@@ -68,53 +68,37 @@ pub struct Casting {
 }
 
 /// What a cast does with an operand.
-fn casting_of(
-    checker: &Checker,
-    to: &Option<Ty>,
-    operand: &Operand,
-    is_address: bool,
-) -> Result<Casting, OutOfMemory>
-    ensures { IfOk result (λ c. (e : Exp) → cast_by c e ≡ rule.cast_form (world_of checker.now)
-        (type_view to.now) (rule.found (operand_view operand.now) e is_address)) }
+fn casting_of(checker: &Checker, to: &Option<Ty>, operand: &Operand, is_address: bool) -> Casting
+    ensures { (e : Exp) → cast_by result e ≡ rule.cast_form (world_of checker.now)
+        (type_view to.now) (rule.found (operand_view operand.now) e is_address) }
 {
     match to {
-        None => Ok(Casting {
+        None => Casting {
             reading: Reading::Missing,
             conversion: Conversion::Kept,
-        }),
+        },
         Some(to) => {
             if is_void(to) {
-                let reading = discarding(checker, operand, is_address)?;
-                Ok(Casting {
-                    reading,
+                Casting {
+                    reading: discarding(checker, operand, is_address),
                     conversion: Conversion::Kept,
-                })
+                }
             } else {
-                Ok(Casting {
+                Casting {
                     reading: reading_of(operand, is_address),
                     conversion: cast_conversion(&operand.ty, to),
-                })
+                }
             }
         }
     }
 }
 
 /// The expression, cast so.
-fn cast(
-    alloc: Global,
-    casting: Result<Casting, OutOfMemory>,
-    exp: Expression,
-) -> Result<Expression, OutOfMemory>
-    ensures { (made : Exp → Exp) → IfOk casting (λ c. (e : Exp) → cast_by c e ≡ made e)
-        → IfOk result (λ e. expression_view e ≡ made (expression_view exp)) }
+fn cast(alloc: Global, casting: Casting, exp: Expression) -> Result<Expression, OutOfMemory>
+    ensures { IfOk result (λ e. expression_view e ≡ cast_by casting (expression_view exp)) }
 {
-    match casting {
-        Ok(casting) => {
-            let value = read(alloc, casting.reading, exp)?;
-            converted(alloc, casting.conversion, value)
-        }
-        Err(error) => Err(error),
-    }
+    let value = read(alloc, casting.reading, exp)?;
+    converted(alloc, casting.conversion, value)
 }
 
 /// A cast.
@@ -134,30 +118,26 @@ pub fn cast_rule(
 }
 
 /// The size of a type as a constant, or what stands for a fault where the type isn't known.
-fn size_leaf(checker: &Checker, ty: &Option<Ty>) -> Result<Leaf, OutOfMemory>
-    ensures { IfOk result (λ leaf. leaf_view leaf
-        ≡ rule.size_exp (world_of checker.now) (type_view ty.now)) }
+fn size_leaf(checker: &Checker, ty: &Option<Ty>) -> Leaf
+    ensures { leaf_view result ≡ rule.size_exp (world_of checker.now) (type_view ty.now) }
 {
     match ty {
-        Some(ty) => Ok(Leaf::Constant(Word::Unsigned(size_of(checker, ty)?))),
-        None => Ok(Leaf::Faulty),
+        Some(ty) => Leaf::Constant(Word::Unsigned(size_of(checker, ty))),
+        None => Leaf::Faulty,
     }
 }
 
 /// `sizeof` of a type.
-pub fn size_rule(resolver: &mut Resolver, at: Place, ty: Option<Ty>) -> Result<Found, OutOfMemory>
-    ensures { Reaches found_view (from (rule.size_rule (place_view at) (type_view ty))
-        resolver.old) result resolver.new }
+pub fn size_rule(resolver: &mut Resolver, at: Place, ty: Option<Ty>) -> Found
+    ensures { IsReached (from (rule.size_rule (place_view at) (type_view ty)) resolver.old)
+        resolver.new (found_view result) }
 {
     let alloc = resolver.checker.alloc();
     let leaf = size_leaf(&resolver.checker, &ty);
     let operand = checked_size(&mut resolver.checker, at, ty);
-    match leaf {
-        Ok(leaf) => Ok(Found {
-            operand,
-            exp: Expression::leaf(alloc, leaf),
-            is_address: false,
-        }),
-        Err(error) => Err(error),
+    Found {
+        operand,
+        exp: Expression::leaf(alloc, leaf),
+        is_address: false,
     }
 }

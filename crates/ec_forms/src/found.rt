@@ -39,7 +39,7 @@ impl Found {
 }
 
 /// An operand, with the form that was made for it.
-pub(crate) fn with_form(
+pub fn with_form(
     operand: Operand,
     made: Result<Expression, OutOfMemory>,
     is_address: bool,
@@ -81,34 +81,26 @@ pub(crate) fn with_operand(
 pub(crate) fn with_join(
     alloc: Global,
     operand: Operand,
-    form: Result<Option<Joined>, OutOfMemory>,
+    form: Option<Joined>,
     left: Expression,
     right: Expression,
     is_address: bool,
 ) -> Result<Found, OutOfMemory>
-    ensures { (made : Exp → Exp → Exp) → IfOk form (λ f. (x y : Exp) → joined_by f x y ≡ made x y)
-        → IfOk result (λ f. found_view f ≡ rule.found (operand_view operand)
-        (made (expression_view left) (expression_view right)) is_address) }
+    ensures { IfOk result (λ f. found_view f ≡ rule.found (operand_view operand)
+        (joined_by form (expression_view left) (expression_view right)) is_address) }
 {
-    match form {
-        Ok(form) => with_form(operand, join(alloc, form, left, right), is_address),
-        Err(error) => Err(error),
-    }
+    with_form(operand, join(alloc, form, left, right), is_address)
 }
 
 /// An operand, with an operator over one value, if its form is known.
 pub(crate) fn with_prefix(
     alloc: Global,
     operand: Operand,
-    form: Result<Option<Prefix>, OutOfMemory>,
+    form: Option<Prefix>,
     value: Expression,
 ) -> Result<Found, OutOfMemory>
-    ensures { (made : Exp → Exp) → IfOk form (λ f. (e : Exp) → prefixed_by f e ≡ made e)
-        → IfOk result (λ f. found_view f
-        ≡ rule.found (operand_view operand) (made (expression_view value)) false) }
+    ensures { IfOk result (λ f. found_view f
+        ≡ rule.found (operand_view operand) (prefixed_by form (expression_view value)) false) }
 {
-    match form {
-        Ok(form) => with_form(operand, prefixed(alloc, form, value), false),
-        Err(error) => Err(error),
-    }
+    with_form(operand, prefixed(alloc, form, value), false)
 }

@@ -18,7 +18,7 @@ pub use arguments::{passed, promoted};
 pub use assignments::{assign_rule, bump_rule, compound_rule};
 pub use binary::{binary_rule, index_rule};
 pub use casts::{cast_rule, size_rule};
-pub use found::Found;
+pub use found::{Found, with_form};
 pub use names::{literal_rule, name_rule};
 pub use resolver::Resolver;
 pub use sizes::size_of;

@@ -32,16 +32,16 @@ pub fn address_rule(resolver: &mut Resolver, at: Place, f: Found) -> Result<Foun
 
 /// What `+`, `-`, `~` or `!` does with a value of this type.
 #[tactic(auto, using(ec_conversions::proofs::Cases::unary))]
-fn prefix_form(checker: &Checker, op: UnOp, ty: &Option<Ty>) -> Result<Option<Prefix>, OutOfMemory>
-    ensures { IfOk result (λ made. (e : Exp) → prefixed_by made e
-        ≡ rule.over_type (type_view ty.now) (λ t. form.unary_exp op t e)) }
+fn prefix_form(checker: &Checker, op: UnOp, ty: &Option<Ty>) -> Option<Prefix>
+    ensures { (e : Exp) → prefixed_by result e
+        ≡ rule.over_type (type_view ty.now) (λ t. form.unary_exp op t e) }
 {
     match ty {
         Some(ty) => {
-            let of = scalar_of(checker, ty)?;
-            Ok(unary(op, of))
+            let of = scalar_of(checker, ty);
+            unary(op, of)
         }
-        None => Ok(None),
+        None => None,
     }
 }
 

@@ -87,23 +87,19 @@ pub fn value_rule(resolver: &mut Resolver, at: Place, f: Found) -> Result<Found,
 }
 
 /// How an expression whose value isn't wanted is evaluated: a place of a struct is an access to all of it.
-pub(crate) fn discarding(
-    checker: &Checker,
-    operand: &Operand,
-    is_address: bool,
-) -> Result<Reading, OutOfMemory>
-    ensures { IfOk result (λ reading. (e : Exp) → read_by reading e ≡ rule.discarded
-        (world_of checker.now) (rule.found (operand_view operand.now) e is_address)) }
+pub(crate) fn discarding(checker: &Checker, operand: &Operand, is_address: bool) -> Reading
+    ensures { (e : Exp) → read_by result e ≡ rule.discarded
+        (world_of checker.now) (rule.found (operand_view operand.now) e is_address) }
 {
     match &operand.ty {
         Some(ty) => {
             if is_structure(ty) && operand.is_place && checker.is_complete(ty) {
-                Ok(Reading::Whole(size_of(checker, ty)?))
+                Reading::Whole(size_of(checker, ty))
             } else {
-                Ok(reading_of(operand, is_address))
+                reading_of(operand, is_address)
             }
         }
-        None => Ok(Reading::Missing),
+        None => Reading::Missing,
     }
 }
 
@@ -114,8 +110,5 @@ pub fn discarded(checker: &Checker, f: Found) -> Result<Expression, OutOfMemory>
 {
     let reading = discarding(checker, &f.operand, f.is_address);
     let alloc = checker.alloc();
-    match reading {
-        Ok(reading) => read(alloc, reading, f.exp),
-        Err(error) => Err(error),
-    }
+    read(alloc, reading, f.exp)
 }

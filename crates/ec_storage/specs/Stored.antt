@@ -4,9 +4,9 @@ use Rattle.ec_arguments.specs.Arguments as arg
 use Rattle.ec_arguments.specs.Arguments.{Arg}
 use Rattle.ec_code.specs.Views.{expression_view, function_view, size_view}
 use Rattle.ec_ctypes.specs.views.Types.{ty_view}
-use Rattle.ec_resolved.specs.Programs.{Program}
 use Rattle.ec_resolved.specs.Resolved.{Exp}
 use Rattle.ec_resolving.specs.Storage as of
+use Rattle.ec_typing.specs.Tables.{Named}
 use Rattle.ec_storage.specs.declared.block.BlockObjects.{BlockObjects}
 use Rattle.ec_storage.specs.declared.embedded.Action.{Action}
 use Rattle.ec_storage.specs.declared.embedded.Action.TheVariants as action
@@ -68,6 +68,7 @@ block_view b = record { below = b.below; count = b.count; sizes = map size_view 
 
 unfoldable pub storage_of : Storage → of.Storage
 storage_of s = record {
+  defined = s.defined;
   before_literals = s.before_literals;
   sites = map site_view s.sites;
   globals = s.globals;
@@ -78,9 +79,10 @@ storage_of s = record {
   block = block_view s.block;
 }
 
--- nothing is declared so far
-abbrev pub fresh : ℕ → of.Storage
-fresh before = record {
+-- nothing is declared so far, and these functions are defined
+abbrev pub fresh : Named (Unit {0}) → ℕ → of.Storage
+fresh defined before = record {
+  defined = defined;
   before_literals = before;
   sites = [];
   globals = [];
@@ -89,13 +91,4 @@ fresh before = record {
   functions = [];
   statements = [];
   block = record { below = 0; count = 0; sizes = [] };
-}
-
--- the program of what is declared
-abbrev pub program_of : ℕ → of.Storage → Program
-program_of main s = record {
-  globals = s.globals;
-  literals = s.literals;
-  functions = s.functions;
-  main = main;
 }

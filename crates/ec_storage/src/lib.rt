@@ -5,11 +5,13 @@
 mod block;
 mod embedded;
 mod library;
+mod names;
 mod site;
 mod storage;
 
 pub use block::BlockObjects;
 pub use embedded::{Action, Actions, EmbeddedForm, Reference};
 pub use library::{Argument, LibraryCall};
+pub use names::Names;
 pub use site::{Site, site_leaf};
 pub use storage::Storage;

@@ -3,12 +3,15 @@
 ghost use Rattle.std.specs.Prelude.{◌≡◌, ◌+◌, length, map, option_map, slice_get, IfOk, OnOk};
 ghost use Rattle.ec_code.specs.Trees.{leaf_view};
 ghost use Rattle.ec_code.specs.Views.{function_view, program_view, size_view};
+ghost use Rattle.ec_resolving.specs.Operands.{place_in};
+ghost use Rattle.ec_resolving.specs.Programs.{program_by};
 ghost use Rattle.ec_resolving.specs.Storage as of;
-ghost use Rattle.ec_storage.specs.Stored.{block_view, call_view, form_view, fresh, program_of, site_view, storage_of};
+ghost use Rattle.ec_storage.specs.Stored.{block_view, call_view, form_view, fresh, site_view, storage_of};
 
 use crate::block::BlockObjects;
 use crate::embedded::EmbeddedForm;
 use crate::library::LibraryCall;
+use crate::names::Names;
 use crate::site::Site;
 use ec_base::{List, OutOfMemory};
 use ec_code::{Function, GlobalVariable, Leaf, Literal, ObjectSize, Program};
@@ -16,9 +19,11 @@ use std::alloc::Global;
 use std::mem;
 
 /// Where the objects of a program are.
-#[derive(Debug, Drop)]
+#[derive(Drop)]
 pub struct Storage {
     pub(crate) alloc: Global,
+    /// The functions that the program defines, which have their numbers in this order.
+    pub(crate) defined: Names,
     /// How many objects stand before the first literal's: `sqlca` and the globals.
     pub(crate) before_literals: u32,
     /// Where the declarations so far are, by their numbers.
@@ -28,7 +33,7 @@ pub struct Storage {
     pub(crate) literals: List<Literal>,
     /// The calls of the library.
     pub(crate) calls: List<LibraryCall>,
-    /// The functions that are defined.
+    /// The functions so far.
     pub(crate) functions: List<Function>,
     /// The embedded statements, directives too.
     pub(crate) statements: List<EmbeddedForm>,
@@ -50,12 +55,14 @@ fn number_behind(first: u32, count: usize) -> Result<u32, OutOfMemory>
 
 #[tactic(auto, unfolding(crate::specs::Stored::storage_of))]
 impl Storage {
-    /// Nothing is declared so far, and so many objects stand before the first literal's. It takes no memory.
-    pub fn new(alloc: Global, before_literals: u32) -> Storage
-        ensures { storage_of result ≡ fresh before_literals }
+    /// Nothing is declared so far, these functions are defined, and so many objects stand before the first literal's. It takes
+    /// no memory.
+    pub fn new(alloc: Global, defined: Names, before_literals: u32) -> Storage
+        ensures { storage_of result ≡ fresh defined before_literals }
     {
         Storage {
             alloc,
+            defined,
             before_literals,
             sites: List::new(alloc),
             globals: List::new(alloc),
@@ -69,6 +76,14 @@ impl Storage {
                 sizes: List::new(alloc),
             },
         }
+    }
+
+    /// The number of the function of this name.
+    pub fn function(&self, name: &[u8]) -> Result<u32, OutOfMemory>
+        ensures { IfOk result (λ number. number
+            ≡ place_in name.now (storage_of self.now).defined) }
+    {
+        self.defined.place(name)
     }
 
     /// Where the declaration of this number is.
@@ -207,15 +222,16 @@ impl Storage {
         inner.sizes
     }
 
-    /// The program, whose `main` has this number among its functions.
-    pub fn into_program(self, main: u32) -> Program
-        ensures { program_view result ≡ program_of main (storage_of self) }
+    /// The program.
+    pub fn into_program(self) -> Result<Program, OutOfMemory>
+        ensures { IfOk result (λ program. program_view program ≡ program_by (storage_of self)) }
     {
-        Program {
+        let main = self.defined.place(b"main".as_slice())?;
+        Ok(Program {
             globals: self.globals,
             literals: self.literals,
             functions: self.functions,
             main,
-        }
+        })
     }
 }

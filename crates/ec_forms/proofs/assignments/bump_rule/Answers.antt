@@ -14,6 +14,7 @@ returns c =
     let x = expression_view c.args.f.exp in
     let ty = type_view c.args.f.operand.ty in
     let o = operand_view c.bump_rule-operand.result in
-    asked_reached c.with_join.result _ _ _ c.args.resolver.now _ (c.with_join.ensures _ c.bump_form-form.ensures)
-    (ap (λ e. found o (over_type ty (λ t. bumped_of c.args.before c.args.up (scalar_in w t) x e)) false) c.leaf-one.ensures
+    asked_reached c.with_join.result _ _ _ c.args.resolver.now _ c.with_join.ensures
+    (ap (λ e. found o e false) (c.bump_form-form.ensures x (expression_view c.leaf-one.result))
+    ∙ ap (λ e. found o (over_type ty (λ t. bumped_of c.args.before c.args.up (scalar_in w t) x e)) false) c.leaf-one.ensures
     ∙ ap (λ e. found o e false) (bumped_over w c.args.before c.args.up ty x)) c.bump_rule-operand.ensures refl
