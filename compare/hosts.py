@@ -307,14 +307,7 @@ class Hosts(Checker):
         """A host of a statement on descriptors."""
         if isinstance(value, bytes):
             return
-        t = self.refer(value.value)
-        if t is not None:
-            self.limit_members(value.value, t)
-            found = leaf(value.value, t)
-            if found is None:
-                self.host_fault(22)
-            bound.leaves[id(value)] = [found]
-        self.indicator(value, t, bound)
+        self.referred(value, bound, lambda t: [leaf(value.value, t)])
         if value.indicator is not None and not may_have_indicator:
             self.host_fault(23)
 
@@ -326,16 +319,21 @@ class Hosts(Checker):
         """A host of a list, or in a text."""
         if isinstance(value, bytes):
             return
+        t = self.referred(value, bound, lambda t: leaves(value.value, t))
+        if t is not None and reads and is_array(t) and t[1] not in CHARACTERS:
+            self.host_fault(24)
+
+    def referred(self, value, bound, leaves_of):
+        """The type of what a host denotes, once its leaves are found and its indicator is beside them."""
         t = self.refer(value.value)
         if t is not None:
             self.limit_members(value.value, t)
-            found = leaves(value.value, t)
+            found = leaves_of(t)
             if None in found:
                 self.host_fault(22)
-            if reads and is_array(t) and t[1] not in CHARACTERS:
-                self.host_fault(24)
             bound.leaves[id(value)] = found
         self.indicator(value, t, bound)
+        return t
 
     def indicator(self, value, t, bound):
         e = value.indicator

@@ -24,7 +24,24 @@ def words(children):
     return [child.value for child in children if not isinstance(child, tuple)]
 
 
-class Trees:
+class Externals:
+    """Reads declarations and functions outside of functions, for what makes their parts."""
+
+    def external(self, node):
+        """A declaration or a function; the node begins at a `static`, if there is one."""
+        children = rules(node[1], "external")[0][1]
+        base, rest = children[0], children[1:]
+        if is_token(rest[0]):
+            return self.declared(node, base, [])
+        stars, name = rest[:2]
+        if rules(rest, "parameters"):
+            return self.function(node, base, stars, name, rest)
+        first = self.declarator([stars, name, *rest[2:5]] if is_token(rest[3], "=") else [stars, name, rest[2]])
+        others = [self.declarator(child[1]) for child in rules(rest, "declarator")]
+        return self.declared(node, base, [first, *others])
+
+
+class Trees(Externals):
     """Prints the tree of a derivation. `section` is whether the last mark before what is read opens a declare section."""
 
     def __init__(self, levels):
@@ -262,19 +279,6 @@ class Trees:
         return self.inner(depth - 1, line, "block", declaration, loop)
 
     # ---- programs
-
-    def external(self, node):
-        """A declaration or a function; the node begins at a `static`, if there is one."""
-        children = rules(node[1], "external")[0][1]
-        base, rest = children[0], children[1:]
-        if is_token(rest[0]):
-            return self.declared(node, base, [])
-        stars, name = rest[:2]
-        if rules(rest, "parameters"):
-            return self.function(node, base, stars, name, rest)
-        first = self.declarator([stars, name, *rest[2:5]] if is_token(rest[3], "=") else [stars, name, rest[2]])
-        others = [self.declarator(child[1]) for child in rules(rest, "declarator")]
-        return self.declared(node, base, [first, *others])
 
     def function(self, node, base, stars, name, rest):
         body = ABSENT

@@ -7,7 +7,7 @@ What `programs.py` hasn't: the base `("varchar",)`, the statements `("embedded",
 from dataclasses import dataclass
 
 from programs import Declaration, Declarator, Function, Parameter, Statement, Unit
-from trees import first_token, is_token, rules
+from trees import Externals, first_token, is_token, rules
 
 NUMBER_NAMES = {"unsigned-int": "uint", "unsigned-long": "ulong", "long-long": "llong", "unsigned-long-long": "ullong"}
 
@@ -32,7 +32,7 @@ class Include:
     kind: str = "include"
 
 
-class Units:
+class Units(Externals):
     """Makes trees of the nodes of a derivation."""
 
     def __init__(self, levels, tokens):
@@ -236,18 +236,6 @@ class Units:
         return Statement(("block", [Statement(("declare", declaration), declaration.line), loop]), line)
 
     # ---- programs
-
-    def external(self, node):
-        """A declaration or a function; the node begins at a `static`, if there is one."""
-        children = rules(node[1], "external")[0][1]
-        base, rest = children[0], children[1:]
-        if is_token(rest[0]):
-            return self.declared(node, base, [])
-        stars, name = rest[:2]
-        if rules(rest, "parameters"):
-            return self.function(node, base, stars, name, rest)
-        first = self.declarator([stars, name, *rest[2:5]] if is_token(rest[3], "=") else [stars, name, rest[2]])
-        return self.declared(node, base, [first, *(self.declarator(child[1]) for child in rules(rest, "declarator"))])
 
     def function(self, node, base, stars, name, rest):
         blocks = rules(rest, "block")

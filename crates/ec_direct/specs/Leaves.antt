@@ -5,7 +5,7 @@ use Rattle.ec_ctypes.specs.declared.types.arith.Arith.TheVariants as arith
 use Rattle.ec_ctypes.specs.trees.Types.{TyData, void, arithmetic, pointer, array, structure, StructData}
 use Rattle.ec_ctypes.specs.Layout.{member_of}
 use Rattle.ec_language.specs.Letters.{Text}
-use Rattle.ec_hosts.specs.Elements.{array_length}
+use Rattle.ec_hosts.specs.Elements.{capacity}
 use Rattle.ec_hosts.specs.Leaves.{Path, LeafData, Pair}
 use Rattle.ec_hosts.specs.Places.{size_of}
 use Rattle.ec_objects.specs.Memory.{number}
@@ -44,14 +44,8 @@ capacity_holds (Some (suc n)) = Some (counted (suc n))
 capacity_holds (Some zero) = None
 capacity_holds None = None
 
-abbrev pub capacity_of : StructData → Option ℕ
-capacity_of d = elim d.members [
-  | count ∷ held ∷ [] ↦ array_length held.1
-  | _ ↦ None
-]
-
 abbrev pub struct_holds : StructData → Option Holding
-struct_holds d = elim d.varchar [ true ↦ capacity_holds (capacity_of d) | false ↦ None ]
+struct_holds d = elim d.varchar [ true ↦ capacity_holds (capacity d.members) | false ↦ None ]
 
 abbrev pub element_holds : List StructData → TyData → Option Holding
 element_holds structs void = None

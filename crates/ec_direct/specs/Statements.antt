@@ -1,8 +1,8 @@
 -- Embedded statements as they are executed: their texts, inputs and outputs as places with types. A place is an expression where the statement stands, and an address where it is executed.
-use Rattle.std.specs.Prelude.{ℕ, ◌+◌, Bool, List, [], ◌∷◌, ◌++◌, map, take, drop, slice_get, Option, Some, None}
+use Rattle.std.specs.Prelude.{ℕ, ◌+◌, Bool, List, [], ◌∷◌, ◌++◌, map, take, drop, slice_get, Option, Some, None, codes}
 use Rattle.ec_arguments.specs.Arguments.{TextArg, absent, word, held}
 use Rattle.ec_ctypes.specs.declared.embedded.emb.Item.{Item}
-use Rattle.ec_ctypes.specs.trees.Types.{TyData, pointer, array, structure}
+use Rattle.ec_ctypes.specs.trees.Types.{TyData, pointer, array, structure, StructData}
 use Rattle.ec_ctypes.specs.trees.Exprs.{ExprData}
 use Rattle.ec_ctypes.specs.trees.Embedded.{HostData, TextArgData, word_arg, host_arg, host_with_indicator, InputData, host_input, const_input, InsData, listed_ins, area_ins, OutsData, no_outs, listed_outs, area_outs, PartData, bytes_part, host_part, EmbData, connect, set_connection, disconnect, autocommit, trans, server_text, declare_cursor, open_cursor, execute_immediate, prepare, execute, deallocate, allocate_area, free_area, get_count, get_items, set_count, set_items, whenever, include_sqlca}
 use Rattle.ec_language.specs.Letters.{Text}
@@ -10,9 +10,9 @@ use Rattle.ec_hosts.specs.Bound.{pairs_of, sent_from}
 use Rattle.ec_hosts.specs.Faults.{host_count}
 use Rattle.ec_hosts.specs.Programs.{ProgramData, Denoted, reference_type, names_count}
 use Rattle.ec_objects.specs.Memory.{pointer_type}
-use Rattle.ec_resolved.specs.Resolved.{Exp, member, load, faulty}
+use Rattle.ec_resolved.specs.Resolved.{Exp, load, faulty}
 use Rattle.ec_resolving.specs.Storage.{ReferenceForm}
-use Rattle.ec_direct.specs.Leaves.{Leaf, leaf_at}
+use Rattle.ec_direct.specs.Leaves.{Leaf, leaf_at, member_place}
 
 -- a value that is sent: that of a leaf, or a constant of the statement
 pub data Input (A : Type 0) : Type 0 where
@@ -100,12 +100,12 @@ indicator_at h x = elim h.indicator [ None ↦ None | Some i ↦ Some (reference
 abbrev pub references_of : HostData → ℕ
 references_of h = elim h.indicator [ None ↦ 1 | Some i ↦ 2 ]
 
--- a text: an array of characters, what a pointer leads to, or the characters of a VARCHAR, which lie behind its length
-abbrev pub text_place : Option TyData → Exp → Exp
-text_place (Some (pointer t)) e = load pointer_type e
-text_place (Some (structure k)) e = member 4 e
-text_place (Some (array t n)) e = e
-text_place _ e = faulty
+-- a text: an array of characters, what a pointer leads to, or the characters of a VARCHAR
+abbrev pub text_place : List StructData → Option TyData → Exp → Exp
+text_place structs (Some (pointer t)) e = load pointer_type e
+text_place structs (Some (structure k)) e = member_place structs (k, codes "arr") e
+text_place structs (Some (array t n)) e = e
+text_place structs _ e = faulty
 
 -- A cursor: the text of its DECLARE, the name of the prepared statement that it is for, and what stands round its hosts
 pub record Cursor : Type 0 where
@@ -135,10 +135,10 @@ module _ (p : ProgramData) where
   abbrev pub text_arg : TextArgData → Around → Made (TextArg Exp)
   text_arg (word_arg bytes) x = made (word bytes) x
   text_arg (host_arg e) x =
-      made (held (text_place (type_of e x) (reference_at 0 x)))
+      made (held (text_place p.structs (type_of e x) (reference_at 0 x)))
       (behind (names_count e) 1 x)
   text_arg (host_with_indicator e i) x =
-      made (held (text_place (type_of e x) (reference_at 0 x)))
+      made (held (text_place p.structs (type_of e x) (reference_at 0 x)))
       (behind (names_count e + names_count i) 2 x)
 
   abbrev pub text_option : Option TextArgData → Around → Made (TextArg Exp)
