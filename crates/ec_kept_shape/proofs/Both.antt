@@ -9,7 +9,7 @@ use Rattle.ec_language.proofs.Ends.{both}
 use Rattle.ec_sections.specs.Answers.{hosts_answer}
 use Rattle.ec_typing.specs.Answers.{check_answer}
 use Rattle.ec_source_shape.specs.Kept.{Kept, written, keeps_tag, keeps_expr, keeps_exprs, keeps_type, keeps_base, keeps_members, keeps_decl, keeps_dim, keeps_dims, keeps_init, keeps_inits, keeps_initializer, keeps_declarator, keeps_declarators, keeps_option, keeps_stmt, keeps_kind, keeps_stmts, keeps_else, keeps_param, keeps_params, keeps_body, keeps_func, keeps_top, keeps_tops, is_kept}
-use Rattle.ec_kept_shape.specs.Phases.{by_sections, by_checks, by_lines}
+use Rattle.ec_kept_shape.specs.Phases.{by_sections, by_checks}
 use Rattle.ec_kept_shape.proofs.Rules.{join}
 use Rattle.ec_kept_shape.proofs.Programs.{checked_kept}
 use Rattle.ec_kept_shape.proofs.Sections.{unit_kept}
@@ -19,7 +19,6 @@ pub record Follows (k l m : Kept) : Type 0 where
   pub calls : k.other_calls ≡ true → l.other_calls ≡ true → m.other_calls ≡ true
   pub types : k.varchar_types ≡ true → l.varchar_types ≡ true → m.varchar_types ≡ true
   pub tags : (t : Text) → k.tag t ≡ true → l.tag t ≡ true → m.tag t ≡ true
-  pub lines : (t : Text) → k.line t ≡ true → l.line t ≡ true → m.line t ≡ true
 
 module _ (k l m : Kept) (f : Follows k l m) where
   tag_both : (x : Option Text) → keeps_tag k x ≡ true → keeps_tag l x ≡ true → keeps_tag m x ≡ true
@@ -154,7 +153,7 @@ module _ (k l m : Kept) (f : Follows k l m) where
       join (of_type x.base a.0 b.0) (join (of_params x.params c.0 d.0) (of_body x.body c.1 d.1))
 
   of_top : (t : TopData) → keeps_top k t ≡ true → keeps_top l t ≡ true → keeps_top m t ≡ true
-  of_top (include_top bytes) h g = f.lines bytes h g
+  of_top (include_top bytes) h g = refl
   of_top (directive_top n) h g = refl
   of_top (decl_top d) h g = of_decl d h g
   of_top (func_top x) h g = of_func x h g
@@ -172,12 +171,6 @@ module _ (k l m : Kept) (f : Follows k l m) where
 
 -- ---- the phases
 
--- what both phases keep
-abbrev by_both : Kept
-by_both = record { other_calls = false; varchar_types = false; tag = by_checks.tag; line = λ t. true }
-
-pub phases_kept : (u : UnitData) (hosts : List ℕ) (handlers : List MarkData) (t : TypedData) → hosts_answer u ≡ Ok hosts → check_answer false u hosts handlers ≡ Ok t → is_kept by_lines u ≡ true → is_kept written u ≡ true
-phases_kept u hosts handlers t e c h =
-    both_kept by_both by_lines written (record { calls = λ a b. a; types = λ a b. a; tags = λ t a b. a; lines = λ t a b. b }) u
-    (both_kept by_sections by_checks by_both (record { calls = λ a b. b; types = λ a b. a; tags = λ t a b. b; lines = λ t a b. refl }) u (unit_kept u hosts e) (checked_kept false u hosts handlers t c))
-    h
+pub phases_kept : (u : UnitData) (hosts : List ℕ) (handlers : List MarkData) (t : TypedData) → hosts_answer u ≡ Ok hosts → check_answer false u hosts handlers ≡ Ok t → is_kept written u ≡ true
+phases_kept u hosts handlers t e c =
+    both_kept by_sections by_checks written (record { calls = λ a b. b; types = λ a b. a; tags = λ t a b. b }) u (unit_kept u hosts e) (checked_kept false u hosts handlers t c)

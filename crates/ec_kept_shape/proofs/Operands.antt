@@ -5,11 +5,12 @@ use Rattle.ec_base.specs.declared.fault.FaultKind.TheVariants.{F11, F14}
 use Rattle.ec_ctypes.specs.declared.tree.expr.BinOp.{BinOp}
 use Rattle.ec_ctypes.specs.declared.tree.expr.UnOp.{UnOp}
 use Rattle.ec_ctypes.specs.declared.tree.expr.UnOp.TheVariants.{Addr, Deref, Plus, Minus, Not, Flip}
+use Rattle.ec_ctypes.specs.declared.checked.library.LibName.{LibName}
 use Rattle.ec_ctypes.specs.trees.Types.{TyData, structure}
 use Rattle.ec_ctypes.specs.trees.Exprs.{ExprList}
 use Rattle.ec_language.specs.Letters.{Text, same_text}
 use Rattle.ec_typing.specs.Known.{KnownData, plain, formatted, known_function}
-use Rattle.ec_typing.specs.Operands.{OperandData, computed, unknown, object_operand, null_operand, integer_operand, given, typed, predefined, named_by, name_rule, value_rule, address_rule, found_or_types, target_rule, sign_rule, unary_rule, binary_rule, element_by, index_rule, assigned, assign_rule, compound_rule, bump_rule, arguments_rule, format_rule, known_rule, call_by, call_rule, member_by, member_in, member_rule, arrow_rule, scalar_cast, cast_to, cast_rule, size_rule, length_by, length_rule, within_rule, complete_rule}
+use Rattle.ec_typing.specs.Operands.{OperandData, computed, unknown, object_operand, null_operand, integer_operand, given, typed, predefined, named_by, name_rule, value_rule, address_rule, found_or_types, target_rule, sign_rule, unary_rule, binary_rule, element_by, index_rule, assigned, assign_rule, compound_rule, bump_rule, arguments_rule, format_rule, known_rule, library_rule, undeclared_call, call_by, call_rule, member_by, member_in, member_rule, arrow_rule, scalar_cast, cast_to, cast_rule, size_rule, length_by, length_rule, within_rule, complete_rule}
 use Rattle.ec_typing.specs.Worlds.{Place, EntryData, object, function, Rule, pure}
 use Rattle.ec_typing.specs.Types.{int_type}
 use Rattle.ec_kept_shape.proofs.Rules.{Quiet, chained, asked, pure_holds, fault, demand_quiet, keep_quiet, chosen, decided, if_some}
@@ -108,11 +109,18 @@ known_quiet at name es os None = (fault _ _ _)
 known_quiet at name es os (Some (plain r ps)) = chained (arguments_quiet at (Some (map Some ps)) os) (λ x p. pure_holds (computed (Some r)) tt)
 known_quiet at name es os (Some (formatted n)) = format_quiet at n name es os
 
+library_quiet : (at : Place) (call : LibName) (es : ExprList) (os : List OperandData) → Quiet (library_rule at call es os)
+library_quiet at call es os = chosen _ (pure_holds _ tt) (fault _ _ _)
+
+undeclared_quiet : (at : Place) (name : Text) (es : ExprList) (os : List OperandData) (call : Option LibName) → Quiet (undeclared_call at name es os call)
+undeclared_quiet at name es os (Some call) = library_quiet at call es os
+undeclared_quiet at name es os None = known_quiet at name es os (known_function name)
+
 call_by_quiet : (at : Place) (name : Text) (es : ExprList) (os : List OperandData) (e : Option EntryData) → Quiet (call_by at name es os e)
 unfolding call_by
 call_by_quiet at name es os (Some (object k global t)) = (fault _ _ _)
 call_by_quiet at name es os (Some (function k done r ps)) = asked _ _ (λ w c. chained (demand_quiet _ _ _) (λ x p. chained (arguments_quiet at ps os) (λ y q. pure_holds _ tt)))
-call_by_quiet at name es os None = known_quiet at name es os (known_function name)
+call_by_quiet at name es os None = asked _ _ (λ w c. undeclared_quiet at name es os _)
 
 pub call_quiet : (at : Place) (name : Text) (es : ExprList) (os : List OperandData) → Quiet (call_rule at name es os)
 unfolding call_rule

@@ -1,7 +1,6 @@
 -- What each phase behind the syntax keeps of the tree of a source.
 use Rattle.std.specs.Prelude.{true, false, not, codes}
 use Rattle.ec_language.specs.Letters.{same_word}
-use Rattle.ec_writing.specs.Shapes.{has_no_exec_sql}
 use Rattle.ec_source_shape.specs.Kept.{Kept}
 
 -- the phase of declare sections: VARCHAR is the type of what a declaration declares alone
@@ -10,7 +9,6 @@ by_sections = record {
   other_calls = true;
   varchar_types = false;
   tag = λ t. true;
-  line = λ t. true;
 }
 
 -- the checks: each call is by a name, and no tag is EXEC
@@ -19,14 +17,4 @@ by_checks = record {
   other_calls = false;
   varchar_types = true;
   tag = λ t. not (same_word t (codes "EXEC"));
-  line = λ t. true;
-}
-
--- no `#include` line has EXEC SQL in it
-abbrev pub by_lines : Kept
-by_lines = record {
-  other_calls = true;
-  varchar_types = true;
-  tag = λ t. true;
-  line = has_no_exec_sql;
 }

@@ -3,7 +3,7 @@
 ghost use Rattle.std.specs.Prelude.{◌≡◌, ℕ, Bool, true, false, List, Result, Ok};
 ghost use Rattle.ec_ctypes.specs.trees.Checked.{MarkData, TypedData};
 ghost use Rattle.ec_ctypes.specs.trees.Units.{UnitData};
-ghost use Rattle.ec_kept_shape.specs.Phases.{by_sections, by_checks, by_lines};
+ghost use Rattle.ec_kept_shape.specs.Phases.{by_sections, by_checks};
 ghost use Rattle.ec_sections.specs.Answers.{hosts_answer};
 ghost use Rattle.ec_source_shape.specs.Kept.{written, is_kept};
 ghost use Rattle.ec_typing.specs.Answers.{check_answer};
@@ -21,9 +21,9 @@ pub fn checks_keep_calls_and_tags()
         → is_kept by_checks u ≡ true }
 {}
 
-/// A source in which both phases find no fault keeps what written C asks, if none of its `#include` lines has EXEC SQL in it.
+/// A source in which both phases find no fault keeps what written C asks.
 pub fn phases_keep_what_is_written()
     ensures { (u : UnitData) (hosts : List ℕ) (handlers : List MarkData) (t : TypedData)
         → hosts_answer u ≡ Ok hosts → check_answer false u hosts handlers ≡ Ok t
-        → is_kept by_lines u ≡ true → is_kept written u ≡ true }
+        → is_kept written u ≡ true }
 {}

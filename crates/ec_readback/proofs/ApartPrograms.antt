@@ -15,7 +15,7 @@ use Rattle.ec_language.proofs.Classes.{either}
 use Rattle.ec_writing.specs.Chunks.{blank, line_end, line_mark, Chunks, text_of, line_behind}
 use Rattle.ec_writing.specs.Expressions.{mark, word, in_parens, star_chunks, expr_chunks, base_chunks, dims_chunks, decl_chunks}
 use Rattle.ec_writing.specs.Programs.{option_chunks, head_chunks, stmt_chunks, kind_chunks, items_chunks, else_chunks, block_chunks, param_name, param_chunks, more_params_chunks, params_chunks, body_chunks, func_chunks, top_chunks, tops_chunks}
-use Rattle.ec_writing.specs.Shapes.{is_plain_name, is_line, is_written_expr, is_written_base, are_written_dims, are_written_declarators, is_written_decl, is_declaration, is_written_option, is_open, is_written_stmt, is_written_kind, is_written_else, are_written_items, is_written_item, is_written_name, is_written_param, are_written_params, is_void_list, is_written_body, is_written_func, is_written_top, are_written_tops, has_no_exec_sql, is_line_end}
+use Rattle.ec_writing.specs.Shapes.{is_plain_name, is_line, is_written_expr, is_written_base, are_written_dims, are_written_declarators, is_written_decl, is_declaration, is_written_option, is_open, is_written_stmt, is_written_kind, is_written_else, are_written_items, is_written_item, is_written_name, is_written_param, are_written_params, is_void_list, is_written_body, is_written_func, is_written_top, are_written_tops, has_no_piece, is_line_end}
 use Rattle.ec_readback.proofs.Marks.{is_tail}
 use Rattle.ec_readback.proofs.Lexing.{begins_hash}
 use Rattle.ec_readback.proofs.Parts.{begins_line, Fits, AllFit}
@@ -253,7 +253,7 @@ func_fine f rest h =
 top_hash : (t : TopData) (rest : Chunks) → is_written_top t ≡ true → begins_hash (text_of (top_chunks t ++ rest)) ≡ true
 top_hash (decl_top d) rest h = refl
 top_hash (func_top f) rest h = refl
-top_hash (include_top s) rest h = hash s (text_of (line_end ∷ rest)) (both (begins_with (codes "#include") s) (each is_not_newline s && (has_no_exec_sql s && is_line_end (include_behind (s ++ newline ∷ [])))) h).0
+top_hash (include_top s) rest h = hash s (text_of (line_end ∷ rest)) (both (begins_with (codes "#include") s) (each is_not_newline s && (has_no_piece s && is_line_end (include_behind (s ++ newline ∷ [])))) h).0
   where
     hash : (s t : Text) → begins_with (codes "#include") s ≡ true → begins_hash (s ++ t) ≡ true
     hash [] t e = absurd (false≢true e)

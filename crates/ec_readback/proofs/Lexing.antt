@@ -1,6 +1,6 @@
 -- Chunks are cut into their tokens, and are one piece of C text.
-use Rattle.std.proofs.Common.{◌≡◌, ℕ, ◌+◌, ◌/◌, ◌%◌, ◌^◌, ◌<◌, ◌≤◌, Bool, true, false, ◌&&◌, [], ◌∷◌, ◌++◌, length, take, map, refl, ap, sym, ◌∙◌, subst, arith, Option, Some, None, Ok, Err, List, not, suc}
-use Rattle.std.specs.Prelude.{codes, nat_le, ◌==◌, ◌||◌, ℤ, option_map, if◌then◌else◌}
+use Rattle.std.proofs.Common.{◌≡◌, ℕ, ◌+◌, ◌/◌, ◌%◌, ◌^◌, ◌<◌, ◌≤◌, Bool, true, false, ◌&&◌, [], ◌∷◌, ◌++◌, length, take, drop, map, refl, ap, sym, ◌∙◌, subst, arith, append_assoc, Option, Some, None, Ok, Err, List, not, suc}
+use Rattle.std.specs.Prelude.{codes, nat_le, nat_eq, ◌==◌, ◌||◌, ℤ, option_map, if◌then◌else◌}
 use Rattle.std.specs.Fmt.{decimal}
 use Rattle.std.proofs.lemmas.Bool.{false≢true}
 use Rattle.std.proofs.lemmas.Bool.Decides.{nat_tests}
@@ -20,20 +20,22 @@ use Rattle.ec_language.specs.CText as unit
 use Rattle.ec_language.specs.Pieces.{starts_piece, NoneStarts}
 use Rattle.ec_language.specs.Lexemes.{Class, word, number, character, string, punct, Longest}
 use Rattle.ec_language.specs.Tokens.{is_left_out_word, character_tok, string_tok, counted, Item, match, include}
-use Rattle.ec_language.specs.ReadPieces.{passed, cut, endless, behind_all as all_behind, quote_end}
+use Rattle.ec_language.specs.ReadPieces.{passed, cut, endless, behind_all as all_behind, quote_end, c_end, c_stop}
 use Rattle.ec_language.specs.ReadTokens.{quoted_class, lexeme_end, with_front}
 use Rattle.ec_language.proofs.Ends.{both, quote_complete}
 use Rattle.ec_language.proofs.Classes.{all_complete, digit_no_word, turn_not}
-use Rattle.ec_language.proofs.CWalks.{front_is}
+use Rattle.ec_language.proofs.CUnits.{c_complete}
+use Rattle.ec_language.proofs.CWalks.{front_is, c_stop_on, c_stop_start}
 use Rattle.ec_language.proofs.LongestMatch.{lexeme_sound}
 use Rattle.ec_writing.specs.Chunks.{is_plain, octal, quoted_bytes, quoted, byte_of, suffix, token_text}
-use Rattle.ec_writing.specs.Shapes.{is_byte, is_character, fits_type, is_exec_sql, has_no_exec_sql, is_line_end, is_include_line}
+use Rattle.ec_writing.specs.Shapes.{is_byte, is_character, fits_type, has_no_piece, is_line_end, is_include_line}
 use Rattle.ec_language.specs.ReadTokens.{include_behind}
+use Rattle.ec_writing.proofs.Starts.{not_true, sql_at, Starting, starting, started}
 use Rattle.ec_language.proofs.Includes.{IncludeTail, include_sound}
 use Rattle.ec_language.proofs.Marks.{same_text_is}
 use Rattle.ec_readback.proofs.Numbers.{decimal_is, integer_back, fits_small}
 use Rattle.ec_readback.proofs.Quotes.{quote_closes, string_back, character_back, one_byte}
-use Rattle.ec_readback.proofs.Marks.{Starting, starting, not_true, no_start, is_apart, punct_longest, UnitsOf, one_unit, punct_units, punct_flat}
+use Rattle.ec_readback.proofs.Marks.{no_start, is_apart, punct_longest, UnitsOf, one_unit, punct_units, punct_flat}
 
 -- ---- one token
 
@@ -115,7 +117,7 @@ word_no_start w rest e n s = not_true (starts_piece (w ++ rest)) (λ h. go w res
     go (a ∷ b ∷ []) (f ∷ r) e n s t = let k = t.exec in no_exec f 101 n (omega arith) (omega arith) (cc)
     go (a ∷ b ∷ c ∷ []) [] e n s t = let k = t.exec in cc
     go (a ∷ b ∷ c ∷ []) (f ∷ r) e n s t = let k = t.exec in no_exec f 99 n (omega arith) (omega arith) (cc)
-    go (a ∷ b ∷ c ∷ d ∷ []) rest e n s t = false≢true (sym s ∙ (λ i. same (a ∷ b ∷ c ∷ d ∷ []) t.exec i && t.sql i))
+    go (a ∷ b ∷ c ∷ d ∷ []) rest e n s t = false≢true (sym s ∙ (λ i. same (a ∷ b ∷ c ∷ d ∷ []) t.exec i && (both (begins_sql rest) (not (begins is_word_byte (drop 3 (skip_blanks rest)))) t.sql).0 i))
       where
         same : (w : Text) → map lower w ≡ codes "exec" → same_word w (codes "EXEC") ≡ true
         same w e = ap (λ v. same_text v (codes "exec")) e
@@ -280,58 +282,74 @@ units_before : (us : List Text) (r : Text) → CUnits us (newline ∷ []) → CU
 units_before [] r f = tt
 units_before (u ∷ us) r f = (unit_before u (concat us) r f.0, units_before us r f.1)
 
+never : (p y z : Bool) → ((p && false) && y) ≡ ((p && false) && z)
+never true y z = refl
+never false y z = refl
+
+never_behind : (p q y z : Bool) → ((p && (q && false)) && y) ≡ ((p && (q && false)) && z)
+never_behind true q y z = never q y z
+never_behind false q y z = refl
+
 -- where the line ends, `SQL` begins no later than on it
-same_sql : (x r : Text) → begins_hash r ≡ true → begins_sql (x ++ newline ∷ r) ≡ begins_sql (x ++ newline ∷ [])
+same_sql : (x r : Text) → begins_hash r ≡ true → sql_at (skip_blanks (x ++ newline ∷ r)) ≡ sql_at (skip_blanks (x ++ newline ∷ []))
 same_sql [] [] h = refl
-same_sql [] (b ∷ r) h = let e : b ≡ 35 = grind (arith, nat_tests) in ap (λ c. same_word (take 3 (skip_blanks (c ∷ r))) (codes "SQL")) e
+same_sql [] (b ∷ r) h = let e : b ≡ 35 = grind (arith, nat_tests) in ap (λ c. sql_at (skip_blanks (c ∷ r))) e
 same_sql (b ∷ x) r h = go (is_blank b) refl (same_sql x r h)
   where
-    rest : (x r : Text) → begins_hash r ≡ true → same_word (take 3 (b ∷ x ++ newline ∷ r)) (codes "SQL") ≡ same_word (take 3 (b ∷ x ++ newline ∷ [])) (codes "SQL")
-    rest [] r h = refl
-    rest (c ∷ []) r h = refl
-    rest (c ∷ d ∷ x) r h = refl
+    rest : (x r : Text) → sql_at (b ∷ x ++ newline ∷ r) ≡ sql_at (b ∷ x ++ newline ∷ [])
+    rest [] r = never (nat_eq (lower b) 115) (not (begins is_word_byte (drop 1 r))) true
+    rest (c ∷ []) r = never_behind (nat_eq (lower b) 115) (nat_eq (lower c) 113) (not (begins is_word_byte r)) true
+    rest (c ∷ d ∷ []) r = refl
+    rest (c ∷ d ∷ e ∷ x) r = refl
 
-    go : (t : Bool) → is_blank b ≡ t → begins_sql (x ++ newline ∷ r) ≡ begins_sql (x ++ newline ∷ [])
-        → same_word (take 3 (elim t [ true ↦ skip_blanks (x ++ newline ∷ r) | false ↦ b ∷ x ++ newline ∷ r ])) (codes "SQL") ≡ same_word (take 3 (elim t [ true ↦ skip_blanks (x ++ newline ∷ []) | false ↦ b ∷ x ++ newline ∷ [] ])) (codes "SQL")
+    go : (t : Bool) → is_blank b ≡ t → sql_at (skip_blanks (x ++ newline ∷ r)) ≡ sql_at (skip_blanks (x ++ newline ∷ []))
+        → sql_at (elim t [ true ↦ skip_blanks (x ++ newline ∷ r) | false ↦ b ∷ x ++ newline ∷ r ]) ≡ sql_at (elim t [ true ↦ skip_blanks (x ++ newline ∷ []) | false ↦ b ∷ x ++ newline ∷ [] ])
     go true e more = more
-    go false e more = rest x r h
+    go false e more = rest x r
 
-line_starts_none : (t r : Text) → begins_hash r ≡ true → is_exec_sql (t ++ newline ∷ []) ≡ false → starts_piece (t ++ newline ∷ r) ≡ false
+line_starts_none : (t r : Text) → begins_hash r ≡ true → starts_piece (t ++ newline ∷ []) ≡ false → starts_piece (t ++ newline ∷ r) ≡ false
 line_starts_none t r h e = not_true (starts_piece (t ++ newline ∷ r)) (λ s. go t e (starting (t ++ newline ∷ r) s))
   where
-    go : (t : Text) → is_exec_sql (t ++ newline ∷ []) ≡ false → Starting (t ++ newline ∷ r) → ⊥
+    go : (t : Text) → starts_piece (t ++ newline ∷ []) ≡ false → Starting (t ++ newline ∷ r) → ⊥
     go [] e s = let k = s.exec in cc
     go (a ∷ []) e s = let k = s.exec in cc
     go (a ∷ b ∷ []) e s = let k = s.exec in cc
     go (a ∷ b ∷ c ∷ []) e s = let k = s.exec in cc
-    go (a ∷ b ∷ c ∷ d ∷ x) e s = false≢true (sym e ∙ (λ i. same (a ∷ b ∷ c ∷ d ∷ []) s.exec i && (sym (same_sql x r h) ∙ s.sql) i))
+    go (a ∷ b ∷ c ∷ d ∷ x) e s = false≢true (sym e ∙ started (a ∷ b ∷ c ∷ d ∷ x ++ newline ∷ []) (same (a ∷ b ∷ c ∷ d ∷ []) s.exec) (blank x s.blank) (sym (same_sql x r h) ∙ s.sql))
       where
         same : (w : Text) → map lower w ≡ codes "exec" → same_word w (codes "EXEC") ≡ true
         same w e = ap (λ v. same_text v (codes "exec")) e
 
-no_piece_from : (v t r : Text) → begins_hash r ≡ true → has_no_exec_sql (v ++ t) ≡ true → has_no_exec_sql t ≡ true
-no_piece_from [] t r h e = e
-no_piece_from (b ∷ v) t r h e = no_piece_from v t r h ((both (not (is_exec_sql (b ∷ (v ++ t) ++ newline ∷ []))) (has_no_exec_sql (v ++ t)) e).1)
+        blank : (x : Text) → begins is_blank (x ++ newline ∷ r) ≡ true → begins is_blank (x ++ newline ∷ []) ≡ true
+        blank [] k = refl
+        blank (b ∷ x) k = k
 
-none_in_line : (us : List Text) (r : Text) → begins_hash r ≡ true → CUnits us (newline ∷ []) → has_no_exec_sql (concat us) ≡ true → NoneStarts us (newline ∷ r)
+-- C text that goes on to its end starts no piece
+no_piece_here : (t : Text) → is_empty t ≡ false → is_empty (c_stop t) ≡ true → starts_piece t ≡ false
+no_piece_here t n e = not_true (starts_piece t) (λ s. false≢true (sym n ∙ (ap is_empty (sym (c_stop_start t s)) ∙ e)))
+
+none_in_line : (us : List Text) (r : Text) → begins_hash r ≡ true → CUnits us (newline ∷ []) → has_no_piece (concat us) ≡ true → NoneStarts us (newline ∷ r)
 none_in_line [] r h f e = tt
-none_in_line (u ∷ us) r h f e = (here (u ++ concat us) e, none_in_line us r h f.1 (no_piece_from u (concat us) r h e))
+none_in_line (u ∷ us) r h f e =
+    let n = no_piece_here ((u ++ concat us) ++ newline ∷ []) (some (u ++ concat us)) e in
+    let on = c_stop_on ((u ++ concat us) ++ newline ∷ []) (concat us ++ newline ∷ []) n (ap c_end (append_assoc u (concat us) (newline ∷ [])) ∙ c_complete u (concat us ++ newline ∷ []) f.0) in
+    (line_starts_none (u ++ concat us) r h n, none_in_line us r h f.1 (ap is_empty (sym on) ∙ e))
   where
-    here : (t : Text) → has_no_exec_sql t ≡ true → starts_piece (t ++ newline ∷ r) ≡ false
-    here [] e = refl
-    here (b ∷ t) e = line_starts_none (b ∷ t) r h (turn_not (is_exec_sql (b ∷ t ++ newline ∷ [])) (both (not (is_exec_sql (b ∷ t ++ newline ∷ []))) (has_no_exec_sql t) e).0)
+    some : (x : Text) → is_empty (x ++ newline ∷ []) ≡ false
+    some [] = refl
+    some (b ∷ x) = refl
 
 include_lexed : (bytes rest : Text) → FitsToken (include_token bytes) rest → Lexed (include_token bytes) rest
 include_lexed bytes [] f = absurd (false≢true f.1)
 include_lexed bytes (b ∷ r) f =
-    let k = both (begins_with (codes "#include") bytes) (each is_not_newline bytes && (has_no_exec_sql bytes && is_line_end (include_behind (bytes ++ newline ∷ [])))) f.0 in
-    let j = both (each is_not_newline bytes) (has_no_exec_sql bytes && is_line_end (include_behind (bytes ++ newline ∷ []))) k.1 in
-    let l = both (has_no_exec_sql bytes) (is_line_end (include_behind (bytes ++ newline ∷ []))) j.1 in
+    let k = both (begins_with (codes "#include") bytes) (each is_not_newline bytes && (has_no_piece bytes && is_line_end (include_behind (bytes ++ newline ∷ [])))) f.0 in
+    let j = both (each is_not_newline bytes) (has_no_piece bytes && is_line_end (include_behind (bytes ++ newline ∷ []))) k.1 in
+    let l = both (has_no_piece bytes) (is_line_end (include_behind (bytes ++ newline ∷ []))) j.1 in
     let m = both (b == newline) (begins_hash r) f.1 in
     let e : b ≡ newline = let n = m.0 in grind (arith, nat_tests) in
     subst (λ c. Lexed (include_token bytes) (c ∷ r)) (sym e) (go (include_behind (bytes ++ newline ∷ [])) refl l.1 k.0 j.0 l.0 m.1)
   where
-    go : (o : Option Text) → include_behind (bytes ++ newline ∷ []) ≡ o → is_line_end o ≡ true → begins_with (codes "#include") bytes ≡ true → each is_not_newline bytes ≡ true → has_no_exec_sql bytes ≡ true → begins_hash r ≡ true
+    go : (o : Option Text) → include_behind (bytes ++ newline ∷ []) ≡ o → is_line_end o ≡ true → begins_with (codes "#include") bytes ≡ true → each is_not_newline bytes ≡ true → has_no_piece bytes ≡ true → begins_hash r ≡ true
         → Lexed (include_token bytes) (newline ∷ r)
     go None g h a n s d = absurd (false≢true h)
     go (Some rest) g h a n s d =
@@ -345,7 +363,7 @@ include_lexed bytes (b ∷ r) f =
             units = tail.units;
             are = sym whole;
             free = units_before tail.units r tail.free;
-            none = none_in_line tail.units r d tail.free (subst (λ t. has_no_exec_sql t ≡ true) whole s);
+            none = none_in_line tail.units r d tail.free (subst (λ t. has_no_piece t ≡ true) whole s);
           };
         }
       where

@@ -1,13 +1,13 @@
 -- Marks are longest matches before what follows them in written C.
-use Rattle.std.proofs.Common.{◌≡◌, ℕ, ◌<◌, Bool, true, false, not, ◌&&◌, List, [], ◌∷◌, ◌++◌, length, take, drop, map, refl, ap, sym, ◌∙◌, subst, arith, Option, Some, None, append-nil}
-use Rattle.std.specs.Prelude.{codes, nat_eq, ◌==◌, ◌||◌, find, option_map, if◌then◌else◌, is_some}
+use Rattle.std.proofs.Common.{◌≡◌, ℕ, ◌<◌, Bool, true, false, not, ◌&&◌, List, [], ◌∷◌, ◌++◌, length, take, drop, refl, ap, sym, ◌∙◌, subst, arith, Option, Some, None, append-nil}
+use Rattle.std.specs.Prelude.{codes, nat_eq, ◌==◌, ◌||◌, find, option_map, if◌then◌else◌}
 use Rattle.std.specs.List.{concat}
 use Rattle.std.proofs.lemmas.Bool.{false≢true}
 use Rattle.std.proofs.lemmas.Bool.Decides.{nat_tests}
 use Rattle.ec_ctypes.specs.declared.text.token.Punct.{Punct}
 use Rattle.ec_ctypes.specs.declared.text.token.Punct.TheVariants as mark
 use Rattle.ec_ctypes.specs.Texts.{punct_text}
-use Rattle.ec_language.specs.Letters.{Text, lower, is_blank, is_digit, is_word_start, is_word_byte, is_quote, is_not_newline, begins, each, same_text, same_word, skip_blanks}
+use Rattle.ec_language.specs.Letters.{Text, lower, is_digit, is_word_start, is_quote, is_not_newline, begins, each, same_text}
 use Rattle.ec_language.specs.Line.{newlines}
 use Rattle.ec_language.specs.CText.{is_single, CUnit, CUnits, closes_comment}
 use Rattle.ec_language.specs.CText as unit
@@ -16,29 +16,9 @@ use Rattle.ec_language.specs.Lexemes.{Class, punct, left_out, comment, puncts, p
 use Rattle.ec_language.specs.ReadTokens.{mark_class}
 use Rattle.ec_language.proofs.Ends.{both}
 use Rattle.ec_language.proofs.Marks.{same_text_is, mark_or_comment}
+use Rattle.ec_writing.proofs.Starts.{not_true, starting}
 
 -- ---- no embedded piece starts
-
-pub record Starting (t : Text) : Type 0 where
-  pub exec : map lower (take 4 t) ≡ codes "exec"
-  pub blank : begins is_blank (drop 4 t) ≡ true
-  pub sql : same_word (take 3 (skip_blanks (drop 4 t))) (codes "SQL") ≡ true
-
-pub starting : (t : Text) → starts_piece t ≡ true → Starting t
-starting t h = go (same_word (take 4 t) (codes "EXEC") && begins is_blank (drop 4 t) && same_word (take 3 (skip_blanks (drop 4 t))) (codes "SQL") && not (begins is_word_byte (drop 3 (skip_blanks (drop 4 t))))) refl h
-  where
-    go : (x : Bool) → (same_word (take 4 t) (codes "EXEC") && begins is_blank (drop 4 t) && same_word (take 3 (skip_blanks (drop 4 t))) (codes "SQL") && not (begins is_word_byte (drop 3 (skip_blanks (drop 4 t))))) ≡ x
-        → starts_piece t ≡ true → Starting t
-    go true e h =
-        let a = both (same_word (take 4 t) (codes "EXEC") && begins is_blank (drop 4 t) && same_word (take 3 (skip_blanks (drop 4 t))) (codes "SQL")) (not (begins is_word_byte (drop 3 (skip_blanks (drop 4 t))))) e in
-        let b = both (same_word (take 4 t) (codes "EXEC") && begins is_blank (drop 4 t)) (same_word (take 3 (skip_blanks (drop 4 t))) (codes "SQL")) a.0 in
-        let c = both (same_word (take 4 t) (codes "EXEC")) (begins is_blank (drop 4 t)) b.0 in
-        record { exec = same_text_is (map lower (take 4 t)) (codes "exec") c.0; blank = c.1; sql = b.1 }
-    go false e h = absurd (false≢true (sym (λ i. is_some (if e i then Some (drop 3 (skip_blanks (drop 4 t))) else None)) ∙ h))
-
-pub not_true : (b : Bool) → (b ≡ true → ⊥) → b ≡ false
-not_true true f = absurd (f refl)
-not_true false f = refl
 
 pub no_start : (b : ℕ) (bs : Text) → is_word_start b ≡ false → starts_piece (b ∷ bs) ≡ false
 no_start b bs h = not_true (starts_piece (b ∷ bs)) (λ e. let s = starting (b ∷ bs) e in let k = s.exec in let l : lower b ≡ 101 = cc in letter b h l)

@@ -4,7 +4,7 @@ use Rattle.std.specs.Prelude.{codes, ◌==◌}
 use Rattle.std.specs.List.{concat, list_all}
 use Rattle.std.proofs.lemmas.Bool.{false≢true}
 use Rattle.std.proofs.lemmas.Bool.Decides.{nat_tests}
-use Rattle.ec_language.specs.Letters.{Text, newline, backslash, is_word_start, is_word_byte, is_number_byte, is_digit, is_quote, is_not_newline, begins_with, each}
+use Rattle.ec_language.specs.Letters.{Text, newline, backslash, is_word_start, is_word_byte, is_number_byte, is_digit, is_quote, is_not_newline, is_empty, begins_with, each}
 use Rattle.ec_language.specs.CText.{is_word, is_number, is_block_comment, is_line_comment, is_quoted, closes_quote, CUnit, CUnits}
 use Rattle.ec_language.specs.CText as unit
 use Rattle.ec_language.specs.Lexemes.{is_comment, IncludeLine}
@@ -12,9 +12,11 @@ use Rattle.ec_language.specs.ReadTokens.{include_behind}
 use Rattle.ec_language.proofs.Classes.{apart, turn_not, neither}
 use Rattle.ec_language.proofs.Ends.{both}
 use Rattle.ec_language.proofs.Includes.{is_inside, include_complete}
-use Rattle.ec_writing.specs.Shapes.{is_line_end}
-use Rattle.ec_source_shape.specs.SourceShape.{is_source_include}
+use Rattle.ec_language.specs.Pieces.{NoneStarts}
+use Rattle.ec_language.proofs.CWalks.{c_stop_behind}
+use Rattle.ec_writing.specs.Shapes.{has_no_piece, is_line_end, is_include_line}
 use Rattle.ec_source_shape.proofs.Parts.{join}
+use Rattle.ec_source_shape.proofs.ItemUnits.{Free, line_free}
 
 -- ---- no end of a line
 
@@ -101,6 +103,15 @@ line_ends : (us : List Text) (text : Text) → text ≡ concat us → CUnits us 
 line_ends us text e f i =
     ap is_line_end (ap (λ t. include_behind (t ++ newline ∷ [])) e ∙ include_complete (suc (length (concat us ++ newline ∷ []))) us (newline ∷ []) f i refl (omega arith))
 
-pub include_kept : (text rest : Text) → IncludeLine text rest → is_source_include text ≡ true
-include_kept text rest h =
-    join h.begin (join (ap (each is_not_newline) h.whole ∙ units_line h.units rest h.free h.inside) (line_ends h.units text h.whole (units_before h.units rest h.free h.inside) h.inside))
+-- C text goes on to the end of the line
+line_goes_on : (us : List Text) (text : Text) → text ≡ concat us → CUnits us (newline ∷ []) → NoneStarts us (newline ∷ []) → has_no_piece text ≡ true
+line_goes_on us text e f n = ap has_no_piece e ∙ ap is_empty (c_stop_behind us (newline ∷ []) f n)
+
+-- in which no embedded piece starts
+pub include_kept : (text rest : Text) → IncludeLine text rest → has_no_piece text ≡ true → is_include_line text ≡ true
+include_kept text rest h k =
+    join h.begin (join (ap (each is_not_newline) h.whole ∙ units_line h.units rest h.free h.inside) (join k (line_ends h.units text h.whole (units_before h.units rest h.free h.inside) h.inside)))
+
+-- as none does in C text in which none starts
+pub include_starts_nothing : (text rest behind : Text) → IncludeLine text rest → Free (text ++ rest) behind → has_no_piece text ≡ true
+include_starts_nothing text rest behind h k = line_goes_on h.units text h.whole (units_before h.units rest h.free h.inside) (line_free text rest behind h k).none

@@ -1,5 +1,6 @@
 mod Derived
 mod Includes
+mod ItemUnits
 mod SourceTokens
 mod Values
 mod Parts

@@ -14,8 +14,8 @@ use Rattle.ec_language.specs.Productions.{Start, is, bytes_in, number_in, type_i
 use Rattle.ec_language.specs.Productions as g
 use Rattle.ec_language.proofs.Classes.{turn_not}
 use Rattle.ec_language.proofs.Ends.{both}
-use Rattle.ec_writing.specs.Shapes.{is_plain_name, is_free_name, fits_type, is_character, is_byte, is_assignable, is_line, is_open, is_void_list}
-use Rattle.ec_source_shape.specs.SourceShape.{is_source_include, is_source_tok, is_source_expr, are_source_exprs, is_source_base, is_source_member, are_source_members, are_source_dims, is_source_initializer, are_source_declarators, is_source_decl, is_source_option, is_source_stmt, are_source_params, is_source_body, is_source_top}
+use Rattle.ec_writing.specs.Shapes.{is_plain_name, is_free_name, fits_type, is_character, is_byte, is_assignable, is_line, is_open, is_void_list, is_include_line}
+use Rattle.ec_source_shape.specs.SourceShape.{is_source_tok, is_source_expr, are_source_exprs, is_source_base, is_source_member, are_source_members, are_source_dims, is_source_initializer, are_source_declarators, is_source_decl, is_source_option, is_source_stmt, are_source_params, is_source_body, is_source_top}
 
 pub join : {x y : Bool} → x ≡ true → y ≡ true → (x && y) ≡ true
 join p q = λ i. p i && q i
@@ -46,7 +46,7 @@ pub string_is : (k : TokData) → is g.string_literal k ≡ true → is_source_t
 string_is (string_token t) e s = s
 string_is _ e s = absurd (false≢true e)
 
-pub include_is : (k : TokData) → is g.include_line k ≡ true → is_source_tok k ≡ true → is_source_include (bytes_in k) ≡ true
+pub include_is : (k : TokData) → is g.include_line k ≡ true → is_source_tok k ≡ true → is_include_line (bytes_in k) ≡ true
 include_is (include_token t) e s = s
 include_is _ e s = absurd (false≢true e)
 

@@ -1,10 +1,9 @@
--- What the checks keep of the tree of a source, as tests that compute: which calls, tags, VARCHARs and `#include` lines stand in it.
+-- What the checks keep of the tree of a source, as tests that compute: which calls, tags and VARCHARs stand in it.
 use Rattle.std.specs.Prelude.{Bool, true, false, not, ◌&&◌, List, [], ◌∷◌, Option, Some, None, codes}
 use Rattle.ec_ctypes.specs.trees.Exprs.{ExprData, integer, character, string, identifier, unary, binary, assign, bump, call, call_other, index, member, arrow, cast, size_type, size_expr, ExprList, no_exprs, exprs, BaseData, words, varchar, tagged, struct_base, DimData, open_dim, dim, DimList, no_dims, dims, InitData, one, many, InitList, no_inits, inits, InitOption, no_init, some_init, DeclaratorData, declarator, DeclaratorList, no_declarators, declarators, DeclData, decl, DeclList, no_decls, decls}
 use Rattle.ec_ctypes.specs.trees.Stmts.{StmtData, stmt, StmtKindData, empty_stmt, expr_stmt, block_stmt, if_stmt, while_stmt, do_stmt, for_stmt, break_stmt, continue_stmt, return_stmt, goto_stmt, label_stmt, decl_stmt, emb_stmt, mark_stmt, StmtList, no_stmts, stmts, StmtOption, no_stmt, some_stmt}
 use Rattle.ec_ctypes.specs.trees.Units.{ParamData, FuncData, TopData, include_top, directive_top, decl_top, func_top, mark_top, UnitData}
 use Rattle.ec_language.specs.Letters.{Text, same_word}
-use Rattle.ec_writing.specs.Shapes.{has_no_exec_sql}
 
 -- what may stand in a tree
 pub record Kept : Type 0 where
@@ -14,8 +13,6 @@ pub record Kept : Type 0 where
   pub varchar_types : Bool
   -- which tags
   pub tag : Text → Bool
-  -- which `#include` lines
-  pub line : Text → Bool
 
 -- what written C may have in these places
 abbrev pub written : Kept
@@ -23,7 +20,6 @@ written = record {
   other_calls = false;
   varchar_types = false;
   tag = λ t. not (same_word t (codes "EXEC"));
-  line = has_no_exec_sql;
 }
 
 module _ (k : Kept) where
@@ -157,7 +153,7 @@ module _ (k : Kept) where
   keeps_func f = keeps_type f.base && (keeps_params f.params && keeps_body f.body)
 
   abbrev pub keeps_top : TopData → Bool
-  keeps_top (include_top bytes) = k.line bytes
+  keeps_top (include_top bytes) = true
   keeps_top (directive_top n) = true
   keeps_top (decl_top d) = keeps_decl d
   keeps_top (func_top f) = keeps_func f

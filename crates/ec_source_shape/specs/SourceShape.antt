@@ -1,22 +1,15 @@
 -- What the tree of every source keeps, as a test that computes: the parts of the shape of written C that the grammar and the tokens give. Sections, VARCHAR, embedded statements, directives and marks may stand in it.
-use Rattle.std.specs.Prelude.{Bool, true, false, not, ◌&&◌, ◌||◌, List, [], ◌∷◌, ◌++◌, codes, Option, Some, None}
+use Rattle.std.specs.Prelude.{Bool, true, false, not, ◌&&◌, ◌||◌, List, [], ◌∷◌, Option, Some, None}
 use Rattle.ec_ctypes.specs.trees.Exprs.{ExprData, integer, character, string, identifier, unary, binary, assign, bump, call, call_other, index, member, arrow, cast, size_type, size_expr, ExprList, no_exprs, exprs, BaseData, words, varchar, tagged, struct_base, DimData, open_dim, dim, DimList, no_dims, dims, InitData, one, many, InitList, no_inits, inits, InitOption, no_init, some_init, DeclaratorData, declarator, DeclaratorList, no_declarators, declarators, DeclData, decl, DeclList, no_decls, decls}
 use Rattle.ec_ctypes.specs.trees.Stmts.{StmtData, stmt, StmtKindData, empty_stmt, expr_stmt, block_stmt, if_stmt, while_stmt, do_stmt, for_stmt, break_stmt, continue_stmt, return_stmt, goto_stmt, label_stmt, decl_stmt, emb_stmt, mark_stmt, StmtList, no_stmts, stmts, StmtOption, no_stmt, some_stmt}
 use Rattle.ec_ctypes.specs.trees.Tokens.{TokData, word_token, integer_token, character_token, string_token, include_token, TokenData}
 use Rattle.ec_ctypes.specs.trees.Units.{ParamData, FuncData, TopData, include_top, directive_top, decl_top, func_top, mark_top, UnitData}
 use Rattle.ec_language.specs.CText.{is_word}
-use Rattle.ec_language.specs.Letters.{Text, newline, is_not_newline, each, begins_with}
-use Rattle.ec_language.specs.ReadTokens.{include_behind}
+use Rattle.ec_language.specs.Letters.{each}
 use Rattle.ec_language.specs.Tokens.{is_left_out_word}
-use Rattle.ec_writing.specs.Shapes.{is_plain_name, is_free_name, fits_type, is_character, is_byte, is_assignable, are_type_words, is_line, is_open, is_written_name, is_void_list, is_line_end}
+use Rattle.ec_writing.specs.Shapes.{is_plain_name, is_free_name, fits_type, is_character, is_byte, is_assignable, are_type_words, is_line, is_open, is_written_name, is_void_list, is_include_line}
 
 -- ---- tokens
-
--- an `#include` line, to the end of its line (6.10.2)
-abbrev pub is_source_include : Text → Bool
-is_source_include bytes =
-    begins_with (codes "#include") bytes
-    && (each is_not_newline bytes && is_line_end (include_behind (bytes ++ newline ∷ [])))
 
 -- what a token holds
 abbrev pub is_source_tok : TokData → Bool
@@ -24,7 +17,7 @@ is_source_tok (word_token w) = is_word w && not (is_left_out_word w)
 is_source_tok (integer_token n t) = fits_type n t
 is_source_tok (character_token c) = is_character c
 is_source_tok (string_token s) = each is_byte s
-is_source_tok (include_token bytes) = is_source_include bytes
+is_source_tok (include_token bytes) = is_include_line bytes
 is_source_tok _ = true
 
 abbrev pub is_source_token : TokenData → Bool
@@ -188,7 +181,7 @@ is_source_func f =
     && ((are_source_params f.params && not (is_void_list f.params)) && is_source_body f.body))
 
 abbrev pub is_source_top : TopData → Bool
-is_source_top (include_top bytes) = is_source_include bytes
+is_source_top (include_top bytes) = is_include_line bytes
 is_source_top (directive_top n) = true
 is_source_top (decl_top d) = is_source_decl d
 is_source_top (func_top f) = is_source_func f

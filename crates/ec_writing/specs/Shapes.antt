@@ -1,5 +1,5 @@
 -- Which trees can be written so that they are read back, as a test that computes. `docs/LANGUAGE.md` has the reason for each part.
-use Rattle.std.specs.Prelude.{ℕ, suc, Bool, true, false, not, ◌&&◌, ◌||◌, nat_lt, ◌==◌, ℤ, pos, negsuc, int_le, List, [], ◌∷◌, ◌++◌, take, drop, codes, Option, Some, None}
+use Rattle.std.specs.Prelude.{ℕ, suc, Bool, true, false, not, ◌&&◌, ◌||◌, nat_lt, ◌==◌, ℤ, pos, negsuc, int_le, List, [], ◌∷◌, ◌++◌, codes, Option, Some, None}
 use Rattle.ec_ctypes.specs.declared.types.arith.Arith.TheVariants.{Int, UInt, Long, ULong, LLong, ULLong}
 use Rattle.ec_ctypes.specs.declared.tree.expr.BinOp.{BinOp}
 use Rattle.ec_ctypes.specs.declared.tree.expr.BinOp.TheVariants as bin
@@ -9,7 +9,8 @@ use Rattle.ec_ctypes.specs.trees.Exprs.{ExprData, integer, character, string, id
 use Rattle.ec_ctypes.specs.trees.Embedded.{EmbData}
 use Rattle.ec_ctypes.specs.trees.Stmts.{StmtData, stmt, StmtKindData, empty_stmt, expr_stmt, block_stmt, if_stmt, while_stmt, do_stmt, for_stmt, break_stmt, continue_stmt, return_stmt, goto_stmt, label_stmt, decl_stmt, emb_stmt, mark_stmt, StmtList, no_stmts, stmts, StmtOption, no_stmt, some_stmt}
 use Rattle.ec_ctypes.specs.trees.Units.{ParamData, FuncData, TopData, include_top, decl_top, func_top, UnitData}
-use Rattle.ec_language.specs.Letters.{Text, newline, is_not_newline, each, is_among, begins_with, same_text, same_word, skip_blanks}
+use Rattle.ec_language.specs.Letters.{Text, newline, is_not_newline, each, is_among, is_empty, begins_with, same_text, same_word}
+use Rattle.ec_language.specs.ReadPieces.{c_stop}
 use Rattle.ec_language.specs.ReadTokens.{include_behind}
 use Rattle.ec_language.specs.CText.{is_word}
 use Rattle.ec_language.specs.Keywords.{type_words, is_name}
@@ -281,16 +282,9 @@ is_written_func f =
     && ((are_written_params f.line.0 f.params && not (is_void_list f.params))
     && is_written_body f.body))
 
--- `EXEC` and `SQL` stand here, blanks between them aside.
-abbrev pub is_exec_sql : Text → Bool
-is_exec_sql t =
-    same_word (take 4 t) (codes "EXEC")
-    && same_word (take 3 (skip_blanks (drop 4 t))) (codes "SQL")
-
--- They stand nowhere in a line.
-abbrev pub has_no_exec_sql : Text → Bool
-has_no_exec_sql [] = true
-has_no_exec_sql (b ∷ t) = not (is_exec_sql (b ∷ t ++ newline ∷ [])) && has_no_exec_sql t
+-- No embedded piece starts in a line: C text goes on to its end.
+abbrev pub has_no_piece : Text → Bool
+has_no_piece bytes = is_empty (c_stop (bytes ++ newline ∷ []))
 
 abbrev pub is_line_end : Option Text → Bool
 is_line_end None = false
@@ -301,7 +295,7 @@ abbrev pub is_include_line : Text → Bool
 is_include_line bytes =
     begins_with (codes "#include") bytes
     && (each is_not_newline bytes
-    && (has_no_exec_sql bytes && is_line_end (include_behind (bytes ++ newline ∷ []))))
+    && (has_no_piece bytes && is_line_end (include_behind (bytes ++ newline ∷ []))))
 
 abbrev pub is_written_top : TopData → Bool
 is_written_top (decl_top d) = is_line (line_of d).0 && is_written_decl (line_of d).0 d

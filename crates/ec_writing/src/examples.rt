@@ -198,6 +198,9 @@ pub fn shape_examples()
     ensures include { is_written_top (include_top (codes "#include <a.h>")) ≡ true }
     ensures comment { is_written_top (include_top (codes "#include <a.h> // a")) ≡ false }
     ensures embedded { is_written_top (include_top (codes "#include <a> EXEC SQL")) ≡ false }
+    ensures one_word { is_written_top (include_top (codes "#include <execsql.h>")) ≡ true }
+    ensures longer { is_written_top (include_top (codes "#include <EXEC SQLS>")) ≡ true }
+    ensures quoted { is_written_top (include_top (codes "#include \"EXEC SQL\"")) ≡ true }
     ensures callee { is_written_expr 7 (call_other (member a (codes "m")) no_exprs) ≡ true }
     ensures called_name { is_written_expr 7 (call_other a no_exprs) ≡ false }
     ensures section { is_written_top (decl_top (decl int_words no_declarators true (on 7)))

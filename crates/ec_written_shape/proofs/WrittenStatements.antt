@@ -1,16 +1,15 @@
 -- What is written of statements and programs has the written shape.
 use Rattle.std.proofs.Common.{◌≡◌, ℕ, zero, suc, Bool, true, false, not, ◌&&◌, ◌||◌, List, [], ◌∷◌, ◌++◌, map, refl, sym, ap, ◌∙◌, subst, Option, Some, None, eqb-true}
-use Rattle.std.specs.Prelude.{codes, ◌==◌}
+use Rattle.std.specs.Prelude.{◌==◌}
 use Rattle.std.proofs.lemmas.Bool.{false≢true}
 use Rattle.ec_base.specs.declared.line.Line.{Line}
 use Rattle.ec_ctypes.specs.trees.Exprs.{BaseData, words, varchar, tagged, struct_base, DimList, no_dims, dims, DeclData, decl}
 use Rattle.ec_ctypes.specs.trees.Stmts.{StmtData, stmt, StmtKindData, empty_stmt, expr_stmt, block_stmt, if_stmt, while_stmt, do_stmt, for_stmt, break_stmt, continue_stmt, return_stmt, goto_stmt, label_stmt, decl_stmt, emb_stmt, mark_stmt, StmtList, no_stmts, stmts, StmtOption, no_stmt, some_stmt}
 use Rattle.ec_ctypes.specs.trees.Units.{ParamData, FuncData, TopData, include_top, directive_top, decl_top, func_top, mark_top, UnitData}
-use Rattle.ec_language.specs.Letters.{Text, newline, begins_with, each, is_not_newline}
+use Rattle.ec_language.specs.Letters.{Text}
 use Rattle.ec_language.specs.Productions.{is_void}
-use Rattle.ec_language.specs.ReadTokens.{include_behind}
 use Rattle.ec_language.proofs.Ends.{both}
-use Rattle.ec_writing.specs.Shapes.{is_plain_name, is_line, is_written_expr, is_written_decl, is_open, is_open_kind, is_open_else, is_declaration, is_written_stmt, is_written_kind, is_written_else, are_written_items, is_written_item, is_written_name, is_written_param, are_written_params, is_void_list, is_written_body, is_written_func, is_written_top, are_written_tops, is_line_end, is_written_shape}
+use Rattle.ec_writing.specs.Shapes.{is_plain_name, is_line, is_written_expr, is_written_decl, is_open, is_open_kind, is_open_else, is_declaration, is_written_stmt, is_written_kind, is_written_else, are_written_items, is_written_item, is_written_name, is_written_param, are_written_params, is_void_list, is_written_body, is_written_func, is_written_top, are_written_tops, is_written_shape}
 use Rattle.ec_source_shape.specs.SourceShape.{is_source_expr, is_source_base, are_source_dims, are_source_declarators, is_source_decl, is_source_option, is_source_stmt, is_source_kind, is_source_else, are_source_items, is_source_item, is_source_param, are_source_params, is_source_body, is_source_func, is_source_top, are_source_tops, is_source_shape}
 use Rattle.ec_source_shape.specs.Kept.{written, keeps_expr, keeps_type, keeps_dims, keeps_option, keeps_stmt, keeps_kind, keeps_stmts, keeps_else, keeps_param, keeps_params, keeps_body, keeps_func, keeps_top, keeps_tops, is_kept}
 use Rattle.ec_expansion.specs.Declarations.{written_expr, written_base, written_dims, written_decl}
@@ -217,10 +216,7 @@ module _ (embedded : ℕ → Option StmtKindData) (blocks : (k : ℕ) → IsBloc
       on_line e = eqb-true _ _ (both (not section) (line.0 == n) (both (not section && line.0 == n) _ e).0).1
 
   top_is : (t : TopData) → is_source_top t ≡ true → keeps_top written t ≡ true → are_written_tops (written_top embedded t) ≡ true
-  top_is (include_top bytes) h k =
-      let p = both (begins_with (codes "#include") bytes) (each is_not_newline bytes && is_line_end (include_behind (bytes ++ newline ∷ []))) h in
-      let a = both (each is_not_newline bytes) (is_line_end (include_behind (bytes ++ newline ∷ []))) p.1 in
-      join (join p.0 (join a.0 (join k a.1))) refl
+  top_is (include_top bytes) h k = join h refl
   top_is (directive_top m) h k = refl
   top_is (decl_top (decl b ds section line)) h k =
       decl_tops line.0 (written_decl line.0 (decl b ds section line)) (both (is_line line.0) (is_source_base b && are_source_declarators ds) h).0 (decl_is line.0 (decl b ds section line) h k)
