@@ -98,13 +98,19 @@ more_hosts (suc k) n w = elim (begins_more w) [
   | false ↦ done [] n w
 ]
 
+-- Where no host begins. A `:` begins one, so the token behind it is the one with which no host goes on.
+abbrev pub no_host : Tokens → Reading TextArgData
+no_host [] = stuck []
+no_host (t ∷ w) = elim (is (sign (codes ":")) t) [ true ↦ stuck w | false ↦ stuck (t ∷ w) ]
+
+-- the name of a descriptor: a word, a quote or a host
 abbrev pub text_at : Counts → Tokens → Reading TextArgData
 text_at n [] = stuck []
 text_at n (t ∷ w) = elim (is any_word t) [
   | true ↦ done (word_arg t.bytes) n w
   | false ↦ elim (is plain_quote t) [
     | true ↦ done (word_arg (unquoted t.bytes)) n w
-    | false ↦ elim (begins_host (t ∷ w)) [ true ↦ and_then (host_at reference n (t ∷ w)) (λ h m r. done (text_of_host h) m r) | false ↦ stuck (t ∷ w) ]
+    | false ↦ elim (begins_host (t ∷ w)) [ true ↦ and_then (host_at reference n (t ∷ w)) (λ h m r. done (text_of_host h) m r) | false ↦ no_host (t ∷ w) ]
   ]
 ]
 

@@ -27,6 +27,12 @@ pub fn server_examples()
         "y" ∷ []))) }
     ensures into_area { answer_to "EXEC SQL FETCH c INTO SQL DESCRIPTOR d;"
         ≡ gives (tree.server_text (b "FETCH c" ∷ []) (area_outs (word_arg (codes "d")))) }
+    ensures into_area_behind_a_colon { answer_to "EXEC SQL FETCH c INTO SQL DESCRIPTOR :\n5;"
+        ≡ dead_on 2 }
+    ensures into_area_cut_at_the_colon { answer_to "EXEC SQL FETCH c INTO SQL DESCRIPTOR :\n;"
+        ≡ dead_on 2 }
+    ensures into_area_of_a_name { answer_to "EXEC SQL FETCH c INTO SQL DESCRIPTOR\n\"d\";"
+        ≡ dead_on 2 }
     ensures comma_without_host { answer_to "EXEC SQL SELECT a INTO :x, b;"
         ≡ gives (tree.server_text (b "SELECT a , b" ∷ []) (listed_outs (plain "x" ∷ []))) }
     ensures second_into { answer_to "EXEC SQL SELECT a INTO :x\nINTO :y;" ≡ dead_on 2 }

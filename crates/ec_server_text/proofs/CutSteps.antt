@@ -1,14 +1,14 @@
 -- Hosts, INTO lists and cuts of a statement for the server are read by the readers.
 use Rattle.std.proofs.Common.{◌≡◌, ℕ, zero, suc, Bool, true, false, List, [], ◌∷◌, ◌++◌, length, drop, ◌-◌, refl, ap, sym, ◌∙◌, codes, Option, Some, None, append_assoc, append-nil}
-use Rattle.std.specs.Prelude.{◌||◌, ◌==◌}
+use Rattle.std.specs.Prelude.{◌&&◌, ◌||◌, ◌==◌}
 use Rattle.ec_ctypes.specs.trees.Embedded.{HostData, TextArgData, word_arg, OutsData, listed_outs, area_outs, PartData, bytes_part, host_part, server_text, trans, declare_cursor, EmbKindData}
 use Rattle.ec_ctypes.specs.trees.Exprs.{ExprData, identifier}
-use Rattle.ec_shapes.specs.ReadShapes.{done, stopped, stuck, over_limit, and_then, counting, read_one}
+use Rattle.ec_shapes.specs.ReadShapes.{done, stopped, stuck, over_limit, and_then, counting, taking, read_one}
 use Rattle.ec_shapes.proofs.Made.{made, same_next, made_first}
 use Rattle.ec_language.specs.Letters.{Text}
 use Rattle.ec_language.specs.SqlTokens.{SqlToken}
 use Rattle.ec_embedded.specs.References.{unquoted, text_of_host}
-use Rattle.ec_embedded.specs.ServerText.{Tokens, Reading, begins_host, begins_indicator, begins_area, begins_into, begins_more, suffixes, reference_at, with_indicator, host_at, more_hosts, text_at, into_list, Cut, token, host, into, cons_cut, cuts, blank, put, parts, outs_in, depth_behind, server_at, plain_cuts, transaction_at, bytes_in}
+use Rattle.ec_embedded.specs.ServerText.{Tokens, Reading, begins_host, begins_indicator, begins_area, begins_into, begins_more, suffixes, reference_at, with_indicator, host_at, more_hosts, no_host, text_at, into_list, Cut, token, host, into, cons_cut, cuts, blank, put, parts, outs_in, depth_behind, server_at, plain_cuts, transaction_at, bytes_in}
 use Rattle.ec_embedded.specs.Terminals.{alphabet, Counts, Terminal, step_by, Begins, input, reference, is, keyword, any_word, glued_word, sign, colon, plain_quote}
 use Rattle.ec_references.specs.Readers.{Reader, returns, ◌>>=◌, ◌>>◌, taken, if_next, turns_from}
 use Rattle.ec_server_text.proofs.Longest.{both_true, taken_there, first_way, other_way, long_is}
@@ -17,6 +17,13 @@ use Rattle.ec_server_text.specs.Readers.{Writing, Cutting, goes_on, one_cut, cut
 
 passed : {A : Type 0} (t : Terminal) (n : Counts) (a : SqlToken) (w : Tokens) (f : SqlToken → Counts → Tokens → Reading A) → is t a ≡ true → and_then (read_one alphabet t n (a ∷ w)) f ≡ and_then (counting alphabet t a w (step_by t.begins n)) f
 passed t n a w f e = ap (λ o. and_then o f) (taken_there t n a w e)
+
+missed : {A : Type 0} (t : Terminal) (n : Counts) (a : SqlToken) (w : Tokens) (f : SqlToken → Counts → Tokens → Reading A) → is t a ≡ false → and_then (read_one alphabet t n (a ∷ w)) f ≡ stuck (a ∷ w)
+missed t n a w f e = ap (λ c. and_then (taking alphabet t n a w c) f) e
+
+second_false : (x y : Bool) → (x && y) ≡ false → x ≡ true → y ≡ false
+second_false true y e f = e
+second_false false y e f = absurd (cc)
 
 -- ---- hosts
 
@@ -76,6 +83,28 @@ host_is b n w h = ap (λ o. and_then o with_indicator) (reference_is b n w h) �
 
 -- ---- names
 
+-- Where no host begins, its reader stops at a token that isn't a `:`, or else at the one behind it.
+no_host_is : (n : Counts) (t : SqlToken) (w : Tokens) → begins_host (t ∷ w) ≡ false → no_host (t ∷ w) ≡ and_then (r.long_host reference n (t ∷ w)) (λ h m q. done (text_of_host h) m q)
+unfolding r.long_host r.long_reference
+no_host_is n t w h = go (is (sign (codes ":")) t) refl
+  where
+    with_suffixes : SqlToken → Counts → Tokens → Reading ExprData
+    with_suffixes u m q = r.long_suffixes (identifier u.bytes) m q
+
+    behind : SqlToken → Counts → Tokens → Reading ExprData
+    behind v m q = and_then (read_one alphabet glued_word m q) with_suffixes
+
+    with_indicators : Reading ExprData → Reading TextArgData
+    with_indicators o = and_then (and_then o (λ e m q. and_then (r.long_indicator m q) (λ i m q. done (record { value = e; indicator = i }) m q))) (λ h m q. done (text_of_host h) m q)
+
+    wordless : (q : Tokens) → begins_host (t ∷ q) ≡ false → is (sign (codes ":")) t ≡ true → (m : Counts) → stuck q ≡ with_indicators (behind t m q)
+    wordless [] e c m = refl
+    wordless (b ∷ q) e c m = ap with_indicators (sym (missed glued_word m b q with_suffixes (second_false (is (sign (codes ":")) t) (is glued_word b) e c)))
+
+    go : (x : Bool) → is (sign (codes ":")) t ≡ x → elim x as (λ _. Reading TextArgData) [ true ↦ stuck w | false ↦ stuck (t ∷ w) ] ≡ with_indicators (and_then (read_one alphabet (colon reference) n (t ∷ w)) behind)
+    go true e = wordless w h e (record { inputs = n.inputs; suffixes = 0 }) ∙ ap with_indicators (sym (passed (colon reference) n t w behind e))
+    go false e = ap with_indicators (sym (missed (colon reference) n t w behind e))
+
 text_is : (n : Counts) (w : Tokens) → text_at n w ≡ r.long_text n w
 unfolding r.long_text
 text_is n [] = refl
@@ -88,15 +117,14 @@ text_is n (t ∷ w) = go (is any_word t) refl
     quote_way = taken plain_quote >>= (λ u. returns (word_arg (unquoted u.bytes)))
 
     host_way : Reader TextArgData
-    host_way = if_host (r.long_host reference >>= (λ h. returns (text_of_host h))) (λ n w. stuck w)
+    host_way = r.long_host reference >>= (λ h. returns (text_of_host h))
 
-    by_host : (x : Bool) → begins_host (t ∷ w) ≡ x → elim x as (λ _. Reading TextArgData) [ true ↦ and_then (host_at reference n (t ∷ w)) (λ h m q. done (text_of_host h) m q) | false ↦ stuck (t ∷ w) ]
-        ≡ elim x as (λ _. Reading TextArgData) [ true ↦ and_then (r.long_host reference n (t ∷ w)) (λ h m q. done (text_of_host h) m q) | false ↦ stuck (t ∷ w) ]
+    by_host : (x : Bool) → begins_host (t ∷ w) ≡ x → elim x as (λ _. Reading TextArgData) [ true ↦ and_then (host_at reference n (t ∷ w)) (λ h m q. done (text_of_host h) m q) | false ↦ no_host (t ∷ w) ] ≡ host_way n (t ∷ w)
     by_host true e = ap (λ o. and_then o (λ h m q. done (text_of_host h) m q)) (host_is reference n (t ∷ w) e)
-    by_host false e = refl
+    by_host false e = no_host_is n t w e
 
     at_host : Reading TextArgData
-    at_host = elim (begins_host (t ∷ w)) as (λ _. Reading TextArgData) [ true ↦ and_then (host_at reference n (t ∷ w)) (λ h m q. done (text_of_host h) m q) | false ↦ stuck (t ∷ w) ]
+    at_host = elim (begins_host (t ∷ w)) as (λ _. Reading TextArgData) [ true ↦ and_then (host_at reference n (t ∷ w)) (λ h m q. done (text_of_host h) m q) | false ↦ no_host (t ∷ w) ]
 
     by_quote : (x : Bool) → is plain_quote t ≡ x → elim x as (λ _. Reading TextArgData) [ true ↦ done (word_arg (unquoted t.bytes)) n w | false ↦ at_host ] ≡ if_next plain_quote quote_way host_way n (t ∷ w)
     by_quote true e = sym (passed plain_quote n t w (λ u m q. done (word_arg (unquoted u.bytes)) m q) e) ∙ sym (first_way plain_quote quote_way host_way n t w e)

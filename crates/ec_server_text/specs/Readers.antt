@@ -51,7 +51,7 @@ unfoldable pub long_text : Reader TextArgData
 long_text =
     if_next any_word (taken any_word >>= (λ t. returns (word_arg t.bytes)))
     (if_next plain_quote (taken plain_quote >>= (λ t. returns (word_arg (unquoted t.bytes))))
-    (if_host (long_host reference >>= (λ h. returns (text_of_host h))) (λ n w. stuck w)))
+    (long_host reference >>= (λ h. returns (text_of_host h))))
 
 -- ---- the list of an INTO
 

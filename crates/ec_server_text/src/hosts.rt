@@ -108,11 +108,8 @@ fn long_text(alloc: Global, cursor: &mut Cursor<'_>) -> Result<TextArg, Failure>
         let token = cursor.take(Class::Quote)?;
         return Ok(TextArg::Word(unquoted(alloc, token)?));
     }
-    if begins_host(cursor.rest()) {
-        let host = long_host(alloc, cursor)?;
-        return Ok(text_of_host(alloc, host)?);
-    }
-    Err(Failure::Dead(cursor.left()))
+    let host = long_host(alloc, cursor)?;
+    Ok(text_of_host(alloc, host)?)
 }
 
 /// One more host of an INTO list.
