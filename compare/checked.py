@@ -14,12 +14,13 @@ def built():
     return folder / "out" / "ec_check_rows"
 
 
-def by_program(program, texts):
-    """What the program prints of each text: `fine`, a fault with its line, or a limit."""
-    rows = "".join(f"=== {n}\n{text}\n" for n, text in enumerate(texts))
+def by_program(program, texts, written=None):
+    """What the program prints of each text: `fine`, a fault with its line, or a limit. `written` tells which are written C."""
+    labels = [f"written {n}" if written and written[n] else str(n) for n in range(len(texts))]
+    rows = "".join(f"=== {label}\n{text}\n" for label, text in zip(labels, texts))
     ended = subprocess.run([program], input=rows, capture_output=True, encoding="utf-8")
     parts = re.split(r"^=== (.*)\n", ended.stdout, flags=re.M)
-    if ended.returncode or parts[1::2] != [str(n) for n in range(len(texts))]:
+    if ended.returncode or parts[1::2] != labels:
         raise SystemExit(f"compare: {program} ended with {ended.returncode}: {ended.stderr}")
     return [re.sub(r"^(F\d+) .* line (\d+)$|^limit (L\d+)$", lambda m: m[3] or f"{m[1]} {m[2]}", found.strip()) for found in parts[2::2]]
 

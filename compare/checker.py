@@ -7,6 +7,8 @@ Python.
 
 from dataclasses import dataclass, field
 
+import library
+
 MOST = 2**24
 RANKS = {"bool": 0, "char": 1, "uchar": 1, "short": 2, "ushort": 2, "int": 3, "uint": 3, "long": 4, "ulong": 4, "llong": 5, "ullong": 5}
 BITS = {"bool": 1, "char": 8, "uchar": 8, "short": 16, "ushort": 16, "int": 32, "uint": 32, "long": 64, "ulong": 64, "llong": 64, "ullong": 64}
@@ -341,7 +343,8 @@ def meets(need, t):
 class Checker:
     """Finds all violations of a program: `found` has (place, rank, what is printed)."""
 
-    def __init__(self, unit):
+    def __init__(self, unit, written=False):
+        self.written = written  # C that is written, in which the library is known
         self.found, self.places, self.numbers = [], 0, []
         self.scopes = [Scope()]
         inner, self.sqlca = Struct(None), Struct(None)
@@ -402,6 +405,10 @@ class Checker:
     def reserved(self, name):
         return name in WORDS or name in KNOWN or name in FORMATTED or name.startswith(("ECPG", "varchar_"))
 
+    def free_tag(self, at, tag):
+        of_varchar = self.written and tag.startswith("varchar_")
+        self.demand(at, "F12", of_varchar or (not self.reserved(tag) and tag.upper() != "EXEC"))
+
     def declare(self, at, name, thing):
         self.demand(at, "F10", name not in self.scopes[-1].names)
         self.demand(at, "F12", not self.reserved(name))
@@ -427,7 +434,7 @@ class Checker:
         here = self.scopes[-1].tags
         if tag is None:
             return Struct(None)
-        self.demand(at, "F12", not self.reserved(tag) and tag.upper() != "EXEC")
+        self.free_tag(at, tag)
         before = here.get(tag)
         if before is not None and (before.begun or before.members is not None):
             self.fault(at, "F10")
@@ -696,7 +703,9 @@ class Checker:
 
     def of_call(self, at, name, args):
         stream = name == "fprintf" and bool(args) and args[0][0] == "name" and args[0][1] in ("stdout", "stderr")
-        os = [Found() if stream and i == 0 else self.value(at, a) for i, a in enumerate(args)]
+        of_library = self.written and name in library.CALLS
+        forms = [(stream and i == 0) or (of_library and library.is_symbol(a)) for i, a in enumerate(args)]
+        os = [Found() if form else self.value(at, a) for form, a in zip(forms, args)]
         thing = self.look(name)
         if isinstance(thing, Thing):
             return self.bad(at, "F16")
@@ -705,6 +714,9 @@ class Checker:
             if thing.params is not None:
                 self.arguments(at, thing.params, os)
             return Found(thing.result)
+        if of_library:
+            takes = library.takes(name, [(a, o.type) for a, o in zip(args, os)])
+            return Found(VOID) if takes else self.bad(at, "F16")
         if name in KNOWN:
             result, params = KNOWN[name]
             self.arguments(at, [named(p) for p in params], os)
@@ -822,7 +834,7 @@ class Checker:
     def specifier(self, at, base, items):
         if base[0] == "tag" and not items:
             tag, here = base[1], self.scopes[-1].tags
-            self.demand(at, "F12", not self.reserved(tag) and tag.upper() != "EXEC")
+            self.free_tag(at, tag)
             here.setdefault(tag, Struct(tag))
             return None
         return self.base(at, base)

@@ -6,6 +6,8 @@ A tree that is written gets the lines of its parts from where their first tokens
 import copy
 from dataclasses import dataclass, field
 
+import library
+
 
 @dataclass
 class Declarator:
@@ -323,7 +325,7 @@ FUNCTIONS = ["f", "g", "h"]
 TAGS = ["s", "t", "u"]
 MEMBERS = ["m", "n", "o"]
 LABELS = ["l", "k"]
-STRANGE = ["sqlca", "NULL", "printf", "ECPGx", "varchar_a", "stdout", "true", "memcpy", "SQLSTATEX", "EXECX", "zz"]
+STRANGE = ["sqlca", "NULL", "printf", "ECPGx", "varchar_a", "stdout", "true", "memcpy", "SQLSTATEX", "EXECX", "ECPGt_int", "zz"]
 WORDS = [["int"], ["int"], ["int"], ["char"], ["char"], ["void"], ["bool"], ["unsigned", "char"], ["short"], ["long"],
          ["unsigned", "int"], ["long", "long"], ["unsigned", "long"], ["long", "int", "long", "unsigned"], ["signed", "char"],
          ["unsigned"], ["short", "unsigned"], ["const", "char"], ["long", "const"]]
@@ -363,11 +365,31 @@ TYPED = [
 ]
 
 
+NULL = ("name", "NULL")
+POINTERS = [("unary", "&", named("a")), named("b"), named("c"), named("p"), named("y"), named("z"), named("q"), ("unary", "&", named("c")),
+            ("unary", "&", ("member", named("x"), "m"))]
+
+
+def long(n):
+    return ("int", n, "long")
+
+
+NO_INDICATOR = [named("ECPGt_NO_INDICATOR"), NULL, long(0), long(0), long(0)]
+# A symbol, a pointer, a length, and the size of an element.
+HOSTS = [
+    ("int", ("unary", "&", named("a")), 0, 4), ("int", named("p"), 0, 4), ("char", named("b"), 3, 3), ("char", named("c"), 0, 8),
+    ("unsigned_char", named("b"), 1, 1), ("unsigned_long", ("unary", "&", named("d")), 0, 8), ("long", named("y"), 0, 8),
+    ("varchar", ("unary", "&", named("x")), 3, 8), ("varchar", named("q"), 1, 8), ("varchar", named("q"), 4, 8), ("bool", named("y"), 0, 1),
+    ("short", named("y"), 0, 2), ("unsigned_short", named("y"), 0, 2), ("unsigned_int", named("z"), 0, 4), ("long_long", named("y"), 0, 8),
+    ("unsigned_long_long", named("y"), 0, 8), ("varchar", named("y"), 2**24, 2**24 + 4),
+]
+
+
 class Maker:
     """Makes parts of programs at random, many of which the checks refuse."""
 
-    def __init__(self, rng):
-        self.rng = rng
+    def __init__(self, rng, written=False):
+        self.rng, self.written = rng, written
 
     def name(self, names, strange=0.004):
         return self.rng.choice(STRANGE if self.rng.random() < strange else names)
@@ -489,6 +511,9 @@ class Maker:
         )[0]
         s = lambda: self.statement(depth - 1, False)
         e = lambda: self.expression(2)
+        if form == "expression" and self.written and self.rng.random() < 0.5:
+            call = self.library_call()
+            return Statement((form, ("cast", ("words", ["void"]), 0, call) if self.rng.random() < 0.03 else call))
         if form == "expression":
             return Statement((form, self.rng.choice(TYPED) if self.rng.random() < 0.4 else self.expression(3)))
         if form == "declare":
@@ -514,6 +539,67 @@ class Maker:
             return Statement((form, self.name(LABELS), s() if depth else Statement(("empty",))))
         return Statement((form,))
 
+    # ---- calls of the library, which written C has
+
+    def text(self, or_null=False):
+        literal = ("str", self.rng.choice([b"", b"t", b"CURRENT", b"on"]))
+        return self.rng.choice([literal, literal, named("b"), named("c"), *([NULL] * 2 if or_null else [])])
+
+    def literal(self):
+        return ("str", self.rng.choice([b"", b"s", b"SELECT 1", b"off"]))
+
+    def value(self, single=False, constants=False):
+        """Ten arguments: a host with its indicator, or a constant."""
+        if constants and self.rng.random() < 0.25:
+            return [named("ECPGt_const"), self.literal(), long(0), long(1), long(0), *NO_INDICATOR]
+        kind, pointer, length, least = self.rng.choice(HOSTS)
+        count = 1 if single else self.rng.choice([1, 1, 2, 7, 2**24])
+        distance = self.rng.choice([least, least, least + 1, 2**24])
+        host = [named("ECPGt_" + kind), pointer, long(length), long(count), long(distance)]
+        return host + (NO_INDICATOR if self.rng.random() < 0.5 else self.indicator(count))
+
+    def indicator(self, count):
+        kind, size = self.rng.choice([("short", 2), ("int", 4), ("long", 8), ("long_long", 8)])
+        more, apart = self.rng.choice([count, count, 2**24]), self.rng.choice([size, size + 1, 2**24])
+        return [named("ECPGt_" + kind), self.rng.choice(POINTERS), long(0), long(more), long(apart)]
+
+    def area(self):
+        return [named("ECPGt_descriptor"), self.text(), long(1), long(1), long(1), *NO_INDICATOR]
+
+    def running(self):
+        head = self.rng.choice(["normal", "normal", "normal", "execute", "exec_immediate", "open"])
+        what = [self.text()] if head == "exec_immediate" else [self.literal() for _ in range(2 if head == "open" else 1)]
+        ins = sum([self.value(True, True) for _ in range(self.rng.choice([0, 0, 1, 2]))], [])
+        ins += self.area() if self.rng.random() < 0.15 else []
+        outs = sum([self.value() for _ in range(self.rng.choice([0, 1, 1, 2]))], [])
+        outs = self.area() if self.rng.random() < 0.15 else outs
+        return [self.text(True), named("ECPGst_" + head), *what, *ins, named("ECPGt_EOIT"), *outs, named("ECPGt_EORT")]
+
+    def describing(self, stores):
+        items = sorted(library.ITEMS if stores else library.SET_ITEMS)
+        args = [self.text(), *self.value(True, True)]
+        for _ in range(self.rng.choice([0, 1, 1, 2])):
+            args += [named(self.rng.choice(items)), *self.value(True, not stores)]
+        return [*args, named("ECPGd_EODT")]
+
+    def library_call(self):
+        """A call that written C may have."""
+        name = self.rng.choice(["ECPGdo"] * 8 + ["ECPGget_desc", "ECPGset_desc"] * 2 + sorted(library.CALLS))
+        if name == "ECPGdo":
+            args = self.running()
+        elif name in library.SHAPES:
+            args = [self.argument(shape) for shape in library.SHAPES[name]]
+        elif name.endswith("header"):
+            args = [self.text(), *self.value(True, name.startswith("ECPGset"))]
+        else:
+            args = self.describing(name.startswith("ECPGget"))
+        return ("call", name, [("int", self.rng.choice([1, 7, 2147483647]), "int"), *args])
+
+    def argument(self, shape):
+        if shape == "w":
+            return ("str", self.rng.choice([b"on", b"off"]))
+        return self.literal() if shape == "l" else self.text(shape == "n")
+
     def declaration(self, names, init):
         count = self.rng.choice([1, 1, 1, 1, 2, 2, 3, 0])
         base = self.base() if count else ("tag" if self.rng.random() < 0.5 else "struct", self.name(TAGS), [self.member(1)])
@@ -535,14 +621,29 @@ class Maker:
 EXPRESSIONS = {"int", "char", "str", "name", "unary", "binary", "assign", "bump", "call", "callother", "index", "member", "arrow", "cast", "sizetype", "sizeexpr"}
 
 
+def library_calls(stmts):
+    """The statements that are calls of the library, inner ones too."""
+    for s in stmts:
+        if s.kind[0] == "expression" and s.kind[1][0] == "call" and s.kind[1][1] in library.CALLS:
+            yield s
+        for part in s.kind[1:]:
+            if isinstance(part, (list, Statement)):
+                yield from library_calls(part if isinstance(part, list) else [part])
+
+
 class Changer:
     """Changes one thing in a unit."""
 
-    def __init__(self, rng):
-        self.rng, self.maker = rng, Maker(rng)
+    def __init__(self, rng, written=False):
+        self.rng, self.maker = rng, Maker(rng, written)
 
     def changed(self, unit):
         unit = copy.deepcopy(unit)
+        calls = [s for top in unit.tops if top.kind == "function" for s in library_calls(top.body or [])]
+        if calls and self.rng.random() < 0.6:
+            call = self.rng.choice(calls)
+            call.kind = ("expression", self.expression(call.kind[1]))
+            return unit
         for _ in range(50):
             places = self.places(unit)
             if not places or self.rng.choice(places)():
@@ -672,8 +773,46 @@ class Changer:
             parts[i] = self.init(parts[i])
         return ("many", parts)
 
+    def number(self, e):
+        """Another number, or one of another type."""
+        if self.rng.random() < 0.2:
+            return ("int", e[1], self.rng.choice(["int", "uint", "long", "llong"]))
+        return ("int", self.rng.choice([0, 1, e[1] + 1, max(e[1] - 1, 0), 2**24, 2**24 + 1]), e[2])
+
+    def argument(self, e):
+        """Another argument of a call of the library."""
+        if self.rng.random() < 0.2:
+            return self.expression(e)
+        if e[0] == "int" and self.rng.random() < 0.8:
+            return self.number(e)
+        if library.is_symbol(e) and self.rng.random() < 0.8:
+            return ("name", self.rng.choice(sorted(library.SYMBOLS)))
+        others = [NULL, ("str", b"t"), ("int", 1, "int"), long(0), ("char", 97), *POINTERS, named("a"), named("d"), named("x"), named("w")]
+        return self.rng.choice(others)
+
+    def library_call(self, name, args):
+        """A call of the library with one of its arguments, their order or their number changed."""
+        args, i, r = list(args), self.rng.randrange(len(args)), self.rng.random()
+        if r < 0.6:
+            args[i] = self.argument(args[i])
+        elif r < 0.7:
+            del args[i]
+        elif r < 0.8:
+            args.insert(i, copy.deepcopy(self.rng.choice(args)))
+        elif r < 0.9:
+            j = self.rng.randrange(len(args))
+            args[i], args[j] = args[j], args[i]
+        elif r < 0.95:
+            i = 10 * self.rng.randrange(3)
+            args[-1 - i:-1 - i] = self.rng.choice([self.maker.area, self.maker.value])()
+        else:
+            name = self.rng.choice(sorted(library.CALLS))
+        return ("call", name, args)
+
     def expression(self, e):
         """One part of an expression is another one, or has another operator."""
+        if e[0] == "call" and e[1] in library.CALLS and e[2]:
+            return self.library_call(e[1], e[2])
         inside = [i for i, part in enumerate(e) if isinstance(part, tuple) and part and part[0] in EXPRESSIONS]
         if inside and self.rng.random() < 0.6:
             i = self.rng.choice(inside)
@@ -705,11 +844,11 @@ class Changer:
         return (self.rng.choice(["sizeexpr"]), e) if r < 0.8 else ("unary", self.rng.choice(["&", "*", "!", "-"]), e) if r < 0.9 else self.maker.leaf()
 
 
-def verdict(unit):
+def verdict(unit, written=False):
     """What the checks of this folder say of a unit: the first fault with its line, the limit, or None."""
     from checker import Checker
 
-    return Checker(unit).check()
+    return Checker(unit, written).check()
 
 
 def words(*which):
@@ -736,9 +875,9 @@ def known_things():
     ]
 
 
-def valid(rng):
+def valid(rng, written=False):
     """A unit that the checks of this folder accept: a random one, without the parts that they refuse."""
-    maker = Maker(rng)
+    maker = Maker(rng, written)
     main = Function(words("int"), 0, "main", [], [])
     tops = [top for top in known_things() if rng.random() < 0.93] if rng.random() < 0.7 else []
     for _ in range(rng.choice([0, 1, 3, 5])):
@@ -747,16 +886,16 @@ def valid(rng):
     for f in unit.tops:
         if f.kind == "function" and f.body is not None:
             f.body += [maker.statement(2) for _ in range(rng.choice([0, 2, 4, 8, 12]))]
-    while pruned(unit, main):
+    while pruned(unit, main, written):
         pass
     return unit
 
 
-def pruned(unit, main):
+def pruned(unit, main, written):
     """Takes out what the checks refuse; whether there was such a part."""
     from checker import Checker
 
-    checker = Checker(unit)
+    checker = Checker(unit, written)
     if checker.check() is None:
         return False
     faulty = checker.faulty()
@@ -768,11 +907,12 @@ def pruned(unit, main):
 
 
 def program(seed):
-    """The unit of a seed, and its text. Most have one thing changed, some two."""
+    """The unit of a seed, its text, and whether it is written C. Most have one thing changed, some two."""
     import random
 
     rng = random.Random(seed)
-    unit = valid(rng)
+    written = seed % 3 == 2
+    unit = valid(rng, written)
     for _ in range(rng.choice([0, 1, 1, 1, 2, 2])):
-        unit = Changer(rng).changed(unit)
-    return unit, Writer(rng).unit(unit)
+        unit = Changer(rng, written).changed(unit)
+    return unit, Writer(rng).unit(unit), written
