@@ -1,5 +1,5 @@
 -- Ways through one member more.
-use Rattle.std.proofs.Common.{◌≡◌, ℕ, zero, suc, List, [], ◌∷◌, ◌++◌, map, Option, Some, None, option_map, refl, sym, ap, ◌∙◌, append_assoc, length, Bool, true, false}
+use Rattle.std.proofs.Common.{◌≡◌, ℕ, zero, suc, List, [], ◌∷◌, ◌++◌, map, Option, Some, None, option_map, refl, ap, ◌∙◌, append_assoc, length, Bool, true, false}
 use Rattle.std.specs.Prelude.{slice_get}
 use Rattle.ec_language.specs.Letters.{Text}
 use Rattle.ec_leaves.specs.declared.parts.Frame.{Frame}
@@ -31,8 +31,8 @@ bare frame None = refl
 bare frame (Some ws) = refl
 
 -- all leaves of a struct
-pub whole : (frame : Frame) (structs : List StructData) (k n : ℕ) → n ≡ length structs → behind frame [] [] (ways_within n structs k) ≡ option_map (map (leaf_at frame)) (ways structs k)
-whole frame structs k n h = ap (λ (m : ℕ). behind frame [] [] (ways_within m structs k)) h ∙ bare frame (ways structs k)
+pub all_within : (frame : Frame) (structs : List StructData) (k n : ℕ) → n ≡ length structs → behind frame [] [] (ways_within n structs k) ≡ option_map (map (leaf_at frame)) (ways structs k)
+all_within frame structs k n h = ap (λ (m : ℕ). behind frame [] [] (ways_within m structs k)) h ∙ bare frame (ways structs k)
 
 -- ---- the cases are the leaves
 

@@ -1,5 +1,5 @@
 -- Adding the leaves at the ends of ways that begin with the same members.
-use Rattle.std.specs.Prelude.{◌≡◌, Bool, true, false, List, ◌++◌, map, Option, Some, None, option_map}
+use Rattle.std.specs.Prelude.{Bool, true, false, List, ◌++◌, map, Option, Some, None, option_map}
 use Rattle.ec_leaves.specs.declared.parts.Frame.{Frame}
 use Rattle.ec_leaves.specs.Seen.{leaf_at}
 use Rattle.ec_hosts.specs.Leaves.{LeafData, Path, Way}

@@ -1,3 +1,4 @@
 pub mod Adding
 pub mod Cases
+pub mod Going
 pub mod Seen

@@ -1,5 +1,4 @@
 -- What the code holds, as plain data.
-use Rattle.std.specs.Prelude.{ℕ, List, map}
 use Rattle.ec_ctypes.specs.views.Types.{ty_view}
 use Rattle.ec_leaves.specs.declared.parts.Leaf.{Leaf}
 use Rattle.ec_leaves.specs.declared.parts.Frame.{Frame}

@@ -2,6 +2,7 @@
 #![tactic(auto)]
 
 mod elements;
+mod going;
 mod parts;
 mod placing;
 mod walking;

@@ -1,4 +1,4 @@
-use Rattle.std.proofs.Common.{◌≡◌, ◌∙◌, ap, sym, List, Option, option_map}
+use Rattle.std.proofs.Common.{◌∙◌, ap, sym, List, option_map}
 use Rattle.std.specs.Prelude.{slice_get}
 use Rattle.ec_ctypes.specs.declared.types.ty.StructDef.{StructDef}
 use Rattle.ec_ctypes.specs.views.Types.{struct_view}

@@ -1,4 +1,4 @@
-use Rattle.std.proofs.Common.{◌≡◌, ◌∙◌}
+use Rattle.std.proofs.Common.{◌∙◌}
 use Rattle.ec_ctypes.specs.views.Types.{ty_view, structs_view}
 use Rattle.ec_leaves.proofs.Stepping.{all_cases}
 use Rattle.ec_leaves.proofs.walking.leaves.Goals as goal
