@@ -106,7 +106,7 @@ no_host_is n t w h = go (is (sign (codes ":")) t) refl
     go false e = ap with_indicators (sym (missed (colon reference) n t w behind e))
 
 text_is : (n : Counts) (w : Tokens) → text_at n w ≡ r.long_text n w
-unfolding r.long_text
+unfolding r.long_text r.long_host r.long_reference
 text_is n [] = refl
 text_is n (t ∷ w) = go (is any_word t) refl
   where
