@@ -1,1 +1,3 @@
+mod Statements
+mod StatementTexts
 mod WrittenSources

@@ -1,10 +1,10 @@
 -- What is written of an accepted source has the written shape.
 use Rattle.std.proofs.Common.{◌≡◌, ℕ, zero, suc, ◌≤◌, true, false, ◌&&◌, List, [], ◌∷◌, length, refl, sym, ap, ◌∙◌, subst, Option, Some, None, Result, Ok, Err}
-use Rattle.std.specs.Prelude.{slice_get, option_and_then}
+use Rattle.std.specs.Prelude.{◌||◌, slice_get, option_map, option_and_then}
 use Rattle.ec_base.specs.declared.stop.Stop.{Stop}
 use Rattle.ec_ctypes.specs.declared.text.piece.Piece.{Piece}
 use Rattle.ec_ctypes.specs.trees.Checked.{MarkData, BoundData, TypedData}
-use Rattle.ec_ctypes.specs.trees.Embedded.{EmbData}
+use Rattle.ec_ctypes.specs.trees.Embedded.{EmbKindData, connect, set_connection, disconnect, autocommit, trans, server_text, declare_cursor, open_cursor, execute_immediate, prepare, execute, deallocate, allocate_area, free_area, get_count, get_items, set_count, set_items, whenever, include_sqlca, EmbData}
 use Rattle.ec_ctypes.specs.trees.Stmts.{StmtKindData}
 use Rattle.ec_ctypes.specs.trees.Tokens.{TokenData}
 use Rattle.ec_ctypes.specs.trees.Units.{TopData, UnitData}
@@ -25,11 +25,13 @@ use Rattle.ec_writing.specs.Shapes.{is_byte, is_line, is_written_shape}
 use Rattle.ec_source_shape.specs.SourceShape.{are_source_tokens, are_source_tops, is_source_shape}
 use Rattle.ec_source_shape.specs.Kept.{written, is_kept}
 use Rattle.ec_source_shape.specs.Includes.{DeclareNoPiece, DeclaredIncludesStartNothing}
-use Rattle.ec_expansion.specs.Programs.{block_for, embedded, unit_of}
+use Rattle.ec_expansion.specs.Calls.{prepared_opened, call_by}
+use Rattle.ec_expansion.specs.Programs.{block_of, block_for, embedded, unit_of}
 use Rattle.ec_expansion.specs.Statements.{written_tops}
 use Rattle.ec_written_shape.specs.Blocks.{IsBlockOption}
 use Rattle.ec_written_shape.specs.Bounds.{are_written_actions, is_written_statement, are_written_statements, is_written_bound}
-use Rattle.ec_written_sources.specs.Written.{written_of, is_written_with, are_written_with, has_written_statements}
+use Rattle.ec_written_sources.specs.Written.{written_of, is_directive, has_written_hosts, have_written_hosts, are_hosts_written}
+use Rattle.ec_written_sources.proofs.Statements.{AreStatements, statements_written, source_statements}
 
 -- ---- the phases one after the other
 
@@ -107,22 +109,51 @@ module _
     tree_shape : (text : Text) (v : UnitData) → each is_byte text ≡ true → DeclaredIncludesStartNothing text → ReadsTree text (Ok v) → is_source_shape v ≡ true
     tree_shape text v b q (statements pieces ts u es answer l c x is r e) = subst (λ ts. are_source_tops ts ≡ true) (same_tops u v es e) (derived_shape ts u (tokens_are text pieces ts b l c (q pieces c) x) is)
 
-    embedded_is : (handlers : List MarkData) (all es : List EmbData) (bounds : List BoundData) (from n : ℕ) → are_written_statements all ≡ true → are_written_with handlers es bounds ≡ true
+    -- of no directive
+    block_is : (handlers : List MarkData) (all : List EmbData) (n : ℕ) (e : EmbData) (b : BoundData) → is_line e.line.0 ≡ true → are_written_statements all ≡ true → is_written_statement e.kind ≡ true → has_written_hosts handlers e b ≡ true → IsBlockOption (block_for handlers all n e b)
+    block_is handlers all n e b l a s h = go e.kind refl h
+      where
+        none : is_directive e.kind ≡ false → has_written_hosts handlers e b ≡ true → IsBlockOption (block_for handlers all n e b)
+        none d h =
+            let p = both (are_written_actions e.line.0 (action_among handlers e.place)) (is_written_bound e.line.0 b) (sym (λ i. d i || (are_written_actions e.line.0 (action_among handlers e.place) && is_written_bound e.line.0 b)) ∙ h) in
+            block_for_is handlers all n e b l p.0 a s p.1
+
+        nothing : (kind : EmbKindData) → kind ≡ e.kind → call_by (prepared_opened all n e) kind b ≡ None → IsBlockOption (block_for handlers all n e b)
+        nothing kind k c = subst IsBlockOption (sym (ap (λ x. option_map (block_of handlers e) x) (ap (λ x. call_by (prepared_opened all n e) x b) (sym k) ∙ c))) tt
+
+        go : (kind : EmbKindData) → kind ≡ e.kind → has_written_hosts handlers e b ≡ true → IsBlockOption (block_for handlers all n e b)
+        go (declare_cursor cursor parts prepared) k h = nothing (declare_cursor cursor parts prepared) k refl
+        go (whenever condition action) k h = nothing (whenever condition action) k refl
+        go include_sqlca k h = nothing include_sqlca k refl
+        go (connect target name user password) k h = none (ap is_directive (sym k)) h
+        go (set_connection name) k h = none (ap is_directive (sym k)) h
+        go (disconnect name) k h = none (ap is_directive (sym k)) h
+        go (autocommit on) k h = none (ap is_directive (sym k)) h
+        go (trans text) k h = none (ap is_directive (sym k)) h
+        go (server_text parts outs) k h = none (ap is_directive (sym k)) h
+        go (open_cursor cursor ins) k h = none (ap is_directive (sym k)) h
+        go (execute_immediate text) k h = none (ap is_directive (sym k)) h
+        go (prepare name text) k h = none (ap is_directive (sym k)) h
+        go (execute name ins outs) k h = none (ap is_directive (sym k)) h
+        go (deallocate name) k h = none (ap is_directive (sym k)) h
+        go (allocate_area area) k h = none (ap is_directive (sym k)) h
+        go (free_area area) k h = none (ap is_directive (sym k)) h
+        go (get_count area target) k h = none (ap is_directive (sym k)) h
+        go (get_items area index items) k h = none (ap is_directive (sym k)) h
+        go (set_count area value) k h = none (ap is_directive (sym k)) h
+        go (set_items area index items) k h = none (ap is_directive (sym k)) h
+
+    embedded_is : (handlers : List MarkData) (all es : List EmbData) (bounds : List BoundData) (from n : ℕ) → are_written_statements all ≡ true → AreStatements es → have_written_hosts handlers es bounds ≡ true
         → IsBlockOption (option_and_then (λ e. option_and_then (block_for handlers all from e) (slice_get bounds n)) (slice_get es n))
-    embedded_is handlers all [] bounds from n a h = tt
-    embedded_is handlers all (e ∷ es) [] from zero a h = tt
-    embedded_is handlers all (e ∷ es) [] from (suc n) a h = none (slice_get es n)
+    embedded_is handlers all [] bounds from n a s h = tt
+    embedded_is handlers all (e ∷ es) [] from zero a s h = tt
+    embedded_is handlers all (e ∷ es) [] from (suc n) a s h = none (slice_get es n)
       where
         none : (x : Option EmbData) → IsBlockOption (option_and_then (λ e. option_and_then (block_for handlers all from e) None) x)
         none None = tt
         none (Some e) = tt
-    embedded_is handlers all (e ∷ es) (b ∷ bs) from zero a h =
-        let p = (both (is_written_with handlers e b) (are_written_with handlers es bs) h).0 in
-        let q = both (is_line e.line.0) (are_written_actions e.line.0 (action_among handlers e.place) && (is_written_statement e.kind && is_written_bound e.line.0 b)) p in
-        let r = both (are_written_actions e.line.0 (action_among handlers e.place)) (is_written_statement e.kind && is_written_bound e.line.0 b) q.1 in
-        let s = both (is_written_statement e.kind) (is_written_bound e.line.0 b) r.1 in
-        block_for_is handlers all from e b q.0 r.0 a s.0 s.1
-    embedded_is handlers all (e ∷ es) (b ∷ bs) from (suc n) a h = embedded_is handlers all es bs from n a (both (is_written_with handlers e b) (are_written_with handlers es bs) h).1
+    embedded_is handlers all (e ∷ es) (b ∷ bs) from zero a s h = block_is handlers all from e b s.0 a s.1 (both (has_written_hosts handlers e b) (have_written_hosts handlers es bs) h).0
+    embedded_is handlers all (e ∷ es) (b ∷ bs) from (suc n) a s h = embedded_is handlers all es bs from n a s.2 (both (has_written_hosts handlers e b) (have_written_hosts handlers es bs) h).1
 
     -- ---- the law
 
@@ -143,13 +174,16 @@ module _
       kept = subst (λ u. is_kept written u ≡ true) (sym same_program)
           (phases_kept tree.unit tree.made.hosts (table_of (marks_in tree.unit.embs)) bound.typed tree.made.sections tree.made.checks)
 
+      statements_are : AreStatements p.program.unit.embs
+      statements_are = subst (λ u. AreStatements u.embs) (sym same_program) (source_statements text tree.unit b (subst (ReadsTree text) tree.is r.1.1))
+
       by_blocks : ((n : ℕ) → IsBlockOption (embedded p.program.handlers p.program.unit.embs p.bounds n)) → is_written_shape (written_of p) ≡ true
       by_blocks blocks = program_is p.program.unit (embedded p.program.handlers p.program.unit.embs p.bounds) shape kept blocks
 
-    pub with_statements_shape : (text : Text) (p : BoundProgram) → each is_byte text ≡ true → ReadsSource text (Ok p) → DeclaredIncludesStartNothing text → has_written_statements p ≡ true → is_written_shape (written_of p) ≡ true
+    pub with_statements_shape : (text : Text) (p : BoundProgram) → each is_byte text ≡ true → ReadsSource text (Ok p) → DeclaredIncludesStartNothing text → are_hosts_written p ≡ true → is_written_shape (written_of p) ≡ true
     with_statements_shape text p b r k h =
-        let q = both (are_written_statements p.program.unit.embs) (are_written_with p.program.handlers p.program.unit.embs p.bounds) h in
-        by_blocks text p b r k (λ n. embedded_is p.program.handlers p.program.unit.embs p.program.unit.embs p.bounds n n q.0 q.1)
+        let s = statements_are text p b r k in
+        by_blocks text p b r k (λ n. embedded_is p.program.handlers p.program.unit.embs p.program.unit.embs p.bounds n n (statements_written p.program.unit.embs s) s h)
 
     pub without_statements_shape : (text : Text) (p : BoundProgram) → each is_byte text ≡ true → ReadsSource text (Ok p) → DeclaredIncludesStartNothing text → p.program.unit.embs ≡ [] → is_written_shape (written_of p) ≡ true
     without_statements_shape text p b r k h = by_blocks text p b r k (λ n. no_statement p.program.unit.embs p.program.handlers p.bounds n h)
