@@ -9,7 +9,7 @@ use Rattle.ec_statement_parts.specs.Cursors.{declared_cursor, declare_from, decl
 use Rattle.ec_typing.specs.Tables.{Named, find, put}
 use Rattle.ec_params.specs.Tables.{named_cursor, found_in, with_declared, aboves}
 
-abbrev or_else : Option ℕ → Option ℕ → Option ℕ
+abbrev pub or_else : Option ℕ → Option ℕ → Option ℕ
 or_else (Some k) o = Some k
 or_else None o = o
 
@@ -27,7 +27,7 @@ swapped (c ∷ a) [] = refl
 swapped (c ∷ a) (d ∷ b) = λ i. number_swapped c d i && swapped a b i
 
 -- a name that wasn't there
-find_put : (name key : Text) (n : ℕ) (t : Named ℕ) → find key t ≡ None → find name (put key n t) ≡ or_else (find name t) (if same_text name key then Some n else None)
+pub find_put : (name key : Text) (n : ℕ) (t : Named ℕ) → find key t ≡ None → find name (put key n t) ≡ or_else (find name t) (if same_text name key then Some n else None)
 find_put name key n [] e = refl
 find_put name key n (x ∷ t) e = step (find_put name key n t) (same_text key x.0) e
   where
@@ -39,7 +39,7 @@ find_put name key n (x ∷ t) e = step (find_put name key n t) (same_text key x.
     step rest true h = absurd cc
     step rest false h = by_name rest (same_text name x.0) h
 
-joined : (k : ℕ) (d : Option ℕ) (o : Option ℕ) (b : Bool) → or_else (or_else o (if b then Some k else None)) d ≡ or_else o (if b then Some k else d)
+pub joined : (k : ℕ) (d : Option ℕ) (o : Option ℕ) (b : Bool) → or_else (or_else o (if b then Some k else None)) d ≡ or_else o (if b then Some k else d)
 joined k d None true = refl
 joined k d None false = refl
 joined k d (Some j) b = refl
@@ -67,7 +67,7 @@ abbrev tabled : ℕ → Named ℕ → List EmbData → Named ℕ
 tabled k t [] = t
 tabled k t (e ∷ es) = tabled (k + 1) (with_declared k t (declared_cursor e)) es
 
-none_right : (o : Option ℕ) → or_else o None ≡ o
+pub none_right : (o : Option ℕ) → or_else o None ≡ o
 none_right None = refl
 none_right (Some k) = refl
 

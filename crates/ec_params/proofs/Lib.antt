@@ -6,6 +6,8 @@ pub mod Gotten
 pub mod Lowest
 pub mod Marking
 pub mod NamesIn
+pub mod Placed
 pub mod Sent
 pub mod Shaping
+pub mod Tallied
 pub mod Walking

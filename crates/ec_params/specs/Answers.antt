@@ -5,6 +5,7 @@ use Rattle.ec_base.specs.declared.fault.FaultKind.TheVariants.{F26, F27, F28}
 use Rattle.ec_base.specs.declared.stop.Stop.{Stop}
 use Rattle.ec_base.specs.declared.stop.Stop.TheVariants.{Refused, OutOfMemory}
 use Rattle.ec_ctypes.specs.declared.checked.typed.Typed.{Typed}
+use Rattle.ec_ctypes.specs.declared.types.ty.StructDef.{StructDef}
 use Rattle.ec_ctypes.specs.trees.Checked.{BoundData}
 use Rattle.ec_ctypes.specs.trees.Embedded.{EmbData}
 use Rattle.ec_ctypes.specs.views.Embedded.{emb_view}
@@ -64,5 +65,5 @@ above_at es n = above_of (slice_get (aboves 0 [] es) n)
 
 -- ---- what is made once
 
-abbrev pub IsMade : Typed → List ℕ → List ℕ → List (Option ℕ) → Type 0
-IsMade t hosts functions above = (hosts ≡ t.hosts.hosts) × (functions ≡ functions_of (unit_view t.unit)) × (above ≡ aboves 0 [] (map emb_view t.unit.embs))
+abbrev pub IsMade : Typed → List StructDef → List ℕ → List ℕ → List (Option ℕ) → Type 0
+IsMade t structs hosts functions above = (structs ≡ t.structs) × (hosts ≡ t.hosts.hosts) × (functions ≡ functions_of (unit_view t.unit)) × (above ≡ aboves 0 [] (map emb_view t.unit.embs))

@@ -15,6 +15,7 @@ ghost use Rattle.ec_params.specs.Scenes.{program_of, denoted_of};
 use crate::counting::open_names;
 use crate::cursors::declares_above;
 use crate::faults::hosts_fault;
+use crate::known::Known;
 use crate::least::{fault_unless, lower_of, nothing, only};
 use crate::numbers::Numbers;
 use crate::scene::{Scene, behind};
@@ -177,11 +178,13 @@ fn answer(
     }
 }
 
-/// What is made once to bind the statements of a program: which declarations stand in a section, which are functions,
-/// and which DECLARE stands above a statement. Contracts see the program.
+/// What is made once to bind the statements of a program: where members stand in structs, and how many leaves these have,
+/// which declarations stand in a section, which are functions, and which DECLARE stands above a statement. Contracts see
+/// the program.
 #[derive(Drop)]
 pub struct Binder<'a> {
     typed: &'a Typed,
+    structs: Known<'a>,
     hosts: Numbers,
     functions: Numbers,
     above: List<Option<u32>>,
@@ -199,7 +202,7 @@ impl<'a> Model for Binder<'a> {
 
     ghost view = { λ b. b.typed.now };
 
-    ghost invariant = { λ b. IsMade b.typed.now b.hosts b.functions b.above };
+    ghost invariant = { λ b. IsMade b.typed.now b.structs b.hosts b.functions b.above };
 }
 
 impl<'a> Binder<'a> {
@@ -207,6 +210,7 @@ impl<'a> Binder<'a> {
     pub fn new(alloc: Global, typed: &'a Typed) -> Result<Binder<'a>, OutOfMemory>
         ensures { IfOk result (λ binder. binder ≡ typed.now) }
     {
+        let structs = Known::new(alloc, &typed.structs)?;
         let list = List::from_slice(alloc, typed.hosts.hosts.as_slice())?;
         let hosts = Numbers::new(alloc, list)?;
         let numbers = functions(alloc, &typed.unit)?;
@@ -214,6 +218,7 @@ impl<'a> Binder<'a> {
         let above = declares_above(alloc, typed.unit.embs.as_slice())?;
         Ok(Binder {
             typed,
+            structs,
             hosts,
             functions,
             above,
@@ -226,7 +231,7 @@ impl<'a> Binder<'a> {
         ensures denoted { denoted_of result ≡ faults.row_at (typed_view self.now).denoted emb }
     {
         Scene {
-            structs: &self.typed.structs,
+            structs: &self.structs,
             names: self.typed.names.as_slice(),
             hosts: &self.hosts,
             functions: &self.functions,

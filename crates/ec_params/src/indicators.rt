@@ -12,11 +12,13 @@ ghost use Rattle.ec_leaves.specs.Seen.{leaf_view};
 ghost use Rattle.ec_params.specs.Least.{least};
 ghost use Rattle.ec_params.specs.Shapes.{role_view, plain_shape, faults_by, faults_of_shape};
 
+use crate::known::Known;
 use crate::least::{fault_unless, lower_of, nothing, only};
+use crate::tallies::{are_indicators, same_count};
 use crate::values::Role;
-use ec_base::{FaultKind, List, OutOfMemory};
+use ec_base::{FaultKind, OutOfMemory};
 use ec_ctypes::{Structs, Ty};
-use ec_leaves::{Leaf, is_element, is_indicator, leaves, plain_struct};
+use ec_leaves::{Leaf, is_element, is_indicator, plain_struct};
 use std::alloc::Global;
 
 /// What a host of a type is.
@@ -33,7 +35,7 @@ pub(crate) enum Shape {
 }
 
 /// Whether all leaves are of an indicator's type.
-fn all_indicators(leaves: &[Leaf]) -> bool
+pub(crate) fn all_indicators(leaves: &[Leaf]) -> bool
     ensures { result ≡ list_all (λ l. is_indicator l.element) (map leaf_view leaves.now) }
 {
     for leaf in leaves {
@@ -42,30 +44,6 @@ fn all_indicators(leaves: &[Leaf]) -> bool
         }
     }
     true
-}
-
-/// Whether a host has leaves, and all are of an indicator's type.
-fn are_indicators(leaves: &Option<List<Leaf>>) -> bool
-    ensures { result ≡ spec.are_indicators (option_map (map leaf_view) leaves.now) }
-{
-    match leaves {
-        Some(list) => all_indicators(list.as_slice()),
-        None => false,
-    }
-}
-
-/// Whether two hosts have as many leaves, where both have leaves.
-fn same_count(a: &Option<List<Leaf>>, b: &Option<List<Leaf>>) -> bool
-    ensures { result ≡ spec.same_count (spec.leaf_count (option_map (map leaf_view) a.now))
-        (spec.leaf_count (option_map (map leaf_view) b.now)) }
-{
-    match a {
-        Some(left) => match b {
-            Some(right) => left.len() == right.len(),
-            None => true,
-        },
-        None => true,
-    }
 }
 
 /// Whether this is an array of at least so many indicators.
@@ -92,7 +70,7 @@ fn is_indicator_array(count: u64, ty: &Ty) -> bool
 }
 
 /// Whether this is a pointer.
-fn is_pointer(ty: &Ty) -> bool
+pub(crate) fn is_pointer(ty: &Ty) -> bool
     ensures { result ≡ hosts.is_pointer (ty_view ty.now) }
 {
     match ty {
@@ -175,7 +153,7 @@ fn shape_of_host(structs: &Structs, ty: &Ty) -> Option<Shape>
 /// The first fault of an indicator that is a struct or an array of structs, as its host is, of the same number or not.
 fn struct_fault(
     alloc: Global,
-    structs: &Structs,
+    structs: &Known<'_>,
     ty: &Ty,
     indicator: &Ty,
     same: bool,
@@ -183,17 +161,18 @@ fn struct_fault(
     ensures { IfOk result (λ fault. fault ≡ least (spec.struct_faults (structs_view structs.now)
         (ty_view ty.now) (ty_view indicator.now) same)) }
 {
-    let own = leaves(alloc, structs, ty)?;
-    let inner = leaves(alloc, structs, indicator)?;
-    let fault = fault_unless(are_indicators(&inner), FaultKind::F23);
-    let count = fault_unless(same && same_count(&own, &inner), FaultKind::F25);
+    let own = structs.tally(alloc, ty)?;
+    let inner = structs.tally(alloc, indicator)?;
+    let as_many = same_count(own, inner)?;
+    let fault = fault_unless(are_indicators(inner), FaultKind::F23);
+    let count = fault_unless(same && as_many, FaultKind::F25);
     Ok(lower_of(fault, count))
 }
 
 /// The first fault of an indicator, by its shape and that of its host.
 fn shape_fault(
     alloc: Global,
-    structs: &Structs,
+    structs: &Known<'_>,
     ty: &Ty,
     indicator: &Ty,
     shape: Shape,
@@ -230,7 +209,7 @@ fn shape_fault(
 /// The first fault of an indicator, by what is kept of both shapes.
 fn typed_fault(
     alloc: Global,
-    structs: &Structs,
+    structs: &Known<'_>,
     ty: &Ty,
     indicator: &Ty,
 ) -> Result<Option<FaultKind>, OutOfMemory>
@@ -239,9 +218,9 @@ fn typed_fault(
         (structs_view structs.now) (ty_view ty.now))) (option_map plain_shape (hosts.shape_of_host
         (structs_view structs.now) (ty_view indicator.now))))) }
 {
-    match shape_of_host(structs, ty) {
+    match shape_of_host(structs.all(), ty) {
         Some(shape) => {
-            let other = shape_of_host(structs, indicator);
+            let other = shape_of_host(structs.all(), indicator);
             shape_fault(alloc, structs, ty, indicator, shape, other)
         }
         None => Ok(nothing()),
@@ -251,7 +230,7 @@ fn typed_fault(
 /// The first fault of an indicator of this type beside a host of that type.
 fn indicator_fault(
     alloc: Global,
-    structs: &Structs,
+    structs: &Known<'_>,
     ty: &Ty,
     indicator: &Ty,
 ) -> Result<Option<FaultKind>, OutOfMemory>
@@ -276,7 +255,7 @@ pub(crate) fn may_have_indicator(role: Role) -> bool
 /// members or elements differ in number.
 pub(crate) fn indicator_type_fault(
     alloc: Global,
-    structs: &Structs,
+    structs: &Known<'_>,
     ty: Option<&Ty>,
     indicator: Option<&Ty>,
 ) -> Result<Option<FaultKind>, OutOfMemory>

@@ -83,8 +83,8 @@ pub(crate) fn leaves_of(
     let middle = sum(at, own)?;
     let value = reference_type(scene, &host.value, part(scene.denoted, at, own));
     let beside = indicator_type(scene, indicator, part(scene.denoted, middle, inner));
-    let own = leaves_or_none(alloc, scene.structs, value)?;
-    let inner = leaves_or_none(alloc, scene.structs, beside)?;
+    let own = leaves_or_none(alloc, scene.structs.all(), value)?;
+    let inner = leaves_or_none(alloc, scene.structs.all(), beside)?;
     Ok(Leaves { own, inner })
 }
 
@@ -185,7 +185,7 @@ pub(crate) fn add_host(
     let next = behind_host(*at, host)?;
     add_leaves(
         alloc,
-        scene.structs,
+        scene.structs.all(),
         host,
         found.own.as_slice(),
         found.inner.as_slice(),

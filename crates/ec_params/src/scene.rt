@@ -4,18 +4,19 @@ ghost use Rattle.std.specs.Prelude.{◌≡◌, ◌+◌, map, take, drop, option_
 ghost use Rattle.std.specs.Option.{option_copied};
 ghost use Rattle.ec_ctypes.specs.views.Checked.{name_view};
 ghost use Rattle.ec_ctypes.specs.views.Exprs.{expr_view};
-ghost use Rattle.ec_ctypes.specs.views.Types.{ty_view, member_view, struct_view, structs_view};
+ghost use Rattle.ec_ctypes.specs.views.Types.{ty_view, structs_view};
 ghost use Rattle.ec_hosts.specs.Programs as spec;
 ghost use Rattle.ec_params.specs.Scenes.{program_of};
 
+use crate::known::Known;
 use crate::numbers::Numbers;
 use ec_base::{Name, OutOfMemory};
-use ec_ctypes::{Expr, StructDef, Structs, Ty};
+use ec_ctypes::{Expr, Ty};
 
 /// What the hosts of a statement are looked at with.
 #[derive(Clone, Copy)]
 pub(crate) struct Scene<'a> {
-    pub structs: &'a Structs,
+    pub structs: &'a Known<'a>,
     /// The types of the declarations by their numbers.
     pub names: &'a [(u32, Ty)],
     /// The numbers of those in a section.
@@ -49,44 +50,13 @@ fn element_of(ty: &Ty) -> Option<&Ty>
     }
 }
 
-/// The type of the member of this name.
-fn member_among<'a>(members: &'a [(Name, Ty)], name: &Name) -> Option<&'a Ty>
-    ensures { option_map ty_view (option_copied result)
-        ≡ spec.member_among name.now (map member_view members.now) }
-{
-    for member in members {
-        if *name == member.0 {
-            return Some(&member.1);
-        }
-    }
-    None
-}
-
-/// The struct of this number.
-fn definition(structs: &Structs, id: u32) -> Option<&StructDef>
-    ensures { option_map struct_view (option_copied result)
-        ≡ slice_get (structs_view structs.now) id }
-{
-    definition_at(structs.as_slice(), id)
-}
-
-/// The struct at this place.
-fn definition_at(definitions: &[StructDef], id: u32) -> Option<&StructDef>
-    ensures { option_copied result ≡ slice_get definitions.now id }
-{
-    definitions.get(id as usize)
-}
-
 /// The type of a member of what has this type.
-fn member_type<'a>(structs: &'a Structs, name: &Name, ty: &Ty) -> Option<&'a Ty>
+fn member_type<'a>(structs: &'a Known<'_>, name: &Name, ty: &Ty) -> Option<&'a Ty>
     ensures { option_map ty_view (option_copied result)
         ≡ spec.member_type (structs_view structs.now) name.now (ty_view ty.now) }
 {
     match ty {
-        Ty::Struct(id) => match definition(structs, *id) {
-            Some(definition) => member_among(definition.members.as_slice(), name),
-            None => None,
-        },
+        Ty::Struct(id) => structs.member(*id, name),
         Ty::Void => None,
         Ty::Bool => None,
         Ty::Char => None,
@@ -105,7 +75,7 @@ fn member_type<'a>(structs: &'a Structs, name: &Name, ty: &Ty) -> Option<&'a Ty>
 }
 
 /// The type of a member of what a pointer of this type points to.
-fn pointed_member<'a>(structs: &'a Structs, name: &Name, ty: &Ty) -> Option<&'a Ty>
+fn pointed_member<'a>(structs: &'a Known<'_>, name: &Name, ty: &Ty) -> Option<&'a Ty>
     ensures { option_map ty_view (option_copied result)
         ≡ option_and_then (spec.member_type (structs_view structs.now) name.now)
         (spec.element_of (ty_view ty.now)) }
@@ -117,7 +87,7 @@ fn pointed_member<'a>(structs: &'a Structs, name: &Name, ty: &Ty) -> Option<&'a 
 }
 
 /// The type of a reference, by that of its variable (ISO/IEC 9899:1999, 6.5.2.1 and 6.5.2.3).
-fn type_along<'a>(structs: &'a Structs, ty: &'a Ty, reference: &Expr) -> Option<&'a Ty>
+fn type_along<'a>(structs: &'a Known<'_>, ty: &'a Ty, reference: &Expr) -> Option<&'a Ty>
     ensures { option_map ty_view (option_copied result)
         ≡ spec.type_along (structs_view structs.now) (ty_view ty.now) (expr_view reference.now) }
 {

@@ -9,10 +9,11 @@ ghost use Rattle.ec_hosts.specs.Leaves as hosts;
 ghost use Rattle.ec_params.specs.Least.{least};
 ghost use Rattle.ec_params.specs.Shapes.{role_view};
 
+use crate::known::Known;
 use crate::least::{fault_unless, lower_of, only};
 use ec_base::{FaultKind, OutOfMemory};
 use ec_ctypes::{Structs, Ty};
-use ec_leaves::{is_element, is_text, leaves};
+use ec_leaves::{is_element, is_text};
 use std::alloc::Global;
 
 /// What a host is for.
@@ -31,25 +32,25 @@ pub(crate) enum Role {
 }
 
 /// Whether a type is that of a host.
-fn has_leaves(alloc: Global, structs: &Structs, ty: &Ty) -> Result<bool, OutOfMemory>
+fn has_leaves(alloc: Global, structs: &Known<'_>, ty: &Ty) -> Result<bool, OutOfMemory>
     ensures { IfOk result (λ has. has
         ≡ is_some (hosts.leaves (structs_view structs.now) (ty_view ty.now))) }
 {
-    let found = leaves(alloc, structs, ty)?;
-    Ok(found.is_some())
+    let tally = structs.tally(alloc, ty)?;
+    Ok(tally.is_some())
 }
 
 /// Whether a value of this type may stand there.
-fn suits_role(alloc: Global, structs: &Structs, role: Role, ty: &Ty) -> Result<bool, OutOfMemory>
+fn suits_role(alloc: Global, structs: &Known<'_>, role: Role, ty: &Ty) -> Result<bool, OutOfMemory>
     ensures { IfOk result (λ suits. suits
         ≡ spec.suits_role (structs_view structs.now) (role_view role) (ty_view ty.now)) }
 {
     match role {
-        Role::Text => Ok(is_text(structs, ty)),
+        Role::Text => Ok(is_text(structs.all(), ty)),
         Role::Input => has_leaves(alloc, structs, ty),
         Role::Output => has_leaves(alloc, structs, ty),
-        Role::Number => Ok(is_element(structs, ty)),
-        Role::Item => Ok(is_element(structs, ty)),
+        Role::Number => Ok(is_element(structs.all(), ty)),
+        Role::Item => Ok(is_element(structs.all(), ty)),
     }
 }
 
@@ -93,7 +94,7 @@ fn is_array_input(structs: &Structs, role: Role, ty: &Ty) -> bool
 /// The first fault of a value of this type.
 fn type_fault(
     alloc: Global,
-    structs: &Structs,
+    structs: &Known<'_>,
     role: Role,
     ty: &Ty,
 ) -> Result<Option<FaultKind>, OutOfMemory>
@@ -103,14 +104,14 @@ fn type_fault(
 {
     let suits = suits_role(alloc, structs, role, ty)?;
     let fault = fault_unless(suits, FaultKind::F22);
-    let array = fault_unless(!is_array_input(structs, role, ty), FaultKind::F24);
+    let array = fault_unless(!is_array_input(structs.all(), role, ty), FaultKind::F24);
     Ok(lower_of(fault, array))
 }
 
 /// The first fault of a value: F22 where its type may not stand there or it has none, F24 of an array that is sent.
 pub(crate) fn value_fault(
     alloc: Global,
-    structs: &Structs,
+    structs: &Known<'_>,
     role: Role,
     ty: Option<&Ty>,
 ) -> Result<Option<FaultKind>, OutOfMemory>
