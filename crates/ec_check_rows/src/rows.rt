@@ -1,7 +1,8 @@
 //! Many programs in one text: rows.
 //!
 //! A row begins with a line `=== LABEL`, and the lines from there to the next row are its program, without the newline of
-//! the last of them. What stands before the first row is passed over.
+//! the last of them. What stands before the first row is passed over. A program whose label begins with the word `written`
+//! is read as written C.
 
 use crate::checking::print_verdict;
 use ec_base::{Bytes, OutOfMemory};
@@ -9,6 +10,9 @@ use std::alloc::Global;
 
 // What a row begins with, and the newline before it.
 const MARKER: &str = "\n=== ";
+
+// What the label of written C begins with.
+const WRITTEN: &str = "written ";
 
 // Prints the first line of a row, and what the checks say of its program.
 fn check_row(alloc: Global, out: &mut Bytes, row: &str) -> Result<(), OutOfMemory> {
@@ -19,7 +23,7 @@ fn check_row(alloc: Global, out: &mut Bytes, row: &str) -> Result<(), OutOfMemor
     out.extend_from_slice(b"=== ")?;
     out.extend_from_slice(label.as_bytes())?;
     out.push(b'\n')?;
-    print_verdict(alloc, out, program.as_bytes())
+    print_verdict(alloc, out, program.as_bytes(), label.starts_with(WRITTEN))
 }
 
 /// Prints each row's first line, and what the checks say of its program.
