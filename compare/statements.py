@@ -189,11 +189,13 @@ def character(token):
 class Form:
     """The recognizers of one statement. Each yields (place behind, tree); `farthest` is where the last way stopped.
 
-    What is counted against the limits is noted as ("input", place) and ("suffixes", place) with the tree.
+    What is counted against the limits is noted as ("input", place) and ("suffix", place) with the tree. `begun` has the
+    places at which an input or a suffix too many begins, whether it is one to its end or not: a count passes with the
+    first token.
     """
 
     def __init__(self, tokens):
-        self.tokens, self.farthest = tokens, 0
+        self.tokens, self.farthest, self.begun = tokens, 0, set()
 
     def look(self, at, test):
         """Whether the token at a place passes a test; a place that is asked for is one that was reached."""
@@ -222,6 +224,8 @@ class Form:
         limits = []
         suffixes = 0
         while True:
+            if suffixes == MOST_SUFFIXES and self.look(at, lambda t: not t.gap and t.text in (b".", b"->", b"[")):
+                self.begun.add(("suffix", at))
             if self.mark_is(at, b".", True) or self.mark_is(at, b"->", True):
                 form = "member" if self.tokens[at].text == b"." else "arrow"
                 if not self.look(at + 1, lambda t: t.sort == "word" and not t.gap):
@@ -282,9 +286,11 @@ class Form:
 
     def value(self, at, only_by_word=False):
         """`v`: a host, a number with an optional sign, or a quote. It counts as an input."""
+        is_number = lambda t: t.sort == "number" and re.fullmatch(rb"[0-9]+", t.text)
+        if self.look(at, lambda t: t.is_text() or is_number(t) or t.is_mark(b"-") or t.is_mark(b":")):
+            self.begun.add(("input", at))
         if self.look(at, Token.is_text):
             yield at + 1, printed_bytes(content(self.tokens[at])), [("input", at)]
-        is_number = lambda t: t.sort == "number" and re.fullmatch(rb"[0-9]+", t.text)
         if self.look(at, is_number):
             yield at + 1, printed_bytes(self.tokens[at].text), [("input", at)]
         if self.mark_is(at, b"-") and self.look(at + 1, is_number):
@@ -676,15 +682,13 @@ def is_left_out(tokens):
 
 def whole(form, ways):
     """The tree of the first way that ends at the semicolon; else the fault at the farthest place, or L4 before it."""
-    seen = []
     for end, tree, limits in ways:
-        seen.append(limits)
         if form.end(end):
             if passes_limit(limits, len(form.tokens)):
                 raise Stop("limit L4")
             return tree
     place = form.farthest
-    if any(passes_limit(limits, place) for limits in seen):
+    if passes_limit(form.begun, place):
         raise Stop("limit L4")
     raise fault("F8", "statement form", form.tokens[place].line)
 
@@ -789,6 +793,8 @@ def statement(tokens, line):
         if passes_limit(limits, len(tokens)):
             raise Stop("limit L4")
         return f"(statement {line} {name} {kind(tokens[end:], False)})"
+    if passes_limit(form.begun, form.farthest):
+        raise Stop("limit L4")
     raise fault("F8", "statement form", tokens[form.farthest].line)
 
 
