@@ -14,7 +14,7 @@ use Rattle.ec_evaluation.proofs.WholeRuns.{alike, plain}
 -- ---- a program that is written as itself
 
 mutual
-  unwritten : (x : Stm) → written itself x ≡ x
+  pub unwritten : (x : Stm) → written itself x ≡ x
   unwritten (on_line n x) = ap (on_line n) (unwritten x)
   unwritten nothing = refl
   unwritten (evaluate e) = refl
@@ -30,11 +30,11 @@ mutual
   unwritten (label l x) = ap (label l) (unwritten x)
   unwritten (embedded_statement n) = refl
 
-  all_unwritten : (x : Stms) → written_all itself x ≡ x
+  pub all_unwritten : (x : Stms) → written_all itself x ≡ x
   all_unwritten no_stms = refl
   all_unwritten (stms a b) = cc (unwritten a, all_unwritten b)
 
-functions_unwritten : (fs : List Function) → map (written_function itself) fs ≡ fs
+pub functions_unwritten : (fs : List Function) → map (written_function itself) fs ≡ fs
 functions_unwritten [] = refl
 functions_unwritten (f ∷ fs) = λ i. record f { body = all_unwritten f.body i } ∷ functions_unwritten fs i
 

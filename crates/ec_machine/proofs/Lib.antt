@@ -6,3 +6,4 @@ pub mod Parts
 pub mod Running
 pub mod Turns
 pub mod Views
+pub mod Weighing

@@ -40,6 +40,9 @@ use Rattle.ec_machine.specs.Goes.{Goes, Returns, Stands, Stops, IsOver, at, endi
 pub pushed : (w : World) (e : Env) (fs fs' : List Frame) (f : Frame) (o : Res) → fs' ≡ fs ++ f ∷ [] → resume w (below e f) (reverse fs) (plug w e f o) ≡ resume w e (reverse fs') o
 pushed w e fs fs' f o p = sym (ap (λ xs. resume w e xs o) (ap reverse p ∙ reverse-append fs (f ∷ [])))
 
+pub pushed_first : (fs fs' : List Frame) (f : Frame) → fs' ≡ fs ++ f ∷ [] → fs ≡ [] → fs' ≡ f ∷ []
+pushed_first fs fs' f p q = p ∙ ap (λ xs. xs ++ f ∷ []) q
+
 plug_over : (w : World) (e : Env) (f : Frame) (x : Ending) (s : State) → plug w e f (over x s) ≡ over x s
 plug_over w e (frame.Steps line xs) x s = followed_over without_atoms w (here e line) (map full_step_view xs.now) x s
 plug_over w e (frame.Right line b v old xs) x s = followed_over without_atoms w (here e line) (map full_step_view xs.now) x s

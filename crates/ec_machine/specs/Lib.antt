@@ -1,3 +1,4 @@
 pub mod Frames
 pub mod Goes
 pub mod Standing
+pub mod Weights

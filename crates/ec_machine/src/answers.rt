@@ -1,6 +1,6 @@
 //! Frames that are given an answer.
 
-ghost use Rattle.std.specs.Prelude.{◌≡◌, ◌≤◌, ℕ, List, true, false};
+ghost use Rattle.std.specs.Prelude.{◌≡◌, ◌≤◌, ◌+◌, ℕ, List, true, false};
 ghost use Rattle.std.specs.Option.{option_map};
 ghost use Rattle.ec_code.specs.declared.program.Function.{Function as FunctionData};
 ghost use Rattle.ec_code.specs.Views.{statement_view, statements_view};
@@ -12,6 +12,8 @@ ghost use Rattle.ec_resolved.specs.Operations.{is_true};
 ghost use Rattle.ec_values.specs.Words.{word_view};
 ghost use Rattle.ec_machine.specs.Frames.{behind_of, below, body_of, here, led, plug, test_of};
 ghost use Rattle.ec_machine.specs.Goes.{Goes, Returns, env_of};
+ghost use Rattle.ec_machine.specs.declared.machine.Machine.{Machine as MachineData};
+ghost use Rattle.ec_machine.specs.Weights.{statement_weight, again_weight, flow_weight, frame_answer, frame_weight, frames_answer, frames_weight, remaining, statements_weight};
 
 use crate::calls::drop_last;
 use crate::frame::{Flow, Focus, Frame};
@@ -35,6 +37,8 @@ impl<'p> Machine<'p> {
             (λ w t. plug w (env_of self.old) frame.entry (valued (word_view value) t)) result
             self.new }
         ensures turns { self.new.turns ≤ self.old.turns }
+        ensures nears { remaining self.old.turns result self.new ≤
+            frames_weight self.old.frames + frame_weight frame.entry }
     {
         match frame {
             Frame::Steps(line, steps) => {
@@ -80,6 +84,9 @@ impl<'p> Machine<'p> {
             self.old) frame.entry)
             (λ w t. plug w (env_of self.old) frame.entry (led flow t)) result self.new }
         ensures turns { self.new.turns ≤ self.old.turns }
+        ensures nears { remaining self.old.turns result self.new ≤
+            frames_weight self.old.frames + frame_weight frame.entry + flow_weight flow
+            (frame_answer frame.entry + frames_answer self.old.frames) }
     {
         match frame {
             Frame::Arguments(_, _, count, _, _) => {
@@ -120,6 +127,7 @@ impl<'p> Machine<'p> {
     }
 
     /// The statement that a value chooses is run.
+    #[tactic(auto, using(crate::proofs::Weighing::weights))]
     fn choose(
         &self,
         first: &'p Statement,
@@ -133,6 +141,9 @@ impl<'p> Machine<'p> {
               | false ↦ run without_atoms w (here (env_of self.now) self.now.line) (statement_view
                   second.now) t
             ]) result self.now }
+        ensures nears { remaining self.now.turns result self.now ≤
+            1 + frames_weight self.now.frames + statement_weight first.now + statement_weight
+            second.now }
     {
         if value.is_true() {
             Ok(Focus::Runs(first))
@@ -142,6 +153,7 @@ impl<'p> Machine<'p> {
     }
 
     /// The test of a loop has this value.
+    #[tactic(auto, using(crate::proofs::Weighing::weights))]
     fn tested(&mut self, inner: &'p Loop, value: Word) -> Result<Focus<'p>, Stop>
         ensures goes { (functions : List FunctionData) → Goes functions self.old (env_of self.old)
             (λ w t. elim (is_true (word_view value)) [
@@ -150,6 +162,8 @@ impl<'p> Machine<'p> {
               | false ↦ on t
             ]) result self.new }
         ensures turns { self.new.turns ≤ self.old.turns }
+        ensures nears { remaining self.old.turns result self.new ≤
+            1 + frames_weight self.old.frames }
     {
         if value.is_true() {
             self.turn(inner)
@@ -165,6 +179,9 @@ impl<'p> Machine<'p> {
             self.old.line) (test_of inner.now) (behind_of inner.now) (body_of inner.now) u))
             result self.new }
         ensures turns { self.new.turns ≤ self.old.turns }
+        ensures nears { remaining self.old.turns result self.new ≤
+            1 + frames_weight self.old.frames + again_weight inner.now + flow_weight flow
+            (frames_answer self.old.frames) }
     {
         match flow {
             Flow::On => self.again(inner),
@@ -181,6 +198,9 @@ impl<'p> Machine<'p> {
             (λ w t. on_done (led flow t) (λ u. run_all without_atoms w (here (env_of self.old)
             self.old.line) (statements_view statements.now) u)) result self.new }
         ensures turns { self.new.turns ≤ self.old.turns }
+        ensures nears { remaining self.old.turns result self.new ≤
+            1 + frames_weight self.old.frames + statements_weight statements.now + flow_weight flow
+            (frames_answer self.old.frames) }
     {
         match flow {
             Flow::On => self.list(statements),
@@ -197,6 +217,9 @@ impl<'p> Machine<'p> {
             (λ w t. settle w (here (env_of self.old) self.old.line) (statements_view
             statements.now) (led flow t)) result self.new }
         ensures turns { self.new.turns ≤ self.old.turns }
+        ensures nears { remaining self.old.turns result self.new ≤
+            1 + frames_weight self.old.frames + flow_weight flow (1 + statements_weight
+            statements.now + frames_answer self.old.frames) }
     {
         match flow {
             Flow::Went(label) => {
@@ -220,6 +243,8 @@ impl<'p> Machine<'p> {
             (look_all without_atoms w label (here (env_of self.old) self.old.line)
             (statements_view statements.now) t)) result self.new }
         ensures turns { self.new.turns ≤ self.old.turns }
+        ensures nears { remaining self.old.turns result self.new ≤
+            2 + frames_weight self.old.frames + statements_weight statements.now }
     {
         self.frames.push(Frame::Settle(self.line, statements))?;
         self.look_list(label, statements)
@@ -227,14 +252,17 @@ impl<'p> Machine<'p> {
 }
 
 /// What a call gives, from what the function led to.
+#[tactic(auto, using(crate::proofs::Weighing::weights))]
 fn returned<'p>(
     line: Line,
     used: bool,
     otherwise: Option<Word>,
     flow: Flow,
 ) -> Result<Focus<'p>, Stop>
-    ensures { Returns result (λ s. answered line.0 used (function_end (option_map word_view
+    ensures gives { Returns result (λ s. answered line.0 used (function_end (option_map word_view
         otherwise) (led flow s))) }
+    ensures nears { (turns : ℕ) (m : MachineData) → remaining turns result m ≤
+        1 + frames_weight m.frames }
 {
     let value = match flow {
         Flow::On => otherwise,

@@ -1,6 +1,6 @@
 //! Calls.
 
-ghost use Rattle.std.specs.Prelude.{◌≡◌, ◌≤◌, ℕ, List, map, Some, slice_get};
+ghost use Rattle.std.specs.Prelude.{◌≡◌, ◌≤◌, ◌+◌, ℕ, List, map, Some, slice_get};
 ghost use Rattle.std.specs.Option.{option_copied, option_map};
 ghost use Rattle.ec_code.specs.declared.program.Function.{Function as FunctionData};
 ghost use Rattle.ec_code.specs.Views.{full_step_view, function_view};
@@ -13,6 +13,7 @@ ghost use Rattle.ec_functions.specs.Functions.{effect_of};
 ghost use Rattle.ec_plain.specs.Steps.{followed};
 ghost use Rattle.ec_machine.specs.Frames.{here, last_of, received, waiting, without_last};
 ghost use Rattle.ec_machine.specs.Goes.{Goes, env_of, taken};
+ghost use Rattle.ec_machine.specs.Weights.{frames_weight, remaining, steps_weight};
 
 use crate::frame::{Callee, Flow, Focus, Frame};
 use crate::machine::Machine;
@@ -55,6 +56,8 @@ impl<'p> Machine<'p> {
             (received w self.old.line callee.entry (waiting count (env_of self.old)) t)) result
             self.new }
         ensures turns { self.new.turns ≤ self.old.turns }
+        ensures nears { remaining self.old.turns result self.new ≤
+            2 + frames_weight self.old.frames + steps_weight steps.now }
     {
         match callee {
             Callee::Function(number, used) => self.call(functions, number, used, count, steps),
@@ -69,6 +72,8 @@ impl<'p> Machine<'p> {
             (env_of self.old))
             (λ w t. on t) result self.new }
         ensures turns { self.new.turns ≤ self.old.turns }
+        ensures nears { remaining self.old.turns result self.new ≤
+            1 + frames_weight self.old.frames }
     {
         drop_last(&mut self.values, count);
         Ok(Focus::Leads(Flow::On))
@@ -88,6 +93,8 @@ impl<'p> Machine<'p> {
             (done_there self.old.line.0 (effect_of (known_view known.now) t.memory (waiting count
             (env_of self.old))) t)) result self.new }
         ensures turns { self.new.turns ≤ self.old.turns }
+        ensures nears { remaining self.old.turns result self.new ≤
+            2 + frames_weight self.old.frames + steps_weight steps.now }
     {
         match call_known(
             known,
@@ -122,6 +129,7 @@ impl<'p> Machine<'p> {
             (answered self.old.line.0 used (w (calls self.old.line.0 number (waiting count (env_of
             self.old))) t))) result self.new }
         ensures turns { self.new.turns ≤ self.old.turns }
+        ensures nears { remaining self.old.turns result self.new ≡ 0 }
     {
         match take_turn(&mut self.turns) {
             Ok(()) => self.start(functions, number, used, count, steps),

@@ -1,6 +1,6 @@
 //! Expressions that hold calls.
 
-ghost use Rattle.std.specs.Prelude.{◌≡◌, ◌≤◌, ◌∷◌, ◌++◌, [], ℕ, List, map};
+ghost use Rattle.std.specs.Prelude.{◌≡◌, ◌≤◌, ◌+◌, ◌∷◌, ◌++◌, [], ℕ, List, map};
 ghost use Rattle.ec_code.specs.declared.program.Function.{Function as FunctionData};
 ghost use Rattle.ec_code.specs.Views.{expression_view, expressions_view, full_step_view, full_view, plain_view};
 ghost use Rattle.ec_evaluation.specs.Evaluate.{collect, eval};
@@ -10,6 +10,7 @@ ghost use Rattle.ec_plain.specs.Steps.{both_on, followed, one_on, two_on};
 ghost use Rattle.ec_values.specs.Words.{word_view};
 ghost use Rattle.ec_machine.specs.Frames.{here, received, waiting};
 ghost use Rattle.ec_machine.specs.Goes.{Goes, env_of, taken};
+ghost use Rattle.ec_machine.specs.Weights.{expression_weight, expressions_weight, frames_weight, full_step_weight, full_weight, remaining, steps_weight};
 
 use crate::frame::{Callee, Focus, Frame};
 use crate::machine::Machine;
@@ -30,6 +31,8 @@ impl<'p> Machine<'p> {
             (λ w t. eval without_atoms w (here (env_of self.old) self.old.line) (expression_view
             expression.now) t) result self.new }
         ensures turns { self.new.turns ≤ self.old.turns }
+        ensures nears { remaining self.old.turns result self.new ≤
+            frames_weight self.old.frames + expression_weight expression.now }
     {
         match expression {
             Expression::Plain(plain) => self.plain(plain),
@@ -43,6 +46,8 @@ impl<'p> Machine<'p> {
             (λ w t. eval without_atoms w (here (env_of self.old) self.old.line) (plain_view
             plain.now) t) result self.new }
         ensures turns { self.new.turns ≤ self.old.turns }
+        ensures nears { remaining self.old.turns result self.new ≤
+            1 + frames_weight self.old.frames }
     {
         match evaluate(&mut self.store, self.scope.objects(), plain) {
             Ok(value) => Ok(Focus::Value(value)),
@@ -56,6 +61,8 @@ impl<'p> Machine<'p> {
             (λ w t. eval without_atoms w (here (env_of self.old) self.old.line) (full_view
             full.now) t) result self.new }
         ensures turns { self.new.turns ≤ self.old.turns }
+        ensures nears { remaining self.old.turns result self.new ≤
+            frames_weight self.old.frames + full_weight full.now }
     {
         let steps = full.steps.as_slice();
         match &full.head {
@@ -79,6 +86,8 @@ impl<'p> Machine<'p> {
             (eval without_atoms w (here (env_of self.old) self.old.line) (plain_view plain.now)
             t)) result self.new }
         ensures turns { self.new.turns ≤ self.old.turns }
+        ensures nears { remaining self.old.turns result self.new ≤
+            1 + frames_weight self.old.frames + steps_weight steps.now }
     {
         self.frames.push(Frame::Steps(self.line, steps))?;
         self.plain(plain)
@@ -99,6 +108,9 @@ impl<'p> Machine<'p> {
             arguments.now) t
             (received w self.old.line callee.entry))) result self.new }
         ensures turns { self.new.turns ≤ self.old.turns }
+        ensures nears { remaining self.old.turns result self.new ≤
+            2 + frames_weight self.old.frames + expressions_weight arguments.now + steps_weight
+            steps.now }
     {
         self.pass(functions, callee, 0, arguments, steps)
     }
@@ -119,6 +131,9 @@ impl<'p> Machine<'p> {
             self.old)) (expressions_view arguments.now) t
             (received w self.old.line callee.entry))) result self.new }
         ensures turns { self.new.turns ≤ self.old.turns }
+        ensures nears { remaining self.old.turns result self.new ≤
+            2 + frames_weight self.old.frames + expressions_weight arguments.now + steps_weight
+            steps.now }
     {
         match arguments {
             [] => self.receive(functions, callee, count, steps),
@@ -131,6 +146,7 @@ impl<'p> Machine<'p> {
     }
 
     /// An argument has this value, and the further ones are evaluated.
+    #[tactic(auto, using(crate::proofs::Weighing::weights))]
     pub(crate) fn pass_on(
         &mut self,
         functions: &'p [Function],
@@ -147,6 +163,9 @@ impl<'p> Machine<'p> {
             self.old) ++ word_view value ∷ []) (expressions_view arguments.now) t
             (received w self.old.line callee.entry))) result self.new }
         ensures turns { self.new.turns ≤ self.old.turns }
+        ensures nears { remaining self.old.turns result self.new ≤
+            2 + frames_weight self.old.frames + expressions_weight arguments.now + steps_weight
+            steps.now }
     {
         let Some(more) = count.checked_add(1) else {
             return Err(Stop::OutOfMemory);
@@ -161,6 +180,8 @@ impl<'p> Machine<'p> {
             (λ w t. followed without_atoms w (here (env_of self.old) self.old.line) (map
             full_step_view steps.now) (valued (word_view value) t)) result self.new }
         ensures turns { self.new.turns ≤ self.old.turns }
+        ensures nears { remaining self.old.turns result self.new ≤
+            frames_weight self.old.frames + steps_weight steps.now }
     {
         match steps {
             [] => Ok(Focus::Value(value)),
@@ -180,6 +201,8 @@ impl<'p> Machine<'p> {
             (full_step_view first.now ∷ map full_step_view rest.now) (valued (word_view value) t))
             result self.new }
         ensures turns { self.new.turns ≤ self.old.turns }
+        ensures nears { remaining self.old.turns result self.new ≤
+            1 + frames_weight self.old.frames + full_step_weight first.now + steps_weight rest.now }
     {
         match first {
             FullStep::One(step) => self.follow_one(step, rest, value),
@@ -199,6 +222,8 @@ impl<'p> Machine<'p> {
             full_step_view rest.now)
             (one_on self.old.line.0 step.now (word_view value) t)) result self.new }
         ensures turns { self.new.turns ≤ self.old.turns }
+        ensures nears { remaining self.old.turns result self.new ≤
+            1 + frames_weight self.old.frames + steps_weight rest.now }
     {
         match unary(&mut self.store, step, value) {
             Ok(next) => {
@@ -223,6 +248,9 @@ impl<'p> Machine<'p> {
             (two_on without_atoms w (here (env_of self.old) self.old.line) step (expression_view
             right.now) (word_view value) t)) result self.new }
         ensures turns { self.new.turns ≤ self.old.turns }
+        ensures nears { remaining self.old.turns result self.new ≤
+            2 + frames_weight self.old.frames + expression_weight right.now +
+            steps_weight rest.now }
     {
         match prepare(&self.store, step, value) {
             Ok(Ready::Done(done)) => {
@@ -253,6 +281,8 @@ impl<'p> Machine<'p> {
             (both_on self.old.line.0 step (word_view left) (word_view old) (word_view right) t))
             result self.new }
         ensures turns { self.new.turns ≤ self.old.turns }
+        ensures nears { remaining self.old.turns result self.new ≤
+            1 + frames_weight self.old.frames + steps_weight rest.now }
     {
         match finish(&mut self.store, step, left, old, right) {
             Ok(next) => {

@@ -1,9 +1,10 @@
 //! Where labels stand.
 
-ghost use Rattle.std.specs.Prelude.{◌≡◌};
+ghost use Rattle.std.specs.Prelude.{◌≡◌, ◌≤◌, ◌+◌, IfSome};
 ghost use Rattle.ec_code.specs.Views.{statement_view, statements_view};
 ghost use Rattle.ec_resolved.specs.Labels.{holds, holds_any};
 ghost use Rattle.ec_machine.specs.Standing.{IsStanding};
+ghost use Rattle.ec_machine.specs.Weights.{statement_weight, statements_weight};
 
 use ec_code::Statement;
 
@@ -54,7 +55,9 @@ pub(crate) struct Standing<'p> {
 
 /// The first of some statements that holds a label.
 pub(crate) fn first_holding<'p>(label: u32, statements: &'p [Statement]) -> Option<Standing<'p>>
-    ensures { IsStanding label statements.now result }
+    ensures found { IsStanding label statements.now result }
+    ensures smaller { IfSome result (λ x. 1 + statement_weight x.first.now + statements_weight
+        x.rest.now ≤ statements_weight statements.now) }
 {
     let mut left = statements;
     while let [first, rest @ ..] = left {

@@ -11,6 +11,7 @@ mod loops;
 mod machine;
 mod making;
 mod scope;
+mod start;
 mod statements;
 mod step;
 mod stop;

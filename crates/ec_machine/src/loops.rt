@@ -1,6 +1,6 @@
 //! Lists of statements, blocks and loops.
 
-ghost use Rattle.std.specs.Prelude.{◌≡◌, ◌≤◌, ℕ, List, map};
+ghost use Rattle.std.specs.Prelude.{◌≡◌, ◌≤◌, ◌+◌, ℕ, List, map, OnOk};
 ghost use Rattle.ec_code.specs.declared.program.Function.{Function as FunctionData};
 ghost use Rattle.ec_code.specs.Views.{size_view, statements_view};
 ghost use Rattle.ec_evaluation.specs.Evaluate.{Context, World, turn_of};
@@ -10,6 +10,7 @@ ghost use Rattle.ec_evaluation.specs.State.{State};
 ghost use Rattle.ec_evaluation.specs.Whole.{without_atoms};
 ghost use Rattle.ec_machine.specs.Frames.{behind_of, body_of, here, test_of};
 ghost use Rattle.ec_machine.specs.Goes.{Enters, Goes, at, env_of};
+ghost use Rattle.ec_machine.specs.Weights.{again_weight, frames_weight, remaining, statements_weight, test_weight};
 
 use crate::frame::{Flow, Focus, Frame};
 use crate::labels::first_holding;
@@ -25,6 +26,8 @@ impl<'p> Machine<'p> {
             (λ w t. run_all without_atoms w (here (env_of self.old) self.old.line)
             (statements_view statements.now) t) result self.new }
         ensures turns { self.new.turns ≤ self.old.turns }
+        ensures nears { remaining self.old.turns result self.new ≤
+            1 + frames_weight self.old.frames + statements_weight statements.now }
     {
         match statements {
             [] => Ok(Focus::Leads(Flow::On)),
@@ -45,6 +48,8 @@ impl<'p> Machine<'p> {
             (λ w t. look_all without_atoms w label (here (env_of self.old) self.old.line)
             (statements_view statements.now) t) result self.new }
         ensures turns { self.new.turns ≤ self.old.turns }
+        ensures nears { remaining self.old.turns result self.new ≤
+            1 + frames_weight self.old.frames + statements_weight statements.now }
     {
         match first_holding(label, statements) {
             Some(found) => {
@@ -66,7 +71,9 @@ impl<'p> Machine<'p> {
             (enter w (here (env_of self.old) self.old.line) (map size_view sizes.now)
             (statements_view body.now) go (at s self.old))
             (go (here (env_of self.new) self.new.line) (at s self.new)) }
-        ensures turns { self.new.turns ≤ self.old.turns }
+        ensures turns { self.new.turns ≡ self.old.turns }
+        ensures frames { OnOk result (frames_weight self.new.frames ≡ frames_weight self.old.frames
+            + 2) }
     {
         let mark = self.store.mark();
         let height = self.scope.pointers.len();
@@ -86,6 +93,7 @@ impl<'p> Machine<'p> {
             (λ w t. w (turn_of (here (env_of self.old) self.old.line) (test_of inner.now)
             (behind_of inner.now) (body_of inner.now)) t) result self.new }
         ensures turns { self.new.turns ≤ self.old.turns }
+        ensures nears { remaining self.old.turns result self.new ≡ 0 }
     {
         take_turn(&mut self.turns)?;
         self.frames.push(Frame::Body(self.line, inner))?;
@@ -98,6 +106,8 @@ impl<'p> Machine<'p> {
             (λ w t. tested without_atoms w (here (env_of self.old) self.old.line) (test_of
             inner.now) (behind_of inner.now) (body_of inner.now) t) result self.new }
         ensures turns { self.new.turns ≤ self.old.turns }
+        ensures nears { remaining self.old.turns result self.new ≤
+            1 + frames_weight self.old.frames + test_weight inner.now }
     {
         match &inner.test {
             None => self.turn(inner),
@@ -114,6 +124,8 @@ impl<'p> Machine<'p> {
             (λ w t. again without_atoms w (here (env_of self.old) self.old.line) (test_of
             inner.now) (behind_of inner.now) (body_of inner.now) t) result self.new }
         ensures turns { self.new.turns ≤ self.old.turns }
+        ensures nears { remaining self.old.turns result self.new ≤
+            1 + frames_weight self.old.frames + again_weight inner.now }
     {
         match &inner.behind {
             None => self.test(inner),

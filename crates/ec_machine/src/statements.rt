@@ -1,6 +1,6 @@
 //! Statements, run from their start or from a label.
 
-ghost use Rattle.std.specs.Prelude.{◌≡◌, ◌≤◌, ℕ, List, map};
+ghost use Rattle.std.specs.Prelude.{◌≡◌, ◌≤◌, ◌+◌, ℕ, List, map};
 ghost use Rattle.std.specs.Option.{option_map};
 ghost use Rattle.ec_code.specs.declared.program.Function.{Function as FunctionData};
 ghost use Rattle.ec_code.specs.Views.{expression_view, expressions_view, loop_view, size_view, statement_view, statements_view};
@@ -10,6 +10,8 @@ ghost use Rattle.ec_evaluation.specs.Whole.{without_atoms};
 ghost use Rattle.ec_values.specs.Words.{word_view};
 ghost use Rattle.ec_machine.specs.Frames.{here};
 ghost use Rattle.ec_machine.specs.Goes.{EndsWith, Goes, Returns, env_of};
+ghost use Rattle.ec_machine.specs.declared.machine.Machine.{Machine as MachineData};
+ghost use Rattle.ec_machine.specs.Weights.{expressions_weight, frames_weight, remaining, optional_weight, statement_weight, statements_weight, test_weight};
 
 use crate::frame::{Callee, Flow, Focus, Frame};
 use crate::labels::holds;
@@ -30,6 +32,8 @@ impl<'p> Machine<'p> {
             (λ w t. run without_atoms w (here (env_of self.old) self.old.line) (statement_view
             statement.now) t) result self.new }
         ensures turns { self.new.turns ≤ self.old.turns }
+        ensures nears { remaining self.old.turns result self.new ≤
+            frames_weight self.old.frames + statement_weight statement.now }
     {
         match statement {
             Statement::OnLine(line, inner) => {
@@ -67,6 +71,8 @@ impl<'p> Machine<'p> {
             (λ w t. look without_atoms w label (here (env_of self.old) self.old.line)
             (statement_view statement.now) t) result self.new }
         ensures turns { self.new.turns ≤ self.old.turns }
+        ensures nears { remaining self.old.turns result self.new ≤
+            frames_weight self.old.frames + statement_weight statement.now }
     {
         match statement {
             Statement::OnLine(line, inner) => {
@@ -119,6 +125,8 @@ impl<'p> Machine<'p> {
             (statements_view body.now) (λ d u. run_all without_atoms w d (statements_view
             body.now) u) t) result self.new }
         ensures turns { self.new.turns ≤ self.old.turns }
+        ensures nears { remaining self.old.turns result self.new ≤
+            3 + frames_weight self.old.frames + statements_weight body.now }
     {
         match self.enter(sizes, body) {
             Ok(()) => self.list(body),
@@ -138,6 +146,8 @@ impl<'p> Machine<'p> {
             (statements_view body.now) (λ d u. look_all without_atoms w label d (statements_view
             body.now) u) t) result self.new }
         ensures turns { self.new.turns ≤ self.old.turns }
+        ensures nears { remaining self.old.turns result self.new ≤
+            3 + frames_weight self.old.frames + statements_weight body.now }
     {
         match self.enter(sizes, body) {
             Ok(()) => self.look_list(label, body),
@@ -151,6 +161,8 @@ impl<'p> Machine<'p> {
             (λ w t. run without_atoms w (here (env_of self.old) self.old.line) (loop_view
             inner.now) t) result self.new }
         ensures turns { self.new.turns ≤ self.old.turns }
+        ensures nears { remaining self.old.turns result self.new ≤
+            1 + frames_weight self.old.frames + test_weight inner.now }
     {
         if inner.tested {
             self.test(inner)
@@ -165,6 +177,8 @@ impl<'p> Machine<'p> {
             (λ w t. returning without_atoms w (here (env_of self.old) self.old.line) (option_map
             expression_view value.now) t) result self.new }
         ensures turns { self.new.turns ≤ self.old.turns }
+        ensures nears { remaining self.old.turns result self.new ≤
+            2 + frames_weight self.old.frames + optional_weight value.now }
     {
         match value {
             None => gives(self.first, None),
@@ -180,6 +194,7 @@ impl<'p> Machine<'p> {
         ensures goes { (functions : List FunctionData) → Goes functions self.old (env_of self.old)
             (λ w t. turn t (λ u. went label u)) result self.new }
         ensures turns { self.new.turns ≤ self.old.turns }
+        ensures nears { remaining self.old.turns result self.new ≡ 0 }
     {
         match take_turn(&mut self.turns) {
             Ok(()) => Ok(Focus::Leads(Flow::Went(label))),
@@ -192,6 +207,8 @@ impl<'p> Machine<'p> {
         ensures goes { (functions : List FunctionData) → Goes functions self.old (env_of self.old)
             (λ w t. declared (here (env_of self.old) self.old.line) slot size t) result self.new }
         ensures turns { self.new.turns ≤ self.old.turns }
+        ensures nears { remaining self.old.turns result self.new ≤
+            1 + frames_weight self.old.frames }
     {
         match place(&self.scope, slot) {
             Some(ptr) => match self.store.unset(ptr, size) {
@@ -214,6 +231,8 @@ impl<'p> Machine<'p> {
             (λ w t. initialized without_atoms w (here (env_of self.old) self.old.line) slot size
             (expressions_view values.now) t) result self.new }
         ensures turns { self.new.turns ≤ self.old.turns }
+        ensures nears { remaining self.old.turns result self.new ≤
+            3 + frames_weight self.old.frames + expressions_weight values.now }
     {
         match place(&self.scope, slot) {
             Some(ptr) => match self.store.fill(ptr, size, 0) {
@@ -236,8 +255,11 @@ pub(crate) fn exits(value: Option<Word>) -> End
 }
 
 /// What `return` leads to: the first `main` ends the run.
+#[tactic(auto, using(crate::proofs::Weighing::weights))]
 pub(crate) fn gives<'p>(first: bool, value: Option<Word>) -> Result<Focus<'p>, Stop>
-    ensures { Returns result (λ s. returned first (option_map word_view value) s) }
+    ensures gives { Returns result (λ s. returned first (option_map word_view value) s) }
+    ensures nears { (turns : ℕ) (m : MachineData) → remaining turns result m ≤
+        1 + frames_weight m.frames }
 {
     if first {
         Err(Stop::Over(exits(value)))

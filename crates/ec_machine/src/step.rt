@@ -1,6 +1,6 @@
 //! Single steps.
 
-ghost use Rattle.std.specs.Prelude.{◌≡◌, ◌≤◌, ℕ, List, map};
+ghost use Rattle.std.specs.Prelude.{◌≡◌, ◌≤◌, ◌+◌, ℕ, List, map};
 ghost use Rattle.std.specs.Option.{option_map};
 ghost use Rattle.ec_code.specs.declared.program.Function.{Function as FunctionData};
 ghost use Rattle.ec_evaluation.specs.Results.{finished, value as valued};
@@ -8,6 +8,7 @@ ghost use Rattle.ec_evaluation.specs.State.{State};
 ghost use Rattle.ec_values.specs.Words.{word_view};
 ghost use Rattle.ec_machine.specs.Frames.{denote, led};
 ghost use Rattle.ec_machine.specs.Goes.{Ends, Goes, env_of};
+ghost use Rattle.ec_machine.specs.Weights.{IsPut, flow_weight, frames_answer, frames_weight, remaining, weight};
 
 use crate::frame::{Flow, Focus};
 use crate::machine::Machine;
@@ -23,6 +24,8 @@ impl<'p> Machine<'p> {
             (λ w t. denote w (env_of self.old) self.old.line self.old.text focus.entry t) result
             self.new }
         ensures turns { self.new.turns ≤ self.old.turns }
+        ensures nears { (IsPut focus.entry → ⊥) → remaining self.old.turns result self.new ≤
+            weight self.old.frames focus.entry }
     {
         match focus {
             Focus::Runs(statement) => self.run(functions, statement),
@@ -39,6 +42,7 @@ impl<'p> Machine<'p> {
         ensures goes { Goes functions.now self.old (env_of self.old)
             (λ w t. valued (word_view value) t) result self.new }
         ensures turns { self.new.turns ≤ self.old.turns }
+        ensures nears { remaining self.old.turns result self.new ≤ frames_weight self.old.frames }
     {
         match self.frames.pop() {
             Some(frame) => self.give_value(functions, frame, value),
@@ -51,6 +55,8 @@ impl<'p> Machine<'p> {
         ensures goes { (functions : List FunctionData) → Goes functions self.old (env_of self.old)
             (λ w t. led flow t) result self.new }
         ensures turns { self.new.turns ≤ self.old.turns }
+        ensures nears { remaining self.old.turns result self.new ≤
+            frames_weight self.old.frames + flow_weight flow (frames_answer self.old.frames) }
     {
         match self.frames.pop() {
             Some(frame) => self.give_flow(frame, flow),

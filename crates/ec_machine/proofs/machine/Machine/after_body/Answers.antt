@@ -1,4 +1,4 @@
-use Rattle.std.proofs.Common.{ap}
+use Rattle.std.proofs.Common.{ap, arith}
 use Rattle.std.specs.Prelude.{reverse}
 use Rattle.ec_machine.specs.Frames.{resume, behind_of, body_of, here, led, test_of}
 use Rattle.ec_machine.specs.Goes.{at, env_of, world}
@@ -6,6 +6,7 @@ use Rattle.ec_evaluation.specs.Execute.{again}
 use Rattle.ec_evaluation.specs.Results.{after_body}
 use Rattle.ec_evaluation.specs.Whole.{without_atoms}
 use Rattle.ec_machine.proofs.Moves.{stands_by}
+use Rattle.ec_machine.proofs.Weighing.{nearer}
 use Rattle.ec_machine.proofs.machine.Machine.after_body.Goals as goal
 
 pub returns-in-On-clause-goes : goal.returns-in-On-clause-goes
@@ -25,3 +26,18 @@ returns-in-Continued-clause-goes c = λ fs k s l.
     stands_by (world fs k) s c.again-in-Continued.new.self c.again-in-Continued.result _ _
     (ap (λ f. resume (world fs k) e (reverse c.args.self.now.frames) (after_body (led f (at s c.args.self.now)) (λ u. again without_atoms (world fs k) d (test_of i) (behind_of i) (body_of i) u))) c.in-Continued.is)
     (c.again-in-Continued.ensures.goes fs k s l)
+
+pub returns-in-On-clause-nears : goal.returns-in-On-clause-nears
+returns-in-On-clause-nears c = omega (arith, c.again.ensures.nears)
+
+pub returns-in-Continued-clause-nears : goal.returns-in-Continued-clause-nears
+returns-in-Continued-clause-nears c = omega (arith, c.again-in-Continued.ensures.nears)
+
+pub returns-in-Broke-clause-nears : goal.returns-in-Broke-clause-nears
+returns-in-Broke-clause-nears c = nearer _ _ _ _ (omega arith)
+
+pub returns-in-Went-clause-nears : goal.returns-in-Went-clause-nears
+returns-in-Went-clause-nears c = nearer _ _ _ _ (omega arith)
+
+pub returns-in-Back-clause-nears : goal.returns-in-Back-clause-nears
+returns-in-Back-clause-nears c = nearer _ _ _ _ (omega arith)

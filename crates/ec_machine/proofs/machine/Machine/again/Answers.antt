@@ -1,4 +1,4 @@
-use Rattle.std.proofs.Common.{◌∙◌, ap, sym}
+use Rattle.std.proofs.Common.{◌∙◌, ap, sym, arith}
 use Rattle.std.specs.Prelude.{reverse}
 use Rattle.std.specs.Option.{option_map}
 use Rattle.ec_code.specs.Views.{expression_view}
@@ -7,6 +7,8 @@ use Rattle.ec_machine.specs.Goes.{at, env_of, world}
 use Rattle.ec_evaluation.specs.Execute.{again, tested}
 use Rattle.ec_evaluation.specs.Whole.{without_atoms}
 use Rattle.ec_machine.proofs.Moves.{stands_by}
+use Rattle.ec_machine.specs.Weights.{optional_weight}
+use Rattle.ec_machine.proofs.Weighing.{err_exit, pushes}
 use Rattle.ec_machine.proofs.machine.Machine.again.Goals as goal
 
 pub returns-in-None-clause-goes : goal.returns-in-None-clause-goes
@@ -20,3 +22,12 @@ returns-in-None-clause-goes c = λ fs k s l.
     (ap (λ z. resume (world fs k) e (reverse c.args.self.now.frames) (again without_atoms (world fs k) d (test_of i) z (body_of i) (at s c.args.self.now))) (ap (option_map expression_view) c.in-None.is)
     ∙ ap (λ z. resume (world fs k) e (reverse c.args.self.now.frames) (tested without_atoms (world fs k) d (test_of i) z (body_of i) (at s c.args.self.now))) (sym (ap (option_map expression_view) c.in-None.is)))
     (c.test.ensures.goes fs k s l)
+
+pub returns-in-None-clause-nears : goal.returns-in-None-clause-nears
+returns-in-None-clause-nears c = omega (arith, c.test.ensures.nears)
+
+pub returns-in_err-push-in-Some-clause-nears : goal.returns-in_err-push-in-Some-clause-nears
+returns-in_err-push-in-Some-clause-nears c = err_exit _ _ _ _ _ c.from_residual.ensures.1
+
+pub returns-in_ok-push-in-Some-clause-nears : goal.returns-in_ok-push-in-Some-clause-nears
+returns-in_ok-push-in-Some-clause-nears c = pushes _ _ _ _ _ _ c.in_ok-push-in-Some.ensures.ok (omega (arith, ap optional_weight c.in-Some.is))

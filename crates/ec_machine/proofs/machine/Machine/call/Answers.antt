@@ -12,6 +12,7 @@ use Rattle.ec_machine.specs.Goes.{at, env_of, taken, world}
 use Rattle.ec_machine.proofs.Moves.{lifted, stands_by}
 use Rattle.ec_machine.proofs.Parts.{stops_through}
 use Rattle.ec_machine.proofs.Turns.{begins, stops_by}
+use Rattle.ec_machine.proofs.Weighing.{remaining_err, remaining_none}
 use Rattle.ec_machine.proofs.machine.Machine.call.Goals as goal
 
 pub returns-in-Ok-clause-goes : goal.returns-in-Ok-clause-goes
@@ -38,3 +39,9 @@ returns-in-Err-clause-goes c = λ k s l.
     lifted w (taken c.args.count (env_of m)) (reverse m.frames) (at s n) c.in-Err.stop (followed without_atoms w d xs (answered m.line.0 c.args.used (w t (at s m))))
     (stops_through (λ o. followed without_atoms w d xs (answered m.line.0 c.args.used o)) (λ e u. followed_over without_atoms w d xs e u) c.in-Err.stop (at s n) (w t (at s m))
     (stops_by c.in-Err.stop (at s n) _ _ (begins fs k s m t l) (c.in-Err.ensures.turn (at s m) (λ u. act without_atoms (map function_view fs) w t u))))
+
+pub returns-in-Ok-clause-nears : goal.returns-in-Ok-clause-nears
+returns-in-Ok-clause-nears c = remaining_none _ _ _ (omega (arith, c.start.ensures.turns, c.in-Ok.ensures.taken))
+
+pub returns-in-Err-clause-nears : goal.returns-in-Err-clause-nears
+returns-in-Err-clause-nears c = remaining_err _ _ _

@@ -1,4 +1,4 @@
-use Rattle.std.proofs.Common.{◌∙◌, ap, sym}
+use Rattle.std.proofs.Common.{◌∙◌, ap, sym, arith}
 use Rattle.std.specs.Prelude.{reverse}
 use Rattle.ec_evaluation.specs.Results.{over, on, present, changed}
 use Rattle.ec_objects.specs.Memory.{unset}
@@ -6,6 +6,7 @@ use Rattle.ec_machine.specs.Frames.{resume}
 use Rattle.ec_machine.specs.Goes.{at, env_of, world}
 use Rattle.ec_machine.proofs.Moves.{resume_over}
 use Rattle.ec_evaluation.specs.State.{stuck, trapped}
+use Rattle.ec_machine.proofs.Weighing.{err_near, nearer}
 use Rattle.ec_machine.proofs.machine.Machine.declare.Goals as goal
 
 pub returns-in-Err-clause-goes : goal.returns-in-Err-clause-goes
@@ -23,3 +24,12 @@ returns-in-None-clause-goes c = λ fs k s l.
     let m = c.args.self.now in
     ap (λ o. resume w (env_of m) (reverse m.frames) (present o (at s m) (λ p. changed m.line.0 (unset m.store p c.args.size) (at s m) (λ t. on t)))) (sym c.in-None.ensures)
     ∙ resume_over w (env_of m) (reverse m.frames) stuck (at s m)
+
+pub returns-in-Ok-clause-nears : goal.returns-in-Ok-clause-nears
+returns-in-Ok-clause-nears c = nearer _ _ _ _ (omega arith)
+
+pub returns-in-Err-clause-nears : goal.returns-in-Err-clause-nears
+returns-in-Err-clause-nears c = err_near _ _ _ _
+
+pub returns-in-None-clause-nears : goal.returns-in-None-clause-nears
+returns-in-None-clause-nears c = err_near _ _ _ _

@@ -1,4 +1,4 @@
-use Rattle.std.proofs.Common.{◌∙◌, ap, sym, map, ℕ, List, [], ◌∷◌, ◌++◌}
+use Rattle.std.proofs.Common.{◌∙◌, ap, sym, map, ℕ, List, [], ◌∷◌, ◌++◌, arith}
 use Rattle.std.specs.Prelude.{reverse}
 use Rattle.ec_code.specs.Views.{size_view, statements_view}
 use Rattle.ec_evaluation.specs.Execute.{inside, settle}
@@ -12,6 +12,8 @@ use Rattle.ec_machine.specs.Frames.{here, objects_of, resume}
 use Rattle.ec_machine.specs.Goes.{at, env_of}
 use Rattle.ec_machine.proofs.Moves.{closed, entered}
 use Rattle.ec_machine.proofs.Objects.{no_room_stops}
+use Rattle.ec_machine.specs.Weights.{frames_weight}
+use Rattle.ec_machine.proofs.Weighing.{pushed_weight}
 use Rattle.ec_machine.proofs.machine.Machine.enter.Goals as goal
 
 pub returns-in-Err-clause-enters : goal.returns-in-Err-clause-enters
@@ -38,3 +40,6 @@ returns-clause-enters c = λ w s go.
     ap (λ o. resume w e (reverse fs) (closing (last_number c.args.self.now.store) o)) (c.in-Ok.ensures.made line.0 (record s { turns = c.args.self.now.turns }) (λ objects t. settle w (inside d objects) b (go (inside d objects) t)))
     ∙ ap (λ n. resume w e (reverse fs) (closing n (settle w (here (record e { scope = sc }) line) b o))) (sym c.mark-mark.ensures)
     ∙ entered w e sc fs c.push.new.self c.push-2.new.self c.mark-mark.result line c.args.body o c.in-Ok.ensures.grown (c.in_ok-push.ensures.ok ∙ ap (λ h. fs ++ frame.Close c.mark-mark.result h e.scope.count ∷ []) c.len-height.ensures) c.in_ok-push-2.ensures.ok
+
+pub returns-clause-frames : goal.returns-clause-frames
+returns-clause-frames c = omega (arith, ap frames_weight c.in_ok-push-2.ensures.ok, pushed_weight c.push.new.self (frame.Settle c.args.self.now.line c.args.body), ap frames_weight c.in_ok-push.ensures.ok, pushed_weight c.args.self.now.frames (frame.Close c.mark-mark.result c.len-height.result c.args.self.now.scope.count))

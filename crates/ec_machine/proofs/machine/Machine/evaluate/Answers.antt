@@ -1,3 +1,4 @@
+use Rattle.std.proofs.Common.{arith, ap, ◌∙◌}
 use Rattle.ec_code.specs.Views.{full_view, plain_view}
 use Rattle.ec_evaluation.specs.Evaluate.{eval}
 use Rattle.ec_evaluation.specs.Whole.{without_atoms}
@@ -5,6 +6,8 @@ use Rattle.ec_machine.specs.Frames.{here}
 use Rattle.ec_machine.specs.Goes.{env_of}
 use Rattle.ec_machine.proofs.Evaluating.{to_Plain, to_Full}
 use Rattle.ec_machine.proofs.Moves.{goes_as}
+use Rattle.ec_machine.specs.Weights.{expression_weight}
+use Rattle.ec_machine.proofs.Weighing.{weight-Full, weight-Plain}
 use Rattle.ec_machine.proofs.machine.Machine.evaluate.Goals as goal
 
 pub returns-in-Plain-clause-goes : goal.returns-in-Plain-clause-goes
@@ -24,3 +27,9 @@ returns-in-Full-clause-goes c =
     goes_as fs m c.full.new.self (env_of m) c.full.result _ (λ w t. eval without_atoms w d (full_view c.in-Full.full) t)
     (λ w t. to_Full w d t c.args.expression.now c.in-Full.full c.in-Full.is)
     c.full.ensures.goes
+
+pub returns-in-Plain-clause-nears : goal.returns-in-Plain-clause-nears
+returns-in-Plain-clause-nears c = omega (arith, c.plain.ensures.nears, ap expression_weight c.in-Plain.is ∙ weight-Plain _)
+
+pub returns-in-Full-clause-nears : goal.returns-in-Full-clause-nears
+returns-in-Full-clause-nears c = omega (arith, c.full.ensures.nears, ap expression_weight c.in-Full.is ∙ weight-Full _)

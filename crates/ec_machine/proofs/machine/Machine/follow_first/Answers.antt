@@ -1,4 +1,4 @@
-use Rattle.std.proofs.Common.{◌∷◌, map}
+use Rattle.std.proofs.Common.{◌∷◌, map, arith, ap, ◌∙◌}
 use Rattle.ec_code.specs.Views.{expression_view, full_step_view}
 use Rattle.ec_evaluation.specs.Results.{value}
 use Rattle.ec_evaluation.specs.Whole.{without_atoms}
@@ -8,6 +8,8 @@ use Rattle.ec_machine.specs.Frames.{here}
 use Rattle.ec_machine.specs.Goes.{env_of}
 use Rattle.ec_machine.proofs.Moves.{goes_as}
 use Rattle.ec_machine.proofs.Parts.{first_One, first_Two}
+use Rattle.ec_machine.specs.Weights.{full_step_weight}
+use Rattle.ec_machine.proofs.Weighing.{weight-Two}
 use Rattle.ec_machine.proofs.machine.Machine.follow_first.Goals as goal
 
 pub returns-in-One-clause-goes : goal.returns-in-One-clause-goes
@@ -33,3 +35,9 @@ returns-in-Two-clause-goes c = λ fs.
     (λ w t. followed without_atoms w d xs (two_on without_atoms w d c.in-Two.step (expression_view c.in-Two.right) v t))
     (λ w t. first_Two w d t c.args.first.now xs v c.in-Two.step c.in-Two.right c.in-Two.is)
     (c.follow_two.ensures.goes fs)
+
+pub returns-in-One-clause-nears : goal.returns-in-One-clause-nears
+returns-in-One-clause-nears c = omega (arith, c.follow_one.ensures.nears)
+
+pub returns-in-Two-clause-nears : goal.returns-in-Two-clause-nears
+returns-in-Two-clause-nears c = omega (arith, c.follow_two.ensures.nears, ap full_step_weight c.in-Two.is ∙ weight-Two _ _)

@@ -1,4 +1,4 @@
-use Rattle.std.proofs.Common.{◌∙◌, ap, map}
+use Rattle.std.proofs.Common.{◌∙◌, ap, map, arith}
 use Rattle.std.specs.Prelude.{reverse}
 use Rattle.ec_code.specs.Views.{full_step_view}
 use Rattle.ec_evaluation.specs.Results.{value}
@@ -11,6 +11,7 @@ use Rattle.ec_machine.specs.declared.frame.Frame.TheVariants as frame
 use Rattle.ec_machine.specs.Frames.{here, resume}
 use Rattle.ec_machine.specs.Goes.{at, env_of, world}
 use Rattle.ec_machine.proofs.Moves.{pushed, over_stops}
+use Rattle.ec_machine.proofs.Weighing.{err_exit, err_near, pushes}
 use Rattle.ec_machine.proofs.machine.Machine.follow_one.Goals as goal
 
 pub returns-in_ok-push-in-Ok-clause-goes : goal.returns-in_ok-push-in-Ok-clause-goes
@@ -32,3 +33,12 @@ returns-in-Err-clause-goes c = λ fs k s l.
     over_stops w (env_of m) (reverse m.frames) t c.stopped.result (ending_of m.line.0 c.in-Err.why) (followed without_atoms w d (map full_step_view c.args.rest.now) (one_on m.line.0 c.args.step.now (word_view c.args.value) (at s m))) c.stopped.ensures
     (ap (followed without_atoms w d (map full_step_view c.args.rest.now)) (c.unary.ensures m.line.0 (at s m) ∙ ap (λ r. answered m.line.0 r t) c.in-Err.is)
     ∙ followed_over without_atoms w d (map full_step_view c.args.rest.now) (ending_of m.line.0 c.in-Err.why) t)
+
+pub returns-in_ok-push-in-Ok-clause-nears : goal.returns-in_ok-push-in-Ok-clause-nears
+returns-in_ok-push-in-Ok-clause-nears c = pushes _ _ _ _ _ _ c.in_ok-push-in-Ok.ensures.ok (omega arith)
+
+pub returns-in_err-push-in-Ok-clause-nears : goal.returns-in_err-push-in-Ok-clause-nears
+returns-in_err-push-in-Ok-clause-nears c = err_exit _ _ _ _ _ c.from_residual.ensures.1
+
+pub returns-in-Err-clause-nears : goal.returns-in-Err-clause-nears
+returns-in-Err-clause-nears c = err_near _ _ _ _

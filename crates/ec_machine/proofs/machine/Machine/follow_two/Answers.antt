@@ -1,4 +1,4 @@
-use Rattle.std.proofs.Common.{◌≡◌, ◌∙◌, ap, map, Ok}
+use Rattle.std.proofs.Common.{◌≡◌, ◌∙◌, ap, map, Ok, arith}
 use Rattle.std.specs.Prelude.{reverse}
 use Rattle.ec_code.specs.Views.{expression_view, full_step_view}
 use Rattle.ec_evaluation.specs.Evaluate.{eval}
@@ -14,6 +14,7 @@ use Rattle.ec_machine.specs.declared.frame.Frame.TheVariants as frame
 use Rattle.ec_machine.specs.Frames.{here, resume}
 use Rattle.ec_machine.specs.Goes.{at, env_of, world}
 use Rattle.ec_machine.proofs.Moves.{pushed, over_stops}
+use Rattle.ec_machine.proofs.Weighing.{err_exit, err_near, pushes}
 use Rattle.ec_machine.proofs.machine.Machine.follow_two.Goals as goal
 
 pub returns-in_ok-push-in-Ok-Done-clause-goes : goal.returns-in_ok-push-in-Ok-Done-clause-goes
@@ -44,3 +45,18 @@ returns-in-Err-clause-goes c = λ fs k s l.
     over_stops w (env_of m) (reverse m.frames) (at s m) c.stopped.result (ending_of m.line.0 c.in-Err.why) (followed without_atoms w d (map full_step_view c.args.rest.now) (two_on without_atoms w d c.args.step (expression_view c.args.right.now) (word_view c.args.value) (at s m))) c.stopped.ensures
     (ap (followed without_atoms w d (map full_step_view c.args.rest.now)) (c.prepare.ensures without_atoms w d (expression_view c.args.right.now) (at s m) ∙ ap (λ r. readied without_atoms w d c.args.step (expression_view c.args.right.now) (word_view c.args.value) r (at s m)) c.in-Err.is)
     ∙ followed_over without_atoms w d (map full_step_view c.args.rest.now) (ending_of m.line.0 c.in-Err.why) (at s m))
+
+pub returns-in_ok-push-in-Ok-Done-clause-nears : goal.returns-in_ok-push-in-Ok-Done-clause-nears
+returns-in_ok-push-in-Ok-Done-clause-nears c = pushes _ _ _ _ _ _ c.in_ok-push-in-Ok-Done.ensures.ok (omega arith)
+
+pub returns-in_ok-push-in-Ok-Waits-clause-nears : goal.returns-in_ok-push-in-Ok-Waits-clause-nears
+returns-in_ok-push-in-Ok-Waits-clause-nears c = pushes _ _ _ _ _ _ c.in_ok-push-in-Ok-Waits.ensures.ok (omega arith)
+
+pub returns-in_err-push-in-Ok-Done-clause-nears : goal.returns-in_err-push-in-Ok-Done-clause-nears
+returns-in_err-push-in-Ok-Done-clause-nears c = err_exit _ _ _ _ _ c.from_residual.ensures.1
+
+pub returns-in_err-push-in-Ok-Waits-clause-nears : goal.returns-in_err-push-in-Ok-Waits-clause-nears
+returns-in_err-push-in-Ok-Waits-clause-nears c = err_exit _ _ _ _ _ c.from_residual-in_err-push-in-Ok-Waits.ensures.1
+
+pub returns-in-Err-clause-nears : goal.returns-in-Err-clause-nears
+returns-in-Err-clause-nears c = err_near _ _ _ _

@@ -1,4 +1,4 @@
-use Rattle.std.proofs.Common.{◌∙◌, ap, map, []}
+use Rattle.std.proofs.Common.{◌∙◌, ap, map, [], arith}
 use Rattle.std.specs.Prelude.{reverse}
 use Rattle.ec_code.specs.Views.{expressions_view, full_step_view, plain_view}
 use Rattle.ec_evaluation.specs.Evaluate.{collect, eval}
@@ -10,6 +10,8 @@ use Rattle.ec_machine.specs.Frames.{here, received, resume}
 use Rattle.ec_machine.specs.Goes.{at, env_of, world}
 use Rattle.ec_machine.proofs.Evaluating.{to_Begun, to_Call, to_Known, to_LibraryCall}
 use Rattle.ec_machine.proofs.Moves.{goes_as, resume_over}
+use Rattle.ec_machine.specs.Weights.{expressions_weight, head_weight, steps_weight}
+use Rattle.ec_machine.proofs.Weighing.{err_near, weight-Begun, weight-Call, weight-Known, weight-full}
 use Rattle.ec_machine.proofs.machine.Machine.full.Goals as goal
 
 pub returns-in-Begun-clause-goes : goal.returns-in-Begun-clause-goes
@@ -53,3 +55,15 @@ returns-in-LibraryCall-clause-goes c = λ k s l.
     let d = here (env_of m) m.line in
     ap (resume w (env_of m) (reverse m.frames)) (to_LibraryCall w d (at s m) c.args.full.now c.in-LibraryCall.field-0 c.in-LibraryCall.is)
     ∙ resume_over w (env_of m) (reverse m.frames) stuck (at s m)
+
+pub returns-in-Begun-clause-nears : goal.returns-in-Begun-clause-nears
+returns-in-Begun-clause-nears c = omega (arith, c.begun.ensures.nears, weight-full c.args.full.now, ap head_weight c.in-Begun.is ∙ weight-Begun _, ap steps_weight c.as_slice-steps.ensures)
+
+pub returns-in-Call-clause-nears : goal.returns-in-Call-clause-nears
+returns-in-Call-clause-nears c = omega (arith, c.pass_all.ensures.nears, weight-full c.args.full.now, ap head_weight c.in-Call.is ∙ weight-Call _ _ _, ap steps_weight c.as_slice-steps.ensures, ap expressions_weight c.as_slice.ensures)
+
+pub returns-in-Known-clause-nears : goal.returns-in-Known-clause-nears
+returns-in-Known-clause-nears c = omega (arith, c.pass_all-in-Known.ensures.nears, weight-full c.args.full.now, ap head_weight c.in-Known.is ∙ weight-Known _ _, ap steps_weight c.as_slice-steps.ensures, ap expressions_weight c.as_slice-in-Known.ensures)
+
+pub returns-in-LibraryCall-clause-nears : goal.returns-in-LibraryCall-clause-nears
+returns-in-LibraryCall-clause-nears c = err_near _ _ _ _

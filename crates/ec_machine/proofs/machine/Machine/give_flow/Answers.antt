@@ -1,4 +1,4 @@
-use Rattle.std.proofs.Common.{◌≡◌, ◌∙◌, ap, sym, map, [], ◌∷◌, ◌++◌, Some}
+use Rattle.std.proofs.Common.{◌≡◌, ◌∙◌, ap, sym, map, [], ◌∷◌, ◌++◌, Some, arith, ◌+◌}
 use Rattle.std.specs.Prelude.{reverse}
 use Rattle.std.specs.Option.{option_map}
 use Rattle.ec_code.specs.Views.{expressions_view, full_step_view, statements_view}
@@ -14,6 +14,8 @@ use Rattle.ec_machine.specs.Frames.{below, cut, here, led, plug, received, resum
 use Rattle.ec_machine.specs.Goes.{at, env_of, world}
 use Rattle.ec_machine.proofs.Moves.{closing_led, followed_led, led_passes, pushed, resume_over, returns_stand, right_led, stands_by}
 use Rattle.ec_machine.proofs.Parts.{given_as}
+use Rattle.ec_machine.specs.Weights.{frames_weight, frames_answer}
+use Rattle.ec_machine.proofs.Weighing.{flow_given, passes_on, pushed_weight, err_exit, flow_more}
 use Rattle.ec_machine.proofs.machine.Machine.give_flow.Goals as goal
 
 pub returns-in-Arguments-clause-goes : goal.returns-in-Arguments-clause-goes
@@ -33,7 +35,7 @@ returns-in_ok-push-in-Call-clause-goes c = λ fs k s l.
     stands_by w s n c.returned.result _ _
     (ap (λ f. resume w (below (env_of m) f) (reverse m.frames) (plug w (env_of m) f (led c.args.flow (at s m)))) c.in-Call.is
     ∙ pushed w e m.frames c.push.new.self (frame.Steps c.in-Call.line c.in-Call.steps) (answered c.in-Call.line.0 c.in-Call.used (function_end (option_map word_view c.in-Call.otherwise) (led c.args.flow (at s m)))) c.in_ok-push-in-Call.ensures.ok)
-    (returns_stand w s n c.returned.result (λ t. answered c.in-Call.line.0 c.in-Call.used (function_end (option_map word_view c.in-Call.otherwise) (led c.args.flow t))) c.returned.ensures)
+    (returns_stand w s n c.returned.result (λ t. answered c.in-Call.line.0 c.in-Call.used (function_end (option_map word_view c.in-Call.otherwise) (led c.args.flow t))) c.returned.ensures.gives)
 
 pub returns-in-Body-clause-goes : goal.returns-in-Body-clause-goes
 returns-in-Body-clause-goes c = λ fs.
@@ -109,3 +111,45 @@ returns-in-Behind-clause-goes c = λ fs k s l.
     let m = c.args.self.now in
     ap (λ f. resume w (below (env_of m) f) (reverse m.frames) (plug w (env_of m) f (led c.args.flow (at s m)))) c.in-Behind.is
     ∙ ap (resume w (env_of m) (reverse m.frames)) (led_passes c.args.flow (at s m) _)
+
+pub returns-in-Arguments-clause-nears : goal.returns-in-Arguments-clause-nears
+returns-in-Arguments-clause-nears c = passes_on _ _ _ _
+
+pub returns-in_ok-push-in-Call-clause-nears : goal.returns-in_ok-push-in-Call-clause-nears
+returns-in_ok-push-in-Call-clause-nears c = flow_given c.args.self.now.frames c.args.flow c.args.frame _ _ c.in-Call.is (omega (arith, c.returned.ensures.nears c.args.self.now.turns (record c.args.self.now { line = c.in-Call.line; first = c.in-Call.first; frames = c.push.new.self }), ap frames_weight c.in_ok-push-in-Call.ensures.ok, pushed_weight c.args.self.now.frames (frame.Steps c.in-Call.line c.in-Call.steps)))
+
+pub returns-in-Body-clause-nears : goal.returns-in-Body-clause-nears
+returns-in-Body-clause-nears c = flow_given c.args.self.now.frames c.args.flow c.args.frame _ _ c.in-Body.is (omega (arith, c.after_body.ensures.nears, flow_more c.args.flow (frames_answer c.args.self.now.frames) (0 + frames_answer c.args.self.now.frames) (omega arith)))
+
+pub returns-in-Rest-clause-nears : goal.returns-in-Rest-clause-nears
+returns-in-Rest-clause-nears c = flow_given c.args.self.now.frames c.args.flow c.args.frame _ _ c.in-Rest.is (omega (arith, c.rest.ensures.nears, flow_more c.args.flow (frames_answer c.args.self.now.frames) (0 + frames_answer c.args.self.now.frames) (omega arith)))
+
+pub returns-in-Settle-clause-nears : goal.returns-in-Settle-clause-nears
+returns-in-Settle-clause-nears c = flow_given c.args.self.now.frames c.args.flow c.args.frame _ _ c.in-Settle.is (omega (arith, c.settle.ensures.nears))
+
+pub returns-in-Close-clause-nears : goal.returns-in-Close-clause-nears
+returns-in-Close-clause-nears c = passes_on _ _ _ _
+
+pub returns-in-Steps-clause-nears : goal.returns-in-Steps-clause-nears
+returns-in-Steps-clause-nears c = passes_on _ _ _ _
+
+pub returns-in-Right-clause-nears : goal.returns-in-Right-clause-nears
+returns-in-Right-clause-nears c = passes_on _ _ _ _
+
+pub returns-in-Do-clause-nears : goal.returns-in-Do-clause-nears
+returns-in-Do-clause-nears c = passes_on _ _ _ _
+
+pub returns-in-Give-clause-nears : goal.returns-in-Give-clause-nears
+returns-in-Give-clause-nears c = passes_on _ _ _ _
+
+pub returns-in-Choose-clause-nears : goal.returns-in-Choose-clause-nears
+returns-in-Choose-clause-nears c = passes_on _ _ _ _
+
+pub returns-in-Test-clause-nears : goal.returns-in-Test-clause-nears
+returns-in-Test-clause-nears c = passes_on _ _ _ _
+
+pub returns-in-Behind-clause-nears : goal.returns-in-Behind-clause-nears
+returns-in-Behind-clause-nears c = passes_on _ _ _ _
+
+pub returns-in_err-push-in-Call-clause-nears : goal.returns-in_err-push-in-Call-clause-nears
+returns-in_err-push-in-Call-clause-nears c = err_exit _ _ _ _ _ c.from_residual.ensures.1

@@ -1,4 +1,4 @@
-use Rattle.std.proofs.Common.{◌≡◌, ◌∙◌, ap, sym, map, Some}
+use Rattle.std.proofs.Common.{◌≡◌, ◌∙◌, ap, sym, map, Some, arith}
 use Rattle.std.specs.Prelude.{reverse}
 use Rattle.std.specs.Option.{option_map}
 use Rattle.ec_code.specs.Views.{full_step_view, statements_view}
@@ -14,6 +14,7 @@ use Rattle.ec_machine.specs.Frames.{below, here, led, plug, resume}
 use Rattle.ec_machine.specs.Goes.{at, env_of, world}
 use Rattle.ec_machine.proofs.Moves.{closing_led, followed_led, led_passes, pushed, resume_over, returns_stand, right_led, stands_by}
 use Rattle.ec_machine.proofs.Parts.{given_as}
+use Rattle.ec_machine.proofs.Weighing.{err_near, nearer, value_given}
 use Rattle.ec_machine.proofs.machine.Machine.give_value.Goals as goal
 
 pub returns-in-Steps-clause-goes : goal.returns-in-Steps-clause-goes
@@ -58,7 +59,7 @@ returns-in-Give-clause-goes c = λ k s l.
     let m = c.args.self.now in
     stands_by w s m c.gives.result _ _
     (ap (λ f. resume w (below (env_of m) f) (reverse m.frames) (plug w (env_of m) f (value (word_view c.args.value) (at s m)))) c.in-Give.is)
-    (returns_stand w s m c.gives.result (λ t. returned m.first (Some (word_view c.args.value)) t) c.gives.ensures)
+    (returns_stand w s m c.gives.result (λ t. returned m.first (Some (word_view c.args.value)) t) c.gives.ensures.gives)
 
 pub returns-in-Choose-clause-goes : goal.returns-in-Choose-clause-goes
 returns-in-Choose-clause-goes c =
@@ -105,3 +106,42 @@ returns-in-Close-clause-goes c = λ k s l.
     let m = c.args.self.now in
     ap (λ f. resume w (below (env_of m) f) (reverse m.frames) (plug w (env_of m) f (value (word_view c.args.value) (at s m)))) c.in-Close.is
     ∙ ap (λ sc. resume w (record (env_of m) { scope = sc }) (reverse m.frames) (value (word_view c.args.value) (at s m))) (sym c.cut.ensures)
+
+pub returns-in-Steps-clause-nears : goal.returns-in-Steps-clause-nears
+returns-in-Steps-clause-nears c = value_given c.args.self.now.frames c.args.frame _ _ c.in-Steps.is (omega (arith, c.follow.ensures.nears))
+
+pub returns-in-Right-clause-nears : goal.returns-in-Right-clause-nears
+returns-in-Right-clause-nears c = value_given c.args.self.now.frames c.args.frame _ _ c.in-Right.is (omega (arith, c.follow_right.ensures.nears))
+
+pub returns-in-Arguments-clause-nears : goal.returns-in-Arguments-clause-nears
+returns-in-Arguments-clause-nears c = value_given c.args.self.now.frames c.args.frame _ _ c.in-Arguments.is (omega (arith, c.pass_on.ensures.nears))
+
+pub returns-in-Call-clause-nears : goal.returns-in-Call-clause-nears
+returns-in-Call-clause-nears c = err_near _ _ _ _
+
+pub returns-in-Do-clause-nears : goal.returns-in-Do-clause-nears
+returns-in-Do-clause-nears c = value_given c.args.self.now.frames c.args.frame _ _ c.in-Do.is (nearer _ _ _ _ (omega arith))
+
+pub returns-in-Give-clause-nears : goal.returns-in-Give-clause-nears
+returns-in-Give-clause-nears c = value_given c.args.self.now.frames c.args.frame _ _ c.in-Give.is (omega (arith, c.gives.ensures.nears c.args.self.now.turns c.args.self.now))
+
+pub returns-in-Choose-clause-nears : goal.returns-in-Choose-clause-nears
+returns-in-Choose-clause-nears c = value_given c.args.self.now.frames c.args.frame _ _ c.in-Choose.is (omega (arith, c.choose.ensures.nears))
+
+pub returns-in-Test-clause-nears : goal.returns-in-Test-clause-nears
+returns-in-Test-clause-nears c = value_given c.args.self.now.frames c.args.frame _ _ c.in-Test.is (omega (arith, c.tested.ensures.nears))
+
+pub returns-in-Behind-clause-nears : goal.returns-in-Behind-clause-nears
+returns-in-Behind-clause-nears c = value_given c.args.self.now.frames c.args.frame _ _ c.in-Behind.is (omega (arith, c.test.ensures.nears))
+
+pub returns-in-Body-clause-nears : goal.returns-in-Body-clause-nears
+returns-in-Body-clause-nears c = value_given c.args.self.now.frames c.args.frame _ _ c.in-Body.is (nearer _ _ _ _ (omega arith))
+
+pub returns-in-Rest-clause-nears : goal.returns-in-Rest-clause-nears
+returns-in-Rest-clause-nears c = value_given c.args.self.now.frames c.args.frame _ _ c.in-Rest.is (nearer _ _ _ _ (omega arith))
+
+pub returns-in-Settle-clause-nears : goal.returns-in-Settle-clause-nears
+returns-in-Settle-clause-nears c = value_given c.args.self.now.frames c.args.frame _ _ c.in-Settle.is (nearer _ _ _ _ (omega arith))
+
+pub returns-in-Close-clause-nears : goal.returns-in-Close-clause-nears
+returns-in-Close-clause-nears c = value_given c.args.self.now.frames c.args.frame _ _ c.in-Close.is (nearer _ _ _ _ (omega arith))

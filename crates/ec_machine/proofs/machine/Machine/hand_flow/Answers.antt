@@ -1,8 +1,10 @@
-use Rattle.std.proofs.Common.{◌∙◌, ap, sym}
+use Rattle.std.proofs.Common.{◌∙◌, ap, sym, arith}
 use Rattle.std.specs.Prelude.{reverse}
 use Rattle.ec_machine.specs.Frames.{led, resume}
 use Rattle.ec_machine.specs.Goes.{at, env_of, world}
 use Rattle.ec_machine.proofs.Moves.{pushed, stands_by}
+use Rattle.ec_machine.specs.Weights.{frames_weight}
+use Rattle.ec_machine.proofs.Weighing.{err_near, pushed_flow, pushed_weight}
 use Rattle.ec_machine.proofs.machine.Machine.hand_flow.Goals as goal
 
 pub returns-in-Some-clause-goes : goal.returns-in-Some-clause-goes
@@ -19,3 +21,9 @@ returns-in-None-clause-goes c = λ fs k s l.
     let m = c.args.self.now in
     ap (λ fs. resume w (env_of m) (reverse fs) (led c.args.flow (at s m))) c.in-None.ensures.0
     ∙ c.finish.ensures (at s m)
+
+pub returns-in-Some-clause-nears : goal.returns-in-Some-clause-nears
+returns-in-Some-clause-nears c = omega (arith, c.give_flow.ensures.nears, ap frames_weight c.in-Some.ensures, pushed_weight c.pop.new.self c.in-Some.frame, pushed_flow c.args.flow c.pop.new.self c.args.self.now.frames c.in-Some.frame c.in-Some.ensures)
+
+pub returns-in-None-clause-nears : goal.returns-in-None-clause-nears
+returns-in-None-clause-nears c = err_near _ _ _ _

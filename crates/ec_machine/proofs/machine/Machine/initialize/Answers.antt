@@ -1,4 +1,4 @@
-use Rattle.std.proofs.Common.{◌∙◌, ap, sym, []}
+use Rattle.std.proofs.Common.{◌∙◌, ap, sym, [], arith}
 use Rattle.std.specs.Prelude.{reverse}
 use Rattle.ec_code.specs.Views.{expressions_view}
 use Rattle.ec_evaluation.specs.Evaluate.{collect}
@@ -9,6 +9,7 @@ use Rattle.ec_objects.specs.Memory.{fill}
 use Rattle.ec_machine.specs.Frames.{here, resume}
 use Rattle.ec_machine.specs.Goes.{at, env_of, world}
 use Rattle.ec_machine.proofs.Moves.{resume_over, stands_by}
+use Rattle.ec_machine.proofs.Weighing.{err_near}
 use Rattle.ec_machine.proofs.machine.Machine.initialize.Goals as goal
 
 pub returns-in-Ok-clause-goes : goal.returns-in-Ok-clause-goes
@@ -41,3 +42,12 @@ returns-in-None-clause-goes c = λ k s l.
     let es = expressions_view c.args.values.now in
     ap (λ o. resume w (env_of m) (reverse m.frames) (present o (at s m) (λ p. changed m.line.0 (fill m.store p c.args.size 0) (at s m) (λ t. collect without_atoms w d [] es t (λ vs u. on u))))) (sym c.in-None.ensures)
     ∙ resume_over w (env_of m) (reverse m.frames) stuck (at s m)
+
+pub returns-in-Ok-clause-nears : goal.returns-in-Ok-clause-nears
+returns-in-Ok-clause-nears c = omega (arith, c.pass_all.ensures.nears)
+
+pub returns-in-Err-clause-nears : goal.returns-in-Err-clause-nears
+returns-in-Err-clause-nears c = err_near _ _ _ _
+
+pub returns-in-None-clause-nears : goal.returns-in-None-clause-nears
+returns-in-None-clause-nears c = err_near _ _ _ _

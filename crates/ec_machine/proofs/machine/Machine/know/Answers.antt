@@ -1,4 +1,4 @@
-use Rattle.std.proofs.Common.{◌≡◌, ◌∙◌, ap, subst, sym, map, Err}
+use Rattle.std.proofs.Common.{◌≡◌, ◌∙◌, ap, subst, sym, map, Err, arith}
 use Rattle.std.specs.Prelude.{reverse}
 use Rattle.std.specs.Option.{option_map}
 use Rattle.ec_base.specs.declared.stop.Trap.{Trap}
@@ -17,6 +17,7 @@ use Rattle.ec_machine.specs.Frames.{here, last_of, resume}
 use Rattle.ec_machine.specs.Goes.{at, env_of, taken, world}
 use Rattle.ec_machine.proofs.Moves.{pushed, resume_over}
 use Rattle.ec_machine.proofs.Parts.{puts_there}
+use Rattle.ec_machine.proofs.Weighing.{err_exit, err_near, pushes}
 use Rattle.ec_machine.proofs.machine.Machine.know.Goals as goal
 
 pub returns-in_ok-push-in-Ok-clause-goes : goal.returns-in_ok-push-in-Ok-clause-goes
@@ -82,3 +83,21 @@ returns-in-Err-Misfit-clause-goes c = λ fs k s l.
     ∙ ap (resume w e (reverse m.frames)) (followed_over without_atoms w d xs (stuck) (at s m))
     ∙ resume_over w e (reverse m.frames) (stuck) (at s m)
     ∙ ap (λ x. over (stuck) (at s (record m { store = x }))) (sym c.in-Err-Misfit.ensures.unchanged)
+
+pub returns-in_ok-push-in-Ok-clause-nears : goal.returns-in_ok-push-in-Ok-clause-nears
+returns-in_ok-push-in-Ok-clause-nears c = pushes _ _ _ _ _ _ c.in_ok-push-in-Ok.ensures.ok (omega arith)
+
+pub returns-in_err-push-in-Ok-clause-nears : goal.returns-in_err-push-in-Ok-clause-nears
+returns-in_err-push-in-Ok-clause-nears c = err_exit _ _ _ _ _ c.from_residual.ensures.1
+
+pub returns-in-Err-Trap-clause-nears : goal.returns-in-Err-Trap-clause-nears
+returns-in-Err-Trap-clause-nears c = err_near _ _ _ _
+
+pub returns-in-Err-Exit-clause-nears : goal.returns-in-Err-Exit-clause-nears
+returns-in-Err-Exit-clause-nears c = err_near _ _ _ _
+
+pub returns-in-Err-Misfit-clause-nears : goal.returns-in-Err-Misfit-clause-nears
+returns-in-Err-Misfit-clause-nears c = err_near _ _ _ _
+
+pub returns-in-Err-OutOfMemory-clause-nears : goal.returns-in-Err-OutOfMemory-clause-nears
+returns-in-Err-OutOfMemory-clause-nears c = err_near _ _ _ _

@@ -9,6 +9,8 @@ use Rattle.ec_machine.specs.Frames.{body_of, here, resume}
 use Rattle.ec_machine.specs.Goes.{at, env_of, world}
 use Rattle.ec_machine.proofs.Moves.{goes_as, pushed}
 use Rattle.ec_machine.proofs.Running.{look_OnLine, look_Block, look_first, look_second, look_Loop, look_there, look_further, look_Nothing, look_Evaluate, look_Declare, look_Initialize, look_Leave, look_Next, look_Return, look_Goto, look_Embedded}
+use Rattle.ec_machine.specs.Weights.{again_weight, statement_weight, statements_weight}
+use Rattle.ec_machine.proofs.Weighing.{nearer, pushes, weight-OnLine, weight-Nothing, weight-Evaluate, weight-Declare, weight-Initialize, weight-Block, weight-Choose, weight-Loop, weight-Leave, weight-Next, weight-Return, weight-Goto, weight-Label, weight-Embedded, err_exit}
 use Rattle.ec_machine.proofs.machine.Machine.look.Goals as goal
 
 pub returns-in-OnLine-clause-goes : goal.returns-in-OnLine-clause-goes
@@ -102,3 +104,54 @@ pub returns-in-Embedded-clause-goes : goal.returns-in-Embedded-clause-goes
 returns-in-Embedded-clause-goes c = λ fs k s l.
     let m = c.args.self.now in
     ap (resume (world fs k) (env_of m) (reverse m.frames)) (look_Embedded (world fs k) (env_of m) (at s m) m.line c.args.statement.now c.args.label c.in-Embedded.field-0 c.in-Embedded.is)
+
+pub returns-in-OnLine-clause-nears : goal.returns-in-OnLine-clause-nears
+returns-in-OnLine-clause-nears c = nearer _ _ _ _ (omega (arith, ap statement_weight c.in-OnLine.is ∙ weight-OnLine _ _, ap statement_weight c.get.ensures))
+
+pub returns-in-Block-clause-nears : goal.returns-in-Block-clause-nears
+returns-in-Block-clause-nears c = omega (arith, c.look_block.ensures.nears, ap statement_weight c.in-Block.is ∙ weight-Block _ _, ap statements_weight c.as_slice-in-Block.ensures)
+
+pub returns-then-holds-clause-nears : goal.returns-then-holds-clause-nears
+returns-then-holds-clause-nears c = nearer _ _ _ _ (omega (arith, ap statement_weight c.in-Choose.is ∙ weight-Choose _ _ _, ap statement_weight c.get-first.ensures))
+
+pub returns-else-holds-clause-nears : goal.returns-else-holds-clause-nears
+returns-else-holds-clause-nears c = nearer _ _ _ _ (omega (arith, ap statement_weight c.in-Choose.is ∙ weight-Choose _ _ _, ap statement_weight c.get-else-holds.ensures))
+
+pub returns-in_ok-push-in-Loop-clause-nears : goal.returns-in_ok-push-in-Loop-clause-nears
+returns-in_ok-push-in-Loop-clause-nears c = pushes _ _ _ _ _ _ c.in_ok-push-in-Loop.ensures.ok (omega (arith, ap statement_weight c.in-Loop.is ∙ weight-Loop _, ap again_weight c.get-inner.ensures, ap (λ x. statement_weight (out-Loop x).body) c.get-inner.ensures))
+
+pub returns-then-number-label-clause-nears : goal.returns-then-number-label-clause-nears
+returns-then-number-label-clause-nears c = nearer _ _ _ _ (omega (arith, ap statement_weight c.in-Label.is ∙ weight-Label _ _, ap statement_weight c.get-then-number-label.ensures))
+
+pub returns-else-number-label-clause-nears : goal.returns-else-number-label-clause-nears
+returns-else-number-label-clause-nears c = nearer _ _ _ _ (omega (arith, ap statement_weight c.in-Label.is ∙ weight-Label _ _, ap statement_weight c.get-else-number-label.ensures))
+
+pub returns-in-Nothing-clause-nears : goal.returns-in-Nothing-clause-nears
+returns-in-Nothing-clause-nears c = nearer _ _ _ _ (omega (arith, ap statement_weight c.in-Nothing.is ∙ weight-Nothing))
+
+pub returns-in-Evaluate-clause-nears : goal.returns-in-Evaluate-clause-nears
+returns-in-Evaluate-clause-nears c = nearer _ _ _ _ (omega (arith, ap statement_weight c.in-Evaluate.is ∙ weight-Evaluate _))
+
+pub returns-in-Declare-clause-nears : goal.returns-in-Declare-clause-nears
+returns-in-Declare-clause-nears c = nearer _ _ _ _ (omega (arith, ap statement_weight c.in-Declare.is ∙ weight-Declare _ _))
+
+pub returns-in-Initialize-clause-nears : goal.returns-in-Initialize-clause-nears
+returns-in-Initialize-clause-nears c = nearer _ _ _ _ (omega (arith, ap statement_weight c.in-Initialize.is ∙ weight-Initialize _ _ _))
+
+pub returns-in-Leave-clause-nears : goal.returns-in-Leave-clause-nears
+returns-in-Leave-clause-nears c = nearer _ _ _ _ (omega (arith, ap statement_weight c.in-Leave.is ∙ weight-Leave))
+
+pub returns-in-Next-clause-nears : goal.returns-in-Next-clause-nears
+returns-in-Next-clause-nears c = nearer _ _ _ _ (omega (arith, ap statement_weight c.in-Next.is ∙ weight-Next))
+
+pub returns-in-Return-clause-nears : goal.returns-in-Return-clause-nears
+returns-in-Return-clause-nears c = nearer _ _ _ _ (omega (arith, ap statement_weight c.in-Return.is ∙ weight-Return _))
+
+pub returns-in-Goto-clause-nears : goal.returns-in-Goto-clause-nears
+returns-in-Goto-clause-nears c = nearer _ _ _ _ (omega (arith, ap statement_weight c.in-Goto.is ∙ weight-Goto _))
+
+pub returns-in-Embedded-clause-nears : goal.returns-in-Embedded-clause-nears
+returns-in-Embedded-clause-nears c = nearer _ _ _ _ (omega (arith, ap statement_weight c.in-Embedded.is ∙ weight-Embedded _))
+
+pub returns-in_err-push-in-Loop-clause-nears : goal.returns-in_err-push-in-Loop-clause-nears
+returns-in_err-push-in-Loop-clause-nears c = err_exit _ _ _ _ _ c.from_residual.ensures.1

@@ -1,4 +1,4 @@
-use Rattle.std.proofs.Common.{ap, map}
+use Rattle.std.proofs.Common.{ap, map, arith}
 use Rattle.ec_code.specs.Views.{expressions_view, full_step_view}
 use Rattle.ec_evaluation.specs.Evaluate.{collect}
 use Rattle.ec_evaluation.specs.Whole.{without_atoms}
@@ -7,6 +7,7 @@ use Rattle.ec_machine.specs.Frames.{here, received, waiting}
 use Rattle.ec_machine.specs.Goes.{env_of, taken}
 use Rattle.ec_machine.proofs.Moves.{goes_as}
 use Rattle.ec_machine.proofs.Parts.{none_left}
+use Rattle.ec_machine.proofs.Weighing.{front_expressions, pushes, err_exit}
 use Rattle.ec_machine.proofs.machine.Machine.pass.Goals as goal
 
 pub returns-in-empty-clause-goes : goal.returns-in-empty-clause-goes
@@ -21,3 +22,12 @@ returns-in-empty-clause-goes c =
     (λ w t. followed without_atoms w d xs (received w m.line c.args.callee vs t))
     (λ w t. ap (λ es. followed without_atoms w d xs (collect without_atoms w d vs (expressions_view es) t (received w m.line c.args.callee))) (none_left c.args.arguments.now c.in-empty.len_below))
     c.receive.ensures.goes
+
+pub returns-in_ok-push-in-len1-up-clause-nears : goal.returns-in_ok-push-in-len1-up-clause-nears
+returns-in_ok-push-in-len1-up-clause-nears c = pushes _ _ _ _ _ _ c.in_ok-push-in-len1-up.ensures.ok (omega (arith, front_expressions c.args.arguments.now c.first-item.result c.in-len1-up.len_at_least c.first-item.is))
+
+pub returns-in-empty-clause-nears : goal.returns-in-empty-clause-nears
+returns-in-empty-clause-nears c = omega (arith, c.receive.ensures.nears)
+
+pub returns-in_err-push-in-len1-up-clause-nears : goal.returns-in_err-push-in-len1-up-clause-nears
+returns-in_err-push-in-len1-up-clause-nears c = err_exit _ _ _ _ _ c.from_residual.ensures.1

@@ -1,4 +1,4 @@
-use Rattle.std.proofs.Common.{map}
+use Rattle.std.proofs.Common.{map, arith}
 use Rattle.ec_code.specs.Views.{expressions_view, full_step_view}
 use Rattle.ec_evaluation.specs.Evaluate.{collect}
 use Rattle.ec_evaluation.specs.Whole.{without_atoms}
@@ -15,3 +15,6 @@ returns-clause-goes c =
     no_values c.args.functions.now m c.pass.new.self c.pass.result
     (λ xs w t. followed without_atoms w d (map full_step_view c.args.steps.now) (collect without_atoms w d xs (expressions_view c.args.arguments.now) t (received w m.line c.args.callee)))
     c.pass.ensures.goes
+
+pub returns-clause-nears : goal.returns-clause-nears
+returns-clause-nears c = omega (arith, c.pass.ensures.nears)

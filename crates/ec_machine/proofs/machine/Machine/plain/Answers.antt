@@ -1,4 +1,4 @@
-use Rattle.std.proofs.Common.{◌∙◌, ap, sym}
+use Rattle.std.proofs.Common.{◌∙◌, ap, sym, arith}
 use Rattle.std.specs.Prelude.{reverse}
 use Rattle.ec_code.specs.Views.{plain_view}
 use Rattle.ec_evaluation.specs.Evaluate.{eval}
@@ -7,6 +7,7 @@ use Rattle.ec_plain.specs.Answered.{answered, context, ending_of}
 use Rattle.ec_machine.specs.Frames.{here, resume}
 use Rattle.ec_machine.specs.Goes.{at, env_of, world}
 use Rattle.ec_machine.proofs.Moves.{over_stops}
+use Rattle.ec_machine.proofs.Weighing.{err_near, nearer}
 use Rattle.ec_machine.proofs.machine.Machine.plain.Goals as goal
 
 pub returns-in-Ok-clause-goes : goal.returns-in-Ok-clause-goes
@@ -26,3 +27,9 @@ returns-in-Err-clause-goes c = λ fs k s l.
     (ap (λ xs. eval without_atoms w (context m.line.0 xs m.first) (plain_view c.args.plain.now) (at s m)) (sym c.objects.ensures)
     ∙ c.evaluate.ensures without_atoms w m.line.0 m.first (at s m)
     ∙ ap (λ r. answered m.line.0 r (at s (record m { store = c.evaluate.new.store }))) c.in-Err.is)
+
+pub returns-in-Ok-clause-nears : goal.returns-in-Ok-clause-nears
+returns-in-Ok-clause-nears c = nearer _ _ _ _ (omega arith)
+
+pub returns-in-Err-clause-nears : goal.returns-in-Err-clause-nears
+returns-in-Err-clause-nears c = err_near _ _ _ _

@@ -1,4 +1,4 @@
-use Rattle.std.proofs.Common.{◌∙◌, ap, map}
+use Rattle.std.proofs.Common.{◌∙◌, ap, map, arith}
 use Rattle.ec_code.specs.Views.{full_step_view}
 use Rattle.ec_evaluation.specs.Results.{done_there, on}
 use Rattle.ec_evaluation.specs.Whole.{without_atoms}
@@ -36,3 +36,12 @@ returns-in-Object-clause-goes c =
     (λ w t. on t)
     (λ w t. ap (λ f. followed without_atoms w d xs (received w m.line f vs t)) c.in-Object.is ∙ followed_led w d xs flow.On t)
     (c.fill.ensures.goes fs)
+
+pub returns-in-Function-clause-nears : goal.returns-in-Function-clause-nears
+returns-in-Function-clause-nears c = omega (arith, c.call.ensures.nears)
+
+pub returns-in-Known-clause-nears : goal.returns-in-Known-clause-nears
+returns-in-Known-clause-nears c = omega (arith, c.know.ensures.nears)
+
+pub returns-in-Object-clause-nears : goal.returns-in-Object-clause-nears
+returns-in-Object-clause-nears c = omega (arith, c.fill.ensures.nears)

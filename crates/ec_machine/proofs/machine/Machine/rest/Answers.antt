@@ -1,4 +1,4 @@
-use Rattle.std.proofs.Common.{ap}
+use Rattle.std.proofs.Common.{ap, arith}
 use Rattle.ec_code.specs.Views.{statements_view}
 use Rattle.ec_evaluation.specs.Execute.{run_all}
 use Rattle.ec_evaluation.specs.Results.{on_done}
@@ -6,6 +6,7 @@ use Rattle.ec_evaluation.specs.Whole.{without_atoms}
 use Rattle.ec_machine.specs.Frames.{here, led}
 use Rattle.ec_machine.specs.Goes.{env_of}
 use Rattle.ec_machine.proofs.Moves.{goes_as}
+use Rattle.ec_machine.proofs.Weighing.{nearer}
 use Rattle.ec_machine.proofs.machine.Machine.rest.Goals as goal
 
 pub returns-in-On-clause-goes : goal.returns-in-On-clause-goes
@@ -18,3 +19,18 @@ returns-in-On-clause-goes c = λ fs.
     (λ w t. run_all without_atoms w d xs t)
     (λ w t. ap (λ f. on_done (led f t) (λ u. run_all without_atoms w d xs u)) c.in-On.is)
     (c.list.ensures.goes fs)
+
+pub returns-in-On-clause-nears : goal.returns-in-On-clause-nears
+returns-in-On-clause-nears c = omega (arith, c.list.ensures.nears)
+
+pub returns-in-Continued-clause-nears : goal.returns-in-Continued-clause-nears
+returns-in-Continued-clause-nears c = nearer _ _ _ _ (omega arith)
+
+pub returns-in-Broke-clause-nears : goal.returns-in-Broke-clause-nears
+returns-in-Broke-clause-nears c = nearer _ _ _ _ (omega arith)
+
+pub returns-in-Went-clause-nears : goal.returns-in-Went-clause-nears
+returns-in-Went-clause-nears c = nearer _ _ _ _ (omega arith)
+
+pub returns-in-Back-clause-nears : goal.returns-in-Back-clause-nears
+returns-in-Back-clause-nears c = nearer _ _ _ _ (omega arith)

@@ -1,4 +1,4 @@
-use Rattle.std.proofs.Common.{◌≡◌, ◌∙◌, ap, map}
+use Rattle.std.proofs.Common.{◌≡◌, ◌∙◌, ap, map, arith}
 use Rattle.std.specs.Prelude.{reverse}
 use Rattle.std.specs.Option.{option_map}
 use Rattle.ec_code.specs.Views.{expression_view, expressions_view, loop_view, size_view, statement_view, statements_view}
@@ -12,6 +12,8 @@ use Rattle.ec_machine.specs.Frames.{here, resume}
 use Rattle.ec_machine.specs.Goes.{at, env_of, world}
 use Rattle.ec_machine.proofs.Moves.{goes_as, pushed, resume_over}
 use Rattle.ec_machine.proofs.Running.{to_OnLine, to_Nothing, to_Evaluate, to_Declare, to_Initialize, to_Block, to_Choose, to_Loop, to_Leave, to_Next, to_Return, to_Goto, to_Label, to_Embedded}
+use Rattle.ec_machine.specs.Weights.{expressions_weight, statement_weight, statements_weight, test_weight}
+use Rattle.ec_machine.proofs.Weighing.{err_near, nearer, pushes, weight-OnLine, weight-Nothing, weight-Evaluate, weight-Declare, weight-Initialize, weight-Block, weight-Choose, weight-Loop, weight-Leave, weight-Next, weight-Return, weight-Label, err_exit}
 use Rattle.ec_machine.proofs.machine.Machine.run.Goals as goal
 
 pub returns-in-OnLine-clause-goes : goal.returns-in-OnLine-clause-goes
@@ -119,3 +121,51 @@ returns-in-Embedded-clause-goes c = λ k s l.
     let m = c.args.self.now in
     ap (resume w (env_of m) (reverse m.frames)) (to_Embedded w (env_of m) (at s m) m.line c.args.statement.now c.in-Embedded.field-0 c.in-Embedded.is)
     ∙ resume_over w (env_of m) (reverse m.frames) stuck (at s m)
+
+pub returns-in-OnLine-clause-nears : goal.returns-in-OnLine-clause-nears
+returns-in-OnLine-clause-nears c = nearer _ _ _ _ (omega (arith, ap statement_weight c.in-OnLine.is ∙ weight-OnLine _ _, ap statement_weight c.get.ensures))
+
+pub returns-in-Nothing-clause-nears : goal.returns-in-Nothing-clause-nears
+returns-in-Nothing-clause-nears c = nearer _ _ _ _ (omega (arith, ap statement_weight c.in-Nothing.is ∙ weight-Nothing))
+
+pub returns-in_ok-push-in-Evaluate-clause-nears : goal.returns-in_ok-push-in-Evaluate-clause-nears
+returns-in_ok-push-in-Evaluate-clause-nears c = pushes _ _ _ _ _ _ c.in_ok-push-in-Evaluate.ensures.ok (omega (arith, ap statement_weight c.in-Evaluate.is ∙ weight-Evaluate _))
+
+pub returns-in-Declare-clause-nears : goal.returns-in-Declare-clause-nears
+returns-in-Declare-clause-nears c = omega (arith, c.declare.ensures.nears, ap statement_weight c.in-Declare.is ∙ weight-Declare _ _)
+
+pub returns-in-Initialize-clause-nears : goal.returns-in-Initialize-clause-nears
+returns-in-Initialize-clause-nears c = omega (arith, c.initialize.ensures.nears, ap statement_weight c.in-Initialize.is ∙ weight-Initialize _ _ _, ap expressions_weight c.as_slice.ensures)
+
+pub returns-in-Block-clause-nears : goal.returns-in-Block-clause-nears
+returns-in-Block-clause-nears c = omega (arith, c.run_block.ensures.nears, ap statement_weight c.in-Block.is ∙ weight-Block _ _, ap statements_weight c.as_slice-in-Block-2.ensures)
+
+pub returns-in_ok-push-in-Choose-clause-nears : goal.returns-in_ok-push-in-Choose-clause-nears
+returns-in_ok-push-in-Choose-clause-nears c = pushes _ _ _ _ _ _ c.in_ok-push-in-Choose.ensures.ok (omega (arith, ap statement_weight c.in-Choose.is ∙ weight-Choose _ _ _, ap statement_weight c.get-in-Choose.ensures, ap statement_weight c.get-in-Choose-2.ensures))
+
+pub returns-in-Loop-clause-nears : goal.returns-in-Loop-clause-nears
+returns-in-Loop-clause-nears c = omega (arith, c.run_loop.ensures.nears, ap statement_weight c.in-Loop.is ∙ weight-Loop _, ap test_weight c.get-in-Loop.ensures)
+
+pub returns-in-Leave-clause-nears : goal.returns-in-Leave-clause-nears
+returns-in-Leave-clause-nears c = nearer _ _ _ _ (omega (arith, ap statement_weight c.in-Leave.is ∙ weight-Leave))
+
+pub returns-in-Next-clause-nears : goal.returns-in-Next-clause-nears
+returns-in-Next-clause-nears c = nearer _ _ _ _ (omega (arith, ap statement_weight c.in-Next.is ∙ weight-Next))
+
+pub returns-in-Return-clause-nears : goal.returns-in-Return-clause-nears
+returns-in-Return-clause-nears c = omega (arith, c.run_return.ensures.nears, ap statement_weight c.in-Return.is ∙ weight-Return _)
+
+pub returns-in-Goto-clause-nears : goal.returns-in-Goto-clause-nears
+returns-in-Goto-clause-nears c = omega (arith, c.jump.ensures.nears)
+
+pub returns-in-Label-clause-nears : goal.returns-in-Label-clause-nears
+returns-in-Label-clause-nears c = nearer _ _ _ _ (omega (arith, ap statement_weight c.in-Label.is ∙ weight-Label _ _, ap statement_weight c.get-in-Label.ensures))
+
+pub returns-in-Embedded-clause-nears : goal.returns-in-Embedded-clause-nears
+returns-in-Embedded-clause-nears c = err_near _ _ _ _
+
+pub returns-in_err-push-in-Evaluate-clause-nears : goal.returns-in_err-push-in-Evaluate-clause-nears
+returns-in_err-push-in-Evaluate-clause-nears c = err_exit _ _ _ _ _ c.from_residual.ensures.1
+
+pub returns-in_err-push-in-Choose-clause-nears : goal.returns-in_err-push-in-Choose-clause-nears
+returns-in_err-push-in-Choose-clause-nears c = err_exit _ _ _ _ _ c.from_residual-in_err-push-in-Choose.ensures.1

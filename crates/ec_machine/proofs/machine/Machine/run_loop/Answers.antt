@@ -5,6 +5,7 @@ use Rattle.ec_machine.specs.Frames.{behind_of, body_of, here, test_of}
 use Rattle.ec_machine.specs.Goes.{env_of}
 use Rattle.ec_machine.proofs.Moves.{goes_as}
 use Rattle.ec_machine.proofs.Running.{loop_tested, loop_turned}
+use Rattle.std.proofs.Common.{arith}
 use Rattle.ec_machine.proofs.machine.Machine.run_loop.Goals as goal
 
 pub returns-then-inner-clause-goes : goal.returns-then-inner-clause-goes
@@ -24,3 +25,9 @@ returns-else-inner-clause-goes c = λ fs.
     goes_as fs m c.turn.new.self (env_of m) c.turn.result _ (λ w t. w (turn_of d (test_of y) (behind_of y) (body_of y)) t)
     (λ w t. loop_turned w d t y c.if-inner.false)
     (c.turn.ensures.goes fs)
+
+pub returns-then-inner-clause-nears : goal.returns-then-inner-clause-nears
+returns-then-inner-clause-nears c = omega (arith, c.test.ensures.nears)
+
+pub returns-else-inner-clause-nears : goal.returns-else-inner-clause-nears
+returns-else-inner-clause-nears c = omega (arith, c.turn.ensures.nears)

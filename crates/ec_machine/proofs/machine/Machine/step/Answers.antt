@@ -1,5 +1,7 @@
 use Rattle.ec_machine.proofs.Parts.{focus_as}
 use Rattle.ec_machine.specs.declared.frame.Focus.TheVariants as focus
+use Rattle.std.proofs.Common.{arith, ap, subst, sym}
+use Rattle.ec_machine.specs.Weights.{focus_weight, IsPut}
 use Rattle.ec_machine.proofs.machine.Machine.step.Goals as goal
 
 pub returns-in-Runs-clause-goes : goal.returns-in-Runs-clause-goes
@@ -21,3 +23,21 @@ returns-in-Value-clause-goes c =
 pub returns-in-Leads-clause-goes : goal.returns-in-Leads-clause-goes
 returns-in-Leads-clause-goes c =
     focus_as c.args.functions.now c.args.self.now c.hand_flow.new.self c.args.focus (focus.Leads c.in-Leads.flow) c.hand_flow.result c.in-Leads.is (c.hand_flow.ensures.goes c.args.functions.now)
+
+pub returns-in-Runs-clause-nears : goal.returns-in-Runs-clause-nears
+returns-in-Runs-clause-nears c = λ _. omega (arith, c.run.ensures.nears, ap (λ f. focus_weight f c.args.self.now.frames) c.in-Runs.is)
+
+pub returns-in-Looks-clause-nears : goal.returns-in-Looks-clause-nears
+returns-in-Looks-clause-nears c = λ _. omega (arith, c.look.ensures.nears, ap (λ f. focus_weight f c.args.self.now.frames) c.in-Looks.is)
+
+pub returns-in-Evaluates-clause-nears : goal.returns-in-Evaluates-clause-nears
+returns-in-Evaluates-clause-nears c = λ _. omega (arith, c.evaluate.ensures.nears, ap (λ f. focus_weight f c.args.self.now.frames) c.in-Evaluates.is)
+
+pub returns-in-Value-clause-nears : goal.returns-in-Value-clause-nears
+returns-in-Value-clause-nears c = λ _. omega (arith, c.hand_value.ensures.nears, ap (λ f. focus_weight f c.args.self.now.frames) c.in-Value.is)
+
+pub returns-in-Leads-clause-nears : goal.returns-in-Leads-clause-nears
+returns-in-Leads-clause-nears c = λ _. omega (arith, c.hand_flow.ensures.nears, ap (λ f. focus_weight f c.args.self.now.frames) c.in-Leads.is)
+
+pub returns-in-Puts-clause-nears : goal.returns-in-Puts-clause-nears
+returns-in-Puts-clause-nears c = λ p. absurd (p (subst IsPut (sym c.in-Puts.is) tt))

@@ -1,4 +1,4 @@
-use Rattle.std.proofs.Common.{◌∙◌, ap, map}
+use Rattle.std.proofs.Common.{◌∙◌, ap, map, arith}
 use Rattle.std.specs.Prelude.{reverse}
 use Rattle.ec_code.specs.Views.{function_view}
 use Rattle.ec_evaluation.specs.Evaluate.{Task, turn_of}
@@ -9,6 +9,7 @@ use Rattle.ec_machine.specs.Frames.{resume, behind_of, body_of, here, test_of}
 use Rattle.ec_machine.specs.Goes.{at, env_of, world}
 use Rattle.ec_machine.proofs.Moves.{pushed, stops_stand}
 use Rattle.ec_machine.proofs.Turns.{begins, stops_by}
+use Rattle.ec_machine.proofs.Weighing.{err_none, remaining_none}
 use Rattle.ec_machine.proofs.machine.Machine.turn.Goals as goal
 
 pub returns-in_err-take_turn-clause-goes : goal.returns-in_err-take_turn-clause-goes
@@ -22,3 +23,12 @@ returns-clause-goes c = λ fs k s l.
     let t : Task = turn_of (here (env_of c.args.self.now) c.args.self.now.line) (test_of c.args.inner.now) (behind_of c.args.inner.now) (body_of c.args.inner.now) in
     ap (resume (world fs k) (env_of c.args.self.now) (reverse c.args.self.now.frames)) (begins fs k s c.args.self.now t l ∙ c.in_ok-take_turn.ensures.turn (at s c.args.self.now) (λ u. act without_atoms (map function_view fs) (world fs k) t u))
     ∙ pushed (world fs k) (env_of c.args.self.now) c.args.self.now.frames c.push.new.self (frame.Body c.args.self.now.line c.args.inner) (run without_atoms (world fs k) (here (env_of c.args.self.now) c.args.self.now.line) (body_of c.args.inner.now) (at s (record c.args.self.now { turns = c.take_turn.new.turns }))) c.in_ok-push.ensures.ok
+
+pub returns-in_err-take_turn-clause-nears : goal.returns-in_err-take_turn-clause-nears
+returns-in_err-take_turn-clause-nears c = err_none _ _ _ _ c.from_residual.ensures.1
+
+pub returns-in_err-push-clause-nears : goal.returns-in_err-push-clause-nears
+returns-in_err-push-clause-nears c = err_none _ _ _ _ c.from_residual-in_err-push.ensures.1
+
+pub returns-clause-nears : goal.returns-clause-nears
+returns-clause-nears c = remaining_none _ _ _ (omega (arith, c.in_ok-take_turn.ensures.taken))
