@@ -777,7 +777,8 @@ class Changer:
         """Another number, or one of another type."""
         if self.rng.random() < 0.2:
             return ("int", e[1], self.rng.choice(["int", "uint", "long", "llong"]))
-        return ("int", self.rng.choice([0, 1, e[1] + 1, max(e[1] - 1, 0), 2**24, 2**24 + 1]), e[2])
+        n = self.rng.choice([0, 1, e[1] + 1, max(e[1] - 1, 0), 2**24, 2**24 + 1])
+        return ("int", n, "long" if e[2] == "int" and n >= 2**31 else e[2])
 
     def argument(self, e):
         """Another argument of a call of the library."""
