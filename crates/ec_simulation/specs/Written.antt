@@ -17,9 +17,12 @@ written_meaning u turns ready answers =
     program_meaning (library_step (library_calls_of true u)) (resolve true u) turns ready answers
 
 -- what is written of a source means, by what is bound for its statements
-abbrev pub meaning_by : TypedData → ℕ → Option (ℕ × List ℕ) → List Answer → Result (List BoundData) Stop → Observed
-meaning_by t turns ready answers (Ok bounds) = written_meaning (written_program t bounds) turns ready answers
+abbrev pub meaning_by : TypedData → ℕ → Option (ℕ × List ℕ) → List Answer
+    → Result (List BoundData) Stop → Observed
+meaning_by t turns ready answers (Ok bounds) =
+    written_meaning (written_program t bounds) turns ready answers
 meaning_by t turns ready answers (Err stop) = nothing_seen
 
 abbrev pub meaning_of_written : TypedData → ℕ → Option (ℕ × List ℕ) → List Answer → Observed
-meaning_of_written t turns ready answers = meaning_by t turns ready answers (bound_from t 0 t.unit.embs)
+meaning_of_written t turns ready answers =
+    meaning_by t turns ready answers (bound_from t 0 t.unit.embs)

@@ -88,12 +88,14 @@ pub fn shown_forms()
         ≡ run (unseen ∷ unseen ∷ unseen ∷ []) "2 bc 5 0\n" (exited 0) }
     ensures structs_of_indicators { shows struct_indicators 20 one_pair
         ≡ run (ask "SELECT c, n FROM t"
-        ∷ (codes "INSERT INTO t VALUES ($1, $2)", Some (codes "x") ∷ None ∷ []) ∷ []) "" (exited 0) }
+        ∷ (codes "INSERT INTO t VALUES ($1, $2)", Some (codes "x") ∷ None ∷ []) ∷ []) ""
+        (exited 0) }
     ensures by_pointers { shows pointers 20 one_text
         ≡ run (ask "SELECT n, s FROM t" ∷ []) "3 abc\n" (exited 0) }
     ensures by_pointers_none { shows pointers 20 (column [] ∷ [])
         ≡ run (ask "SELECT n, s FROM t" ∷ []) "t7\n0 \n" (exited 0) }
     ensures in_loops { shows loop_handlers 30 loop_replies
-        ≡ run (ask "FETCH c" ∷ ask "FETCH c" ∷ ask "FETCH c" ∷ ask "FETCH c" ∷ ask "DELETE FROM t" ∷ [])
+        ≡ run (ask "FETCH c" ∷ ask "FETCH c" ∷ ask "FETCH c" ∷ ask "FETCH c"
+        ∷ ask "DELETE FROM t" ∷ [])
         "1\n2\n" (exited 1) }
 {}
