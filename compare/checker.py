@@ -477,11 +477,15 @@ class Checker:
 
     def declared(self, t, stars, lengths, at=None):
         """The type of a declarator: a length is 0 where it is left out and None where it has a fault."""
-        if t is None or None in lengths:
+        if t is None:
             return None
         for _ in range(stars):
             t = pointer(t)
         for n in reversed(lengths):
+            if not complete(t):
+                self.fault(at, "F14")
+            if n is None:
+                return None
             t = array(t, n)
         if at and too_large(t):
             self.limit(at, "L1")

@@ -20,7 +20,7 @@ use ec_base::{Boxed, FaultKind, List, Name, OutOfMemory};
 use ec_ctypes::{Func, Param, Stmt, Ty};
 use ec_embedded_rules::Around;
 use ec_parts::Statements;
-use ec_rules::{complete_rule, copy_type, declared_type, within_rule};
+use ec_rules::{complete_rule, copy_type, declared_type, elements_rule, within_rule};
 use ec_scopes::{Checker, Entry, Place, Table};
 use ec_type_rules::{is_structure, is_void, same_type};
 use ec_walk::{base, lengths};
@@ -167,6 +167,7 @@ fn param(
 {
     let b = base(checker, at, &p.base)?;
     let sizes = lengths(checker, at, p.dims.as_slice())?;
+    elements_rule(checker, at, &b, p.stars, sizes.as_slice());
     let ty = param_type(checker, at, b, p.stars, sizes.as_slice())?;
     let number = checker.next_number()?;
     let copy = copy_type(checker.alloc(), &ty)?;

@@ -12,7 +12,7 @@ ghost use Rattle.ec_check.specs.Objects.{object_of, end_object};
 use ec_base::OutOfMemory;
 use ec_ctypes::{Declarator, Expr, Init, Ty};
 use ec_initializers::initializer;
-use ec_rules::{complete_rule, copy_type, declared_type, within_rule};
+use ec_rules::{complete_rule, copy_type, declared_type, elements_rule, within_rule};
 use ec_scopes::{Checker, Entry, Place};
 use ec_walk::{last_length, lengths, outer_lengths};
 
@@ -83,6 +83,7 @@ fn plain_type(
         name.now (dims_view dims.now) (world_of checker.old)) checker.old result checker.new }
 {
     let sizes = lengths(checker, at, dims)?;
+    elements_rule(checker, at, ty, stars, sizes.as_slice());
     let of = copy_type(checker.alloc(), ty)?;
     declared_type(checker.alloc(), of, stars, sizes.as_slice())
 }
@@ -102,6 +103,7 @@ fn varchar_type(
     let length = last_length(checker, at, dims)?;
     let own = checker.varchar_object(at, name, length)?;
     let sizes = outer_lengths(checker, at, dims)?;
+    elements_rule(checker, at, &own, stars, sizes.as_slice());
     declared_type(checker.alloc(), own, stars, sizes.as_slice())
 }
 

@@ -18,7 +18,7 @@ use Rattle.ec_typing.specs.Expressions.{Members, type_or_fault, tag_type, tag_ru
 use Rattle.ec_source_shape.specs.Kept.{keeps_tag, keeps_expr, keeps_exprs, keeps_type, keeps_base, keeps_members, keeps_decl, keeps_dim, keeps_dims, keeps_init, keeps_inits, keeps_initializer, keeps_declarator, keeps_declarators}
 use Rattle.ec_kept_shape.specs.Phases.{by_checks}
 use Rattle.ec_kept_shape.proofs.Rules.{join, may_be_tag, clean_tags, clean_scopes, is_clean, put_clean, tag_up_is, Holds, Quiet, quiet_of, chained, gives, asked, pure_holds, fault, demand_holds, demand_quiet, keep_quiet, change_holds, place_quiet, chosen, new_struct_quiet, set_struct_quiet, free_name_quiet}
-use Rattle.ec_kept_shape.proofs.Operands.{name_quiet, value_quiet, address_quiet, unary_quiet, binary_quiet, index_quiet, assign_quiet, compound_quiet, bump_quiet, call_quiet, member_quiet, arrow_quiet, cast_quiet, size_quiet, length_quiet, within_quiet, complete_quiet}
+use Rattle.ec_kept_shape.proofs.Operands.{elements_quiet, name_quiet, value_quiet, address_quiet, unary_quiet, binary_quiet, index_quiet, assign_quiet, compound_quiet, bump_quiet, call_quiet, member_quiet, arrow_quiet, cast_quiet, size_quiet, length_quiet, within_quiet, complete_quiet}
 
 -- ---- tags
 
@@ -218,9 +218,9 @@ mutual
 
   item_kept : (at : Place) (v : Bool) (t : Option TyData) (d : DeclaratorData) (ms : Members) → Holds (member_item at v t d ms) (keeps_declarator by_checks d ≡ true)
   item_kept at false t (declarator stars name ns init) ms =
-      chained (lengths_kept at ns) (λ sizes h. chained (demand_quiet _ _ _) (λ a p. chained (init_parts_kept at init) (λ b k. gives (named_quiet at name _ ms) (λ u. join h k))))
+      chained (lengths_kept at ns) (λ sizes h. chained (elements_quiet at t stars sizes) (λ e r. chained (demand_quiet _ _ _) (λ a p. chained (init_parts_kept at init) (λ b k. gives (named_quiet at name _ ms) (λ u. join h k)))))
   item_kept at true t (declarator stars name ns init) ms =
-      chained (last_kept at ns) (λ n h. chained (varchar_member_quiet at n) (λ own p. chained (outer_kept at ns) (λ sizes g. chained (demand_quiet _ _ _) (λ a q. chained (init_parts_kept at init) (λ b k. gives (named_quiet at name _ ms) (λ u. join (all_dims ns h g) k))))))
+      chained (last_kept at ns) (λ n h. chained (varchar_member_quiet at n) (λ own p. chained (outer_kept at ns) (λ sizes g. chained (elements_quiet at own stars sizes) (λ e r. chained (demand_quiet _ _ _) (λ a q. chained (init_parts_kept at init) (λ b k. gives (named_quiet at name _ ms) (λ u. join (all_dims ns h g) k)))))))
 
   pub lengths_kept : (at : Place) (ds : DimList) → Holds (lengths at ds) (keeps_dims by_checks ds ≡ true)
   lengths_kept at no_dims = pure_holds _ refl

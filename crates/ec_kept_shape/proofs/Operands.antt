@@ -10,7 +10,7 @@ use Rattle.ec_ctypes.specs.trees.Types.{TyData, structure}
 use Rattle.ec_ctypes.specs.trees.Exprs.{ExprList}
 use Rattle.ec_language.specs.Letters.{Text, same_text}
 use Rattle.ec_typing.specs.Known.{KnownData, plain, formatted, known_function}
-use Rattle.ec_typing.specs.Operands.{OperandData, computed, unknown, object_operand, null_operand, integer_operand, given, typed, predefined, named_by, name_rule, value_rule, address_rule, found_or_types, target_rule, sign_rule, unary_rule, binary_rule, element_by, index_rule, assigned, assign_rule, compound_rule, bump_rule, arguments_rule, format_rule, known_rule, library_rule, undeclared_call, call_by, call_rule, member_by, member_in, member_rule, arrow_rule, scalar_cast, cast_to, cast_rule, size_rule, length_by, length_rule, within_rule, complete_rule}
+use Rattle.ec_typing.specs.Operands.{OperandData, computed, unknown, object_operand, null_operand, integer_operand, given, typed, predefined, named_by, name_rule, value_rule, address_rule, found_or_types, target_rule, sign_rule, unary_rule, binary_rule, element_by, index_rule, assigned, assign_rule, compound_rule, bump_rule, arguments_rule, format_rule, known_rule, library_rule, undeclared_call, call_by, call_rule, member_by, member_in, member_rule, arrow_rule, scalar_cast, cast_to, cast_rule, size_rule, length_by, length_rule, elements_rule, within_rule, complete_rule}
 use Rattle.ec_typing.specs.Worlds.{Place, EntryData, object, function, Rule, pure}
 use Rattle.ec_typing.specs.Types.{int_type}
 use Rattle.ec_kept_shape.proofs.Rules.{Quiet, chained, asked, pure_holds, fault, demand_quiet, keep_quiet, chosen, decided, if_some}
@@ -169,6 +169,10 @@ pub within_quiet : (at : Place) (t : Option TyData) → Quiet (within_rule at t)
 unfolding within_rule
 within_quiet at None = pure_holds _ tt
 within_quiet at (Some t) = asked _ _ (λ w c. keep_quiet _ _ _)
+
+pub elements_quiet : (at : Place) (t : Option TyData) (stars : ℕ) (ns : List (Option ℕ)) → Quiet (elements_rule at t stars ns)
+elements_quiet at None stars ns = pure_holds _ tt
+elements_quiet at (Some t) stars ns = asked _ _ (λ w c. demand_quiet _ _ _)
 
 pub complete_quiet : (at : Place) (t : Option TyData) → Quiet (complete_rule at t)
 unfolding complete_rule

@@ -15,7 +15,7 @@ use Rattle.ec_typing.specs.Answers.{checked, violations, stop_of_unit, answer_by
 use Rattle.ec_source_shape.specs.Kept.{keeps_param, keeps_params, keeps_body, keeps_func, keeps_top, keeps_tops, is_kept}
 use Rattle.ec_kept_shape.specs.Phases.{by_checks}
 use Rattle.ec_kept_shape.proofs.Rules.{join, clean_tags, clean_scopes, Holds, Quiet, chained, gives, asked, pure_holds, demand_quiet, change_holds, place_quiet, enter_quiet, leave_quiet, free_name_quiet, declare_quiet, number_quiet}
-use Rattle.ec_kept_shape.proofs.Operands.{within_quiet, complete_quiet}
+use Rattle.ec_kept_shape.proofs.Operands.{elements_quiet, within_quiet, complete_quiet}
 use Rattle.ec_kept_shape.proofs.Expressions.{as_type, base_kept, lengths_kept}
 use Rattle.ec_kept_shape.proofs.EmbeddedRules.{embedded_quiet}
 use Rattle.ec_kept_shape.proofs.Statements.{declaration_kept, statements_kept}
@@ -44,7 +44,7 @@ declare_param_quiet at defined (Some name) k t = declare_quiet at name _
 
 param_kept : (at : Place) (defined : Bool) (q : ParamData) → Holds (param at defined q) (keeps_param by_checks q ≡ true)
 param_kept at defined q =
-    chained (base_kept at q.base) (λ b h. chained (lengths_kept at q.dims) (λ sizes k. chained (type_quiet at b q.stars sizes) (λ t p. asked _ _ (λ w c. chained (declare_param_quiet at defined q.name _ t) (λ a r. chained (number_quiet _) (λ e s. pure_holds _ (join (as_type q.base h) k)))))))
+    chained (base_kept at q.base) (λ b h. chained (lengths_kept at q.dims) (λ sizes k. chained (elements_quiet at b q.stars sizes) (λ u v. chained (type_quiet at b q.stars sizes) (λ t p. asked _ _ (λ w c. chained (declare_param_quiet at defined q.name _ t) (λ a r. chained (number_quiet _) (λ e s. pure_holds _ (join (as_type q.base h) k))))))))
 
 params_kept : (at : Place) (defined : Bool) (qs : List ParamData) → Holds (params at defined qs) (keeps_params by_checks qs ≡ true)
 params_kept at defined [] = pure_holds _ refl

@@ -13,7 +13,7 @@ use Rattle.ec_typing.specs.Statements.{object_rule, initial, object_type, object
 use Rattle.ec_source_shape.specs.Kept.{keeps_expr, keeps_base, keeps_decl, keeps_dims, keeps_initializer, keeps_declarator, keeps_declarators, keeps_option, keeps_stmt, keeps_kind, keeps_stmts, keeps_else}
 use Rattle.ec_kept_shape.specs.Phases.{by_checks}
 use Rattle.ec_kept_shape.proofs.Rules.{join, may_be_tag, Holds, Quiet, chained, gives, asked, pure_holds, demand_quiet, place_quiet, chosen, if_some, scoped_holds, declare_quiet, better_quiet, label_quiet, number_quiet}
-use Rattle.ec_kept_shape.proofs.Operands.{within_quiet, complete_quiet}
+use Rattle.ec_kept_shape.proofs.Operands.{elements_quiet, within_quiet, complete_quiet}
 use Rattle.ec_kept_shape.proofs.Expressions.{free_tag_holds, tagged_quiet, varchar_object_quiet, valued, all_dims, expr_kept, base_kept, lengths_kept, last_kept, outer_kept}
 use Rattle.ec_kept_shape.proofs.Initializers.{initializer_kept}
 use Rattle.ec_kept_shape.proofs.EmbeddedRules.{embedded_quiet}
@@ -30,8 +30,8 @@ initial_kept at global t no_init = pure_holds _ refl
 initial_kept at global t (some_init i) = initializer_kept at global t i
 
 type_kept : (at : Place) (v : Bool) (t : Option TyData) (stars : ℕ) (name : Text) (ns : DimList) → Holds (object_type at v t stars name ns) (keeps_dims by_checks ns ≡ true)
-type_kept at false t stars name ns = chained (lengths_kept at ns) (λ sizes h. pure_holds _ h)
-type_kept at true t stars name ns = chained (last_kept at ns) (λ n h. chained (varchar_object_quiet at name n) (λ own p. chained (outer_kept at ns) (λ sizes k. pure_holds _ (all_dims ns h k))))
+type_kept at false t stars name ns = chained (lengths_kept at ns) (λ sizes h. chained (elements_quiet at t stars sizes) (λ a p. pure_holds _ h))
+type_kept at true t stars name ns = chained (last_kept at ns) (λ n h. chained (varchar_object_quiet at name n) (λ own p. chained (outer_kept at ns) (λ sizes k. chained (elements_quiet at own stars sizes) (λ a q. pure_holds _ (all_dims ns h k)))))
 
 item_kept : (at : Place) (global v : Bool) (t : Option TyData) (d : DeclaratorData) → Holds (object_item at global v t d) (keeps_declarator by_checks d ≡ true)
 item_kept at global v t (declarator stars name ns init) =

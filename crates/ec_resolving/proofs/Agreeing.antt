@@ -1,6 +1,6 @@
 -- That the resolved walk finds what the checks find: by induction over the trees.
 use Rattle.std.proofs.Common.{◌≡◌, ◌∙◌, List, [], ◌∷◌, Bool, true, false, Option, Some, None, refl, sym}
-use Rattle.std.specs.Prelude.{length}
+use Rattle.std.specs.Prelude.{ℕ, length}
 use Rattle.ec_base.specs.declared.fault.FaultKind.{FaultKind}
 use Rattle.ec_base.specs.declared.fault.LimitKind.{LimitKind}
 use Rattle.ec_ctypes.specs.declared.checked.library.LibName.{LibName}
@@ -121,6 +121,14 @@ pub limit_quiet : (at : Place) (kind : LimitKind) (b : Bool) → Quiet (keep_wit
 unfolding keep_within check_pure
 limit_quiet at kind true = record { world = λ w. refl }
 limit_quiet at kind false = record { world = λ w. refl }
+
+pub asked_quiet : {A : Type 0} (f : World → A) (k : A → Rule (Unit {0})) → ((a : A) → Quiet (k a)) → Quiet (check_chain (check_ask f) k)
+unfolding check_chain check_ask
+asked_quiet f k p = record { world = λ w. (p (f w)).world w }
+
+pub elements_quiet : (at : Place) (t : Option TyData) (stars : ℕ) (ns : List (Option ℕ)) → Quiet (checked.elements_rule at t stars ns)
+elements_quiet at None stars ns = nothing_quiet
+elements_quiet at (Some t) stars ns = asked_quiet _ _ (λ complete. demand_quiet _ _ _)
 
 -- ---- forms beside operands
 
@@ -265,11 +273,13 @@ mutual
       → Finds itself (member_item at varchars t d ms) (checked_parts.member_item at varchars t d ms)
   member_item_finds at false t (declarator stars name ns init) ms =
       chain_finds _ _ _ _ (lengths_find at ns) (λ sizes.
-      quiet_first _ _ _ (demand_quiet _ _ _) (chain_finds _ _ _ _ (init_parts_find at init) (λ _. checks_find _)))
+      quiet_first _ _ _ (elements_quiet at t stars sizes)
+      (quiet_first _ _ _ (demand_quiet _ _ _) (chain_finds _ _ _ _ (init_parts_find at init) (λ _. checks_find _))))
   member_item_finds at true t (declarator stars name ns init) ms =
       chain_finds _ _ _ _ (last_length_finds at ns) (λ n. chain_finds _ _ _ _ (checks_find _) (λ own.
       chain_finds _ _ _ _ (outer_lengths_find at ns) (λ sizes.
-      quiet_first _ _ _ (demand_quiet _ _ _) (chain_finds _ _ _ _ (init_parts_find at init) (λ _. checks_find _)))))
+      quiet_first _ _ _ (elements_quiet at own stars sizes)
+      (quiet_first _ _ _ (demand_quiet _ _ _) (chain_finds _ _ _ _ (init_parts_find at init) (λ _. checks_find _))))))
 
   pub lengths_find : (at : Place) (ds : DimList) → Finds itself (lengths at ds) (checked_parts.lengths at ds)
   lengths_find at no_dims = pure_finds itself []

@@ -14,7 +14,7 @@ use Rattle.ec_resolving.specs.Embedded.{reference_rule, references_rule, action_
 use Rattle.ec_ctypes.specs.trees.Stmts.{StmtData, stmt, StmtKindData, empty_stmt, expr_stmt, block_stmt, if_stmt, while_stmt, do_stmt, for_stmt, break_stmt, continue_stmt, return_stmt, goto_stmt, label_stmt, decl_stmt, emb_stmt, mark_stmt, StmtList, no_stmts, stmts as stmt_list, StmtOption, no_stmt, some_stmt}
 use Rattle.ec_ctypes.specs.trees.Units.{ParamData, FuncData, TopData, include_top, directive_top, decl_top, func_top, mark_top}
 use Rattle.ec_language.specs.Letters.{Text}
-use Rattle.ec_typing.specs.Worlds.{Place, World, Rule, chain as check_chain, pure as check_pure, ask as check_ask, enter, leave, free_name, instead}
+use Rattle.ec_typing.specs.Worlds.{Place, Rule, chain as check_chain, pure as check_pure, enter, leave, free_name, instead}
 use Rattle.ec_typing.specs.Operands.{OperandData, within_rule}
 use Rattle.ec_typing.specs.Expressions as checked_parts
 use Rattle.ec_typing.specs.Initializers as initial_rules
@@ -28,7 +28,7 @@ use Rattle.ec_resolving.specs.Initializers.{PartData, stored_at, fixed_exp, init
 use Rattle.ec_resolving.specs.Statements.{object_made, initial, object_type, object_item, object_items, specifier, declaration, scoped, condition, alone, optional, optional_condition, return_by, embedded_at, statement, statement_kind, statements, otherwise}
 use Rattle.ec_resolving.specs.Programs.{param, params, body_rule, Body, function_made, function_rule, directive_rule, top_rule, tops_rule}
 use Rattle.ec_resolving.specs.Agreement.{Finds, around_of, itself, nothing_of, operand_of}
-use Rattle.ec_resolving.proofs.Agreeing.{chain_finds, pure_finds, checks_find, ask_finds, ask_first, stored_first, arrange_first, Silent, ask_silent, arrange_silent, pure_silent, chain_silent, silent_last, Quiet, quiet_first, quiet_last, nothing_quiet, demand_quiet, limit_quiet, value_finds, called_name_finds, expr_finds, base_finds, lengths_find, last_length_finds, outer_lengths_find}
+use Rattle.ec_resolving.proofs.Agreeing.{asked_quiet, elements_quiet, chain_finds, pure_finds, checks_find, ask_finds, ask_first, stored_first, arrange_first, Silent, ask_silent, arrange_silent, pure_silent, chain_silent, silent_last, Quiet, quiet_first, quiet_last, nothing_quiet, demand_quiet, limit_quiet, value_finds, called_name_finds, expr_finds, base_finds, lengths_find, last_length_finds, outer_lengths_find}
 
 -- a rule, and then an answer made of its own
 pub then_pure : {A B C : Type 0} (seen : A → B) (seen' : C → B) (m : Resolving A) (n : Rule B) (f : A → C)
@@ -112,10 +112,6 @@ initial_finds : (at : Place) (global : Bool) (ty : Option TyData) (i : InitOptio
 initial_finds at global ty no_init = pure_finds first_of _
 initial_finds at global ty (some_init i) = initializer_finds at global ty i
 
-asked_quiet : {A : Type 0} (f : World → A) (k : A → Rule (Unit {0})) → ((a : A) → Quiet (k a)) → Quiet (check_chain (check_ask f) k)
-unfolding check_chain check_ask
-asked_quiet f k p = record { world = λ w. (p (f w)).world w }
-
 within_quiet : (at : Place) (t : Option TyData) → Quiet (within_rule at t)
 unfolding within_rule
 within_quiet at None = nothing_quiet
@@ -123,10 +119,10 @@ within_quiet at (Some t) = asked_quiet _ _ (λ small. limit_quiet _ _ _)
 
 object_type_finds : (at : Place) (varchars : Bool) (t : Option TyData) (stars : ℕ) (name : Text) (ns : DimList)
     → Finds itself (object_type at varchars t stars name ns) (checked.object_type at varchars t stars name ns)
-object_type_finds at false t stars name ns = chain_finds _ _ _ _ (lengths_find at ns) (λ sizes. pure_finds itself _)
+object_type_finds at false t stars name ns = chain_finds _ _ _ _ (lengths_find at ns) (λ sizes. quiet_first _ _ _ (elements_quiet at t stars sizes) (pure_finds itself _))
 object_type_finds at true t stars name ns =
     chain_finds _ _ _ _ (last_length_finds at ns) (λ n. chain_finds _ _ _ _ (checks_find _) (λ own.
-    chain_finds _ _ _ _ (outer_lengths_find at ns) (λ sizes. pure_finds itself _)))
+    chain_finds _ _ _ _ (outer_lengths_find at ns) (λ sizes. quiet_first _ _ _ (elements_quiet at own stars sizes) (pure_finds itself _))))
 
 made_silently : (site : Site) (size : ℕ) (init : InitOption) (ps : List PartData) → Silent (object_made site size init ps)
 made_silently (numbered n) size init ps = chain_silent _ _ (arrange_silent _) (λ _. pure_silent _)
@@ -329,9 +325,9 @@ mutual
 param_finds : (at : Place) (defined : Bool) (p : ParamData) → Finds itself (param at defined p) (programs.param at defined p)
 param_finds at defined p =
     chain_finds _ _ _ _ (base_finds at p.base) (λ b. chain_finds _ _ _ _ (lengths_find at p.dims) (λ sizes.
-    chain_finds _ _ _ _ (checks_find _) (λ t. chain_finds _ _ _ _ (ask_finds _) (λ k.
+    quiet_first _ _ _ (elements_quiet at b p.stars sizes) (chain_finds _ _ _ _ (checks_find _) (λ t. chain_finds _ _ _ _ (ask_finds _) (λ k.
     chain_finds _ _ _ _ (checks_find _) (λ _. chain_finds _ _ _ _ (checks_find _) (λ _.
-    stored_first _ _ _ (λ site. arrange_first _ _ _ (ask_first _ _ _ (λ size. arrange_first _ _ _ (pure_finds itself t))))))))))
+    stored_first _ _ _ (λ site. arrange_first _ _ _ (ask_first _ _ _ (λ size. arrange_first _ _ _ (pure_finds itself t)))))))))))
 
 params_find : (at : Place) (defined : Bool) (ps : List ParamData) → Finds itself (params at defined ps) (programs.params at defined ps)
 params_find at defined [] = pure_finds itself []

@@ -1,5 +1,5 @@
 -- What is found out about expressions, as the definitions see it.
-use Rattle.std.specs.Prelude.{◌==◌, Bool, true, List, length, map, Option, Some, None}
+use Rattle.std.specs.Prelude.{ℕ, zero, suc, ◌==◌, Bool, true, false, List, length, map, Option, Some, None}
 use Rattle.ec_scopes.specs.Entries.{type_view}
 use Rattle.ec_type_rules.specs.Views.{constant_view}
 use Rattle.ec_rules.specs.declared.operand.Operand.{Operand}
@@ -11,6 +11,13 @@ operand_view o = record { type = type_view o.ty; is_place = o.is_place; is_targe
 
 abbrev pub operands_view : List Operand → List OperandData
 operands_view os = map operand_view os
+
+-- whether an array is complete: its length, which is left out where it is 0, and whether its elements are, as far as both are known
+abbrev pub array_completeness : Option ℕ → Option Bool → Option Bool
+array_completeness None element = None
+array_completeness (Some n) None = None
+array_completeness (Some zero) (Some element) = Some false
+array_completeness (Some (suc n)) (Some element) = Some element
 
 -- a cast to void of an expression that has a type
 abbrev pub void_cast : OperandData → OperandData

@@ -7,7 +7,8 @@ ghost use Rattle.ec_scopes.specs.Entries.{place_view, type_view};
 ghost use Rattle.ec_scopes.specs.Seen.{world_of, IsDone, Does};
 ghost use Rattle.ec_type_rules.specs.Views.{constant_view};
 ghost use Rattle.ec_typing.specs.Operands as rule;
-ghost use Rattle.ec_rules.specs.Seen.{operand_view};
+ghost use Rattle.ec_typing.specs.Worlds.{is_complete};
+ghost use Rattle.ec_rules.specs.Seen.{operand_view, array_completeness};
 
 use crate::operand::Operand;
 use ec_base::{Boxed, FaultKind, LimitKind, OutOfMemory};
@@ -79,6 +80,60 @@ fn array_of(alloc: Global, length: Option<u64>, ty: Option<Ty>) -> Result<Option
     }
 }
 
+/// An element has a complete type, or F14, also where the length of its array has a fault (ISO/IEC 9899:1999, 6.7.5.2, 1).
+pub fn elements_rule(
+    checker: &mut Checker,
+    at: Place,
+    ty: &Option<Ty>,
+    stars: u32,
+    lengths: &[Option<u64>],
+)
+    ensures { IsDone (rule.elements_rule (place_view at) (type_view ty.now) stars lengths.now
+        (world_of checker.old)) checker.old checker.new tt }
+{
+    if let Some(ty) = ty {
+        let complete = has_complete_elements(checker, ty, stars, lengths);
+        checker.demand(at, FaultKind::F14, complete);
+    }
+}
+
+/// Whether the elements of arrays of so many pointers to the type are complete, as far as their types are known.
+fn has_complete_elements(checker: &Checker, ty: &Ty, stars: u32, lengths: &[Option<u64>]) -> bool
+    ensures { result ≡ rule.has_complete_elements (is_complete (world_of checker.now))
+        (rule.pointers stars (ty_view ty.now)) lengths.now }
+{
+    let mut element = Some(are_pointers_complete(checker, ty, stars));
+    let mut complete = true;
+    let mut left = lengths.len();
+    while left > 0 {
+        left -= 1;
+        complete = complete && element.unwrap_or(true);
+        element = completeness_of_array(lengths[left], element);
+    }
+    complete
+}
+
+/// Whether so many pointers to the type are complete.
+#[tactic(auto, using(crate::proofs::Pointers::pointers_complete))]
+fn are_pointers_complete(checker: &Checker, ty: &Ty, stars: u32) -> bool
+    ensures { result ≡ is_complete (world_of checker.now) (rule.pointers stars (ty_view ty.now)) }
+{
+    match stars {
+        0 => checker.is_complete(ty),
+        _ => true,
+    }
+}
+
+/// Whether an array of so many elements is complete, where it is known of these, and if its length has no fault.
+fn completeness_of_array(length: Option<u64>, element: Option<bool>) -> Option<bool>
+    ensures { result ≡ array_completeness length element }
+{
+    match (length, element) {
+        (Some(length), Some(element)) => Some(length > 0 && element),
+        _ => None,
+    }
+}
+
 /// The length of an array is an integer constant expression of 1 or more, or F19 (ISO/IEC 9899:1999, 6.7.5.2, 1).
 pub fn length_rule(
     checker: &mut Checker,
@@ -122,7 +177,7 @@ pub fn within_rule(checker: &mut Checker, at: Place, ty: &Option<Ty>)
     }
 }
 
-/// An object, a member or an element has a complete type, or F14 (ISO/IEC 9899:1999, 6.7, 7; 6.7.2.1, 2; 6.7.5.2, 1).
+/// An object, a member or the element of a parameter has a complete type, or F14 (ISO/IEC 9899:1999, 6.7, 7; 6.7.2.1, 2; 6.7.5.2, 1).
 pub fn complete_rule(checker: &mut Checker, at: Place, ty: Option<Ty>) -> Option<Ty>
     ensures { IsDone (rule.complete_rule (place_view at) (type_view ty) (world_of checker.old))
         checker.old checker.new (type_view result) }

@@ -20,7 +20,9 @@ pub use assignments::{assign_rule, bump_rule, compound_rule};
 pub use binary::{binary_rule, index_rule};
 pub use calls::call_rule;
 pub use casts::{cast_rule, size_rule};
-pub use declared::{complete_rule, copy_type, declared_type, length_rule, within_rule};
+pub use declared::{
+    complete_rule, copy_type, declared_type, elements_rule, length_rule, within_rule,
+};
 pub use initial::{fixed_rule, is_text_for, is_whole, suits_rule};
 pub use members::{arrow_rule, member_rule};
 pub use names::name_rule;

@@ -12,7 +12,7 @@ use Rattle.ec_typing.specs.Tables.{Named, find, put}
 use Rattle.ec_typing.specs.Types.{int_type, char_type, words_type}
 use Rattle.ec_typing.specs.Known.{ArgumentsData, all_expressions, is_identifier, is_no_expression, behind_first_argument, arguments_of}
 use Rattle.ec_typing.specs.Worlds.{Place, MembersData, unlisted, begun, listed, StructInfo, World, Rule, ◌>>=◌, ◌>>◌, pure, ask, change, note, demand, keep_within, free_name, free_tag, tag_up, with_tag, place, struct_named, new_struct, set_struct, members_of, shapes_in, is_within}
-use Rattle.ec_typing.specs.Operands.{OperandData, unknown, integer_operand, literal_operand, name_rule, value_rule, address_rule, unary_rule, binary_rule, index_rule, assign_rule, compound_rule, bump_rule, call_rule, member_rule, arrow_rule, cast_rule, size_rule, array_of, declared_type, length_rule, within_rule, complete_rule}
+use Rattle.ec_typing.specs.Operands.{OperandData, unknown, integer_operand, literal_operand, name_rule, value_rule, address_rule, unary_rule, binary_rule, index_rule, assign_rule, compound_rule, bump_rule, call_rule, member_rule, arrow_rule, cast_rule, size_rule, array_of, declared_type, elements_rule, length_rule, within_rule, complete_rule}
 
 abbrev pub Members : Type 0
 Members = Named (Option TyData)
@@ -272,6 +272,7 @@ abbrev mutual
   pub member_item : Place → Bool → Option TyData → DeclaratorData → Members → Rule Members
   member_item at false t (declarator stars name ns init) ms = do
     sizes ← lengths at ns
+    elements_rule at t stars sizes
     demand at F14 (not (has_init init))
     init_parts at init
     member_named at name (declared_type t stars sizes) ms
@@ -279,6 +280,7 @@ abbrev mutual
     n ← last_length at ns
     own ← varchar_member at n
     sizes ← outer_lengths at ns
+    elements_rule at own stars sizes
     demand at F14 (not (has_init init))
     init_parts at init
     member_named at name (declared_type own stars sizes) ms

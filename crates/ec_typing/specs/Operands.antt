@@ -353,6 +353,24 @@ abbrev pub declared_type : Option TyData → ℕ → List (Option ℕ) → Optio
 declared_type None stars ns = None
 declared_type (Some t) stars ns = arrays (pointers stars t) ns
 
+-- The type is complete, or has a fault.
+abbrev pub is_complete_or_faulty : (TyData → Bool) → Option TyData → Bool
+is_complete_or_faulty complete None = true
+is_complete_or_faulty complete (Some t) = complete t
+
+-- The elements of an array of arrays, the first length outermost, are complete as far as their types are known: the length that counts them may have a fault.
+abbrev pub has_complete_elements : (TyData → Bool) → TyData → List (Option ℕ) → Bool
+has_complete_elements complete t [] = true
+has_complete_elements complete t (n ∷ ns) =
+    has_complete_elements complete t ns && is_complete_or_faulty complete (arrays t ns)
+
+-- An element has a complete type, or F14, also where the length of its array has a fault (6.7.5.2, 1).
+abbrev pub elements_rule : Place → Option TyData → ℕ → List (Option ℕ) → Rule (Unit {0})
+elements_rule at None stars ns = pure tt
+elements_rule at (Some t) stars ns = do
+  complete ← ask (λ w. has_complete_elements (is_complete w) (pointers stars t) ns)
+  demand at F14 complete
+
 -- a length of 1 or more
 abbrev pub positive : ConstData → Option ℕ
 positive (known (pos (suc n))) = Some (suc n)
@@ -373,7 +391,7 @@ within_rule at (Some t) = do
   small ← ask (λ w. arrays_within w t)
   keep_within at L1 small
 
--- An object, a member or an element has a complete type, or F14 (6.7, 7; 6.7.2.1, 2; 6.7.5.2, 1).
+-- An object, a member or the element of a parameter has a complete type, or F14 (6.7, 7; 6.7.2.1, 2; 6.7.5.2, 1).
 unfoldable pub complete_rule : Place → Option TyData → Rule (Option TyData)
 complete_rule at None = pure None
 complete_rule at (Some t) = do

@@ -12,7 +12,7 @@ use Rattle.ec_language.specs.Letters.{Text, same_text}
 use Rattle.ec_typing.specs.Tables.{Named, find, put}
 use Rattle.ec_typing.specs.Types.{int_type, words_type, is_void, is_structure, same_type}
 use Rattle.ec_typing.specs.Worlds.{Place, EntryData, object, function, listed, StructInfo, ScopeData, World, no_names, Rule, ◌>>=◌, ◌>>◌, pure, ask, change, demand, enter, leave, declare, free_name, place, next_number, number_as}
-use Rattle.ec_typing.specs.Operands.{declared_type, within_rule, complete_rule}
+use Rattle.ec_typing.specs.Operands.{declared_type, elements_rule, within_rule, complete_rule}
 use Rattle.ec_typing.specs.Expressions.{Members, base, lengths, first_of_members, stands_for_all}
 use Rattle.ec_typing.specs.Embedded.{embedded_rule}
 use Rattle.ec_typing.specs.Statements.{type_or_void, declaration, statements, labels_in_all}
@@ -64,6 +64,7 @@ abbrev pub param : Place → Bool → ParamData → Rule (Option TyData)
 param at defined p = do
   b ← base at p.base
   sizes ← lengths at p.dims
+  elements_rule at b p.stars sizes
   t ← param_type at b p.stars sizes
   k ← ask next_number
   declare_param at defined p.name k t

@@ -9,7 +9,7 @@ use Rattle.ec_language.specs.Letters.{Text}
 use Rattle.ec_typing.specs.Tables.{Named, find, put}
 use Rattle.ec_typing.specs.Types.{is_void, is_scalar, is_assignable}
 use Rattle.ec_typing.specs.Worlds.{object, unlisted, World, Rule, ◌>>=◌, ◌>>◌, pure, ask, demand, scoped, declare, know_better, declare_label, free_tag, Place, place, next_number, number_as, is_complete}
-use Rattle.ec_typing.specs.Operands.{OperandData, value_rule, is_null, declared_type, within_rule, complete_rule}
+use Rattle.ec_typing.specs.Operands.{OperandData, value_rule, is_null, declared_type, elements_rule, within_rule, complete_rule}
 use Rattle.ec_typing.specs.Expressions.{expr, base, lengths, last_length, outer_lengths, is_varchar, varchar_object, tagged_struct, has_init}
 use Rattle.ec_typing.specs.Embedded.{embedded_rule}
 use Rattle.ec_typing.specs.Initializers.{initializer}
@@ -40,11 +40,13 @@ initial at global ty (some_init i) = initializer at global ty i
 abbrev pub object_type : Place → Bool → Option TyData → ℕ → Text → DimList → Rule (Option TyData)
 object_type at false t stars name ns = do
   sizes ← lengths at ns
+  elements_rule at t stars sizes
   pure (declared_type t stars sizes)
 object_type at true t stars name ns = do
   n ← last_length at ns
   own ← varchar_object at name n
   sizes ← outer_lengths at ns
+  elements_rule at own stars sizes
   pure (declared_type own stars sizes)
 
 -- An object, at file level or not. Its name is in scope in its own initializer (6.2.1, 7), where an array may have no length yet.

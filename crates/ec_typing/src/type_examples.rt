@@ -2,7 +2,7 @@
 #![tactic(auto, unfolding(crate::specs::Expressions::type_or_fault, crate::specs::Expressions::tag_rule, crate::specs::Expressions::tagged_struct, crate::specs::Expressions::begin_struct, crate::specs::Expressions::end_struct, crate::specs::Expressions::member_named, crate::specs::Initializers::fixed_rule, crate::specs::Initializers::suits_rule, crate::specs::Initializers::part_rule, crate::specs::Initializers::slot_rule, crate::specs::Initializers::braces_rule, crate::specs::Operands::typed, crate::specs::Operands::named_by, crate::specs::Operands::name_rule, crate::specs::Operands::value_rule, crate::specs::Operands::address_rule, crate::specs::Operands::target_rule, crate::specs::Operands::sign_rule, crate::specs::Operands::binary_rule, crate::specs::Operands::index_rule, crate::specs::Operands::assign_rule, crate::specs::Operands::compound_rule, crate::specs::Operands::bump_rule, crate::specs::Operands::call_by, crate::specs::Operands::call_rule, crate::specs::Operands::member_rule, crate::specs::Operands::arrow_rule, crate::specs::Operands::scalar_cast, crate::specs::Operands::cast_rule, crate::specs::Operands::size_rule, crate::specs::Operands::length_rule, crate::specs::Operands::within_rule, crate::specs::Operands::complete_rule, crate::specs::Programs::result_rule, crate::specs::Programs::plain_param, crate::specs::Programs::begin_function, crate::specs::Programs::know_function, crate::specs::Programs::main_rule, crate::specs::Statements::object_rule, crate::specs::Statements::tag_alone, crate::specs::Statements::condition_rule, crate::specs::Statements::return_rule, crate::specs::Statements::return_nothing, crate::specs::Worlds::chain, crate::specs::Worlds::pure, crate::specs::Worlds::ask, crate::specs::Worlds::change, crate::specs::Worlds::note, crate::specs::Worlds::demand, crate::specs::Worlds::keep_within, crate::specs::Worlds::place, crate::specs::Worlds::enter, crate::specs::Worlds::leave, crate::specs::Worlds::free_name, crate::specs::Worlds::free_tag, crate::specs::Worlds::declare, crate::specs::Worlds::know_better, crate::specs::Worlds::declare_label, crate::specs::Worlds::number_as, crate::specs::Worlds::new_struct, crate::specs::Worlds::set_struct))]
 
 ghost use Rattle.std.specs.Prelude.{◌≡◌, Err};
-ghost use Rattle.ec_base.specs.declared.fault.FaultKind.TheVariants.{F7, F10, F14, F15};
+ghost use Rattle.ec_base.specs.declared.fault.FaultKind.TheVariants.{F7, F10, F14, F15, F19};
 ghost use Rattle.ec_typing.specs.Examples.{verdict, with_main, in_main, among_declarations, refused, fine};
 ghost use Rattle.ec_base.specs.declared.stop.Stop.TheVariants.{Refused};
 
@@ -156,6 +156,13 @@ pub fn declaration_examples()
     ensures void_pointer { with_main "void *a; void **b;" ≡ fine }
     ensures void_member { with_main "struct s {\nint m; void a; };" ≡ refused F14 2 }
     ensures void_elements { with_main "void a[3];" ≡ refused F14 1 }
+    ensures void_elements_without_number { with_main "void a[0];" ≡ refused F14 1 }
+    ensures incomplete_elements_without_number { with_main "struct s; struct s a[-1];" ≡ refused F14 1 }
+    ensures open_elements_without_number { with_main "int a[0][];" ≡ refused F14 1 }
+    ensures elements_of_elements_without_number { with_main "void a[2][0];" ≡ refused F14 1 }
+    ensures complete_elements_without_number { with_main "struct s; struct s *a[0];" ≡ refused F19 1 }
+    ensures open_array_of_no_elements { with_main "int a[][0];" ≡ refused F19 1 }
+    ensures void_members_without_number { with_main "struct s { void a[0]; };" ≡ refused F14 1 }
     ensures incomplete_object { with_main "struct s; struct s a;" ≡ refused F14 1 }
     ensures incomplete_pointer { with_main
         "struct s; struct s *a, **b; struct t { struct s *p; } c;"
@@ -186,6 +193,8 @@ pub fn declaration_examples()
         ≡ fine }
     ensures inner_length_missing_in_a_parameter { with_main "int f(int a[3][]);" ≡ refused F14 1 }
     ensures void_array_parameter { with_main "int f(void a[]);" ≡ refused F14 1 }
+    ensures void_parameter_without_number { with_main "int f(void a[0]);" ≡ refused F14 1 }
+    ensures void_rows_of_a_parameter { with_main "int f(void a[2][0]);" ≡ refused F14 1 }
     ensures returns { verdict
         "int f(char *s) { return *s; } char *g(void) { return 0; } void h(void) { return; } int main(void) { return 1L; }"
         ≡ fine }

@@ -19,8 +19,8 @@ use ec_ctypes::{Base, Decl, Declarator, Expr, Init, Ty, UnOp, copy_ty};
 use ec_known::{Arguments, arguments_of, is_identifier};
 use ec_rules::{
     Operand, address_rule, arrow_rule, assign_rule, binary_rule, bump_rule, call_rule, cast_rule,
-    compound_rule, copy_type, declared_type, index_rule, length_rule, member_rule, name_rule,
-    size_rule, unary_rule, value_rule,
+    compound_rule, copy_type, declared_type, elements_rule, index_rule, length_rule, member_rule,
+    name_rule, size_rule, unary_rule, value_rule,
 };
 use ec_scopes::{Checker, Place, Table};
 
@@ -304,6 +304,7 @@ fn member_item(
         return Ok(());
     }
     let sizes = lengths_within(checker, at, item.dims.as_slice(), levels)?;
+    elements_rule(checker, at, ty, item.stars, sizes.as_slice());
     checker.demand(at, FaultKind::F14, !has_init(&item.init));
     init_parts(checker, at, &item.init, levels)?;
     let of = copy_type(checker.alloc(), ty)?;
@@ -328,6 +329,7 @@ fn varchar_item(
     let n = last_length_within(checker, at, item.dims.as_slice(), levels)?;
     let own = checker.varchar_member(at, n)?;
     let sizes = outer_lengths_within(checker, at, item.dims.as_slice(), levels)?;
+    elements_rule(checker, at, &own, item.stars, sizes.as_slice());
     checker.demand(at, FaultKind::F14, !has_init(&item.init));
     init_parts(checker, at, &item.init, levels)?;
     let whole = declared_type(checker.alloc(), own, item.stars, sizes.as_slice())?;
