@@ -7,6 +7,7 @@ use Rattle.ec_base.specs.declared.stop.Stop.{Stop}
 use Rattle.ec_base.specs.declared.stop.Stop.TheVariants.{Refused, Limit}
 use Rattle.ec_ctypes.specs.trees.Types.{TyData, MemberData, StructData}
 use Rattle.ec_ctypes.specs.trees.Units.{UnitData}
+use Rattle.ec_language.specs.Letters.{Text}
 use Rattle.ec_language.specs.First.{Violation}
 use Rattle.ec_language.specs.ReadText.{read_text}
 use Rattle.ec_typing.specs.Answers.{violations, stop_of_unit, checked, structs_of, names_of}
@@ -46,9 +47,17 @@ among_functions text = verdict_behind "int f(int a, char *b) { return a; } void 
 abbrev pub written_verdict : String → Verdict
 written_verdict text = verdict_by true (read_text true (codes text))
 
--- of statements of written C behind these declarations
+-- of a text of written C behind these declarations
+abbrev pub written_behind : Text → Verdict
+written_behind text = verdict_by true (read_text true (codes "int main(void) { int i; char *c; unsigned char *u; char a[3]; struct varchar_v { int len; char arr[5]; } v; " ++ text ++ codes " }"))
+
+-- of statements of written C
 abbrev pub among_written : String → Verdict
-among_written text = verdict_by true (read_text true (codes "int main(void) { int i; char *c; unsigned char *u; char a[3]; struct varchar_v { int len; char arr[5]; } v; " ++ codes text ++ codes " }"))
+among_written text = written_behind (codes text)
+
+-- of a statement that stores one column in a host of these five values, without an indicator
+abbrev pub storing_in : String → Verdict
+storing_in host = written_behind (codes "ECPGdo(1, NULL, ECPGst_normal, \"x\", ECPGt_EOIT, " ++ codes host ++ codes ", ECPGt_NO_INDICATOR, NULL, 0L, 0L, 0L, ECPGt_EORT);")
 
 abbrev pub refused : FaultKind → ℕ → Verdict
 refused kind line = Ok (Some (Refused kind (record { 0 = line })))

@@ -3,7 +3,7 @@
 
 ghost use Rattle.std.specs.Prelude.{◌≡◌};
 ghost use Rattle.ec_base.specs.declared.fault.FaultKind.TheVariants.{F11, F14, F16, F17, F18, F20};
-ghost use Rattle.ec_typing.specs.Examples.{verdict, written_verdict, in_main, among_functions, among_written, refused, fine};
+ghost use Rattle.ec_typing.specs.Examples.{verdict, written_verdict, in_main, among_functions, among_written, storing_in, refused, fine};
 
 /// F16, and F14 of arguments (6.5.2.2).
 pub fn argument_examples()
@@ -62,24 +62,12 @@ pub fn library_examples()
     ensures nothing_stored { among_written
         "ECPGdo(1, NULL, ECPGst_normal, \"x\", ECPGt_EOIT, ECPGt_EORT);"
         ≡ fine }
-    ensures one_host { among_written
-        "ECPGdo(1, NULL, ECPGst_normal, \"x\", ECPGt_EOIT, ECPGt_int, &i, 0L, 1L, 4L, ECPGt_NO_INDICATOR, NULL, 0L, 0L, 0L, ECPGt_EORT);"
-        ≡ fine }
-    ensures nine_values { among_written
-        "ECPGdo(1, NULL, ECPGst_normal, \"x\", ECPGt_EOIT, ECPGt_int, &i, 0L, 1L, 4L, ECPGt_NO_INDICATOR, NULL, 0L, 0L, ECPGt_EORT);"
-        ≡ refused F16 1 }
-    ensures a_value_for_a_pointer { among_written
-        "ECPGdo(1, NULL, ECPGst_normal, \"x\", ECPGt_EOIT, ECPGt_int, i, 0L, 1L, 4L, ECPGt_NO_INDICATOR, NULL, 0L, 0L, 0L, ECPGt_EORT);"
-        ≡ refused F16 1 }
-    ensures int_for_a_long { among_written
-        "ECPGdo(1, NULL, ECPGst_normal, \"x\", ECPGt_EOIT, ECPGt_int, &i, 0, 1L, 4L, ECPGt_NO_INDICATOR, NULL, 0L, 0L, 0L, ECPGt_EORT);"
-        ≡ refused F16 1 }
-    ensures varchar_without_length { among_written
-        "ECPGdo(1, NULL, ECPGst_normal, \"x\", ECPGt_EOIT, ECPGt_varchar, &v, 0L, 1L, 12L, ECPGt_NO_INDICATOR, NULL, 0L, 0L, 0L, ECPGt_EORT);"
-        ≡ refused F16 1 }
-    ensures varchar { among_written
-        "ECPGdo(1, NULL, ECPGst_normal, \"x\", ECPGt_EOIT, ECPGt_varchar, &v, 5L, 1L, 12L, ECPGt_NO_INDICATOR, NULL, 0L, 0L, 0L, ECPGt_EORT);"
-        ≡ fine }
+    ensures one_host { storing_in "ECPGt_int, &i, 0L, 1L, 4L" ≡ fine }
+    ensures nine_values { storing_in "ECPGt_int, &i, 0L, 1L" ≡ refused F16 1 }
+    ensures a_value_for_a_pointer { storing_in "ECPGt_int, i, 0L, 1L, 4L" ≡ refused F16 1 }
+    ensures int_for_a_long { storing_in "ECPGt_int, &i, 0, 1L, 4L" ≡ refused F16 1 }
+    ensures varchar_without_length { storing_in "ECPGt_varchar, &v, 0L, 1L, 12L" ≡ refused F16 1 }
+    ensures varchar { storing_in "ECPGt_varchar, &v, 5L, 1L, 12L" ≡ fine }
     ensures texts { among_written
         "ECPGdisconnect(1, \"x\"); ECPGdisconnect(1, c); ECPGdisconnect(1, u); ECPGdisconnect(1, a);"
         ≡ fine }
