@@ -11,7 +11,7 @@ ghost use Rattle.ec_clex.specs.Sql as view;
 
 use crate::lexer::behind;
 use crate::statements::first_bad_line;
-use ec_base::{Bytes, FaultKind, Line, List, OutOfMemory, Stop};
+use ec_base::{FaultKind, Line, List, Name, OutOfMemory, Stop};
 use ec_ctypes::Piece;
 use ec_split::scanning::bytes::{begins_two, is_quote, is_sql_word_start, newlines};
 use ec_split::scanning::ends::End;
@@ -33,7 +33,8 @@ pub enum SqlClass {
 #[derive(Debug, Drop)]
 pub struct SqlToken {
     pub class: SqlClass,
-    pub bytes: Bytes,
+    /// Few bytes take no block of memory, as those of most tokens.
+    pub bytes: Name,
     /// Whether blanks or comments stand between it and what stands before it.
     pub gap: bool,
     pub line: Line,
@@ -88,7 +89,7 @@ impl SqlLexer {
     {
         self.tokens.push(SqlToken {
             class,
-            bytes: List::from_slice(alloc, bytes)?,
+            bytes: Name::from_slice(alloc, bytes)?,
             gap: self.gap,
             line: Line(self.line),
         })?;
