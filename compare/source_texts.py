@@ -37,6 +37,9 @@ class Variable:
 class Maker:
     """Writes one source from a random generator. `rate` says how often something else is taken than what is meant."""
 
+    spellings, lengths, noise = SPELLINGS, LENGTHS, SQL_NOISE
+    sqlca, stars = ["INCLUDE sqlca", "include SQLCA"], ["*", "* ", "*const "]
+
     def __init__(self, rng, rate=0):
         self.rng, self.out, self.count, self.rate = rng, [], 0, rate
         self.scopes = [[]]  # variables, innermost last
@@ -237,7 +240,7 @@ class Maker:
         return f"INTO {hosts}" if hosts else ""
 
     def server(self):
-        noise = lambda: ", ".join(self.pick(SQL_NOISE) for _ in range(self.rng.randint(1, 3)))
+        noise = lambda: ", ".join(self.pick(self.noise) for _ in range(self.rng.randint(1, 3)))
         host = lambda: self.host(self.is_input) or "0"
         return self.at() + self.pick([
             lambda: f"{self.cased('SELECT')} {noise()} {self.into()} FROM t{self.where()}",
@@ -357,7 +360,7 @@ class Maker:
         if self.chance(0.3):
             body = self.pick(self.prepared or ["p"])
         else:
-            body = f"SELECT {self.pick(SQL_NOISE)} FROM t{self.where()}"
+            body = f"SELECT {self.pick(self.noise)} FROM t{self.where()}"
         self.emit(self.spelled(head + body))
         self.cursors.append(name)
         self.words_of[name] = set(re.findall(r"\w+", body))
@@ -407,7 +410,7 @@ class Maker:
         return t, stars, dims
 
     def length_text(self, n):
-        form = self.pick(LENGTHS)
+        form = self.pick(self.lengths)
         return form.format(n)
 
     def declared(self, name, t):
@@ -417,8 +420,8 @@ class Maker:
             base = self.pick(["VARCHAR", "VARCHAR", "varchar"]) if is_varchar(inner) else f"struct {inner[1].tag}"
             dims = dims + [inner[1].length] if is_varchar(inner) else dims
         else:
-            base = self.pick(SPELLINGS[inner[1]])
-        return base, self.pick(["*", "* ", "*const "] if self.chance(0.1) else ["*"]) * stars + name + "".join(
+            base = self.pick(self.spellings[inner[1]])
+        return base, self.pick(self.stars if self.chance(0.1) else ["*"]) * stars + name + "".join(
             f"[{self.length_text(n)}]" for n in dims)
 
     def member_types(self, depth=0):
@@ -462,7 +465,7 @@ class Maker:
             count = len([None for l in leaves(("name", "x"), ("struct", struct))])
             names = [self.name("i") for _ in range(count)]
             beside.members = {name: self.indicator_type() for name in names}
-            body = " ".join(f"{self.pick(SPELLINGS[t[1]])} {name};" for name, t in beside.members.items())
+            body = " ".join(f"{self.pick(self.spellings[t[1]])} {name};" for name, t in beside.members.items())
             self.out.append(f"struct {beside.tag} {{ {body} }};\n")
             self.structs.append(("struct", beside))
 
@@ -709,7 +712,7 @@ class Maker:
         for _ in range(self.pick([0, 0, 1])):
             self.out.append(self.pick(["#include <stdio.h>\n", "#include <sqlca.h>\n", "#include \"my.h\" // mine\n"]))
         if self.chance(0.5):
-            self.emit(self.pick(["INCLUDE sqlca", "include SQLCA"]))
+            self.emit(self.pick(self.sqlca))
         for _ in range(self.pick([0, 1, 2])):
             self.helper()
         for _ in range(self.rng.randint(1, 3)):
@@ -720,7 +723,7 @@ class Maker:
             self.declare_cursor()
         if self.chance(0.3):
             t = self.scalar()
-            self.function(f"static int {self.name('g')}({self.pick(SPELLINGS[t[1]])} arg)", [("arg", t)], True)
+            self.function(f"static int {self.name('g')}({self.pick(self.spellings[t[1]])} arg)", [("arg", t)], True)
         if self.chance(0.3):
             self.pick([lambda: self.section(), lambda: self.whenever(False)])()
         self.function(self.pick(["int main(void)", "int main()", "int\nmain ( void )"]), [], True)
