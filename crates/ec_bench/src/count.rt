@@ -8,6 +8,7 @@ use ec_csyntax::parse;
 use ec_ctypes::{Emb, Piece, PieceKind};
 use ec_cwrite::write;
 use ec_read_statement::read_statement;
+use ec_source::read_checked;
 use ec_split::split;
 use std::alloc::Global;
 
@@ -43,6 +44,11 @@ pub fn count_written(alloc: Global, text: &[u8]) -> Result<usize, Stop>
     let found = tokens(alloc, &pieces, false)?;
     let unit = parse(alloc, &found)?;
     Ok(write(&unit)?.len())
+}
+
+// How many objects, parameters and functions a source declares that the checks find nothing in.
+pub fn count_checked(alloc: Global, text: &[u8]) -> Result<usize, Stop> {
+    Ok(read_checked(alloc, text)?.names.len())
 }
 
 // The tree of a statement. (The limit isn't met: no line number of a text passes its length.)

@@ -1,10 +1,12 @@
 //! Reads a source on standard input by one part of the precompiler, and prints how much it found, so that the part can be
-//! measured: `ec_bench pieces`, `ec_bench tokens`, `ec_bench syntax`, `ec_bench written` or `ec_bench statements`.
+//! measured: `ec_bench pieces`, `tokens`, `syntax`, `written`, `statements` or `checks`.
 #![tactic(auto)]
 
 mod count;
 
-use crate::count::{count_pieces, count_statements, count_tokens, count_tops, count_written};
+use crate::count::{
+    count_checked, count_pieces, count_statements, count_tokens, count_tops, count_written,
+};
 use ec_base::{InputStop, OutOfMemory, StdSource, Stop, read_all};
 use std::alloc::Global;
 use std::env;
@@ -53,6 +55,7 @@ enum Part {
     Syntax,
     Written,
     Statements,
+    Checks,
 }
 
 // The part that a word names.
@@ -71,6 +74,9 @@ fn part_named(word: &str) -> Option<Part> {
     }
     if word == "statements" {
         return Some(Part::Statements);
+    }
+    if word == "checks" {
+        return Some(Part::Checks);
     }
     None
 }
@@ -100,6 +106,7 @@ fn count_of(alloc: Global, part: Part, text: &[u8]) -> Result<usize, Failure> {
         Part::Syntax => Ok(count_tops(alloc, text)?),
         Part::Written => Ok(count_written(alloc, text)?),
         Part::Statements => Ok(count_statements(alloc, text)?),
+        Part::Checks => Ok(count_checked(alloc, text)?),
     }
 }
 
