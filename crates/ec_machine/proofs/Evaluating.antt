@@ -11,60 +11,59 @@ use Rattle.ec_code.specs.declared.expression.Plain.{Plain}
 use Rattle.ec_code.specs.declared.step.Binary.{Binary}
 use Rattle.ec_code.specs.declared.step.Unary.{Unary}
 use Rattle.ec_code.specs.Views.{expression_view, expressions_view, full_step_view, full_view, head_view, plain_view}
-use Rattle.ec_evaluation.specs.Evaluate.{Context, World, calls, eval, collect}
-use Rattle.ec_evaluation.specs.Results.{value, over, answered, done_there}
-use Rattle.ec_evaluation.specs.State.{State, stuck}
-use Rattle.ec_evaluation.specs.Whole.{without_atoms}
+use Rattle.ec_evaluation.specs.Evaluate.{Context, World, Step as Knowing, calls, eval, collect}
+use Rattle.ec_evaluation.specs.Results.{value, answered, done_there, without_answer}
+use Rattle.ec_evaluation.specs.State.{State}
 use Rattle.ec_formats.specs.declared.known.Known.{Known}
 use Rattle.ec_formats.specs.Known.{known_view}
 use Rattle.ec_functions.specs.Functions.{effect_of}
 use Rattle.ec_plain.specs.Steps.{followed, one_on, two_on}
-use Rattle.ec_plain.proofs.Walks.{walk_leads, followed_over}
+use Rattle.ec_plain.proofs.Walks.{walk_leads}
+use Rattle.ec_resolved.specs.Resolved.{library}
 use Rattle.ec_values.specs.Words.{word_view}
 use Rattle.ec_values.specs.declared.word.Word.{Word}
 use Rattle.ec_machine.proofs.Views.{view-Plain, view-Full, view-full, view-Begun, view-Call, view-Known, view-LibraryCall, view-One, view-Two}
 
-module _ (w : World) (c : Context) (s : State) where
-  pub to_Plain : (x : Expression) (p : Plain) → x ≡ expression.Plain p → eval without_atoms w c (expression_view x) s ≡ eval without_atoms w c (plain_view p) s
-  to_Plain x p i = ap (λ z. eval without_atoms w c z s) (ap expression_view i ∙ view-Plain p)
+module _ (knowing : Knowing) (w : World) (c : Context) (s : State) where
+  pub to_Plain : (x : Expression) (p : Plain) → x ≡ expression.Plain p → eval knowing w c (expression_view x) s ≡ eval knowing w c (plain_view p) s
+  to_Plain x p i = ap (λ z. eval knowing w c z s) (ap expression_view i ∙ view-Plain p)
 
-  pub to_Full : (x : Expression) (p : Full) → x ≡ expression.Full p → eval without_atoms w c (expression_view x) s ≡ eval without_atoms w c (full_view p) s
-  to_Full x p i = ap (λ z. eval without_atoms w c z s) (ap expression_view i ∙ view-Full p)
+  pub to_Full : (x : Expression) (p : Full) → x ≡ expression.Full p → eval knowing w c (expression_view x) s ≡ eval knowing w c (full_view p) s
+  to_Full x p i = ap (λ z. eval knowing w c z s) (ap expression_view i ∙ view-Full p)
 
   -- an expression leads to what its steps make of what its beginning leads to
-  full_leads : (x : Full) (h : Head) (xs : List FullStep) → (out-Full x).head ≡ h → xs ≡ (out-Full x).steps → eval without_atoms w c (full_view x) s ≡ followed without_atoms w c (map full_step_view xs) (eval without_atoms w c (head_view h) s)
+  full_leads : (x : Full) (h : Head) (xs : List FullStep) → (out-Full x).head ≡ h → xs ≡ (out-Full x).steps → eval knowing w c (full_view x) s ≡ followed knowing w c (map full_step_view xs) (eval knowing w c (head_view h) s)
   full_leads x h xs i j =
-      ap (λ z. eval without_atoms w c z s) (view-full x)
-      ∙ walk_leads without_atoms w c (head_view (out-Full x).head) (map full_step_view (out-Full x).steps) s
-      ∙ (λ k. followed without_atoms w c (map full_step_view (sym j k)) (eval without_atoms w c (head_view (i k)) s))
+      ap (λ z. eval knowing w c z s) (view-full x)
+      ∙ walk_leads knowing w c (head_view (out-Full x).head) (map full_step_view (out-Full x).steps) s
+      ∙ (λ k. followed knowing w c (map full_step_view (sym j k)) (eval knowing w c (head_view (i k)) s))
 
-  pub to_Begun : (x : Full) (p : Plain) (xs : List FullStep) → (out-Full x).head ≡ head.Begun p → xs ≡ (out-Full x).steps → eval without_atoms w c (full_view x) s ≡ followed without_atoms w c (map full_step_view xs) (eval without_atoms w c (plain_view p) s)
-  to_Begun x p xs i j = full_leads x (head.Begun p) xs i j ∙ ap (λ z. followed without_atoms w c (map full_step_view xs) (eval without_atoms w c z s)) (view-Begun p)
+  pub to_Begun : (x : Full) (p : Plain) (xs : List FullStep) → (out-Full x).head ≡ head.Begun p → xs ≡ (out-Full x).steps → eval knowing w c (full_view x) s ≡ followed knowing w c (map full_step_view xs) (eval knowing w c (plain_view p) s)
+  to_Begun x p xs i j = full_leads x (head.Begun p) xs i j ∙ ap (λ z. followed knowing w c (map full_step_view xs) (eval knowing w c z s)) (view-Begun p)
 
-  pub to_Call : (x : Full) (f : ℕ) (used : Bool) (es es' : List Expression) (xs : List FullStep) → (out-Full x).head ≡ head.Call f used es → es' ≡ es → xs ≡ (out-Full x).steps → eval without_atoms w c (full_view x) s ≡ followed without_atoms w c (map full_step_view xs) (collect without_atoms w c [] (expressions_view es') s (λ vs t. answered c.line used (w (calls c.line f vs) t)))
+  pub to_Call : (x : Full) (f : ℕ) (used : Bool) (es es' : List Expression) (xs : List FullStep) → (out-Full x).head ≡ head.Call f used es → es' ≡ es → xs ≡ (out-Full x).steps → eval knowing w c (full_view x) s ≡ followed knowing w c (map full_step_view xs) (collect knowing w c [] (expressions_view es') s (λ vs t. answered c.line used (w (calls c.line f vs) t)))
   to_Call x f used es es' xs i m j =
       full_leads x (head.Call f used es) xs i j
-      ∙ ap (λ z. followed without_atoms w c (map full_step_view xs) (eval without_atoms w c z s)) (view-Call f used es)
-      ∙ ap (λ z. followed without_atoms w c (map full_step_view xs) (collect without_atoms w c [] (expressions_view z) s (λ vs t. answered c.line used (w (calls c.line f vs) t)))) (sym m)
+      ∙ ap (λ z. followed knowing w c (map full_step_view xs) (eval knowing w c z s)) (view-Call f used es)
+      ∙ ap (λ z. followed knowing w c (map full_step_view xs) (collect knowing w c [] (expressions_view z) s (λ vs t. answered c.line used (w (calls c.line f vs) t)))) (sym m)
 
-  pub to_Known : (x : Full) (f : Known) (es es' : List Expression) (xs : List FullStep) → (out-Full x).head ≡ head.Known f es → es' ≡ es → xs ≡ (out-Full x).steps → eval without_atoms w c (full_view x) s ≡ followed without_atoms w c (map full_step_view xs) (collect without_atoms w c [] (expressions_view es') s (λ vs t. done_there c.line (effect_of (known_view f) t.memory vs) t))
+  pub to_Known : (x : Full) (f : Known) (es es' : List Expression) (xs : List FullStep) → (out-Full x).head ≡ head.Known f es → es' ≡ es → xs ≡ (out-Full x).steps → eval knowing w c (full_view x) s ≡ followed knowing w c (map full_step_view xs) (collect knowing w c [] (expressions_view es') s (λ vs t. done_there c.line (effect_of (known_view f) t.memory vs) t))
   to_Known x f es es' xs i m j =
       full_leads x (head.Known f es) xs i j
-      ∙ ap (λ z. followed without_atoms w c (map full_step_view xs) (eval without_atoms w c z s)) (view-Known f es)
-      ∙ ap (λ z. followed without_atoms w c (map full_step_view xs) (collect without_atoms w c [] (expressions_view z) s (λ vs t. done_there c.line (effect_of (known_view f) t.memory vs) t))) (sym m)
+      ∙ ap (λ z. followed knowing w c (map full_step_view xs) (eval knowing w c z s)) (view-Known f es)
+      ∙ ap (λ z. followed knowing w c (map full_step_view xs) (collect knowing w c [] (expressions_view z) s (λ vs t. done_there c.line (effect_of (known_view f) t.memory vs) t))) (sym m)
 
-  pub to_LibraryCall : (x : Full) (n : ℕ) → (out-Full x).head ≡ head.LibraryCall n → eval without_atoms w c (full_view x) s ≡ over stuck s
-  to_LibraryCall x n i =
-      full_leads x (head.LibraryCall n) (out-Full x).steps i refl
-      ∙ ap (λ z. followed without_atoms w c (map full_step_view (out-Full x).steps) (eval without_atoms w c z s)) (view-LibraryCall n)
-      ∙ followed_over without_atoms w c (map full_step_view (out-Full x).steps) stuck s
+  pub to_LibraryCall : (x : Full) (n : ℕ) (xs : List FullStep) → (out-Full x).head ≡ head.LibraryCall n → xs ≡ (out-Full x).steps → eval knowing w c (full_view x) s ≡ followed knowing w c (map full_step_view xs) (without_answer (knowing w c (library n) s))
+  to_LibraryCall x n xs i j =
+      full_leads x (head.LibraryCall n) xs i j
+      ∙ ap (λ z. followed knowing w c (map full_step_view xs) (eval knowing w c z s)) (view-LibraryCall n)
 
-  pub to_One : (xs rest : List FullStep) (u : Unary) (v : Word) → xs ≡ step.One u ∷ rest → followed without_atoms w c (map full_step_view xs) (value (word_view v) s) ≡ followed without_atoms w c (map full_step_view rest) (one_on c.line u (word_view v) s)
+  pub to_One : (xs rest : List FullStep) (u : Unary) (v : Word) → xs ≡ step.One u ∷ rest → followed knowing w c (map full_step_view xs) (value (word_view v) s) ≡ followed knowing w c (map full_step_view rest) (one_on c.line u (word_view v) s)
   to_One xs rest u v i =
-      ap (λ z. followed without_atoms w c (map full_step_view z) (value (word_view v) s)) i
-      ∙ ap (λ z. followed without_atoms w c (z ∷ map full_step_view rest) (value (word_view v) s)) (view-One u)
+      ap (λ z. followed knowing w c (map full_step_view z) (value (word_view v) s)) i
+      ∙ ap (λ z. followed knowing w c (z ∷ map full_step_view rest) (value (word_view v) s)) (view-One u)
 
-  pub to_Two : (xs rest : List FullStep) (b : Binary) (e : Expression) (v : Word) → xs ≡ step.Two b e ∷ rest → followed without_atoms w c (map full_step_view xs) (value (word_view v) s) ≡ followed without_atoms w c (map full_step_view rest) (two_on without_atoms w c b (expression_view e) (word_view v) s)
+  pub to_Two : (xs rest : List FullStep) (b : Binary) (e : Expression) (v : Word) → xs ≡ step.Two b e ∷ rest → followed knowing w c (map full_step_view xs) (value (word_view v) s) ≡ followed knowing w c (map full_step_view rest) (two_on knowing w c b (expression_view e) (word_view v) s)
   to_Two xs rest b e v i =
-      ap (λ z. followed without_atoms w c (map full_step_view z) (value (word_view v) s)) i
-      ∙ ap (λ z. followed without_atoms w c (z ∷ map full_step_view rest) (value (word_view v) s)) (view-Two b e)
+      ap (λ z. followed knowing w c (map full_step_view z) (value (word_view v) s)) i
+      ∙ ap (λ z. followed knowing w c (z ∷ map full_step_view rest) (value (word_view v) s)) (view-Two b e)

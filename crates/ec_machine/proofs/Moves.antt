@@ -15,11 +15,10 @@ use Rattle.ec_resolved.specs.Resolved.{Exp, Stm}
 use Rattle.ec_values.specs.Words.{word_view}
 use Rattle.ec_values.specs.declared.word.Word.{Word}
 use Rattle.ec_base.specs.declared.line.Line.{Line}
-use Rattle.ec_evaluation.specs.Evaluate.{Context, World, turn_of, eval}
+use Rattle.ec_evaluation.specs.Evaluate.{Context, World, Step as Knowing, turn_of, eval}
 use Rattle.ec_evaluation.specs.Execute.{tested, again, settle}
 use Rattle.ec_evaluation.specs.Results.{Res, on, over, on_value, closing, function_end, answered, ended_to}
 use Rattle.ec_evaluation.specs.State.{State, Ending}
-use Rattle.ec_evaluation.specs.Whole.{without_atoms}
 use Rattle.ec_objects.specs.Memory.{ValueData}
 use Rattle.ec_plain.specs.Answered.{scope_view}
 use Rattle.ec_plain.specs.Steps.{followed, step_on}
@@ -35,32 +34,32 @@ use Rattle.ec_machine.specs.declared.scope.Scope.{Scope}
 use Rattle.ec_machine.specs.declared.stop.Stop.{Stop}
 use Rattle.ec_machine.specs.declared.stop.Stop.TheVariants as stop
 use Rattle.ec_machine.specs.Frames.{Env, Grown, cut, last_of, without_last, objects_of, here, below, plug, resume, led}
-use Rattle.ec_machine.specs.Goes.{Goes, Returns, Stands, Stops, IsOver, at, ending_view, env_of, world}
+use Rattle.ec_machine.specs.Goes.{Fits, Goes, Returns, Stands, Stops, IsOver, at, ending_view, env_of, tasks}
 
-pub pushed : (w : World) (e : Env) (fs fs' : List Frame) (f : Frame) (o : Res) → fs' ≡ fs ++ f ∷ [] → resume w (below e f) (reverse fs) (plug w e f o) ≡ resume w e (reverse fs') o
-pushed w e fs fs' f o p = sym (ap (λ xs. resume w e xs o) (ap reverse p ∙ reverse-append fs (f ∷ [])))
+pub pushed : (knowing : Knowing) (w : World) (e : Env) (fs fs' : List Frame) (f : Frame) (o : Res) → fs' ≡ fs ++ f ∷ [] → resume knowing w (below e f) (reverse fs) (plug knowing w e f o) ≡ resume knowing w e (reverse fs') o
+pushed knowing w e fs fs' f o p = sym (ap (λ xs. resume knowing w e xs o) (ap reverse p ∙ reverse-append fs (f ∷ [])))
 
 pub pushed_first : (fs fs' : List Frame) (f : Frame) → fs' ≡ fs ++ f ∷ [] → fs ≡ [] → fs' ≡ f ∷ []
 pushed_first fs fs' f p q = p ∙ ap (λ xs. xs ++ f ∷ []) q
 
-plug_over : (w : World) (e : Env) (f : Frame) (x : Ending) (s : State) → plug w e f (over x s) ≡ over x s
-plug_over w e (frame.Steps line xs) x s = followed_over without_atoms w (here e line) (map full_step_view xs.now) x s
-plug_over w e (frame.Right line b v old xs) x s = followed_over without_atoms w (here e line) (map full_step_view xs.now) x s
-plug_over w e (frame.Arguments line callee n es xs) x s = followed_over without_atoms w (here e line) (map full_step_view xs.now) x s
-plug_over w e (frame.Call line used otherwise xs first) x s = followed_over without_atoms w (here (record e { first = first }) line) (map full_step_view xs.now) x s
-plug_over w e frame.Do x s = refl
-plug_over w e frame.Give x s = refl
-plug_over w e (frame.Choose line a b) x s = refl
-plug_over w e (frame.Test line y) x s = refl
-plug_over w e (frame.Behind line y) x s = refl
-plug_over w e (frame.Body line y) x s = refl
-plug_over w e (frame.Rest line xs) x s = refl
-plug_over w e (frame.Settle line xs) x s = refl
-plug_over w e (frame.Close mark height count) x s = refl
+plug_over : (knowing : Knowing) (w : World) (e : Env) (f : Frame) (x : Ending) (s : State) → plug knowing w e f (over x s) ≡ over x s
+plug_over knowing w e (frame.Steps line xs) x s = followed_over knowing w (here e line) (map full_step_view xs.now) x s
+plug_over knowing w e (frame.Right line b v old xs) x s = followed_over knowing w (here e line) (map full_step_view xs.now) x s
+plug_over knowing w e (frame.Arguments line callee n es xs) x s = followed_over knowing w (here e line) (map full_step_view xs.now) x s
+plug_over knowing w e (frame.Call line used otherwise xs first) x s = followed_over knowing w (here (record e { first = first }) line) (map full_step_view xs.now) x s
+plug_over knowing w e frame.Do x s = refl
+plug_over knowing w e frame.Give x s = refl
+plug_over knowing w e (frame.Choose line a b) x s = refl
+plug_over knowing w e (frame.Test line y) x s = refl
+plug_over knowing w e (frame.Behind line y) x s = refl
+plug_over knowing w e (frame.Body line y) x s = refl
+plug_over knowing w e (frame.Rest line xs) x s = refl
+plug_over knowing w e (frame.Settle line xs) x s = refl
+plug_over knowing w e (frame.Close mark height count) x s = refl
 
-pub resume_over : (w : World) (e : Env) (fs : List Frame) (x : Ending) (s : State) → resume w e fs (over x s) ≡ over x s
-resume_over w e [] x s = refl
-resume_over w e (f ∷ fs) x s = ap (resume w (below e f) fs) (plug_over w e f x s) ∙ resume_over w (below e f) fs x s
+pub resume_over : (knowing : Knowing) (w : World) (e : Env) (fs : List Frame) (x : Ending) (s : State) → resume knowing w e fs (over x s) ≡ over x s
+resume_over knowing w e [] x s = refl
+resume_over knowing w e (f ∷ fs) x s = ap (resume knowing w (below e f) fs) (plug_over knowing w e f x s) ∙ resume_over knowing w (below e f) fs x s
 
 -- a flow passes all that waits for a value
 pub led_passes : (f : Flow) (s : State) (k : ValueData → State → Res) → on_value (led f s) k ≡ led f s
@@ -70,24 +69,24 @@ led_passes flow.Continued s k = refl
 led_passes (flow.Went l) s k = refl
 led_passes (flow.Back v) s k = refl
 
-pub followed_led : (w : World) (c : Context) (xs : List Step) (f : Flow) (s : State) → followed without_atoms w c xs (led f s) ≡ led f s
-followed_led w c [] f s = refl
-followed_led w c (x ∷ xs) f s = ap (followed without_atoms w c xs) (led_passes f s (step_on without_atoms w c x)) ∙ followed_led w c xs f s
+pub followed_led : (knowing : Knowing) (w : World) (c : Context) (xs : List Step) (f : Flow) (s : State) → followed knowing w c xs (led f s) ≡ led f s
+followed_led knowing w c [] f s = refl
+followed_led knowing w c (x ∷ xs) f s = ap (followed knowing w c xs) (led_passes f s (step_on knowing w c x)) ∙ followed_led knowing w c xs f s
 
 -- ---- what a machine stands at
 
 -- an answer that is the end of the run
-pub over_stands : (w : World) (e : Env) (fs : List Frame) (s : State) (m : Machine) (r : Result Focus Stop) (x : Stop) (y : Ending) (o : Res) → r ≡ Err x → IsOver x y → o ≡ over y (at s m) → Stands w s m r (resume w e fs o)
-over_stands w e fs s m r x y o i j h = subst (λ r. Stands w s m r (resume w e fs o)) (sym i) (stops x j)
+pub over_stands : (knowing : Knowing) (w : World) (e : Env) (fs : List Frame) (s : State) (m : Machine) (r : Result Focus Stop) (x : Stop) (y : Ending) (o : Res) → r ≡ Err x → IsOver x y → o ≡ over y (at s m) → Stands knowing w s m r (resume knowing w e fs o)
+over_stands knowing w e fs s m r x y o i j h = subst (λ r. Stands knowing w s m r (resume knowing w e fs o)) (sym i) (stops x j)
   where
-    stops : (x : Stop) → IsOver x y → Stops x (at s m) (resume w e fs o)
-    stops (stop.Over z) j = ap (resume w e fs) h ∙ resume_over w e fs y (at s m) ∙ ap (λ y. over y (at s m)) j
+    stops : (x : Stop) → IsOver x y → Stops x (at s m) (resume knowing w e fs o)
+    stops (stop.Over z) j = ap (resume knowing w e fs) h ∙ resume_over knowing w e fs y (at s m) ∙ ap (λ y. over y (at s m)) j
     stops stop.OutOfMemory j = absurd j
 
 -- a part of the run as another that does the same
-pub goes_as : (fs : List Function) (old new : Machine) (e : Env) (r : Result Focus Stop) (part part' : World → State → Res) → ((w : World) (t : State) → part w t ≡ part' w t) → Goes fs old e part' r new → Goes fs old e part r new
+pub goes_as : (fs : List Function) (old new : Machine) (e : Env) (r : Result Focus Stop) (part part' : Knowing → World → State → Res) → ((knowing : Knowing) (w : World) (t : State) → part knowing w t ≡ part' knowing w t) → Goes fs old e part' r new → Goes fs old e part r new
 goes_as fs old new e r part part' h g =
-    λ k s l. subst (λ o. Stands (world fs k) s new r (resume (world fs k) e (reverse old.frames) o)) (sym (h (world fs k) (at s old))) (g k s l)
+    λ knowing fits k s l. subst (λ o. Stands knowing (tasks knowing fs k) s new r (resume knowing (tasks knowing fs k) e (reverse old.frames) o)) (sym (h knowing (tasks knowing fs k) (at s old))) (g knowing fits k s l)
 
 -- ---- scopes
 
@@ -134,52 +133,52 @@ all_rest xs = let e : length xs - 0 ≡ length xs = omega arith in ap (λ n. tak
 
 -- ---- exits
 
-pub lifted : (w : World) (e : Env) (fs : List Frame) (s : State) (x : Stop) (o : Res) → Stops x s o → Stops x s (resume w e fs o)
-lifted w e fs s (stop.Over z) o h = ap (resume w e fs) h ∙ resume_over w e fs (ending_view z) s
-lifted w e fs s stop.OutOfMemory o h = tt
+pub lifted : (knowing : Knowing) (w : World) (e : Env) (fs : List Frame) (s : State) (x : Stop) (o : Res) → Stops x s o → Stops x s (resume knowing w e fs o)
+lifted knowing w e fs s (stop.Over z) o h = ap (resume knowing w e fs) h ∙ resume_over knowing w e fs (ending_view z) s
+lifted knowing w e fs s stop.OutOfMemory o h = tt
 
 -- what stopped a part of the run stops the run
-pub stops_stand : (w : World) (e : Env) (fs : List Frame) (s : State) (m : Machine) (r : Result Focus Stop) (x : Stop) (o : Res) → IsErrAnd r (λ y. y ≡ x) → Stops x (at s m) o → Stands w s m r (resume w e fs o)
-stops_stand w e fs s m (Ok f) x o i h = absurd i
-stops_stand w e fs s m (Err y) x o i h = subst (λ y. Stops y (at s m) (resume w e fs o)) (sym i) (lifted w e fs (at s m) x o h)
+pub stops_stand : (knowing : Knowing) (w : World) (e : Env) (fs : List Frame) (s : State) (m : Machine) (r : Result Focus Stop) (x : Stop) (o : Res) → IsErrAnd r (λ y. y ≡ x) → Stops x (at s m) o → Stands knowing w s m r (resume knowing w e fs o)
+stops_stand knowing w e fs s m (Ok f) x o i h = absurd i
+stops_stand knowing w e fs s m (Err y) x o i h = subst (λ y. Stops y (at s m) (resume knowing w e fs o)) (sym i) (lifted knowing w e fs (at s m) x o h)
 
 -- ---- blocks and calls
 
 back_again : (e : Env) (sc : Scope) → Grown e.scope.pointers sc.pointers → cut (length e.scope.pointers) e.scope.count sc ≡ e.scope
 back_again e sc g = λ i. record { pointers = take_front e.scope.pointers sc.pointers g i; count = e.scope.count }
 
-pub entered : (w : World) (e : Env) (sc : Scope) (fs fs₁ fs₂ : List Frame) (mark : ℕ) (line : Line) (b : Bor (List Statement)) (o : Res) → Grown e.scope.pointers sc.pointers
+pub entered : (knowing : Knowing) (w : World) (e : Env) (sc : Scope) (fs fs₁ fs₂ : List Frame) (mark : ℕ) (line : Line) (b : Bor (List Statement)) (o : Res) → Grown e.scope.pointers sc.pointers
     → fs₁ ≡ fs ++ frame.Close mark (length e.scope.pointers) e.scope.count ∷ [] → fs₂ ≡ fs₁ ++ frame.Settle line b ∷ []
-    → resume w e (reverse fs) (closing mark (settle w (here (record e { scope = sc }) line) (statements_view b.now) o)) ≡ resume w (record e { scope = sc }) (reverse fs₂) o
-entered w e sc fs fs₁ fs₂ mark line b o g p q =
-    ap (λ x. resume w (record e { scope = x }) (reverse fs) (closing mark (settle w (here (record e { scope = sc }) line) (statements_view b.now) o))) (sym (back_again e sc g))
-    ∙ pushed w (record e { scope = sc }) fs fs₁ (frame.Close mark (length e.scope.pointers) e.scope.count) (settle w (here (record e { scope = sc }) line) (statements_view b.now) o) p
-    ∙ pushed w (record e { scope = sc }) fs₁ fs₂ (frame.Settle line b) o q
+    → resume knowing w e (reverse fs) (closing mark (settle w (here (record e { scope = sc }) line) (statements_view b.now) o)) ≡ resume knowing w (record e { scope = sc }) (reverse fs₂) o
+entered knowing w e sc fs fs₁ fs₂ mark line b o g p q =
+    ap (λ x. resume knowing w (record e { scope = x }) (reverse fs) (closing mark (settle w (here (record e { scope = sc }) line) (statements_view b.now) o))) (sym (back_again e sc g))
+    ∙ pushed knowing w (record e { scope = sc }) fs fs₁ (frame.Close mark (length e.scope.pointers) e.scope.count) (settle w (here (record e { scope = sc }) line) (statements_view b.now) o) p
+    ∙ pushed knowing w (record e { scope = sc }) fs₁ fs₂ (frame.Settle line b) o q
 
-pub begun : (w : World) (e : Env) (sc : Scope) (fs fs₁ fs₂ fs₃ : List Frame) (mark : ℕ) (line : Line) (used : Bool) (otherwise : Option Word) (xs : Bor (List FullStep)) (b : Bor (List Statement)) (o : Res) → Grown e.scope.pointers sc.pointers
+pub begun : (knowing : Knowing) (w : World) (e : Env) (sc : Scope) (fs fs₁ fs₂ fs₃ : List Frame) (mark : ℕ) (line : Line) (used : Bool) (otherwise : Option Word) (xs : Bor (List FullStep)) (b : Bor (List Statement)) (o : Res) → Grown e.scope.pointers sc.pointers
     → fs₁ ≡ fs ++ frame.Call line used otherwise xs e.first ∷ [] → fs₂ ≡ fs₁ ++ frame.Close mark (length e.scope.pointers) e.scope.count ∷ [] → fs₃ ≡ fs₂ ++ frame.Settle line b ∷ []
-    → resume w e (reverse fs) (followed without_atoms w (here e line) (map full_step_view xs.now) (answered line.0 used (function_end (option_map word_view otherwise) (closing mark (settle w (here (record e { scope = sc; first = false }) line) (statements_view b.now) o)))))
-    ≡ resume w (record e { scope = sc; first = false }) (reverse fs₃) o
-begun w e sc fs fs₁ fs₂ fs₃ mark line used otherwise xs b o g p q r =
+    → resume knowing w e (reverse fs) (followed knowing w (here e line) (map full_step_view xs.now) (answered line.0 used (function_end (option_map word_view otherwise) (closing mark (settle w (here (record e { scope = sc; first = false }) line) (statements_view b.now) o)))))
+    ≡ resume knowing w (record e { scope = sc; first = false }) (reverse fs₃) o
+begun knowing w e sc fs fs₁ fs₂ fs₃ mark line used otherwise xs b o g p q r =
     let d : Env = record e { scope = sc; first = false } in
     let x : Res = closing mark (settle w (here d line) (statements_view b.now) o) in
-    pushed w (record e { first = false }) fs fs₁ (frame.Call line used otherwise xs e.first) x p
-    ∙ ap (λ y. resume w (record e { scope = y; first = false }) (reverse fs₁) x) (sym (back_again e sc g))
-    ∙ pushed w d fs₁ fs₂ (frame.Close mark (length e.scope.pointers) e.scope.count) (settle w (here d line) (statements_view b.now) o) q
-    ∙ pushed w d fs₂ fs₃ (frame.Settle line b) o r
+    pushed knowing w (record e { first = false }) fs fs₁ (frame.Call line used otherwise xs e.first) x p
+    ∙ ap (λ y. resume knowing w (record e { scope = y; first = false }) (reverse fs₁) x) (sym (back_again e sc g))
+    ∙ pushed knowing w d fs₁ fs₂ (frame.Close mark (length e.scope.pointers) e.scope.count) (settle w (here d line) (statements_view b.now) o) q
+    ∙ pushed knowing w d fs₂ fs₃ (frame.Settle line b) o r
 
 -- ---- loops
 
-pub test_there : (w : World) (c : Context) (test behind : Option Exp) (x : Stm) (y : Exp) (t : State) → test ≡ Some y → tested without_atoms w c test behind x t ≡ on_value (eval without_atoms w c y t) (λ v u. elim (is_true v) [ true ↦ w (turn_of c test behind x) u | false ↦ on u ])
-test_there w c test behind x y t p = subst (λ z. tested without_atoms w c z behind x t ≡ on_value (eval without_atoms w c y t) (λ v u. elim (is_true v) [ true ↦ w (turn_of c z behind x) u | false ↦ on u ])) (sym p) refl
+pub test_there : (knowing : Knowing) (w : World) (c : Context) (test behind : Option Exp) (x : Stm) (y : Exp) (t : State) → test ≡ Some y → tested knowing w c test behind x t ≡ on_value (eval knowing w c y t) (λ v u. elim (is_true v) [ true ↦ w (turn_of c test behind x) u | false ↦ on u ])
+test_there knowing w c test behind x y t p = subst (λ z. tested knowing w c z behind x t ≡ on_value (eval knowing w c y t) (λ v u. elim (is_true v) [ true ↦ w (turn_of c z behind x) u | false ↦ on u ])) (sym p) refl
 
-pub behind_there : (w : World) (c : Context) (test behind : Option Exp) (x : Stm) (y : Exp) (t : State) → behind ≡ Some y → again without_atoms w c test behind x t ≡ on_value (eval without_atoms w c y t) (λ v u. tested without_atoms w c test behind x u)
-behind_there w c test behind x y t p = subst (λ z. again without_atoms w c test z x t ≡ on_value (eval without_atoms w c y t) (λ v u. tested without_atoms w c test z x u)) (sym p) refl
+pub behind_there : (knowing : Knowing) (w : World) (c : Context) (test behind : Option Exp) (x : Stm) (y : Exp) (t : State) → behind ≡ Some y → again knowing w c test behind x t ≡ on_value (eval knowing w c y t) (λ v u. tested knowing w c test behind x u)
+behind_there knowing w c test behind x y t p = subst (λ z. again knowing w c test z x t ≡ on_value (eval knowing w c y t) (λ v u. tested knowing w c test z x u)) (sym p) refl
 
 -- ---- computations on the way
 
-pub stands_by : (w : World) (s : State) (m : Machine) (r : Result Focus Stop) (o o' : Res) → o ≡ o' → Stands w s m r o' → Stands w s m r o
-stands_by w s m r o o' p h = subst (λ x. Stands w s m r x) (sym p) h
+pub stands_by : (knowing : Knowing) (w : World) (s : State) (m : Machine) (r : Result Focus Stop) (o o' : Res) → o ≡ o' → Stands knowing w s m r o' → Stands knowing w s m r o
+stands_by knowing w s m r o o' p h = subst (λ x. Stands knowing w s m r x) (sym p) h
 
 pub closing_led : (n : ℕ) (f : Flow) (s : State) → closing n (led f s) ≡ led f (ended_to n s)
 closing_led n flow.On s = refl
@@ -189,28 +188,29 @@ closing_led n (flow.Went l) s = refl
 closing_led n (flow.Back v) s = refl
 
 -- a frame that waits for a value lets a flow pass
-pub right_led : (w : World) (c : Context) (xs : List Step) (k : ValueData → State → Res) (f : Flow) (s : State) → followed without_atoms w c xs (on_value (led f s) k) ≡ led f s
-right_led w c xs k f s = ap (followed without_atoms w c xs) (led_passes f s k) ∙ followed_led w c xs f s
+pub right_led : (knowing : Knowing) (w : World) (c : Context) (xs : List Step) (k : ValueData → State → Res) (f : Flow) (s : State) → followed knowing w c xs (on_value (led f s) k) ≡ led f s
+right_led knowing w c xs k f s = ap (followed knowing w c xs) (led_passes f s k) ∙ followed_led knowing w c xs f s
 
-pub returns_stand : (w : World) (s : State) (m : Machine) (r : Result Focus Stop) (o : State → Res) → Returns r o → Stands w s m r (resume w (env_of m) (reverse m.frames) (o (at s m)))
-returns_stand w s m (Ok (focus.Value v)) o h = ap (resume w (env_of m) (reverse m.frames)) (h (at s m))
-returns_stand w s m (Ok (focus.Leads f)) o h = ap (resume w (env_of m) (reverse m.frames)) (h (at s m))
-returns_stand w s m (Ok (focus.Runs x)) o h = absurd h
-returns_stand w s m (Ok (focus.Looks l x)) o h = absurd h
-returns_stand w s m (Ok (focus.Evaluates x)) o h = absurd h
-returns_stand w s m (Ok (focus.Puts c v)) o h = absurd h
-returns_stand w s m (Err x) o h = lifted w (env_of m) (reverse m.frames) (at s m) x (o (at s m)) (h (at s m))
+pub returns_stand : (knowing : Knowing) (w : World) (s : State) (m : Machine) (r : Result Focus Stop) (o : State → Res) → Returns r o → Stands knowing w s m r (resume knowing w (env_of m) (reverse m.frames) (o (at s m)))
+returns_stand knowing w s m (Ok (focus.Value v)) o h = ap (resume knowing w (env_of m) (reverse m.frames)) (h (at s m))
+returns_stand knowing w s m (Ok (focus.Leads f)) o h = ap (resume knowing w (env_of m) (reverse m.frames)) (h (at s m))
+returns_stand knowing w s m (Ok (focus.Runs x)) o h = absurd h
+returns_stand knowing w s m (Ok (focus.Looks l x)) o h = absurd h
+returns_stand knowing w s m (Ok (focus.Evaluates x)) o h = absurd h
+returns_stand knowing w s m (Ok (focus.Puts c v)) o h = absurd h
+returns_stand knowing w s m (Ok (focus.Calls n)) o h = absurd h
+returns_stand knowing w s m (Err x) o h = lifted knowing w (env_of m) (reverse m.frames) (at s m) x (o (at s m)) (h (at s m))
 
 -- what the end of a run and a flow do to what waits
 pub ruleset stopping = (resume_over, followed_over, followed_led, led_passes, closing_led)
 
-pub behind_none : (w : World) (c : Context) (test behind : Option Exp) (x : Stm) (t : State) → behind ≡ None → again without_atoms w c test behind x t ≡ tested without_atoms w c test None x t
-behind_none w c test behind x t p = ap (λ z. again without_atoms w c test z x t) p
+pub behind_none : (knowing : Knowing) (w : World) (c : Context) (test behind : Option Exp) (x : Stm) (t : State) → behind ≡ None → again knowing w c test behind x t ≡ tested knowing w c test None x t
+behind_none knowing w c test behind x t p = ap (λ z. again knowing w c test z x t) p
 
 pub closed : (n : ℕ) (x : Stop) (s : State) (o : Res) → Stops x s o → Stops x s (closing n o)
 closed n (stop.Over z) s o h = ap (closing n) h
 closed n stop.OutOfMemory s o h = tt
 
-pub over_stops : (w : World) (e : Env) (fs : List Frame) (s : State) (x : Stop) (y : Ending) (o : Res) → IsOver x y → o ≡ over y s → Stops x s (resume w e fs o)
-over_stops w e fs s (stop.Over z) y o j h = ap (resume w e fs) h ∙ resume_over w e fs y s ∙ ap (λ y. over y s) j
-over_stops w e fs s stop.OutOfMemory y o j h = absurd j
+pub over_stops : (knowing : Knowing) (w : World) (e : Env) (fs : List Frame) (s : State) (x : Stop) (y : Ending) (o : Res) → IsOver x y → o ≡ over y s → Stops x s (resume knowing w e fs o)
+over_stops knowing w e fs s (stop.Over z) y o j h = ap (resume knowing w e fs) h ∙ resume_over knowing w e fs y s ∙ ap (λ y. over y s) j
+over_stops knowing w e fs s stop.OutOfMemory y o j h = absurd j

@@ -14,10 +14,9 @@ use Rattle.ec_code.specs.declared.step.Binary.{Binary}
 use Rattle.ec_code.specs.declared.step.Unary.{Unary}
 use Rattle.ec_code.specs.Trees.{Step}
 use Rattle.ec_code.specs.Views.{expression_view, full_step_view}
-use Rattle.ec_evaluation.specs.Evaluate.{Context, World}
+use Rattle.ec_evaluation.specs.Evaluate.{Context, World, Step as Knowing}
 use Rattle.ec_evaluation.specs.Results.{Res, value, on, over, done_there}
 use Rattle.ec_evaluation.specs.State.{Ending, State}
-use Rattle.ec_evaluation.specs.Whole.{without_atoms}
 use Rattle.ec_functions.specs.Functions.{Channel, standard_output, standard_error, puts_bytes}
 use Rattle.ec_objects.specs.Memory.{Memory, ValueData}
 use Rattle.ec_plain.specs.Steps.{followed, one_on, two_on}
@@ -29,13 +28,13 @@ use Rattle.ec_machine.specs.declared.machine.Machine.{Machine}
 use Rattle.ec_machine.specs.declared.stop.Stop.{Stop}
 use Rattle.ec_machine.specs.declared.stop.Stop.TheVariants as stop
 use Rattle.ec_machine.specs.Frames.{Env, below, denote, here, last_of, plug, without_last, waiting, resume}
-use Rattle.ec_machine.specs.Goes.{Goes, Stands, Stops, at, ending_view, env_of, taken, world}
+use Rattle.ec_machine.specs.Goes.{Goes, Stands, Stops, at, ending_view, env_of, taken, tasks}
 use Rattle.ec_machine.proofs.Moves.{last_push, rest_push, none_waits, all_rest}
 use Rattle.ec_machine.proofs.Views.{view-One, view-Two}
 
 -- ---- values that wait
 
-pub values_pushed : (fs : List Function) (m new : Machine) (r : Result Focus Stop) (count more : ℕ) (v : Word) (vs : List Word) (part : List ValueData → World → State → Res) → vs ≡ m.values ++ v ∷ [] → more ≡ count + 1
+pub values_pushed : (fs : List Function) (m new : Machine) (r : Result Focus Stop) (count more : ℕ) (v : Word) (vs : List Word) (part : List ValueData → Knowing → World → State → Res) → vs ≡ m.values ++ v ∷ [] → more ≡ count + 1
     → Goes fs m (taken more (env_of (record m { values = vs }))) (part (waiting more (env_of (record m { values = vs })))) r new
     → Goes fs m (taken count (env_of m)) (part (waiting count (env_of m) ++ word_view v ∷ [])) r new
 values_pushed fs m new r count more v vs part p q g =
@@ -51,7 +50,7 @@ values_pushed fs m new r count more v vs part p q g =
     there : taken more (env_of (record m { values = vs })) ≡ taken count (env_of m)
     there = λ i. record (env_of m) { values = left i }
 
-pub no_values : (fs : List Function) (m new : Machine) (r : Result Focus Stop) (part : List ValueData → World → State → Res)
+pub no_values : (fs : List Function) (m new : Machine) (r : Result Focus Stop) (part : List ValueData → Knowing → World → State → Res)
     → Goes fs m (taken 0 (env_of m)) (part (waiting 0 (env_of m))) r new → Goes fs m (env_of m) (part []) r new
 no_values fs m new r part g =
     subst (λ e. Goes fs m e (part []) r new) there (subst (λ xs. Goes fs m (taken 0 (env_of m)) (part xs) r new) none g)
@@ -76,20 +75,20 @@ stops_through f h stop.OutOfMemory s o p = tt
 
 -- ---- steps behind a value
 
-module _ (w : World) (c : Context) (s : State) (x : FullStep) (rest : List Step) (v : ValueData) where
-  pub first_One : (u : Unary) → x ≡ step.One u → followed without_atoms w c (full_step_view x ∷ rest) (value v s) ≡ followed without_atoms w c rest (one_on c.line u v s)
-  first_One u p = ap (λ z. followed without_atoms w c (z ∷ rest) (value v s)) (ap full_step_view p ∙ view-One u)
+module _ (knowing : Knowing) (w : World) (c : Context) (s : State) (x : FullStep) (rest : List Step) (v : ValueData) where
+  pub first_One : (u : Unary) → x ≡ step.One u → followed knowing w c (full_step_view x ∷ rest) (value v s) ≡ followed knowing w c rest (one_on c.line u v s)
+  first_One u p = ap (λ z. followed knowing w c (z ∷ rest) (value v s)) (ap full_step_view p ∙ view-One u)
 
-  pub first_Two : (b : Binary) (e : Expression) → x ≡ step.Two b e → followed without_atoms w c (full_step_view x ∷ rest) (value v s) ≡ followed without_atoms w c rest (two_on without_atoms w c b (expression_view e) v s)
-  first_Two b e p = ap (λ z. followed without_atoms w c (z ∷ rest) (value v s)) (ap full_step_view p ∙ view-Two b e)
+  pub first_Two : (b : Binary) (e : Expression) → x ≡ step.Two b e → followed knowing w c (full_step_view x ∷ rest) (value v s) ≡ followed knowing w c rest (two_on knowing w c b (expression_view e) v s)
+  first_Two b e p = ap (λ z. followed knowing w c (z ∷ rest) (value v s)) (ap full_step_view p ∙ view-Two b e)
 
 -- ---- frames that are given an answer
 
-pub given_as : (fs : List Function) (m new : Machine) (e : Env) (f g : Frame) (r : Result Focus Stop) (o : State → Res) → f ≡ g → Goes fs m (below e g) (λ w t. plug w e g (o t)) r new → Goes fs m (below e f) (λ w t. plug w e f (o t)) r new
-given_as fs m new e f g r o p h = subst (λ z. Goes fs m (below e z) (λ w t. plug w e z (o t)) r new) (sym p) h
+pub given_as : (fs : List Function) (m new : Machine) (e : Env) (f g : Frame) (r : Result Focus Stop) (o : State → Res) → f ≡ g → Goes fs m (below e g) (λ knowing w t. plug knowing w e g (o t)) r new → Goes fs m (below e f) (λ knowing w t. plug knowing w e f (o t)) r new
+given_as fs m new e f g r o p h = subst (λ z. Goes fs m (below e z) (λ knowing w t. plug knowing w e z (o t)) r new) (sym p) h
 
-pub focus_as : (fs : List Function) (m new : Machine) (f g : Focus) (r : Result Focus Stop) → f ≡ g → Goes fs m (env_of m) (λ w t. denote w (env_of m) m.line m.text g t) r new → Goes fs m (env_of m) (λ w t. denote w (env_of m) m.line m.text f t) r new
-focus_as fs m new f g r p h = subst (λ z. Goes fs m (env_of m) (λ w t. denote w (env_of m) m.line m.text z t) r new) (sym p) h
+pub focus_as : (fs : List Function) (m new : Machine) (f g : Focus) (r : Result Focus Stop) → f ≡ g → Goes fs m (env_of m) (λ knowing w t. denote knowing w (env_of m) m.line m.text g t) r new → Goes fs m (env_of m) (λ knowing w t. denote knowing w (env_of m) m.line m.text f t) r new
+focus_as fs m new f g r p h = subst (λ z. Goes fs m (env_of m) (λ knowing w t. denote knowing w (env_of m) m.line m.text z t) r new) (sym p) h
 
 -- ---- slices
 

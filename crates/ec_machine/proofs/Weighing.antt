@@ -116,7 +116,7 @@ pub weight-Known : (f : Known) (es : List Expression) → head_weight (head.Know
 unfolding expression_weight full_weight head_weight full_step_weight
 weight-Known f es = search (rules, head_lemmas)
 
-pub weight-LibraryCall : (n : ℕ) → head_weight (head.LibraryCall n) ≡ 1
+pub weight-LibraryCall : (n : ℕ) → head_weight (head.LibraryCall n) ≡ 2
 unfolding expression_weight full_weight head_weight full_step_weight
 weight-LibraryCall n = search (rules, head_lemmas)
 

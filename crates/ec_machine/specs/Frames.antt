@@ -1,21 +1,20 @@
--- A run cut in two: what is looked at, and the frames that wait for its answer, the innermost last.
+-- A run cut in two: what is looked at, and the frames that wait for its answer, the innermost last. `knowing` is the step of what only it knows.
 use Rattle.std.specs.Prelude.{◌≡◌, ℕ, ◌-◌, List, [], ◌∷◌, ◌++◌, length, take, drop, map, Option, Some, Bool, true, false}
 use Rattle.std.specs.Option.{option_map}
 use Rattle.ec_bytes.specs.declared.scalar.address.Ptr.{Ptr}
 use Rattle.ec_code.specs.declared.statement.Loop.{Loop, out-Loop}
 use Rattle.ec_code.specs.Views.{expression_view, expressions_view, full_step_view, statement_view, statements_view}
-use Rattle.ec_evaluation.specs.Evaluate.{Context, World, calls, turn_of, eval, collect}
+use Rattle.ec_evaluation.specs.Evaluate.{Context, World, Step as Knowing, calls, turn_of, eval, collect}
 use Rattle.ec_evaluation.specs.Execute.{run, run_all, look, tested, again, settle}
-use Rattle.ec_evaluation.specs.Results.{Res, value, on, broke, continued, went, back, on_value, on_done, after_body, closing, function_end, answered, returned, finished, done_there}
+use Rattle.ec_evaluation.specs.Results.{Res, value, on, broke, continued, went, back, on_value, on_done, after_body, closing, function_end, answered, without_answer, returned, finished, done_there}
 use Rattle.ec_evaluation.specs.State.{State}
-use Rattle.ec_evaluation.specs.Whole.{without_atoms}
 use Rattle.ec_formats.specs.Known.{channel_view, known_view}
 use Rattle.ec_functions.specs.Functions.{effect_of, puts_bytes}
 use Rattle.ec_objects.specs.Memory.{ValueData}
 use Rattle.ec_plain.specs.Answered.{context}
 use Rattle.ec_plain.specs.Steps.{followed, both_on}
 use Rattle.ec_resolved.specs.Operations.{is_true}
-use Rattle.ec_resolved.specs.Resolved.{Exp, Stm}
+use Rattle.ec_resolved.specs.Resolved.{Exp, Stm, library}
 use Rattle.ec_values.specs.Words.{word_view}
 use Rattle.ec_values.specs.declared.word.Word.{Word}
 use Rattle.ec_base.specs.declared.line.Line.{Line}
@@ -88,40 +87,40 @@ below e (frame.Close mark height count) = record e { scope = cut height count e.
 below e f = e
 
 -- what a frame makes of the answer that it waits for
-abbrev pub plug : World → Env → Frame → Res → Res
-plug w e (frame.Steps line xs) o = followed without_atoms w (here e line) (map full_step_view xs.now) o
-plug w e (frame.Right line step v old xs) o =
-    followed without_atoms w (here e line) (map full_step_view xs.now) (on_value o (both_on line.0 step (word_view v) (word_view old)))
-plug w e (frame.Arguments line callee n es xs) o =
-    followed without_atoms w (here e line) (map full_step_view xs.now) (on_value o (λ v t.
-    collect without_atoms w (here e line) (waiting n e ++ v ∷ []) (expressions_view es.now) t (received w line callee)))
-plug w e (frame.Call line used otherwise xs first) o =
-    followed without_atoms w (here (record e { first = first }) line) (map full_step_view xs.now)
+abbrev pub plug : Knowing → World → Env → Frame → Res → Res
+plug knowing w e (frame.Steps line xs) o = followed knowing w (here e line) (map full_step_view xs.now) o
+plug knowing w e (frame.Right line step v old xs) o =
+    followed knowing w (here e line) (map full_step_view xs.now) (on_value o (both_on line.0 step (word_view v) (word_view old)))
+plug knowing w e (frame.Arguments line callee n es xs) o =
+    followed knowing w (here e line) (map full_step_view xs.now) (on_value o (λ v t.
+    collect knowing w (here e line) (waiting n e ++ v ∷ []) (expressions_view es.now) t (received w line callee)))
+plug knowing w e (frame.Call line used otherwise xs first) o =
+    followed knowing w (here (record e { first = first }) line) (map full_step_view xs.now)
     (answered line.0 used (function_end (option_map word_view otherwise) o))
-plug w e frame.Do o = on_value o (λ v t. on t)
-plug w e frame.Give o = on_value o (λ v t. returned e.first (Some v) t)
-plug w e (frame.Choose line a b) o =
+plug knowing w e frame.Do o = on_value o (λ v t. on t)
+plug knowing w e frame.Give o = on_value o (λ v t. returned e.first (Some v) t)
+plug knowing w e (frame.Choose line a b) o =
     on_value o (λ v t. elim (is_true v) [
-      | true ↦ run without_atoms w (here e line) (statement_view a.now) t
-      | false ↦ run without_atoms w (here e line) (statement_view b.now) t
+      | true ↦ run knowing w (here e line) (statement_view a.now) t
+      | false ↦ run knowing w (here e line) (statement_view b.now) t
     ])
-plug w e (frame.Test line x) o =
+plug knowing w e (frame.Test line x) o =
     on_value o (λ v t. elim (is_true v) [
       | true ↦ w (turn_of (here e line) (test_of x.now) (behind_of x.now) (body_of x.now)) t
       | false ↦ on t
     ])
-plug w e (frame.Behind line x) o =
-    on_value o (λ v t. tested without_atoms w (here e line) (test_of x.now) (behind_of x.now) (body_of x.now) t)
-plug w e (frame.Body line x) o =
-    after_body o (λ t. again without_atoms w (here e line) (test_of x.now) (behind_of x.now) (body_of x.now) t)
-plug w e (frame.Rest line xs) o = on_done o (λ t. run_all without_atoms w (here e line) (statements_view xs.now) t)
-plug w e (frame.Settle line xs) o = settle w (here e line) (statements_view xs.now) o
-plug w e (frame.Close mark height count) o = closing mark o
+plug knowing w e (frame.Behind line x) o =
+    on_value o (λ v t. tested knowing w (here e line) (test_of x.now) (behind_of x.now) (body_of x.now) t)
+plug knowing w e (frame.Body line x) o =
+    after_body o (λ t. again knowing w (here e line) (test_of x.now) (behind_of x.now) (body_of x.now) t)
+plug knowing w e (frame.Rest line xs) o = on_done o (λ t. run_all knowing w (here e line) (statements_view xs.now) t)
+plug knowing w e (frame.Settle line xs) o = settle w (here e line) (statements_view xs.now) o
+plug knowing w e (frame.Close mark height count) o = closing mark o
 
 -- what the frames make of an answer, the innermost first, and the first `main` behind them
-abbrev pub resume : World → Env → List Frame → Res → Res
-resume w e [] o = finished (option_map word_view e.otherwise) o
-resume w e (f ∷ fs) o = resume w (below e f) fs (plug w e f o)
+abbrev pub resume : Knowing → World → Env → List Frame → Res → Res
+resume knowing w e [] o = finished (option_map word_view e.otherwise) o
+resume knowing w e (f ∷ fs) o = resume knowing w (below e f) fs (plug knowing w e f o)
 
 -- ---- what is looked at
 
@@ -133,10 +132,11 @@ led flow.Continued s = continued s
 led (flow.Went l) s = went l s
 led (flow.Back v) s = back (option_map word_view v) s
 
-abbrev pub denote : World → Env → Line → List ℕ → Focus → State → Res
-denote w e line text (focus.Runs x) s = run without_atoms w (here e line) (statement_view x.now) s
-denote w e line text (focus.Looks l x) s = look without_atoms w l (here e line) (statement_view x.now) s
-denote w e line text (focus.Evaluates x) s = eval without_atoms w (here e line) (expression_view x.now) s
-denote w e line text (focus.Value v) s = value (word_view v) s
-denote w e line text (focus.Puts channel v) s = done_there line.0 (puts_bytes (channel_view channel) (option_map word_view v) s.memory text) s
-denote w e line text (focus.Leads f) s = led f s
+abbrev pub denote : Knowing → World → Env → Line → List ℕ → Focus → State → Res
+denote knowing w e line text (focus.Runs x) s = run knowing w (here e line) (statement_view x.now) s
+denote knowing w e line text (focus.Looks l x) s = look knowing w l (here e line) (statement_view x.now) s
+denote knowing w e line text (focus.Evaluates x) s = eval knowing w (here e line) (expression_view x.now) s
+denote knowing w e line text (focus.Value v) s = value (word_view v) s
+denote knowing w e line text (focus.Puts channel v) s = done_there line.0 (puts_bytes (channel_view channel) (option_map word_view v) s.memory text) s
+denote knowing w e line text (focus.Calls n) s = without_answer (knowing w (here e line) (library n) s)
+denote knowing w e line text (focus.Leads f) s = led f s

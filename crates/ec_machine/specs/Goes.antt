@@ -3,7 +3,8 @@ use Rattle.std.specs.Prelude.{◌≡◌, ℕ, ◌<◌, List, map, Option, revers
 use Rattle.ec_base.specs.declared.stop.Trap.TheVariants.{Spent}
 use Rattle.ec_code.specs.declared.program.Function.{Function}
 use Rattle.ec_code.specs.Views.{function_view}
-use Rattle.ec_evaluation.specs.Evaluate.{World}
+use Rattle.ec_evaluation.specs.Agree.{CountsTurns}
+use Rattle.ec_evaluation.specs.Evaluate.{Context, World, Step as Knowing}
 use Rattle.ec_evaluation.specs.Execute.{meaning}
 use Rattle.ec_evaluation.specs.Results.{Res, over, exits_with}
 use Rattle.ec_evaluation.specs.State.{State, Ending, exited, trapped, turns_spent, stuck}
@@ -19,11 +20,22 @@ use Rattle.ec_machine.specs.declared.stop.Stop.{Stop}
 use Rattle.ec_machine.specs.declared.stop.Stop.TheVariants as stop
 use Rattle.ec_machine.specs.Frames.{Env, denote, led, resume, without_last}
 use Rattle.ec_objects.specs.Memory.{ValueData}
+use Rattle.ec_resolved.specs.Resolved.{embedded}
 use Rattle.ec_values.specs.Words.{word_view}
 use Rattle.ec_evaluation.specs.Results.{value}
 
+-- the tasks of a program, for runs of at most so many turns
+abbrev pub tasks : Knowing → List Function → ℕ → World
+tasks knowing fs k = meaning knowing (map function_view fs) k
+
+-- those of a program that has nothing that only a step knows
 abbrev pub world : List Function → ℕ → World
-world fs k = meaning without_atoms (map function_view fs) k
+world fs k = tasks without_atoms fs k
+
+-- A step that the machine runs with: what it does is the same however many turns the tasks may take beyond those that are left, and it knows calls of the library, but no embedded statement
+pub record Fits (knowing : Knowing) : Type 0 where
+  pub counts : CountsTurns knowing
+  pub embeds : (w : World) (c : Context) (n : ℕ) (s : State) → knowing w c (embedded n) s ≡ over stuck s
 
 abbrev pub ending_view : End → Ending
 ending_view (ends.Exited n) = exited n
@@ -48,15 +60,16 @@ Stops (stop.Over e) s o = o ≡ over (ending_view e) s
 Stops stop.OutOfMemory s o = Unit {0}
 
 -- from an answer on, the machine stands at a focus with that answer
-abbrev pub Stands : World → State → Machine → Result Focus Stop → Res → Type 0
-Stands w s m (Ok f) o = o ≡ resume w (env_of m) (reverse m.frames) (denote w (env_of m) m.line m.text f (at s m))
-Stands w s m (Err x) o = Stops x (at s m) o
+abbrev pub Stands : Knowing → World → State → Machine → Result Focus Stop → Res → Type 0
+Stands knowing w s m (Ok f) o =
+    o ≡ resume knowing w (env_of m) (reverse m.frames) (denote knowing w (env_of m) m.line m.text f (at s m))
+Stands knowing w s m (Err x) o = Stops x (at s m) o
 
 -- what a part of the run leads to, from where the machine stood, is what it stands at now
-abbrev pub Goes : List Function → Machine → Env → (World → State → Res) → Result Focus Stop → Machine → Type 0
+abbrev pub Goes : List Function → Machine → Env → (Knowing → World → State → Res) → Result Focus Stop → Machine → Type 0
 Goes fs old e part result new =
-    (k : ℕ) (s : State) → old.turns < k
-    → Stands (world fs k) s new result (resume (world fs k) e (reverse old.frames) (part (world fs k) (at s old)))
+    (knowing : Knowing) → Fits knowing → (k : ℕ) (s : State) → old.turns < k
+    → Stands knowing (tasks knowing fs k) s new result (resume knowing (tasks knowing fs k) e (reverse old.frames) (part knowing (tasks knowing fs k) (at s old)))
 
 -- how the run ends, where there is an ending
 abbrev pub IsOver : Stop → Ending → Type 0
@@ -95,6 +108,7 @@ abbrev pub Ends : End → (State → Res) → Type 0
 Ends e o = (s : State) → o s ≡ over (ending_view e) s
 
 -- from one computation on, the machine stands before another; or what stopped it is what the first leads to
-abbrev pub Enters : World → State → Machine → Result (Unit {0}) Stop → Machine → Res → Res → Type 0
-Enters w s old (Ok v) new o next = resume w (env_of old) (reverse old.frames) o ≡ resume w (env_of new) (reverse new.frames) next
-Enters w s old (Err x) new o next = Stops x (at s new) o
+abbrev pub Enters : Knowing → World → State → Machine → Result (Unit {0}) Stop → Machine → Res → Res → Type 0
+Enters knowing w s old (Ok v) new o next =
+    resume knowing w (env_of old) (reverse old.frames) o ≡ resume knowing w (env_of new) (reverse new.frames) next
+Enters knowing w s old (Err x) new o next = Stops x (at s new) o

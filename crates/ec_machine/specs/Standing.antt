@@ -2,20 +2,19 @@
 use Rattle.std.specs.Prelude.{◌≡◌, ℕ, List, Option, Some, None}
 use Rattle.ec_code.specs.declared.statement.Statement.{Statement}
 use Rattle.ec_code.specs.Views.{statement_view, statements_view}
-use Rattle.ec_evaluation.specs.Evaluate.{Context, World}
+use Rattle.ec_evaluation.specs.Evaluate.{Context, World, Step as Knowing}
 use Rattle.ec_evaluation.specs.Execute.{run_all, look, look_all}
 use Rattle.ec_evaluation.specs.Results.{on, on_done}
 use Rattle.ec_evaluation.specs.State.{State}
-use Rattle.ec_evaluation.specs.Whole.{without_atoms}
 use Rattle.ec_machine.specs.declared.labels.Standing.{Standing}
 
 -- what is done from a label on, among statements: nothing where none holds it
 abbrev pub IsStanding : ℕ → List Statement → Option Standing → Type 0
 IsStanding l xs (Some x) =
-    (w : World) (c : Context) (t : State) →
-    look_all without_atoms w l c (statements_view xs) t
-    ≡ on_done (look without_atoms w l c (statement_view x.first.now) t)
-    (λ u. run_all without_atoms w c (statements_view x.rest.now) u)
+    (knowing : Knowing) (w : World) (c : Context) (t : State) →
+    look_all knowing w l c (statements_view xs) t
+    ≡ on_done (look knowing w l c (statement_view x.first.now) t)
+    (λ u. run_all knowing w c (statements_view x.rest.now) u)
 IsStanding l xs None =
-    (w : World) (c : Context) (t : State)
-    → look_all without_atoms w l c (statements_view xs) t ≡ on t
+    (knowing : Knowing) (w : World) (c : Context) (t : State)
+    → look_all knowing w l c (statements_view xs) t ≡ on t

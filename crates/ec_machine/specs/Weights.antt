@@ -39,7 +39,7 @@ abbrev pub head_step : Head-F ℕ ℕ ℕ ℕ → ℕ
 head_step (Head-F.Begun p) = 1
 head_step (Head-F.Call f used es) = 3 + each es
 head_step (Head-F.Known f es) = 3 + each es
-head_step (Head-F.LibraryCall n) = 1
+head_step (Head-F.LibraryCall n) = 2
 
 abbrev pub full_step_step : FullStep-F ℕ ℕ ℕ ℕ → ℕ
 full_step_step (FullStep-F.One u) = 0
@@ -162,6 +162,7 @@ focus_weight (focus.Looks l x) fs = statement_weight x.now
 focus_weight (focus.Evaluates x) fs = expression_weight x.now
 focus_weight (focus.Value v) fs = 0
 focus_weight (focus.Puts channel v) fs = 1
+focus_weight (focus.Calls n) fs = 1
 focus_weight (focus.Leads f) fs = flow_weight f (frames_answer fs)
 
 abbrev pub weight : List Frame → Focus → ℕ
@@ -172,11 +173,12 @@ unfoldable pub remaining : ℕ → Result Focus Stop → Machine → ℕ
 remaining turns (Err x) m = 0
 remaining turns (Ok f) m = elim (turns - m.turns) [ zero ↦ suc (weight m.frames f) | suc n ↦ 0 ]
 
--- bytes are to be put
-abbrev pub IsPut : Focus → Type 0
-IsPut (focus.Puts channel v) = Unit {0}
-IsPut (focus.Runs x) = ⊥
-IsPut (focus.Looks l x) = ⊥
-IsPut (focus.Evaluates x) = ⊥
-IsPut (focus.Value v) = ⊥
-IsPut (focus.Leads f) = ⊥
+-- what is done outside of the machine: bytes are to be put, or the library is called
+abbrev pub IsOutside : Focus → Type 0
+IsOutside (focus.Puts channel v) = Unit {0}
+IsOutside (focus.Calls n) = Unit {0}
+IsOutside (focus.Runs x) = ⊥
+IsOutside (focus.Looks l x) = ⊥
+IsOutside (focus.Evaluates x) = ⊥
+IsOutside (focus.Value v) = ⊥
+IsOutside (focus.Leads f) = ⊥

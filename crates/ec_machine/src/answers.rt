@@ -7,7 +7,6 @@ ghost use Rattle.ec_code.specs.Views.{statement_view, statements_view};
 ghost use Rattle.ec_evaluation.specs.Evaluate.{turn_of};
 ghost use Rattle.ec_evaluation.specs.Execute.{again, look_all, run, run_all, settle};
 ghost use Rattle.ec_evaluation.specs.Results.{after_body, answered, function_end, on, on_done, value as valued};
-ghost use Rattle.ec_evaluation.specs.Whole.{without_atoms};
 ghost use Rattle.ec_resolved.specs.Operations.{is_true};
 ghost use Rattle.ec_values.specs.Words.{word_view};
 ghost use Rattle.ec_machine.specs.Frames.{behind_of, below, body_of, here, led, plug, test_of};
@@ -34,8 +33,8 @@ impl<'p> Machine<'p> {
         value: Word,
     ) -> Result<Focus<'p>, Stop>
         ensures goes { Goes functions.now self.old (below (env_of self.old) frame.entry)
-            (λ w t. plug w (env_of self.old) frame.entry (valued (word_view value) t)) result
-            self.new }
+            (λ knowing w t. plug knowing w (env_of self.old) frame.entry (valued (word_view value)
+            t)) result self.new }
         ensures turns { self.new.turns ≤ self.old.turns }
         ensures nears { remaining self.old.turns result self.new ≤
             frames_weight self.old.frames + frame_weight frame.entry }
@@ -82,7 +81,8 @@ impl<'p> Machine<'p> {
     pub(crate) fn give_flow(&mut self, frame: Frame<'p>, flow: Flow) -> Result<Focus<'p>, Stop>
         ensures goes { (functions : List FunctionData) → Goes functions self.old (below (env_of
             self.old) frame.entry)
-            (λ w t. plug w (env_of self.old) frame.entry (led flow t)) result self.new }
+            (λ knowing w t. plug knowing w (env_of self.old) frame.entry (led flow t)) result
+            self.new }
         ensures turns { self.new.turns ≤ self.old.turns }
         ensures nears { remaining self.old.turns result self.new ≤
             frames_weight self.old.frames + frame_weight frame.entry + flow_weight flow
@@ -135,10 +135,10 @@ impl<'p> Machine<'p> {
         value: Word,
     ) -> Result<Focus<'p>, Stop>
         ensures goes { (functions : List FunctionData) → Goes functions self.now (env_of self.now)
-            (λ w t. elim (is_true (word_view value)) [
-              | true ↦ run without_atoms w (here (env_of self.now) self.now.line) (statement_view
+            (λ knowing w t. elim (is_true (word_view value)) [
+              | true ↦ run knowing w (here (env_of self.now) self.now.line) (statement_view
                   first.now) t
-              | false ↦ run without_atoms w (here (env_of self.now) self.now.line) (statement_view
+              | false ↦ run knowing w (here (env_of self.now) self.now.line) (statement_view
                   second.now) t
             ]) result self.now }
         ensures nears { remaining self.now.turns result self.now ≤
@@ -156,7 +156,7 @@ impl<'p> Machine<'p> {
     #[tactic(auto, using(crate::proofs::Weighing::weights))]
     fn tested(&mut self, inner: &'p Loop, value: Word) -> Result<Focus<'p>, Stop>
         ensures goes { (functions : List FunctionData) → Goes functions self.old (env_of self.old)
-            (λ w t. elim (is_true (word_view value)) [
+            (λ knowing w t. elim (is_true (word_view value)) [
               | true ↦ w (turn_of (here (env_of self.old) self.old.line) (test_of inner.now)
                   (behind_of inner.now) (body_of inner.now)) t
               | false ↦ on t
@@ -175,7 +175,7 @@ impl<'p> Machine<'p> {
     /// The body of a loop is done.
     fn after_body(&mut self, inner: &'p Loop, flow: Flow) -> Result<Focus<'p>, Stop>
         ensures goes { (functions : List FunctionData) → Goes functions self.old (env_of self.old)
-            (λ w t. after_body (led flow t) (λ u. again without_atoms w (here (env_of self.old)
+            (λ knowing w t. after_body (led flow t) (λ u. again knowing w (here (env_of self.old)
             self.old.line) (test_of inner.now) (behind_of inner.now) (body_of inner.now) u))
             result self.new }
         ensures turns { self.new.turns ≤ self.old.turns }
@@ -195,7 +195,7 @@ impl<'p> Machine<'p> {
     /// A statement before these is done.
     fn rest(&mut self, statements: &'p [Statement], flow: Flow) -> Result<Focus<'p>, Stop>
         ensures goes { (functions : List FunctionData) → Goes functions self.old (env_of self.old)
-            (λ w t. on_done (led flow t) (λ u. run_all without_atoms w (here (env_of self.old)
+            (λ knowing w t. on_done (led flow t) (λ u. run_all knowing w (here (env_of self.old)
             self.old.line) (statements_view statements.now) u)) result self.new }
         ensures turns { self.new.turns ≤ self.old.turns }
         ensures nears { remaining self.old.turns result self.new ≤
@@ -214,7 +214,7 @@ impl<'p> Machine<'p> {
     /// The statements of a block are done.
     fn settle(&mut self, statements: &'p [Statement], flow: Flow) -> Result<Focus<'p>, Stop>
         ensures goes { (functions : List FunctionData) → Goes functions self.old (env_of self.old)
-            (λ w t. settle w (here (env_of self.old) self.old.line) (statements_view
+            (λ knowing w t. settle w (here (env_of self.old) self.old.line) (statements_view
             statements.now) (led flow t)) result self.new }
         ensures turns { self.new.turns ≤ self.old.turns }
         ensures nears { remaining self.old.turns result self.new ≤
@@ -239,8 +239,8 @@ impl<'p> Machine<'p> {
     /// A block that holds a label answers a `goto`.
     fn answer(&mut self, label: u32, statements: &'p [Statement]) -> Result<Focus<'p>, Stop>
         ensures goes { (functions : List FunctionData) → Goes functions self.old (env_of self.old)
-            (λ w t. settle w (here (env_of self.old) self.old.line) (statements_view statements.now)
-            (look_all without_atoms w label (here (env_of self.old) self.old.line)
+            (λ knowing w t. settle w (here (env_of self.old) self.old.line) (statements_view
+            statements.now) (look_all knowing w label (here (env_of self.old) self.old.line)
             (statements_view statements.now) t)) result self.new }
         ensures turns { self.new.turns ≤ self.old.turns }
         ensures nears { remaining self.old.turns result self.new ≤

@@ -7,7 +7,6 @@ ghost use Rattle.ec_code.specs.Views.{full_step_view, function_view};
 ghost use Rattle.ec_evaluation.specs.Evaluate.{calls};
 ghost use Rattle.ec_evaluation.specs.Execute.{called};
 ghost use Rattle.ec_evaluation.specs.Results.{answered, done_there, on};
-ghost use Rattle.ec_evaluation.specs.Whole.{without_atoms};
 ghost use Rattle.ec_formats.specs.Known.{known_view};
 ghost use Rattle.ec_functions.specs.Functions.{effect_of};
 ghost use Rattle.ec_plain.specs.Steps.{followed};
@@ -51,7 +50,7 @@ impl<'p> Machine<'p> {
         steps: &'p [FullStep],
     ) -> Result<Focus<'p>, Stop>
         ensures goes { Goes functions.now self.old (taken count (env_of self.old))
-            (λ w t. followed without_atoms w (here (env_of self.old) self.old.line) (map
+            (λ knowing w t. followed knowing w (here (env_of self.old) self.old.line) (map
             full_step_view steps.now)
             (received w self.old.line callee.entry (waiting count (env_of self.old)) t)) result
             self.new }
@@ -70,7 +69,7 @@ impl<'p> Machine<'p> {
     fn fill(&mut self, count: usize) -> Result<Focus<'p>, Stop>
         ensures goes { (functions : List FunctionData) → Goes functions self.old (taken count
             (env_of self.old))
-            (λ w t. on t) result self.new }
+            (λ knowing w t. on t) result self.new }
         ensures turns { self.new.turns ≤ self.old.turns }
         ensures nears { remaining self.old.turns result self.new ≤
             1 + frames_weight self.old.frames }
@@ -88,7 +87,7 @@ impl<'p> Machine<'p> {
     ) -> Result<Focus<'p>, Stop>
         ensures goes { (functions : List FunctionData) → Goes functions self.old (taken count
             (env_of self.old))
-            (λ w t. followed without_atoms w (here (env_of self.old) self.old.line) (map
+            (λ knowing w t. followed knowing w (here (env_of self.old) self.old.line) (map
             full_step_view steps.now)
             (done_there self.old.line.0 (effect_of (known_view known.now) t.memory (waiting count
             (env_of self.old))) t)) result self.new }
@@ -124,7 +123,7 @@ impl<'p> Machine<'p> {
         steps: &'p [FullStep],
     ) -> Result<Focus<'p>, Stop>
         ensures goes { Goes functions.now self.old (taken count (env_of self.old))
-            (λ w t. followed without_atoms w (here (env_of self.old) self.old.line) (map
+            (λ knowing w t. followed knowing w (here (env_of self.old) self.old.line) (map
             full_step_view steps.now)
             (answered self.old.line.0 used (w (calls self.old.line.0 number (waiting count (env_of
             self.old))) t))) result self.new }
@@ -147,9 +146,9 @@ impl<'p> Machine<'p> {
         steps: &'p [FullStep],
     ) -> Result<Focus<'p>, Stop>
         ensures goes { (all : List FunctionData) → Goes all self.old (taken count (env_of self.old))
-            (λ w t. followed without_atoms w (here (env_of self.old) self.old.line) (map
+            (λ knowing w t. followed knowing w (here (env_of self.old) self.old.line) (map
             full_step_view steps.now)
-            (answered self.old.line.0 used (called without_atoms w self.old.line.0 (slice_get (map
+            (answered self.old.line.0 used (called knowing w self.old.line.0 (slice_get (map
             function_view functions.now) number) (waiting count (env_of self.old)) t))) result
             self.new }
         ensures turns { self.new.turns ≤ self.old.turns }
@@ -170,9 +169,9 @@ impl<'p> Machine<'p> {
     ) -> Result<Focus<'p>, Stop>
         ensures goes { (functions : List FunctionData) → Goes functions self.old (taken count
             (env_of self.old))
-            (λ w t. followed without_atoms w (here (env_of self.old) self.old.line) (map
+            (λ knowing w t. followed knowing w (here (env_of self.old) self.old.line) (map
             full_step_view steps.now)
-            (answered self.old.line.0 used (called without_atoms w self.old.line.0 (Some
+            (answered self.old.line.0 used (called knowing w self.old.line.0 (Some
             (function_view function.now)) (waiting count (env_of self.old)) t))) result self.new }
         ensures turns { self.new.turns ≤ self.old.turns }
     {

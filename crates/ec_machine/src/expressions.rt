@@ -4,9 +4,9 @@ ghost use Rattle.std.specs.Prelude.{◌≡◌, ◌≤◌, ◌+◌, ◌∷◌, �
 ghost use Rattle.ec_code.specs.declared.program.Function.{Function as FunctionData};
 ghost use Rattle.ec_code.specs.Views.{expression_view, expressions_view, full_step_view, full_view, plain_view};
 ghost use Rattle.ec_evaluation.specs.Evaluate.{collect, eval};
-ghost use Rattle.ec_evaluation.specs.Results.{value as valued};
-ghost use Rattle.ec_evaluation.specs.Whole.{without_atoms};
+ghost use Rattle.ec_evaluation.specs.Results.{value as valued, without_answer};
 ghost use Rattle.ec_plain.specs.Steps.{both_on, followed, one_on, two_on};
+ghost use Rattle.ec_resolved.specs.Resolved.{library};
 ghost use Rattle.ec_values.specs.Words.{word_view};
 ghost use Rattle.ec_machine.specs.Frames.{here, received, waiting};
 ghost use Rattle.ec_machine.specs.Goes.{Goes, env_of, taken};
@@ -15,7 +15,7 @@ ghost use Rattle.ec_machine.specs.Weights.{expression_weight, expressions_weight
 use crate::frame::{Callee, Focus, Frame};
 use crate::machine::Machine;
 use crate::making::stopped;
-use crate::stop::{End, Stop};
+use crate::stop::Stop;
 use ec_code::{Binary, Expression, Full, FullStep, Function, Head, Plain, Unary};
 use ec_plain::{Ready, evaluate, finish, prepare, unary};
 use ec_values::Word;
@@ -28,7 +28,7 @@ impl<'p> Machine<'p> {
         expression: &'p Expression,
     ) -> Result<Focus<'p>, Stop>
         ensures goes { Goes functions.now self.old (env_of self.old)
-            (λ w t. eval without_atoms w (here (env_of self.old) self.old.line) (expression_view
+            (λ knowing w t. eval knowing w (here (env_of self.old) self.old.line) (expression_view
             expression.now) t) result self.new }
         ensures turns { self.new.turns ≤ self.old.turns }
         ensures nears { remaining self.old.turns result self.new ≤
@@ -43,7 +43,7 @@ impl<'p> Machine<'p> {
     /// An expression without calls is evaluated.
     fn plain(&mut self, plain: &Plain) -> Result<Focus<'p>, Stop>
         ensures goes { (functions : List FunctionData) → Goes functions self.old (env_of self.old)
-            (λ w t. eval without_atoms w (here (env_of self.old) self.old.line) (plain_view
+            (λ knowing w t. eval knowing w (here (env_of self.old) self.old.line) (plain_view
             plain.now) t) result self.new }
         ensures turns { self.new.turns ≤ self.old.turns }
         ensures nears { remaining self.old.turns result self.new ≤
@@ -58,7 +58,7 @@ impl<'p> Machine<'p> {
     /// An expression that holds a call is begun.
     fn full(&mut self, functions: &'p [Function], full: &'p Full) -> Result<Focus<'p>, Stop>
         ensures goes { Goes functions.now self.old (env_of self.old)
-            (λ w t. eval without_atoms w (here (env_of self.old) self.old.line) (full_view
+            (λ knowing w t. eval knowing w (here (env_of self.old) self.old.line) (full_view
             full.now) t) result self.new }
         ensures turns { self.new.turns ≤ self.old.turns }
         ensures nears { remaining self.old.turns result self.new ≤
@@ -74,16 +74,16 @@ impl<'p> Machine<'p> {
             Head::Known(known, arguments) => {
                 self.pass_all(functions, Callee::Known(known), arguments.as_slice(), steps)
             }
-            Head::LibraryCall(_) => Err(Stop::Over(End::Stuck)),
+            Head::LibraryCall(number) => self.library_call(*number, steps),
         }
     }
 
     /// An expression without calls is evaluated, behind which these steps are taken.
     fn begun(&mut self, plain: &Plain, steps: &'p [FullStep]) -> Result<Focus<'p>, Stop>
         ensures goes { (functions : List FunctionData) → Goes functions self.old (env_of self.old)
-            (λ w t. followed without_atoms w (here (env_of self.old) self.old.line) (map
+            (λ knowing w t. followed knowing w (here (env_of self.old) self.old.line) (map
             full_step_view steps.now)
-            (eval without_atoms w (here (env_of self.old) self.old.line) (plain_view plain.now)
+            (eval knowing w (here (env_of self.old) self.old.line) (plain_view plain.now)
             t)) result self.new }
         ensures turns { self.new.turns ≤ self.old.turns }
         ensures nears { remaining self.old.turns result self.new ≤
@@ -91,6 +91,21 @@ impl<'p> Machine<'p> {
     {
         self.frames.push(Frame::Steps(self.line, steps))?;
         self.plain(plain)
+    }
+
+    /// The library is called, behind which these steps are taken.
+    fn library_call(&mut self, number: u32, steps: &'p [FullStep]) -> Result<Focus<'p>, Stop>
+        ensures goes { (functions : List FunctionData) → Goes functions self.old (env_of self.old)
+            (λ knowing w t. followed knowing w (here (env_of self.old) self.old.line) (map
+            full_step_view steps.now)
+            (without_answer (knowing w (here (env_of self.old) self.old.line) (library number) t)))
+            result self.new }
+        ensures turns { self.new.turns ≤ self.old.turns }
+        ensures nears { remaining self.old.turns result self.new ≤
+            2 + frames_weight self.old.frames + steps_weight steps.now }
+    {
+        self.frames.push(Frame::Steps(self.line, steps))?;
+        Ok(Focus::Calls(number))
     }
 
     /// All arguments of a call are evaluated.
@@ -102,9 +117,9 @@ impl<'p> Machine<'p> {
         steps: &'p [FullStep],
     ) -> Result<Focus<'p>, Stop>
         ensures goes { Goes functions.now self.old (env_of self.old)
-            (λ w t. followed without_atoms w (here (env_of self.old) self.old.line) (map
+            (λ knowing w t. followed knowing w (here (env_of self.old) self.old.line) (map
             full_step_view steps.now)
-            (collect without_atoms w (here (env_of self.old) self.old.line) [] (expressions_view
+            (collect knowing w (here (env_of self.old) self.old.line) [] (expressions_view
             arguments.now) t
             (received w self.old.line callee.entry))) result self.new }
         ensures turns { self.new.turns ≤ self.old.turns }
@@ -125,9 +140,9 @@ impl<'p> Machine<'p> {
         steps: &'p [FullStep],
     ) -> Result<Focus<'p>, Stop>
         ensures goes { Goes functions.now self.old (taken count (env_of self.old))
-            (λ w t. followed without_atoms w (here (env_of self.old) self.old.line) (map
+            (λ knowing w t. followed knowing w (here (env_of self.old) self.old.line) (map
             full_step_view steps.now)
-            (collect without_atoms w (here (env_of self.old) self.old.line) (waiting count (env_of
+            (collect knowing w (here (env_of self.old) self.old.line) (waiting count (env_of
             self.old)) (expressions_view arguments.now) t
             (received w self.old.line callee.entry))) result self.new }
         ensures turns { self.new.turns ≤ self.old.turns }
@@ -157,9 +172,9 @@ impl<'p> Machine<'p> {
         steps: &'p [FullStep],
     ) -> Result<Focus<'p>, Stop>
         ensures goes { Goes functions.now self.old (taken count (env_of self.old))
-            (λ w t. followed without_atoms w (here (env_of self.old) self.old.line) (map
+            (λ knowing w t. followed knowing w (here (env_of self.old) self.old.line) (map
             full_step_view steps.now)
-            (collect without_atoms w (here (env_of self.old) self.old.line) (waiting count (env_of
+            (collect knowing w (here (env_of self.old) self.old.line) (waiting count (env_of
             self.old) ++ word_view value ∷ []) (expressions_view arguments.now) t
             (received w self.old.line callee.entry))) result self.new }
         ensures turns { self.new.turns ≤ self.old.turns }
@@ -177,7 +192,7 @@ impl<'p> Machine<'p> {
     /// The steps behind a value are taken, the first of them here.
     pub(crate) fn follow(&mut self, steps: &'p [FullStep], value: Word) -> Result<Focus<'p>, Stop>
         ensures goes { (functions : List FunctionData) → Goes functions self.old (env_of self.old)
-            (λ w t. followed without_atoms w (here (env_of self.old) self.old.line) (map
+            (λ knowing w t. followed knowing w (here (env_of self.old) self.old.line) (map
             full_step_view steps.now) (valued (word_view value) t)) result self.new }
         ensures turns { self.new.turns ≤ self.old.turns }
         ensures nears { remaining self.old.turns result self.new ≤
@@ -197,7 +212,7 @@ impl<'p> Machine<'p> {
         value: Word,
     ) -> Result<Focus<'p>, Stop>
         ensures goes { (functions : List FunctionData) → Goes functions self.old (env_of self.old)
-            (λ w t. followed without_atoms w (here (env_of self.old) self.old.line)
+            (λ knowing w t. followed knowing w (here (env_of self.old) self.old.line)
             (full_step_view first.now ∷ map full_step_view rest.now) (valued (word_view value) t))
             result self.new }
         ensures turns { self.new.turns ≤ self.old.turns }
@@ -218,7 +233,7 @@ impl<'p> Machine<'p> {
         value: Word,
     ) -> Result<Focus<'p>, Stop>
         ensures goes { (functions : List FunctionData) → Goes functions self.old (env_of self.old)
-            (λ w t. followed without_atoms w (here (env_of self.old) self.old.line) (map
+            (λ knowing w t. followed knowing w (here (env_of self.old) self.old.line) (map
             full_step_view rest.now)
             (one_on self.old.line.0 step.now (word_view value) t)) result self.new }
         ensures turns { self.new.turns ≤ self.old.turns }
@@ -243,9 +258,9 @@ impl<'p> Machine<'p> {
         value: Word,
     ) -> Result<Focus<'p>, Stop>
         ensures goes { (functions : List FunctionData) → Goes functions self.old (env_of self.old)
-            (λ w t. followed without_atoms w (here (env_of self.old) self.old.line) (map
+            (λ knowing w t. followed knowing w (here (env_of self.old) self.old.line) (map
             full_step_view rest.now)
-            (two_on without_atoms w (here (env_of self.old) self.old.line) step (expression_view
+            (two_on knowing w (here (env_of self.old) self.old.line) step (expression_view
             right.now) (word_view value) t)) result self.new }
         ensures turns { self.new.turns ≤ self.old.turns }
         ensures nears { remaining self.old.turns result self.new ≤
@@ -276,7 +291,7 @@ impl<'p> Machine<'p> {
         rest: &'p [FullStep],
     ) -> Result<Focus<'p>, Stop>
         ensures goes { (functions : List FunctionData) → Goes functions self.old (env_of self.old)
-            (λ w t. followed without_atoms w (here (env_of self.old) self.old.line) (map
+            (λ knowing w t. followed knowing w (here (env_of self.old) self.old.line) (map
             full_step_view rest.now)
             (both_on self.old.line.0 step (word_view left) (word_view old) (word_view right) t))
             result self.new }

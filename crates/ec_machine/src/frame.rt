@@ -37,6 +37,8 @@ pub enum Focus<'p> {
     Value(Word),
     /// The bytes of the machine's text go out, and the call that put them has this value.
     Puts(Channel, Option<Word>),
+    /// The library's call of this number is made.
+    Calls(u32),
     Leads(Flow),
 }
 

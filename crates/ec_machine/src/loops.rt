@@ -3,11 +3,10 @@
 ghost use Rattle.std.specs.Prelude.{◌≡◌, ◌≤◌, ◌+◌, ℕ, List, map, OnOk};
 ghost use Rattle.ec_code.specs.declared.program.Function.{Function as FunctionData};
 ghost use Rattle.ec_code.specs.Views.{size_view, statements_view};
-ghost use Rattle.ec_evaluation.specs.Evaluate.{Context, World, turn_of};
+ghost use Rattle.ec_evaluation.specs.Evaluate.{Context, World, Step as Knowing, turn_of};
 ghost use Rattle.ec_evaluation.specs.Execute.{again, enter, look_all, run_all, tested};
 ghost use Rattle.ec_evaluation.specs.Results.{Res};
 ghost use Rattle.ec_evaluation.specs.State.{State};
-ghost use Rattle.ec_evaluation.specs.Whole.{without_atoms};
 ghost use Rattle.ec_machine.specs.Frames.{behind_of, body_of, here, test_of};
 ghost use Rattle.ec_machine.specs.Goes.{Enters, Goes, at, env_of};
 ghost use Rattle.ec_machine.specs.Weights.{again_weight, frames_weight, remaining, statements_weight, test_weight};
@@ -23,7 +22,7 @@ impl<'p> Machine<'p> {
     /// Statements are run, one after the other.
     pub(crate) fn list(&mut self, statements: &'p [Statement]) -> Result<Focus<'p>, Stop>
         ensures goes { (functions : List FunctionData) → Goes functions self.old (env_of self.old)
-            (λ w t. run_all without_atoms w (here (env_of self.old) self.old.line)
+            (λ knowing w t. run_all knowing w (here (env_of self.old) self.old.line)
             (statements_view statements.now) t) result self.new }
         ensures turns { self.new.turns ≤ self.old.turns }
         ensures nears { remaining self.old.turns result self.new ≤
@@ -45,7 +44,7 @@ impl<'p> Machine<'p> {
         statements: &'p [Statement],
     ) -> Result<Focus<'p>, Stop>
         ensures goes { (functions : List FunctionData) → Goes functions self.old (env_of self.old)
-            (λ w t. look_all without_atoms w label (here (env_of self.old) self.old.line)
+            (λ knowing w t. look_all knowing w label (here (env_of self.old) self.old.line)
             (statements_view statements.now) t) result self.new }
         ensures turns { self.new.turns ≤ self.old.turns }
         ensures nears { remaining self.old.turns result self.new ≤
@@ -66,8 +65,8 @@ impl<'p> Machine<'p> {
         sizes: &'p [ObjectSize],
         body: &'p [Statement],
     ) -> Result<(), Stop>
-        ensures enters { (w : World) (s : State) (go : Context → State → Res) → Enters w s
-            self.old result self.new
+        ensures enters { (knowing : Knowing) (w : World) (s : State) (go : Context → State → Res)
+            → Enters knowing w s self.old result self.new
             (enter w (here (env_of self.old) self.old.line) (map size_view sizes.now)
             (statements_view body.now) go (at s self.old))
             (go (here (env_of self.new) self.new.line) (at s self.new)) }
@@ -90,7 +89,7 @@ impl<'p> Machine<'p> {
     /// The body of a loop is run once more, and costs a turn.
     pub(crate) fn turn(&mut self, inner: &'p Loop) -> Result<Focus<'p>, Stop>
         ensures goes { (functions : List FunctionData) → Goes functions self.old (env_of self.old)
-            (λ w t. w (turn_of (here (env_of self.old) self.old.line) (test_of inner.now)
+            (λ knowing w t. w (turn_of (here (env_of self.old) self.old.line) (test_of inner.now)
             (behind_of inner.now) (body_of inner.now)) t) result self.new }
         ensures turns { self.new.turns ≤ self.old.turns }
         ensures nears { remaining self.old.turns result self.new ≡ 0 }
@@ -103,7 +102,7 @@ impl<'p> Machine<'p> {
     /// A loop from its test.
     pub(crate) fn test(&mut self, inner: &'p Loop) -> Result<Focus<'p>, Stop>
         ensures goes { (functions : List FunctionData) → Goes functions self.old (env_of self.old)
-            (λ w t. tested without_atoms w (here (env_of self.old) self.old.line) (test_of
+            (λ knowing w t. tested knowing w (here (env_of self.old) self.old.line) (test_of
             inner.now) (behind_of inner.now) (body_of inner.now) t) result self.new }
         ensures turns { self.new.turns ≤ self.old.turns }
         ensures nears { remaining self.old.turns result self.new ≤
@@ -121,7 +120,7 @@ impl<'p> Machine<'p> {
     /// A loop behind its body.
     pub(crate) fn again(&mut self, inner: &'p Loop) -> Result<Focus<'p>, Stop>
         ensures goes { (functions : List FunctionData) → Goes functions self.old (env_of self.old)
-            (λ w t. again without_atoms w (here (env_of self.old) self.old.line) (test_of
+            (λ knowing w t. again knowing w (here (env_of self.old) self.old.line) (test_of
             inner.now) (behind_of inner.now) (body_of inner.now) t) result self.new }
         ensures turns { self.new.turns ≤ self.old.turns }
         ensures nears { remaining self.old.turns result self.new ≤

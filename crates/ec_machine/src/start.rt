@@ -3,9 +3,10 @@
 ghost use Rattle.std.specs.Prelude.{◌≡◌, ◌<◌, ◌≤◌, ℕ, List, [], Some};
 ghost use Rattle.ec_code.specs.declared.program.Function.{Function as FunctionData};
 ghost use Rattle.ec_code.specs.Views.{function_view};
+ghost use Rattle.ec_evaluation.specs.Evaluate.{Step as Knowing};
 ghost use Rattle.ec_evaluation.specs.State.{State};
-ghost use Rattle.ec_evaluation.specs.Whole.{main_run, without_atoms};
-ghost use Rattle.ec_machine.specs.Goes.{Stands, at, world};
+ghost use Rattle.ec_evaluation.specs.Whole.{main_run};
+ghost use Rattle.ec_machine.specs.Goes.{Fits, Stands, at, tasks};
 
 use crate::frame::{Focus, Frame};
 use crate::machine::Machine;
@@ -43,9 +44,10 @@ impl<'p> Machine<'p> {
     pub fn enter_main(&mut self, main: &'p Function) -> Result<Focus<'p>, Stop>
         requires no_frames { self.old.frames ≡ [] }
         requires no_objects { self.old.scope.count ≡ 0 }
-        ensures stands { (functions : List FunctionData) (k : ℕ) (s : State) → self.old.turns < k
-            → Stands (world functions k) s self.new result
-            (main_run without_atoms (world functions k) (Some (function_view main.now))
+        ensures stands { (functions : List FunctionData) (knowing : Knowing) → Fits knowing
+            → (k : ℕ) (s : State) → self.old.turns < k
+            → Stands knowing (tasks knowing functions k) s self.new result
+            (main_run knowing (tasks knowing functions k) (Some (function_view main.now))
             (at s self.old)) }
         ensures turns { self.new.turns ≤ self.old.turns }
     {

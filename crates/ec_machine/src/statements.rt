@@ -6,7 +6,6 @@ ghost use Rattle.ec_code.specs.declared.program.Function.{Function as FunctionDa
 ghost use Rattle.ec_code.specs.Views.{expression_view, expressions_view, loop_view, size_view, statement_view, statements_view};
 ghost use Rattle.ec_evaluation.specs.Execute.{declared, enter, initialized, look, look_all, returning, run, run_all};
 ghost use Rattle.ec_evaluation.specs.Results.{returned, turn, went};
-ghost use Rattle.ec_evaluation.specs.Whole.{without_atoms};
 ghost use Rattle.ec_values.specs.Words.{word_view};
 ghost use Rattle.ec_machine.specs.Frames.{here};
 ghost use Rattle.ec_machine.specs.Goes.{EndsWith, Goes, Returns, env_of};
@@ -29,7 +28,7 @@ impl<'p> Machine<'p> {
         statement: &'p Statement,
     ) -> Result<Focus<'p>, Stop>
         ensures goes { Goes functions.now self.old (env_of self.old)
-            (λ w t. run without_atoms w (here (env_of self.old) self.old.line) (statement_view
+            (λ knowing w t. run knowing w (here (env_of self.old) self.old.line) (statement_view
             statement.now) t) result self.new }
         ensures turns { self.new.turns ≤ self.old.turns }
         ensures nears { remaining self.old.turns result self.new ≤
@@ -68,7 +67,7 @@ impl<'p> Machine<'p> {
     /// A statement that holds a label is run from there.
     pub(crate) fn look(&mut self, label: u32, statement: &'p Statement) -> Result<Focus<'p>, Stop>
         ensures goes { (functions : List FunctionData) → Goes functions self.old (env_of self.old)
-            (λ w t. look without_atoms w label (here (env_of self.old) self.old.line)
+            (λ knowing w t. look knowing w label (here (env_of self.old) self.old.line)
             (statement_view statement.now) t) result self.new }
         ensures turns { self.new.turns ≤ self.old.turns }
         ensures nears { remaining self.old.turns result self.new ≤
@@ -121,8 +120,8 @@ impl<'p> Machine<'p> {
         body: &'p [Statement],
     ) -> Result<Focus<'p>, Stop>
         ensures goes { (functions : List FunctionData) → Goes functions self.old (env_of self.old)
-            (λ w t. enter w (here (env_of self.old) self.old.line) (map size_view sizes.now)
-            (statements_view body.now) (λ d u. run_all without_atoms w d (statements_view
+            (λ knowing w t. enter w (here (env_of self.old) self.old.line) (map size_view sizes.now)
+            (statements_view body.now) (λ d u. run_all knowing w d (statements_view
             body.now) u) t) result self.new }
         ensures turns { self.new.turns ≤ self.old.turns }
         ensures nears { remaining self.old.turns result self.new ≤
@@ -142,8 +141,8 @@ impl<'p> Machine<'p> {
         body: &'p [Statement],
     ) -> Result<Focus<'p>, Stop>
         ensures goes { (functions : List FunctionData) → Goes functions self.old (env_of self.old)
-            (λ w t. enter w (here (env_of self.old) self.old.line) (map size_view sizes.now)
-            (statements_view body.now) (λ d u. look_all without_atoms w label d (statements_view
+            (λ knowing w t. enter w (here (env_of self.old) self.old.line) (map size_view sizes.now)
+            (statements_view body.now) (λ d u. look_all knowing w label d (statements_view
             body.now) u) t) result self.new }
         ensures turns { self.new.turns ≤ self.old.turns }
         ensures nears { remaining self.old.turns result self.new ≤
@@ -158,7 +157,7 @@ impl<'p> Machine<'p> {
     /// A loop is reached. Its first body is tested for, or costs a turn at once.
     fn run_loop(&mut self, inner: &'p Loop) -> Result<Focus<'p>, Stop>
         ensures goes { (functions : List FunctionData) → Goes functions self.old (env_of self.old)
-            (λ w t. run without_atoms w (here (env_of self.old) self.old.line) (loop_view
+            (λ knowing w t. run knowing w (here (env_of self.old) self.old.line) (loop_view
             inner.now) t) result self.new }
         ensures turns { self.new.turns ≤ self.old.turns }
         ensures nears { remaining self.old.turns result self.new ≤
@@ -174,7 +173,7 @@ impl<'p> Machine<'p> {
     /// `return` is reached, with a value or without one.
     fn run_return(&mut self, value: &'p Option<Expression>) -> Result<Focus<'p>, Stop>
         ensures goes { (functions : List FunctionData) → Goes functions self.old (env_of self.old)
-            (λ w t. returning without_atoms w (here (env_of self.old) self.old.line) (option_map
+            (λ knowing w t. returning knowing w (here (env_of self.old) self.old.line) (option_map
             expression_view value.now) t) result self.new }
         ensures turns { self.new.turns ≤ self.old.turns }
         ensures nears { remaining self.old.turns result self.new ≤
@@ -192,7 +191,7 @@ impl<'p> Machine<'p> {
     /// A `goto` is reached, and costs a turn.
     fn jump(&mut self, label: u32) -> Result<Focus<'p>, Stop>
         ensures goes { (functions : List FunctionData) → Goes functions self.old (env_of self.old)
-            (λ w t. turn t (λ u. went label u)) result self.new }
+            (λ knowing w t. turn t (λ u. went label u)) result self.new }
         ensures turns { self.new.turns ≤ self.old.turns }
         ensures nears { remaining self.old.turns result self.new ≡ 0 }
     {
@@ -205,7 +204,8 @@ impl<'p> Machine<'p> {
     /// A declaration without an initializer is reached.
     fn declare(&mut self, slot: u32, size: u64) -> Result<Focus<'p>, Stop>
         ensures goes { (functions : List FunctionData) → Goes functions self.old (env_of self.old)
-            (λ w t. declared (here (env_of self.old) self.old.line) slot size t) result self.new }
+            (λ knowing w t. declared (here (env_of self.old) self.old.line) slot size t) result
+            self.new }
         ensures turns { self.new.turns ≤ self.old.turns }
         ensures nears { remaining self.old.turns result self.new ≤
             1 + frames_weight self.old.frames }
@@ -228,7 +228,7 @@ impl<'p> Machine<'p> {
         values: &'p [Expression],
     ) -> Result<Focus<'p>, Stop>
         ensures goes { Goes functions.now self.old (env_of self.old)
-            (λ w t. initialized without_atoms w (here (env_of self.old) self.old.line) slot size
+            (λ knowing w t. initialized knowing w (here (env_of self.old) self.old.line) slot size
             (expressions_view values.now) t) result self.new }
         ensures turns { self.new.turns ≤ self.old.turns }
         ensures nears { remaining self.old.turns result self.new ≤

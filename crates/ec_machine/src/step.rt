@@ -8,7 +8,7 @@ ghost use Rattle.ec_evaluation.specs.State.{State};
 ghost use Rattle.ec_values.specs.Words.{word_view};
 ghost use Rattle.ec_machine.specs.Frames.{denote, led};
 ghost use Rattle.ec_machine.specs.Goes.{Ends, Goes, env_of};
-ghost use Rattle.ec_machine.specs.Weights.{IsPut, flow_weight, frames_answer, frames_weight, remaining, weight};
+ghost use Rattle.ec_machine.specs.Weights.{IsOutside, flow_weight, frames_answer, frames_weight, remaining, weight};
 
 use crate::frame::{Flow, Focus};
 use crate::machine::Machine;
@@ -18,13 +18,13 @@ use ec_code::Function;
 use ec_values::Word;
 
 impl<'p> Machine<'p> {
-    /// One step of a run. Where bytes are to be put, nothing is done.
+    /// One step of a run. Where bytes are to be put or the library is called, nothing is done.
     pub fn step(&mut self, functions: &'p [Function], focus: Focus<'p>) -> Result<Focus<'p>, Stop>
         ensures goes { Goes functions.now self.old (env_of self.old)
-            (λ w t. denote w (env_of self.old) self.old.line self.old.text focus.entry t) result
-            self.new }
+            (λ knowing w t. denote knowing w (env_of self.old) self.old.line self.old.text
+            focus.entry t) result self.new }
         ensures turns { self.new.turns ≤ self.old.turns }
-        ensures nears { (IsPut focus.entry → ⊥) → remaining self.old.turns result self.new ≤
+        ensures nears { (IsOutside focus.entry → ⊥) → remaining self.old.turns result self.new ≤
             weight self.old.frames focus.entry }
     {
         match focus {
@@ -34,13 +34,14 @@ impl<'p> Machine<'p> {
             Focus::Value(value) => self.hand_value(functions, value),
             Focus::Leads(flow) => self.hand_flow(flow),
             Focus::Puts(_, _) => Ok(focus),
+            Focus::Calls(_) => Ok(focus),
         }
     }
 
     /// The innermost frame is given a value.
     fn hand_value(&mut self, functions: &'p [Function], value: Word) -> Result<Focus<'p>, Stop>
         ensures goes { Goes functions.now self.old (env_of self.old)
-            (λ w t. valued (word_view value) t) result self.new }
+            (λ knowing w t. valued (word_view value) t) result self.new }
         ensures turns { self.new.turns ≤ self.old.turns }
         ensures nears { remaining self.old.turns result self.new ≤ frames_weight self.old.frames }
     {
@@ -53,7 +54,7 @@ impl<'p> Machine<'p> {
     /// The innermost frame is told what a statement led to.
     fn hand_flow(&mut self, flow: Flow) -> Result<Focus<'p>, Stop>
         ensures goes { (functions : List FunctionData) → Goes functions self.old (env_of self.old)
-            (λ w t. led flow t) result self.new }
+            (λ knowing w t. led flow t) result self.new }
         ensures turns { self.new.turns ≤ self.old.turns }
         ensures nears { remaining self.old.turns result self.new ≤
             frames_weight self.old.frames + flow_weight flow (frames_answer self.old.frames) }

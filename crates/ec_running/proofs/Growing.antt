@@ -1,24 +1,23 @@
 -- A run only adds to what was printed and said, from wherever it stands.
 use Rattle.std.proofs.Common.{◌≡◌, ◌∙◌, refl, sym, ap, subst, ℕ, List, [], ◌∷◌, ◌++◌, append_assoc, append-nil, map, Option, Some, None, Bool, true, false, Result, Ok, Err}
-use Rattle.std.specs.Prelude.{pos, nat_eq, reverse}
+use Rattle.std.specs.Prelude.{nat_eq}
 use Rattle.std.specs.Option.{option_map}
 use Rattle.ec_base.specs.declared.line.Line.{Line}
 use Rattle.ec_base.specs.declared.stop.Trap.{Trap}
 use Rattle.ec_code.specs.declared.program.Function.{Function}
 use Rattle.ec_code.specs.declared.step.Binary.{Binary}
 use Rattle.ec_code.specs.declared.step.Binary.TheVariants as binary
-use Rattle.ec_code.specs.declared.step.Update.{Update}
 use Rattle.ec_code.specs.Trees.{Step, update_view, walked}
 use Rattle.ec_code.specs.Views.{expression_view, expressions_view, full_step_view, function_view, statement_view, statements_view}
-use Rattle.ec_evaluation.specs.Agree.{Agree, Always, Any, Beside, Endings, Grows, Related, WhenAnswered, state_of}
-use Rattle.ec_evaluation.specs.Evaluate.{Context, World, calls, collect, eval, look_for, turn_of, updated}
+use Rattle.ec_evaluation.specs.Agree.{Always, Grows, Related, WhenAnswered, state_of}
+use Rattle.ec_evaluation.specs.Evaluate.{Context, World, Step as Knowing, calls, collect, eval, look_for, turn_of, updated}
 use Rattle.ec_evaluation.specs.Execute.{again, body_run, enter, in_function, inside, look, look_all, meaning, run, run_all, settle, tested}
-use Rattle.ec_evaluation.specs.Expanded.{itself, written_function}
-use Rattle.ec_evaluation.specs.Results.{Res, value, on, broke, continued, went, back, over, after_body, answered, at_address, changed, closing, done_there, exits_with, finished, function_end, made, on_done, on_value, returned, tried, without_value, worked_out}
-use Rattle.ec_evaluation.specs.State.{Answer, State}
-use Rattle.ec_evaluation.specs.Whole.{main_run, without_atoms}
+use Rattle.ec_evaluation.specs.Expanded.{itself}
+use Rattle.ec_evaluation.specs.Results.{Res, value, on, broke, continued, went, back, over, after_body, answered, at_address, changed, closing, done_there, exits_with, finished, function_end, made, on_done, on_value, returned, tried, without_answer, without_value, worked_out}
+use Rattle.ec_evaluation.specs.State.{State}
+use Rattle.ec_evaluation.specs.Whole.{main_run}
 use Rattle.ec_evaluation.proofs.Induction.{eval_good, look_all_good, run_all_good, run_good, tasks_related}
-use Rattle.ec_evaluation.proofs.WholeRuns.{waiting_kept, without_takes_answers}
+use Rattle.ec_evaluation.proofs.WholeRuns.{waiting_kept}
 use Rattle.ec_formats.specs.Known.{channel_view, known_view}
 use Rattle.ec_functions.specs.Functions.{Effect, answers, ends, misfit as no_call, puts_bytes, effect_of, traps as traps_there}
 use Rattle.ec_objects.specs.Kinds.{kind_type}
@@ -28,7 +27,7 @@ use Rattle.ec_plain.proofs.Walks.{walk_leads}
 use Rattle.ec_resolved.specs.Labels.{holds, holds_any}
 use Rattle.ec_resolved.specs.Operations.{Worked, gives, is_true, misfit, traps, value_as, worked}
 use Rattle.ec_resolved.specs.Programs.{Function as Resolved}
-use Rattle.ec_resolved.specs.Resolved.{Exp, constant, Exps, no_exps, exps, Stm, on_line, nothing, evaluate, declare, initialize, block, choose, loop, leave, next, return, goto, label, embedded_statement, Stms}
+use Rattle.ec_resolved.specs.Resolved.{Exp, constant, library, Exps, no_exps, exps, Stm, on_line, nothing, evaluate, declare, initialize, block, choose, loop, leave, next, return, goto, label, embedded_statement, Stms}
 use Rattle.ec_values.specs.Operations.{operation_view}
 use Rattle.ec_values.specs.Words.{word_view}
 use Rattle.ec_machine.proofs.Fuel.{all_unwritten, functions_unwritten, unwritten}
@@ -41,7 +40,8 @@ use Rattle.ec_machine.specs.declared.frame.Focus.TheVariants as focus
 use Rattle.ec_machine.specs.declared.frame.Frame.{Frame}
 use Rattle.ec_machine.specs.declared.frame.Frame.TheVariants as frame
 use Rattle.ec_machine.specs.Frames.{Env, behind_of, below, body_of, denote, here, led, plug, received, resume, test_of, waiting}
-use Rattle.ec_machine.specs.Goes.{world}
+use Rattle.ec_machine.specs.Goes.{tasks}
+use Rattle.ec_running.specs.Sessions.{Adds}
 
 -- ---- states
 
@@ -205,66 +205,75 @@ answered_grows line used (back None s) = none_grows line used s
 answered_grows line used (back (Some v) s) = grows_itself s
 answered_grows line used (over e s) = grows_itself s
 
+pub unanswered_grows : (o : Res) → Grows (state_of o) (state_of (without_answer o))
+unanswered_grows (value v s) = grows_itself s
+unanswered_grows (on s) = grows_itself s
+unanswered_grows (broke s) = grows_itself s
+unanswered_grows (continued s) = grows_itself s
+unanswered_grows (went l s) = grows_itself s
+unanswered_grows (back v s) = grows_itself s
+unanswered_grows (over e s) = grows_itself s
+
 -- ---- expressions and statements, among tasks that only add
 
 abbrev Tasks : World → Type 0
 Tasks w = Related Always (WhenAnswered []) Grows 0 [] itself w w
 
-module _ (w : World) (related : Tasks w) where
+module _ (knowing : Knowing) (adds : Adds knowing) (w : World) (related : Tasks w) where
   behind : (s : State) (o o' : Res) → Grows s (state_of o) → Grows (state_of o) (state_of o') → Grows s (state_of o')
   behind s o o' g h = grows_on s (state_of o) (state_of o') g h
 
-  eval_grows : (c : Context) (e : Exp) (s : State) → Grows s (state_of (eval without_atoms w c e s))
-  eval_grows c e s = (eval_good Always (WhenAnswered []) Grows 0 [] (waiting_kept []) without_atoms without_atoms itself (without_takes_answers []) w w related c e).later s
+  eval_grows : (c : Context) (e : Exp) (s : State) → Grows s (state_of (eval knowing w c e s))
+  eval_grows c e s = (eval_good Always (WhenAnswered []) Grows 0 [] (waiting_kept []) knowing knowing itself adds w w related c e).later s
 
-  run_grows : (c : Context) (x : Stm) (s : State) → Grows s (state_of (run without_atoms w c x s))
+  run_grows : (c : Context) (x : Stm) (s : State) → Grows s (state_of (run knowing w c x s))
   run_grows c x s =
-      subst (λ y. Grows s (state_of (run without_atoms w c y s))) (unwritten x)
-      ((run_good Always (WhenAnswered []) Grows 0 [] (waiting_kept []) without_atoms without_atoms itself (without_takes_answers []) w w related c x).later s)
+      subst (λ y. Grows s (state_of (run knowing w c y s))) (unwritten x)
+      ((run_good Always (WhenAnswered []) Grows 0 [] (waiting_kept []) knowing knowing itself adds w w related c x).later s)
 
-  run_all_grows : (c : Context) (x : Stms) (s : State) → Grows s (state_of (run_all without_atoms w c x s))
+  run_all_grows : (c : Context) (x : Stms) (s : State) → Grows s (state_of (run_all knowing w c x s))
   run_all_grows c x s =
-      subst (λ y. Grows s (state_of (run_all without_atoms w c y s))) (all_unwritten x)
-      ((run_all_good Always (WhenAnswered []) Grows 0 [] (waiting_kept []) without_atoms without_atoms itself (without_takes_answers []) w w related c x).later s)
+      subst (λ y. Grows s (state_of (run_all knowing w c y s))) (all_unwritten x)
+      ((run_all_good Always (WhenAnswered []) Grows 0 [] (waiting_kept []) knowing knowing itself adds w w related c x).later s)
 
-  look_all_grows : (l : ℕ) (c : Context) (x : Stms) (s : State) → Grows s (state_of (look_all without_atoms w l c x s))
+  look_all_grows : (l : ℕ) (c : Context) (x : Stms) (s : State) → Grows s (state_of (look_all knowing w l c x s))
   look_all_grows l c x s =
-      subst (λ y. Grows s (state_of (look_all without_atoms w l c y s))) (all_unwritten x)
-      ((look_all_good Always (WhenAnswered []) Grows 0 [] (waiting_kept []) without_atoms without_atoms itself (without_takes_answers []) w w related l c x).later s)
+      subst (λ y. Grows s (state_of (look_all knowing w l c y s))) (all_unwritten x)
+      ((look_all_good Always (WhenAnswered []) Grows 0 [] (waiting_kept []) knowing knowing itself adds w w related l c x).later s)
 
-  step_grows : (c : Context) (x : Step) (v : ValueData) (s : State) → Grows s (state_of (step_on without_atoms w c x v s))
+  step_grows : (c : Context) (x : Step) (v : ValueData) (s : State) → Grows s (state_of (step_on knowing w c x v s))
   step_grows c x v s =
-      subst (λ o. Grows s (state_of o)) (walk_leads without_atoms w c (constant v) (x ∷ []) s)
+      subst (λ o. Grows s (state_of o)) (walk_leads knowing w c (constant v) (x ∷ []) s)
       (eval_grows c (walked (constant v) (x ∷ [])) s)
 
-  followed_grows : (c : Context) (xs : List Step) (o : Res) → Grows (state_of o) (state_of (followed without_atoms w c xs o))
+  followed_grows : (c : Context) (xs : List Step) (o : Res) → Grows (state_of o) (state_of (followed knowing w c xs o))
   followed_grows c [] o = grows_itself (state_of o)
   followed_grows c (x ∷ xs) o =
-      behind (state_of o) (on_value o (step_on without_atoms w c x)) (followed without_atoms w c xs (on_value o (step_on without_atoms w c x)))
-      (value_grows o (step_on without_atoms w c x) (step_grows c x)) (followed_grows c xs (on_value o (step_on without_atoms w c x)))
+      behind (state_of o) (on_value o (step_on knowing w c x)) (followed knowing w c xs (on_value o (step_on knowing w c x)))
+      (value_grows o (step_on knowing w c x) (step_grows c x)) (followed_grows c xs (on_value o (step_on knowing w c x)))
 
-  collect_grows : (c : Context) (vs : List ValueData) (es : Exps) (s : State) (k : List ValueData → State → Res) → ((xs : List ValueData) (t : State) → Grows t (state_of (k xs t))) → Grows s (state_of (collect without_atoms w c vs es s k))
+  collect_grows : (c : Context) (vs : List ValueData) (es : Exps) (s : State) (k : List ValueData → State → Res) → ((xs : List ValueData) (t : State) → Grows t (state_of (k xs t))) → Grows s (state_of (collect knowing w c vs es s k))
   collect_grows c vs no_exps s k g = g vs s
   collect_grows c vs (exps e es) s k g =
-      behind s (eval without_atoms w c e s) (on_value (eval without_atoms w c e s) (λ v t. collect without_atoms w c (vs ++ v ∷ []) es t k))
+      behind s (eval knowing w c e s) (on_value (eval knowing w c e s) (λ v t. collect knowing w c (vs ++ v ∷ []) es t k))
       (eval_grows c e s)
-      (value_grows (eval without_atoms w c e s) (λ v t. collect without_atoms w c (vs ++ v ∷ []) es t k) (λ v t. collect_grows c (vs ++ v ∷ []) es t k g))
+      (value_grows (eval knowing w c e s) (λ v t. collect knowing w c (vs ++ v ∷ []) es t k) (λ v t. collect_grows c (vs ++ v ∷ []) es t k g))
 
   turn_grows : (c : Context) (test b : Option Exp) (x : Stm) (s : State) → Grows s (state_of (w (turn_of c test b x) s))
   turn_grows c test b x s = subst (λ y. Grows s (state_of (w (turn_of c test b y) s))) (unwritten x) (related.later (turn_of c test b x) s)
 
-  tested_grows : (c : Context) (test b : Option Exp) (x : Stm) (s : State) → Grows s (state_of (tested without_atoms w c test b x s))
+  tested_grows : (c : Context) (test b : Option Exp) (x : Stm) (s : State) → Grows s (state_of (tested knowing w c test b x s))
   tested_grows c None b x s = turn_grows c None b x s
   tested_grows c (Some e) b x s =
-      behind s (eval without_atoms w c e s) (tested without_atoms w c (Some e) b x s) (eval_grows c e s)
-      (value_grows (eval without_atoms w c e s) (λ v t. elim (is_true v) [ true ↦ w (turn_of c (Some e) b x) t | false ↦ on t ])
+      behind s (eval knowing w c e s) (tested knowing w c (Some e) b x s) (eval_grows c e s)
+      (value_grows (eval knowing w c e s) (λ v t. elim (is_true v) [ true ↦ w (turn_of c (Some e) b x) t | false ↦ on t ])
       (λ v t. chosen_grows (is_true v) t (w (turn_of c (Some e) b x) t) (on t) (turn_grows c (Some e) b x t) (grows_itself t)))
 
-  again_grows : (c : Context) (test b : Option Exp) (x : Stm) (s : State) → Grows s (state_of (again without_atoms w c test b x s))
+  again_grows : (c : Context) (test b : Option Exp) (x : Stm) (s : State) → Grows s (state_of (again knowing w c test b x s))
   again_grows c test None x s = tested_grows c test None x s
   again_grows c test (Some e) x s =
-      behind s (eval without_atoms w c e s) (again without_atoms w c test (Some e) x s) (eval_grows c e s)
-      (value_grows (eval without_atoms w c e s) (λ v t. tested without_atoms w c test (Some e) x t) (λ v t. tested_grows c test (Some e) x t))
+      behind s (eval knowing w c e s) (again knowing w c test (Some e) x s) (eval_grows c e s)
+      (value_grows (eval knowing w c e s) (λ v t. tested knowing w c test (Some e) x t) (λ v t. tested_grows c test (Some e) x t))
 
   look_for_grows : (c : Context) (l : ℕ) (b : Stms) (s : State) → Grows s (state_of (w (look_for c l b) s))
   look_for_grows c l b s = subst (λ y. Grows s (state_of (w (look_for c l y) s))) (all_unwritten b) (related.later (look_for c l b) s)
@@ -285,24 +294,24 @@ module _ (w : World) (related : Tasks w) where
       (λ objects t. behind t (go (inside c objects) t) (settle w (inside c objects) b (go (inside c objects) t)) (g (inside c objects) t) (settle_grows (inside c objects) b (go (inside c objects) t))))
       (closing_grows (last_number s.memory) (made c.line sizes c.objects s (λ objects t. settle w (inside c objects) b (go (inside c objects) t))))
 
-  look_grows : (l : ℕ) (c : Context) (x : Stm) (s : State) → Grows s (state_of (look without_atoms w l c x s))
+  look_grows : (l : ℕ) (c : Context) (x : Stm) (s : State) → Grows s (state_of (look knowing w l c x s))
   look_grows l c (on_line n x) s = look_grows l (record c { line = n }) x s
   look_grows l c nothing s = grows_itself s
   look_grows l c (evaluate e) s = grows_itself s
   look_grows l c (declare i size) s = grows_itself s
   look_grows l c (initialize i size es) s = grows_itself s
-  look_grows l c (block sizes b) s = enter_grows c sizes b (λ d t. look_all without_atoms w l d b t) s (λ d t. look_all_grows l d b t)
+  look_grows l c (block sizes b) s = enter_grows c sizes b (λ d t. look_all knowing w l d b t) s (λ d t. look_all_grows l d b t)
   look_grows l c (choose e a b) s =
-      chosen_grows (holds l a) s (look without_atoms w l c a s) (look without_atoms w l c b s) (look_grows l c a s) (look_grows l c b s)
+      chosen_grows (holds l a) s (look knowing w l c a s) (look knowing w l c b s) (look_grows l c a s) (look_grows l c b s)
   look_grows l c (loop first test b x) s =
-      behind s (look without_atoms w l c x s) (after_body (look without_atoms w l c x s) (λ t. again without_atoms w c test b x t))
-      (look_grows l c x s) (body_grows (look without_atoms w l c x s) (λ t. again without_atoms w c test b x t) (λ t. again_grows c test b x t))
+      behind s (look knowing w l c x s) (after_body (look knowing w l c x s) (λ t. again knowing w c test b x t))
+      (look_grows l c x s) (body_grows (look knowing w l c x s) (λ t. again knowing w c test b x t) (λ t. again_grows c test b x t))
   look_grows l c leave s = grows_itself s
   look_grows l c next s = grows_itself s
   look_grows l c (return e) s = grows_itself s
   look_grows l c (goto m) s = grows_itself s
   look_grows l c (label m x) s =
-      chosen_grows (nat_eq m l) s (run without_atoms w c x s) (look without_atoms w l c x s) (run_grows c x s) (look_grows l c x s)
+      chosen_grows (nat_eq m l) s (run knowing w c x s) (look knowing w l c x s) (run_grows c x s) (look_grows l c x s)
   look_grows l c (embedded_statement n) s = grows_itself s
 
   -- ---- what is looked at, and what waits
@@ -314,12 +323,15 @@ module _ (w : World) (related : Tasks w) where
   led_grows (flow.Went l) s = grows_itself s
   led_grows (flow.Back v) s = grows_itself s
 
-  pub denote_grows : (e : Env) (line : Line) (text : List ℕ) (f : Focus) (s : State) → Grows s (state_of (denote w e line text f s))
+  pub denote_grows : (e : Env) (line : Line) (text : List ℕ) (f : Focus) (s : State) → Grows s (state_of (denote knowing w e line text f s))
   denote_grows e line text (focus.Runs x) s = run_grows (here e line) (statement_view x.now) s
   denote_grows e line text (focus.Looks l x) s = look_grows l (here e line) (statement_view x.now) s
   denote_grows e line text (focus.Evaluates x) s = eval_grows (here e line) (expression_view x.now) s
   denote_grows e line text (focus.Value v) s = grows_itself s
   denote_grows e line text (focus.Puts channel v) s = effect_grows line.0 (puts_bytes (channel_view channel) (option_map word_view v) s.memory text) s
+  denote_grows e line text (focus.Calls n) s =
+      behind s (knowing w (here e line) (library n) s) (without_answer (knowing w (here e line) (library n) s))
+      ((adds.libraries w w related (here e line) n).later s) (unanswered_grows (knowing w (here e line) (library n) s))
   denote_grows e line text (focus.Leads f) s = led_grows f s
 
   received_grows : (line : Line) (x : Callee) (vs : List ValueData) (s : State) → Grows s (state_of (received w line x vs s))
@@ -328,28 +340,28 @@ module _ (w : World) (related : Tasks w) where
   received_grows line (callee.Known f) vs s = effect_grows line.0 (effect_of (known_view f.now) s.memory vs) s
   received_grows line callee.Object vs s = grows_itself s
 
-  plug_grows : (e : Env) (f : Frame) (o : Res) → Grows (state_of o) (state_of (plug w e f o))
+  plug_grows : (e : Env) (f : Frame) (o : Res) → Grows (state_of o) (state_of (plug knowing w e f o))
   plug_grows e (frame.Steps line xs) o = followed_grows (here e line) (map full_step_view xs.now) o
   plug_grows e (frame.Right line b v old xs) o =
       let k = both_on line.0 b (word_view v) (word_view old) in
-      behind (state_of o) (on_value o k) (followed without_atoms w (here e line) (map full_step_view xs.now) (on_value o k))
+      behind (state_of o) (on_value o k) (followed knowing w (here e line) (map full_step_view xs.now) (on_value o k))
       (value_grows o k (both_grows line.0 b (word_view v) (word_view old))) (followed_grows (here e line) (map full_step_view xs.now) (on_value o k))
   plug_grows e (frame.Arguments line x n es xs) o =
-      let k : ValueData → State → Res = λ v t. collect without_atoms w (here e line) (waiting n e ++ v ∷ []) (expressions_view es.now) t (received w line x) in
-      behind (state_of o) (on_value o k) (followed without_atoms w (here e line) (map full_step_view xs.now) (on_value o k))
+      let k : ValueData → State → Res = λ v t. collect knowing w (here e line) (waiting n e ++ v ∷ []) (expressions_view es.now) t (received w line x) in
+      behind (state_of o) (on_value o k) (followed knowing w (here e line) (map full_step_view xs.now) (on_value o k))
       (value_grows o k (λ v t. collect_grows (here e line) (waiting n e ++ v ∷ []) (expressions_view es.now) t (received w line x) (received_grows line x)))
       (followed_grows (here e line) (map full_step_view xs.now) (on_value o k))
   plug_grows e (frame.Call line used otherwise xs first) o =
       let d = here (record e { first = first }) line in
       let p = function_end (option_map word_view otherwise) o in
-      behind (state_of o) (answered line.0 used p) (followed without_atoms w d (map full_step_view xs.now) (answered line.0 used p))
+      behind (state_of o) (answered line.0 used p) (followed knowing w d (map full_step_view xs.now) (answered line.0 used p))
       (behind (state_of o) p (answered line.0 used p) (function_grows (option_map word_view otherwise) o) (answered_grows line.0 used p))
       (followed_grows d (map full_step_view xs.now) (answered line.0 used p))
   plug_grows e frame.Do o = value_grows o (λ v t. on t) (λ v t. grows_itself t)
   plug_grows e frame.Give o = value_grows o (λ v t. returned e.first (Some v) t) (λ v t. returned_grows e.first (Some v) t)
   plug_grows e (frame.Choose line a b) o =
-      value_grows o (λ v t. elim (is_true v) [ true ↦ run without_atoms w (here e line) (statement_view a.now) t | false ↦ run without_atoms w (here e line) (statement_view b.now) t ])
-      (λ v t. chosen_grows (is_true v) t (run without_atoms w (here e line) (statement_view a.now) t) (run without_atoms w (here e line) (statement_view b.now) t)
+      value_grows o (λ v t. elim (is_true v) [ true ↦ run knowing w (here e line) (statement_view a.now) t | false ↦ run knowing w (here e line) (statement_view b.now) t ])
+      (λ v t. chosen_grows (is_true v) t (run knowing w (here e line) (statement_view a.now) t) (run knowing w (here e line) (statement_view b.now) t)
       (run_grows (here e line) (statement_view a.now) t) (run_grows (here e line) (statement_view b.now) t))
   plug_grows e (frame.Test line x) o =
       value_grows o (λ v t. elim (is_true v) [ true ↦ w (turn_of (here e line) (test_of x.now) (behind_of x.now) (body_of x.now)) t | false ↦ on t ])
@@ -357,50 +369,55 @@ module _ (w : World) (related : Tasks w) where
       (turn_grows (here e line) (test_of x.now) (behind_of x.now) (body_of x.now) t)
       (grows_itself t))
   plug_grows e (frame.Behind line x) o =
-      value_grows o (λ v t. tested without_atoms w (here e line) (test_of x.now) (behind_of x.now) (body_of x.now) t)
+      value_grows o (λ v t. tested knowing w (here e line) (test_of x.now) (behind_of x.now) (body_of x.now) t)
       (λ v t. tested_grows (here e line) (test_of x.now) (behind_of x.now) (body_of x.now) t)
   plug_grows e (frame.Body line x) o =
-      body_grows o (λ t. again without_atoms w (here e line) (test_of x.now) (behind_of x.now) (body_of x.now) t)
+      body_grows o (λ t. again knowing w (here e line) (test_of x.now) (behind_of x.now) (body_of x.now) t)
       (λ t. again_grows (here e line) (test_of x.now) (behind_of x.now) (body_of x.now) t)
   plug_grows e (frame.Rest line xs) o =
-      done_grows o (λ t. run_all without_atoms w (here e line) (statements_view xs.now) t) (λ t. run_all_grows (here e line) (statements_view xs.now) t)
+      done_grows o (λ t. run_all knowing w (here e line) (statements_view xs.now) t) (λ t. run_all_grows (here e line) (statements_view xs.now) t)
   plug_grows e (frame.Settle line xs) o = settle_grows (here e line) (statements_view xs.now) o
   plug_grows e (frame.Close mark height count) o = closing_grows mark o
 
-  pub resume_grows : (e : Env) (fs : List Frame) (o : Res) → Grows (state_of o) (state_of (resume w e fs o))
+  pub resume_grows : (e : Env) (fs : List Frame) (o : Res) → Grows (state_of o) (state_of (resume knowing w e fs o))
   resume_grows e [] o = finished_grows (option_map word_view e.otherwise) o
   resume_grows e (f ∷ fs) o =
-      grows_on (state_of o) (state_of (plug w e f o)) (state_of (resume w (below e f) fs (plug w e f o))) (plug_grows e f o) (resume_grows (below e f) fs (plug w e f o))
+      grows_on (state_of o) (state_of (plug knowing w e f o)) (state_of (resume knowing w (below e f) fs (plug knowing w e f o))) (plug_grows e f o) (resume_grows (below e f) fs (plug knowing w e f o))
 
-  pub main_grows : (f : Option Resolved) (s : State) → Grows s (state_of (main_run without_atoms w f s))
+  pub main_grows : (f : Option Resolved) (s : State) → Grows s (state_of (main_run knowing w f s))
   main_grows None s = grows_itself s
   main_grows (Some f) s =
-      let k : List ℕ → State → Res = λ objects t. body_run without_atoms w (in_function 1 objects true) f t in
+      let k : List ℕ → State → Res = λ objects t. body_run knowing w (in_function 1 objects true) f t in
       behind s (made 1 f.objects [] s k) (finished f.otherwise (made 1 f.objects [] s k))
       (made_grows 1 f.objects [] s k (λ objects t.
       let d = in_function 1 objects true in
-      behind t (run_all without_atoms w d f.body t) (settle w d f.body (run_all without_atoms w d f.body t)) (run_all_grows d f.body t) (settle_grows d f.body (run_all without_atoms w d f.body t))))
+      behind t (run_all knowing w d f.body t) (settle w d f.body (run_all knowing w d f.body t)) (run_all_grows d f.body t) (settle_grows d f.body (run_all knowing w d f.body t))))
       (finished_grows f.otherwise (made 1 f.objects [] s k))
 
 -- ---- the tasks of a program
 
-tasks : (fs : List Resolved) (n : ℕ) → Tasks (meaning without_atoms fs n)
-tasks fs n =
-    subst (λ gs. Related Always (WhenAnswered []) Grows 0 [] itself (meaning without_atoms fs n) (meaning without_atoms gs n)) (functions_unwritten fs)
-    (tasks_related Always (WhenAnswered []) Grows 0 [] (waiting_kept []) without_atoms without_atoms itself (without_takes_answers []) fs n)
+module _ (knowing : Knowing) (adds : Adds knowing) where
+  related_tasks : (fs : List Resolved) (n : ℕ) → Tasks (meaning knowing fs n)
+  related_tasks fs n =
+      subst (λ gs. Related Always (WhenAnswered []) Grows 0 [] itself (meaning knowing fs n) (meaning knowing gs n)) (functions_unwritten fs)
+      (tasks_related Always (WhenAnswered []) Grows 0 [] (waiting_kept []) knowing knowing itself adds fs n)
 
--- what is looked at, and what waits for it, only add
-pub stands_grows : (fs : List Function) (k : ℕ) (e : Env) (frames : List Frame) (line : Line) (text : List ℕ) (f : Focus) (s : State) → Grows s (state_of (resume (world fs k) e frames (denote (world fs k) e line text f s)))
-stands_grows fs k e frames line text f s =
-    let w = world fs k in
-    let r = tasks (map function_view fs) k in
-    grows_on s (state_of (denote w e line text f s)) (state_of (resume w e frames (denote w e line text f s)))
-    (denote_grows w r e line text f s) (resume_grows w r e frames (denote w e line text f s))
+  -- what is looked at, and what waits for it, only add
+  pub stands_grows : (fs : List Function) (k : ℕ) (e : Env) (frames : List Frame) (line : Line) (text : List ℕ) (f : Focus) (s : State) → Grows s (state_of (resume knowing (tasks knowing fs k) e frames (denote knowing (tasks knowing fs k) e line text f s)))
+  stands_grows fs k e frames line text f s =
+      let w = tasks knowing fs k in
+      let r = related_tasks (map function_view fs) k in
+      grows_on s (state_of (denote knowing w e line text f s)) (state_of (resume knowing w e frames (denote knowing w e line text f s)))
+      (denote_grows knowing adds w r e line text f s) (resume_grows knowing adds w r e frames (denote knowing w e line text f s))
 
--- what waits for an answer only adds
-pub resumes_grows : (fs : List Function) (k : ℕ) (e : Env) (frames : List Frame) (o : Res) → Grows (state_of o) (state_of (resume (world fs k) e frames o))
-resumes_grows fs k e frames o = resume_grows (world fs k) (tasks (map function_view fs) k) e frames o
+  -- what waits for an answer only adds
+  pub resumes_grows : (fs : List Function) (k : ℕ) (e : Env) (frames : List Frame) (o : Res) → Grows (state_of o) (state_of (resume knowing (tasks knowing fs k) e frames o))
+  resumes_grows fs k e frames o = resume_grows knowing adds (tasks knowing fs k) (related_tasks (map function_view fs) k) e frames o
 
--- the first `main` only adds
-pub mains_grow : (fs : List Function) (k : ℕ) (f : Option Resolved) (s : State) → Grows s (state_of (main_run without_atoms (world fs k) f s))
-mains_grow fs k f s = main_grows (world fs k) (tasks (map function_view fs) k) f s
+  -- the first `main` only adds
+  pub mains_grow : (fs : List Function) (k : ℕ) (f : Option Resolved) (s : State) → Grows s (state_of (main_run knowing (tasks knowing fs k) f s))
+  mains_grow fs k f s = main_grows knowing adds (tasks knowing fs k) (related_tasks (map function_view fs) k) f s
+
+  -- a call only adds
+  pub calls_grow : (fs : List Function) (k : ℕ) (c : Context) (n : ℕ) (s : State) → Grows s (state_of (knowing (tasks knowing fs k) c (library n) s))
+  calls_grow fs k c n s = (adds.libraries (tasks knowing fs k) (tasks knowing fs k) (related_tasks (map function_view fs) k) c n).later s

@@ -1,15 +1,16 @@
--- What a run of the machine does from a focus on: it comes to another focus, or it is left.
-use Rattle.std.specs.Prelude.{◌≡◌, ◌⊎◌, ℕ, ◌<◌, ◌≤◌, List, ◌++◌, Option, reverse}
-use Rattle.ec_base.specs.Causes.{Rose}
+-- How a run of the machine is left that begins at a focus, where the program has no calls of a library.
+use Rattle.std.specs.Prelude.{◌≡◌, ℕ, ◌<◌, List, ◌++◌, Option, reverse}
 use Rattle.ec_code.specs.declared.program.Function.{Function}
 use Rattle.ec_evaluation.specs.Agree.{Grows, state_of}
+use Rattle.ec_evaluation.specs.Evaluate.{Step as Knowing}
 use Rattle.ec_evaluation.specs.Results.{Res, over}
 use Rattle.ec_evaluation.specs.State.{State}
+use Rattle.ec_evaluation.specs.Whole.{without_atoms}
 use Rattle.ec_machine.specs.declared.frame.Focus.{Focus}
 use Rattle.ec_machine.specs.declared.machine.Machine.{Machine}
 use Rattle.ec_machine.specs.declared.stop.End.{End}
 use Rattle.ec_machine.specs.Frames.{denote, resume}
-use Rattle.ec_machine.specs.Goes.{at, ending_view, env_of, world}
+use Rattle.ec_machine.specs.Goes.{at, ending_view, env_of, tasks}
 use Rattle.ec_running.specs.declared.halt.Halt.{Halt}
 use Rattle.ec_running.specs.declared.halt.Halt.TheVariants as halt
 use Rattle.ec_running.specs.Printing.{Prints, PrintsLast}
@@ -20,22 +21,20 @@ added printed complained s =
     record s { output = s.output ++ printed; errors = s.errors ++ complained }
 
 -- the answer of the whole run, from a focus of a machine on, among tasks of at most so many turns
+abbrev pub answer_with : Knowing → List Function → ℕ → Machine → Focus → State → Res
+answer_with knowing fs k m f s =
+    resume knowing (tasks knowing fs k) (env_of m) (reverse m.frames)
+    (denote knowing (tasks knowing fs k) (env_of m) m.line m.text f (at s m))
+
+-- that of a program without calls of a library
 abbrev pub answer : List Function → ℕ → Machine → Focus → State → Res
-answer fs k m f s =
-    resume (world fs k) (env_of m) (reverse m.frames)
-    (denote (world fs k) (env_of m) m.line m.text f (at s m))
+answer fs k m f s = answer_with without_atoms fs k m f s
 
 -- a run, by the turns that its tasks take at most and the state that it begins in
 abbrev pub Run : Type 0
 Run = ℕ → State → Res
 
--- a run of so many turns comes to a focus, and prints this on the way
-abbrev pub Leads : List Function → ℕ → Run → List ℕ → List ℕ → Machine → Focus → Type 0
-Leads fs turns run printed complained new g =
-    (k : ℕ) (s : State) → turns < k
-    → run k s ≡ answer fs k new g (added printed complained s)
-
--- it is over with this ending, where it has printed this, and the memory and the turns left are those of the machine
+-- a run of so many turns is over with this ending, where it has printed this, and the memory and the turns left are those of the machine
 abbrev pub Ends : ℕ → Run → List ℕ → List ℕ → Machine → End → Type 0
 Ends turns run printed complained new e =
     (k : ℕ) (s : State) → turns < k
@@ -48,14 +47,6 @@ Begins turns run printed complained =
     → Grows (added printed complained s) (state_of (run k s))
 
 module _ {O E : Type 0} (held : O → Option (List ℕ)) (faults : O → ℕ) (held' : E → Option (List ℕ)) (faults' : E → ℕ) (turns : ℕ) (run : Run) (out out' : O) (err err' : E) (new : Machine) where
-  -- a run comes to a focus, and the outputs took what it printed
-  pub record Comes (fs : List Function) (g : Focus) : Type 0 where
-    pub printed : List ℕ
-    pub complained : List ℕ
-    pub prints : Prints held faults held' faults' out out' err err' printed complained
-    pub leads : Leads fs turns run printed complained new g
-    pub fewer : new.turns ≤ turns
-
   -- it is over, and the outputs took what it printed
   pub record IsOver (e : End) : Type 0 where
     pub printed : List ℕ

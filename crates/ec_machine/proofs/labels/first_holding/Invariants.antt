@@ -1,16 +1,15 @@
 use Rattle.std.proofs.Common.{◌≡◌, ◌≤◌, length}
 use Rattle.ec_code.specs.Views.{statements_view}
-use Rattle.ec_evaluation.specs.Evaluate.{Context, World}
+use Rattle.ec_evaluation.specs.Evaluate.{Context, World, Step as Knowing}
 use Rattle.ec_evaluation.specs.Execute.{look_all}
 use Rattle.ec_evaluation.specs.State.{State}
-use Rattle.ec_evaluation.specs.Whole.{without_atoms}
 use Rattle.ec_machine.specs.Weights.{statements_weight}
 use Rattle.ec_machine.proofs.labels.first_holding.Given as goal
 
 abbrev pub invariant-loop-left : goal.invariant-loop-left
 invariant-loop-left l = record {
-  same : (w : World) (c : Context) (t : State) →
-      look_all without_atoms w l.label c (statements_view l.statements) t ≡ look_all without_atoms w l.label c (statements_view l.left) t;
+  same : (knowing : Knowing) (w : World) (c : Context) (t : State) →
+      look_all knowing w l.label c (statements_view l.statements) t ≡ look_all knowing w l.label c (statements_view l.left) t;
   smaller : statements_weight l.left ≤ statements_weight l.statements;
 }
 

@@ -1,31 +1,30 @@
 use Rattle.std.proofs.Common.{ap, arith}
 use Rattle.std.specs.Prelude.{reverse}
 use Rattle.ec_machine.specs.Frames.{resume, behind_of, body_of, here, led, test_of}
-use Rattle.ec_machine.specs.Goes.{at, env_of, world}
+use Rattle.ec_machine.specs.Goes.{at, env_of, tasks}
 use Rattle.ec_evaluation.specs.Execute.{again}
 use Rattle.ec_evaluation.specs.Results.{after_body}
-use Rattle.ec_evaluation.specs.Whole.{without_atoms}
 use Rattle.ec_machine.proofs.Moves.{stands_by}
 use Rattle.ec_machine.proofs.Weighing.{nearer}
 use Rattle.ec_machine.proofs.machine.Machine.after_body.Goals as goal
 
 pub returns-in-On-clause-goes : goal.returns-in-On-clause-goes
-returns-in-On-clause-goes c = λ fs k s l.
+returns-in-On-clause-goes c = λ fs knowing fits k s l.
     let e = env_of c.args.self.now in
     let d = here e c.args.self.now.line in
     let i = c.args.inner.now in
-    stands_by (world fs k) s c.again.new.self c.again.result _ _
-    (ap (λ f. resume (world fs k) e (reverse c.args.self.now.frames) (after_body (led f (at s c.args.self.now)) (λ u. again without_atoms (world fs k) d (test_of i) (behind_of i) (body_of i) u))) c.in-On.is)
-    (c.again.ensures.goes fs k s l)
+    stands_by knowing (tasks knowing fs k) s c.again.new.self c.again.result _ _
+    (ap (λ f. resume knowing (tasks knowing fs k) e (reverse c.args.self.now.frames) (after_body (led f (at s c.args.self.now)) (λ u. again knowing (tasks knowing fs k) d (test_of i) (behind_of i) (body_of i) u))) c.in-On.is)
+    (c.again.ensures.goes fs knowing fits k s l)
 
 pub returns-in-Continued-clause-goes : goal.returns-in-Continued-clause-goes
-returns-in-Continued-clause-goes c = λ fs k s l.
+returns-in-Continued-clause-goes c = λ fs knowing fits k s l.
     let e = env_of c.args.self.now in
     let d = here e c.args.self.now.line in
     let i = c.args.inner.now in
-    stands_by (world fs k) s c.again-in-Continued.new.self c.again-in-Continued.result _ _
-    (ap (λ f. resume (world fs k) e (reverse c.args.self.now.frames) (after_body (led f (at s c.args.self.now)) (λ u. again without_atoms (world fs k) d (test_of i) (behind_of i) (body_of i) u))) c.in-Continued.is)
-    (c.again-in-Continued.ensures.goes fs k s l)
+    stands_by knowing (tasks knowing fs k) s c.again-in-Continued.new.self c.again-in-Continued.result _ _
+    (ap (λ f. resume knowing (tasks knowing fs k) e (reverse c.args.self.now.frames) (after_body (led f (at s c.args.self.now)) (λ u. again knowing (tasks knowing fs k) d (test_of i) (behind_of i) (body_of i) u))) c.in-Continued.is)
+    (c.again-in-Continued.ensures.goes fs knowing fits k s l)
 
 pub returns-in-On-clause-nears : goal.returns-in-On-clause-nears
 returns-in-On-clause-nears c = omega (arith, c.again.ensures.nears)

@@ -3,25 +3,24 @@ use Rattle.std.specs.Prelude.{reverse}
 use Rattle.std.specs.Option.{option_map}
 use Rattle.ec_code.specs.Views.{expression_view}
 use Rattle.ec_machine.specs.Frames.{resume, behind_of, body_of, here, test_of}
-use Rattle.ec_machine.specs.Goes.{at, env_of, world}
+use Rattle.ec_machine.specs.Goes.{at, env_of, tasks}
 use Rattle.ec_evaluation.specs.Execute.{again, tested}
-use Rattle.ec_evaluation.specs.Whole.{without_atoms}
 use Rattle.ec_machine.proofs.Moves.{stands_by}
 use Rattle.ec_machine.specs.Weights.{optional_weight}
 use Rattle.ec_machine.proofs.Weighing.{err_exit, pushes}
 use Rattle.ec_machine.proofs.machine.Machine.again.Goals as goal
 
 pub returns-in-None-clause-goes : goal.returns-in-None-clause-goes
-returns-in-None-clause-goes c = λ fs k s l.
+returns-in-None-clause-goes c = λ fs knowing fits k s l.
     let e = env_of c.args.self.now in
     let d = here e c.args.self.now.line in
     let i = c.args.inner.now in
-    stands_by (world fs k) s c.test.new.self c.test.result
-    (resume (world fs k) e (reverse c.args.self.now.frames) (again without_atoms (world fs k) d (test_of i) (behind_of i) (body_of i) (at s c.args.self.now)))
-    (resume (world fs k) e (reverse c.args.self.now.frames) (tested without_atoms (world fs k) d (test_of i) (behind_of i) (body_of i) (at s c.args.self.now)))
-    (ap (λ z. resume (world fs k) e (reverse c.args.self.now.frames) (again without_atoms (world fs k) d (test_of i) z (body_of i) (at s c.args.self.now))) (ap (option_map expression_view) c.in-None.is)
-    ∙ ap (λ z. resume (world fs k) e (reverse c.args.self.now.frames) (tested without_atoms (world fs k) d (test_of i) z (body_of i) (at s c.args.self.now))) (sym (ap (option_map expression_view) c.in-None.is)))
-    (c.test.ensures.goes fs k s l)
+    stands_by knowing (tasks knowing fs k) s c.test.new.self c.test.result
+    (resume knowing (tasks knowing fs k) e (reverse c.args.self.now.frames) (again knowing (tasks knowing fs k) d (test_of i) (behind_of i) (body_of i) (at s c.args.self.now)))
+    (resume knowing (tasks knowing fs k) e (reverse c.args.self.now.frames) (tested knowing (tasks knowing fs k) d (test_of i) (behind_of i) (body_of i) (at s c.args.self.now)))
+    (ap (λ z. resume knowing (tasks knowing fs k) e (reverse c.args.self.now.frames) (again knowing (tasks knowing fs k) d (test_of i) z (body_of i) (at s c.args.self.now))) (ap (option_map expression_view) c.in-None.is)
+    ∙ ap (λ z. resume knowing (tasks knowing fs k) e (reverse c.args.self.now.frames) (tested knowing (tasks knowing fs k) d (test_of i) z (body_of i) (at s c.args.self.now))) (sym (ap (option_map expression_view) c.in-None.is)))
+    (c.test.ensures.goes fs knowing fits k s l)
 
 pub returns-in-None-clause-nears : goal.returns-in-None-clause-nears
 returns-in-None-clause-nears c = omega (arith, c.test.ensures.nears)

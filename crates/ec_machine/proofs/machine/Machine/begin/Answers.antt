@@ -5,7 +5,6 @@ use Rattle.ec_code.specs.Views.{full_step_view, function_view, size_view, statem
 use Rattle.ec_evaluation.specs.Execute.{body_run, in_function, run_all, settle}
 use Rattle.ec_evaluation.specs.Results.{Res, answered, closing, function_end, given, made}
 use Rattle.ec_evaluation.specs.State.{State}
-use Rattle.ec_evaluation.specs.Whole.{without_atoms}
 use Rattle.ec_objects.specs.Kinds.{kind_type}
 use Rattle.ec_objects.specs.Memory.{last_number, scalar_size}
 use Rattle.ec_plain.specs.Answered.{scope_view}
@@ -15,15 +14,15 @@ use Rattle.ec_values.specs.Words.{word_view}
 use Rattle.ec_machine.specs.declared.frame.Frame.TheVariants as frame
 use Rattle.ec_machine.specs.declared.machine.Machine.{Machine}
 use Rattle.ec_machine.specs.Frames.{Env, Grown, here, last_of, objects_of, resume, waiting}
-use Rattle.ec_machine.specs.Goes.{at, env_of, taken, world}
+use Rattle.ec_machine.specs.Goes.{at, env_of, taken, tasks}
 use Rattle.ec_machine.proofs.Moves.{begun, closed, lifted, no_objects, stands_by}
 use Rattle.ec_machine.proofs.Parts.{stops_through}
 use Rattle.ec_machine.proofs.Turns.{stops_by}
 use Rattle.ec_machine.proofs.machine.Machine.begin.Goals as goal
 
 pub returns-in-Err-clause-goes : goal.returns-in-Err-clause-goes
-returns-in-Err-clause-goes c = λ fs k s l.
-    let w = world fs k in
+returns-in-Err-clause-goes c = λ fs knowing fits k s l.
+    let w = tasks knowing fs k in
     let m = c.args.self.now in
     let e = taken c.args.count (env_of m) in
     let d = here (env_of m) m.line in
@@ -31,11 +30,11 @@ returns-in-Err-clause-goes c = λ fs k s l.
     let f = function_view c.args.function.now in
     let t = record s { turns = m.turns } in
     let n = record m { store = c.make_locals.new.store } in
-    let next : List ℕ → State → Res = λ objects r. body_run without_atoms w (in_function m.line.0 objects false) f r in
+    let next : List ℕ → State → Res = λ objects r. body_run knowing w (in_function m.line.0 objects false) f r in
     let inner : List ℕ → List _ → Res = λ os vs. made m.line.0 (map scalar_size f.parameters) os (at s m) (λ ps u. given m.line.0 f.parameters ps vs u (λ v. made m.line.0 f.objects ps v next)) in
-    let around : Res → Res = λ o. followed without_atoms w d xs (answered m.line.0 c.args.used (function_end f.otherwise o)) in
-    lifted w e (reverse m.frames) (at s n) c.in-Err.stop (around (closing (last_number m.store) (inner [] (waiting c.args.count (env_of m)))))
-    (stops_through around (λ e u. followed_over without_atoms w d xs e u) c.in-Err.stop (at s n) (closing (last_number m.store) (inner [] (waiting c.args.count (env_of m))))
+    let around : Res → Res = λ o. followed knowing w d xs (answered m.line.0 c.args.used (function_end f.otherwise o)) in
+    lifted knowing w e (reverse m.frames) (at s n) c.in-Err.stop (around (closing (last_number m.store) (inner [] (waiting c.args.count (env_of m)))))
+    (stops_through around (λ e u. followed_over knowing w d xs e u) c.in-Err.stop (at s n) (closing (last_number m.store) (inner [] (waiting c.args.count (env_of m))))
     (closed (last_number m.store) c.in-Err.stop (at s n) (inner [] (waiting c.args.count (env_of m)))
     (stops_by c.in-Err.stop (at s n) _ _
     (ap (λ os. inner os (waiting c.args.count (env_of m))) (sym (ap (λ y. scope_view (objects_of y)) c.enter-saved.ensures.scope ∙ ap scope_view (no_objects m.scope.pointers)))
@@ -43,8 +42,8 @@ returns-in-Err-clause-goes c = λ fs k s l.
     (c.in-Err.ensures.made t next))))
 
 pub returns-clause-goes : goal.returns-clause-goes
-returns-clause-goes c = λ fs k s l.
-    let w = world fs k in
+returns-clause-goes c = λ fs knowing fits k s l.
+    let w = tasks knowing fs k in
     let m = c.args.self.now in
     let e = taken c.args.count (env_of m) in
     let d = here (env_of m) m.line in
@@ -53,22 +52,22 @@ returns-clause-goes c = λ fs k s l.
     let t = record s { turns = m.turns } in
     let sc = c.make_locals.new.scope in
     let n = record m { store = c.make_locals.new.store } in
-    let next : List ℕ → State → Res = λ objects r. body_run without_atoms w (in_function m.line.0 objects false) f r in
+    let next : List ℕ → State → Res = λ objects r. body_run knowing w (in_function m.line.0 objects false) f r in
     let inner : List ℕ → List _ → Res = λ os vs. made m.line.0 (map scalar_size f.parameters) os (at s m) (λ ps u. given m.line.0 f.parameters ps vs u (λ v. made m.line.0 f.objects ps v next)) in
-    let around : Res → Res = λ o. followed without_atoms w d xs (answered m.line.0 c.args.used (function_end f.otherwise o)) in
+    let around : Res → Res = λ o. followed knowing w d xs (answered m.line.0 c.args.used (function_end f.otherwise o)) in
     let d' = here (record e { scope = sc; first = false }) m.line in
-    let o : Res = run_all without_atoms w d' (statements_view c.as_slice-body.result.now) (at s n) in
-    stands_by w s c.list.new.self c.list.result _ _
-    (ap (λ o. resume w e (reverse m.frames) (around (closing (last_number m.store) o)))
+    let o : Res = run_all knowing w d' (statements_view c.as_slice-body.result.now) (at s n) in
+    stands_by knowing w s c.list.new.self c.list.result _ _
+    (ap (λ o. resume knowing w e (reverse m.frames) (around (closing (last_number m.store) o)))
     (ap (λ os. inner os (waiting c.args.count (env_of m))) (sym (ap (λ y. scope_view (objects_of y)) c.enter-saved.ensures.scope ∙ ap scope_view (no_objects m.scope.pointers)))
     ∙ ap (λ vs. inner (scope_view (objects_of c.enter-saved.new.self)) (map word_view vs)) (sym c.last-values.ensures)
     ∙ c.in-Ok.ensures.made t next)
-    ∙ ap (λ x. resume w e (reverse m.frames) (around (closing x (next (scope_view (objects_of sc)) (at s n))))) (sym c.mark-mark.ensures)
-    ∙ ap (λ b. resume w e (reverse m.frames) (around (closing c.mark-mark.result (settle w d' (statements_view b) (run_all without_atoms w d' (statements_view b) (at s n)))))) (sym c.as_slice-body.ensures)
-    ∙ begun w e sc m.frames c.push.new.self c.push-2.new.self c.push-3.new.self c.mark-mark.result m.line c.args.used c.args.function.now.otherwise c.args.steps c.as_slice-body.result o
+    ∙ ap (λ x. resume knowing w e (reverse m.frames) (around (closing x (next (scope_view (objects_of sc)) (at s n))))) (sym c.mark-mark.ensures)
+    ∙ ap (λ b. resume knowing w e (reverse m.frames) (around (closing c.mark-mark.result (settle w d' (statements_view b) (run_all knowing w d' (statements_view b) (at s n)))))) (sym c.as_slice-body.ensures)
+    ∙ begun knowing w e sc m.frames c.push.new.self c.push-2.new.self c.push-3.new.self c.mark-mark.result m.line c.args.used c.args.function.now.otherwise c.args.steps c.as_slice-body.result o
     (subst (λ y. Grown y.pointers sc.pointers) c.enter-saved.ensures.scope c.in-Ok.ensures.grown)
     c.in_ok-push.ensures.ok
     (c.in_ok-push-2.ensures.ok ∙ (λ i. c.push.new.self ++ frame.Close c.mark-mark.result (c.len-height.ensures i) (c.enter-saved.ensures.count i) ∷ []))
     c.in_ok-push-3.ensures.ok
-    ∙ ap (λ v. resume w (record (env_of m) { scope = sc; first = false; values = v }) (reverse c.push-3.new.self) o) (sym c.drop_last.ensures))
-    (c.list.ensures.goes fs k s l)
+    ∙ ap (λ v. resume knowing w (record (env_of m) { scope = sc; first = false; values = v }) (reverse c.push-3.new.self) o) (sym c.drop_last.ensures))
+    (c.list.ensures.goes fs knowing fits k s l)

@@ -1,7 +1,6 @@
 use Rattle.std.proofs.Common.{arith, ap, ◌∙◌}
 use Rattle.ec_code.specs.Views.{full_view, plain_view}
 use Rattle.ec_evaluation.specs.Evaluate.{eval}
-use Rattle.ec_evaluation.specs.Whole.{without_atoms}
 use Rattle.ec_machine.specs.Frames.{here}
 use Rattle.ec_machine.specs.Goes.{env_of}
 use Rattle.ec_machine.proofs.Evaluating.{to_Plain, to_Full}
@@ -15,8 +14,8 @@ returns-in-Plain-clause-goes c =
     let fs = c.args.functions.now in
     let m = c.args.self.now in
     let d = here (env_of m) m.line in
-    goes_as fs m c.plain.new.self (env_of m) c.plain.result _ (λ w t. eval without_atoms w d (plain_view c.in-Plain.plain) t)
-    (λ w t. to_Plain w d t c.args.expression.now c.in-Plain.plain c.in-Plain.is)
+    goes_as fs m c.plain.new.self (env_of m) c.plain.result _ (λ knowing w t. eval knowing w d (plain_view c.in-Plain.plain) t)
+    (λ knowing w t. to_Plain knowing w d t c.args.expression.now c.in-Plain.plain c.in-Plain.is)
     (c.plain.ensures.goes fs)
 
 pub returns-in-Full-clause-goes : goal.returns-in-Full-clause-goes
@@ -24,8 +23,8 @@ returns-in-Full-clause-goes c =
     let fs = c.args.functions.now in
     let m = c.args.self.now in
     let d = here (env_of m) m.line in
-    goes_as fs m c.full.new.self (env_of m) c.full.result _ (λ w t. eval without_atoms w d (full_view c.in-Full.full) t)
-    (λ w t. to_Full w d t c.args.expression.now c.in-Full.full c.in-Full.is)
+    goes_as fs m c.full.new.self (env_of m) c.full.result _ (λ knowing w t. eval knowing w d (full_view c.in-Full.full) t)
+    (λ knowing w t. to_Full knowing w d t c.args.expression.now c.in-Full.full c.in-Full.is)
     c.full.ensures.goes
 
 pub returns-in-Plain-clause-nears : goal.returns-in-Plain-clause-nears

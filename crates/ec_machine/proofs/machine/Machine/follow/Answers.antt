@@ -1,7 +1,6 @@
 use Rattle.std.proofs.Common.{ap, ◌∷◌, ◌-◌, length, map, drop, take, arith}
 use Rattle.ec_code.specs.Views.{full_step_view}
 use Rattle.ec_evaluation.specs.Results.{value}
-use Rattle.ec_evaluation.specs.Whole.{without_atoms}
 use Rattle.ec_plain.specs.Steps.{followed}
 use Rattle.ec_values.specs.Words.{word_view}
 use Rattle.ec_machine.specs.Frames.{here}
@@ -19,9 +18,9 @@ returns-in-len1-up-clause-goes c = λ fs.
     let x = c.first-item.result in
     let v = word_view c.args.value in
     goes_as fs m c.follow_first.new.self (env_of m) c.follow_first.result
-    (λ w t. followed without_atoms w d (map full_step_view xs) (value v t))
-    (λ w t. followed without_atoms w d (full_step_view x ∷ map full_step_view (take (length xs - 1) (drop 1 xs))) (value v t))
-    (λ w t. ap (λ ys. followed without_atoms w d (map full_step_view ys) (value v t)) (front_is xs x c.in-len1-up.len_at_least c.first-item.is))
+    (λ knowing w t. followed knowing w d (map full_step_view xs) (value v t))
+    (λ knowing w t. followed knowing w d (full_step_view x ∷ map full_step_view (take (length xs - 1) (drop 1 xs))) (value v t))
+    (λ knowing w t. ap (λ ys. followed knowing w d (map full_step_view ys) (value v t)) (front_is xs x c.in-len1-up.len_at_least c.first-item.is))
     (c.follow_first.ensures.goes fs)
 
 pub returns-in-len1-up-clause-nears : goal.returns-in-len1-up-clause-nears

@@ -1,7 +1,6 @@
 use Rattle.std.proofs.Common.{◌∷◌, map, arith, ap, ◌∙◌}
 use Rattle.ec_code.specs.Views.{expression_view, full_step_view}
 use Rattle.ec_evaluation.specs.Results.{value}
-use Rattle.ec_evaluation.specs.Whole.{without_atoms}
 use Rattle.ec_plain.specs.Steps.{followed, one_on, two_on}
 use Rattle.ec_values.specs.Words.{word_view}
 use Rattle.ec_machine.specs.Frames.{here}
@@ -19,9 +18,9 @@ returns-in-One-clause-goes c = λ fs.
     let xs = map full_step_view c.args.rest.now in
     let v = word_view c.args.value in
     goes_as fs m c.follow_one.new.self (env_of m) c.follow_one.result
-    (λ w t. followed without_atoms w d (full_step_view c.args.first.now ∷ xs) (value v t))
-    (λ w t. followed without_atoms w d xs (one_on m.line.0 c.in-One.step v t))
-    (λ w t. first_One w d t c.args.first.now xs v c.in-One.step c.in-One.is)
+    (λ knowing w t. followed knowing w d (full_step_view c.args.first.now ∷ xs) (value v t))
+    (λ knowing w t. followed knowing w d xs (one_on m.line.0 c.in-One.step v t))
+    (λ knowing w t. first_One knowing w d t c.args.first.now xs v c.in-One.step c.in-One.is)
     (c.follow_one.ensures.goes fs)
 
 pub returns-in-Two-clause-goes : goal.returns-in-Two-clause-goes
@@ -31,9 +30,9 @@ returns-in-Two-clause-goes c = λ fs.
     let xs = map full_step_view c.args.rest.now in
     let v = word_view c.args.value in
     goes_as fs m c.follow_two.new.self (env_of m) c.follow_two.result
-    (λ w t. followed without_atoms w d (full_step_view c.args.first.now ∷ xs) (value v t))
-    (λ w t. followed without_atoms w d xs (two_on without_atoms w d c.in-Two.step (expression_view c.in-Two.right) v t))
-    (λ w t. first_Two w d t c.args.first.now xs v c.in-Two.step c.in-Two.right c.in-Two.is)
+    (λ knowing w t. followed knowing w d (full_step_view c.args.first.now ∷ xs) (value v t))
+    (λ knowing w t. followed knowing w d xs (two_on knowing w d c.in-Two.step (expression_view c.in-Two.right) v t))
+    (λ knowing w t. first_Two knowing w d t c.args.first.now xs v c.in-Two.step c.in-Two.right c.in-Two.is)
     (c.follow_two.ensures.goes fs)
 
 pub returns-in-One-clause-nears : goal.returns-in-One-clause-nears

@@ -2,37 +2,36 @@ use Rattle.std.proofs.Common.{◌∙◌, ap, map, arith}
 use Rattle.std.specs.Prelude.{reverse}
 use Rattle.ec_code.specs.Views.{full_step_view}
 use Rattle.ec_evaluation.specs.Results.{value}
-use Rattle.ec_evaluation.specs.Whole.{without_atoms}
 use Rattle.ec_plain.specs.Answered.{answered, ending_of}
 use Rattle.ec_plain.specs.Steps.{followed, one_on}
 use Rattle.ec_plain.proofs.Walks.{followed_over}
 use Rattle.ec_values.specs.Words.{word_view}
 use Rattle.ec_machine.specs.declared.frame.Frame.TheVariants as frame
 use Rattle.ec_machine.specs.Frames.{here, resume}
-use Rattle.ec_machine.specs.Goes.{at, env_of, world}
+use Rattle.ec_machine.specs.Goes.{at, env_of, tasks}
 use Rattle.ec_machine.proofs.Moves.{pushed, over_stops}
 use Rattle.ec_machine.proofs.Weighing.{err_exit, err_near, pushes}
 use Rattle.ec_machine.proofs.machine.Machine.follow_one.Goals as goal
 
 pub returns-in_ok-push-in-Ok-clause-goes : goal.returns-in_ok-push-in-Ok-clause-goes
-returns-in_ok-push-in-Ok-clause-goes c = λ fs k s l.
-    let w = world fs k in
+returns-in_ok-push-in-Ok-clause-goes c = λ fs knowing fits k s l.
+    let w = tasks knowing fs k in
     let m = c.args.self.now in
     let d = here (env_of m) m.line in
     let t = at s (record m { store = c.unary.new.store }) in
-    ap (λ o. resume w (env_of m) (reverse m.frames) (followed without_atoms w d (map full_step_view c.args.rest.now) o))
+    ap (λ o. resume knowing w (env_of m) (reverse m.frames) (followed knowing w d (map full_step_view c.args.rest.now) o))
     (c.unary.ensures m.line.0 (at s m) ∙ ap (λ r. answered m.line.0 r t) c.in-Ok.is)
-    ∙ pushed w (env_of m) m.frames c.push.new.self (frame.Steps m.line c.args.rest) (value (word_view c.in-Ok.next) t) c.in_ok-push-in-Ok.ensures.ok
+    ∙ pushed knowing w (env_of m) m.frames c.push.new.self (frame.Steps m.line c.args.rest) (value (word_view c.in-Ok.next) t) c.in_ok-push-in-Ok.ensures.ok
 
 pub returns-in-Err-clause-goes : goal.returns-in-Err-clause-goes
-returns-in-Err-clause-goes c = λ fs k s l.
-    let w = world fs k in
+returns-in-Err-clause-goes c = λ fs knowing fits k s l.
+    let w = tasks knowing fs k in
     let m = c.args.self.now in
     let d = here (env_of m) m.line in
     let t = at s (record m { store = c.unary.new.store }) in
-    over_stops w (env_of m) (reverse m.frames) t c.stopped.result (ending_of m.line.0 c.in-Err.why) (followed without_atoms w d (map full_step_view c.args.rest.now) (one_on m.line.0 c.args.step.now (word_view c.args.value) (at s m))) c.stopped.ensures
-    (ap (followed without_atoms w d (map full_step_view c.args.rest.now)) (c.unary.ensures m.line.0 (at s m) ∙ ap (λ r. answered m.line.0 r t) c.in-Err.is)
-    ∙ followed_over without_atoms w d (map full_step_view c.args.rest.now) (ending_of m.line.0 c.in-Err.why) t)
+    over_stops knowing w (env_of m) (reverse m.frames) t c.stopped.result (ending_of m.line.0 c.in-Err.why) (followed knowing w d (map full_step_view c.args.rest.now) (one_on m.line.0 c.args.step.now (word_view c.args.value) (at s m))) c.stopped.ensures
+    (ap (followed knowing w d (map full_step_view c.args.rest.now)) (c.unary.ensures m.line.0 (at s m) ∙ ap (λ r. answered m.line.0 r t) c.in-Err.is)
+    ∙ followed_over knowing w d (map full_step_view c.args.rest.now) (ending_of m.line.0 c.in-Err.why) t)
 
 pub returns-in_ok-push-in-Ok-clause-nears : goal.returns-in_ok-push-in-Ok-clause-nears
 returns-in_ok-push-in-Ok-clause-nears c = pushes _ _ _ _ _ _ c.in_ok-push-in-Ok.ensures.ok (omega arith)

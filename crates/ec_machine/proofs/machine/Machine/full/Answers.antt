@@ -1,17 +1,16 @@
 use Rattle.std.proofs.Common.{◌∙◌, ap, map, [], arith}
-use Rattle.std.specs.Prelude.{reverse}
 use Rattle.ec_code.specs.Views.{expressions_view, full_step_view, plain_view}
 use Rattle.ec_evaluation.specs.Evaluate.{collect, eval}
-use Rattle.ec_evaluation.specs.State.{stuck}
-use Rattle.ec_evaluation.specs.Whole.{without_atoms}
+use Rattle.ec_evaluation.specs.Results.{without_answer}
 use Rattle.ec_plain.specs.Steps.{followed}
+use Rattle.ec_resolved.specs.Resolved.{library}
 use Rattle.ec_machine.specs.declared.frame.Callee.TheVariants as callee
-use Rattle.ec_machine.specs.Frames.{here, received, resume}
-use Rattle.ec_machine.specs.Goes.{at, env_of, world}
+use Rattle.ec_machine.specs.Frames.{here, received}
+use Rattle.ec_machine.specs.Goes.{env_of}
 use Rattle.ec_machine.proofs.Evaluating.{to_Begun, to_Call, to_Known, to_LibraryCall}
-use Rattle.ec_machine.proofs.Moves.{goes_as, resume_over}
+use Rattle.ec_machine.proofs.Moves.{goes_as}
 use Rattle.ec_machine.specs.Weights.{expressions_weight, head_weight, steps_weight}
-use Rattle.ec_machine.proofs.Weighing.{err_near, weight-Begun, weight-Call, weight-Known, weight-full}
+use Rattle.ec_machine.proofs.Weighing.{weight-Begun, weight-Call, weight-Known, weight-LibraryCall, weight-full}
 use Rattle.ec_machine.proofs.machine.Machine.full.Goals as goal
 
 pub returns-in-Begun-clause-goes : goal.returns-in-Begun-clause-goes
@@ -21,8 +20,8 @@ returns-in-Begun-clause-goes c =
     let d = here (env_of m) m.line in
     let xs = c.as_slice-steps.result.now in
     goes_as fs m c.begun.new.self (env_of m) c.begun.result _
-    (λ w t. followed without_atoms w d (map full_step_view xs) (eval without_atoms w d (plain_view c.in-Begun.plain) t))
-    (λ w t. to_Begun w d t c.args.full.now c.in-Begun.plain xs c.in-Begun.is c.as_slice-steps.ensures)
+    (λ knowing w t. followed knowing w d (map full_step_view xs) (eval knowing w d (plain_view c.in-Begun.plain) t))
+    (λ knowing w t. to_Begun knowing w d t c.args.full.now c.in-Begun.plain xs c.in-Begun.is c.as_slice-steps.ensures)
     (c.begun.ensures.goes fs)
 
 pub returns-in-Call-clause-goes : goal.returns-in-Call-clause-goes
@@ -33,8 +32,8 @@ returns-in-Call-clause-goes c =
     let xs = c.as_slice-steps.result.now in
     let es = c.as_slice.result.now in
     goes_as fs m c.pass_all.new.self (env_of m) c.pass_all.result _
-    (λ w t. followed without_atoms w d (map full_step_view xs) (collect without_atoms w d [] (expressions_view es) t (received w m.line (callee.Function c.in-Call.function c.in-Call.used))))
-    (λ w t. to_Call w d t c.args.full.now c.in-Call.function c.in-Call.used c.in-Call.arguments es xs c.in-Call.is c.as_slice.ensures c.as_slice-steps.ensures)
+    (λ knowing w t. followed knowing w d (map full_step_view xs) (collect knowing w d [] (expressions_view es) t (received w m.line (callee.Function c.in-Call.function c.in-Call.used))))
+    (λ knowing w t. to_Call knowing w d t c.args.full.now c.in-Call.function c.in-Call.used c.in-Call.arguments es xs c.in-Call.is c.as_slice.ensures c.as_slice-steps.ensures)
     c.pass_all.ensures.goes
 
 pub returns-in-Known-clause-goes : goal.returns-in-Known-clause-goes
@@ -45,16 +44,19 @@ returns-in-Known-clause-goes c =
     let xs = c.as_slice-steps.result.now in
     let es = c.as_slice-in-Known.result.now in
     goes_as fs m c.pass_all-in-Known.new.self (env_of m) c.pass_all-in-Known.result _ _
-    (λ w t. to_Known w d t c.args.full.now c.in-Known.known c.in-Known.arguments es xs c.in-Known.is c.as_slice-in-Known.ensures c.as_slice-steps.ensures)
+    (λ knowing w t. to_Known knowing w d t c.args.full.now c.in-Known.known c.in-Known.arguments es xs c.in-Known.is c.as_slice-in-Known.ensures c.as_slice-steps.ensures)
     c.pass_all-in-Known.ensures.goes
 
 pub returns-in-LibraryCall-clause-goes : goal.returns-in-LibraryCall-clause-goes
-returns-in-LibraryCall-clause-goes c = λ k s l.
-    let w = world c.args.functions.now k in
+returns-in-LibraryCall-clause-goes c =
+    let fs = c.args.functions.now in
     let m = c.args.self.now in
     let d = here (env_of m) m.line in
-    ap (resume w (env_of m) (reverse m.frames)) (to_LibraryCall w d (at s m) c.args.full.now c.in-LibraryCall.field-0 c.in-LibraryCall.is)
-    ∙ resume_over w (env_of m) (reverse m.frames) stuck (at s m)
+    let xs = c.as_slice-steps.result.now in
+    goes_as fs m c.library_call.new.self (env_of m) c.library_call.result _
+    (λ knowing w t. followed knowing w d (map full_step_view xs) (without_answer (knowing w d (library c.in-LibraryCall.number) t)))
+    (λ knowing w t. to_LibraryCall knowing w d t c.args.full.now c.in-LibraryCall.number xs c.in-LibraryCall.is c.as_slice-steps.ensures)
+    (c.library_call.ensures.goes fs)
 
 pub returns-in-Begun-clause-nears : goal.returns-in-Begun-clause-nears
 returns-in-Begun-clause-nears c = omega (arith, c.begun.ensures.nears, weight-full c.args.full.now, ap head_weight c.in-Begun.is ∙ weight-Begun _, ap steps_weight c.as_slice-steps.ensures)
@@ -66,4 +68,4 @@ pub returns-in-Known-clause-nears : goal.returns-in-Known-clause-nears
 returns-in-Known-clause-nears c = omega (arith, c.pass_all-in-Known.ensures.nears, weight-full c.args.full.now, ap head_weight c.in-Known.is ∙ weight-Known _ _, ap steps_weight c.as_slice-steps.ensures, ap expressions_weight c.as_slice-in-Known.ensures)
 
 pub returns-in-LibraryCall-clause-nears : goal.returns-in-LibraryCall-clause-nears
-returns-in-LibraryCall-clause-nears c = err_near _ _ _ _
+returns-in-LibraryCall-clause-nears c = omega (arith, c.library_call.ensures.nears, weight-full c.args.full.now, ap head_weight c.in-LibraryCall.is ∙ weight-LibraryCall _, ap steps_weight c.as_slice-steps.ensures)

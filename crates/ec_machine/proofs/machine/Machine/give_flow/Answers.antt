@@ -5,13 +5,12 @@ use Rattle.ec_code.specs.Views.{expressions_view, full_step_view, statements_vie
 use Rattle.ec_evaluation.specs.Evaluate.{collect}
 use Rattle.ec_evaluation.specs.Results.{answered, ended_to, function_end, over, returned, value}
 use Rattle.ec_evaluation.specs.State.{stuck}
-use Rattle.ec_evaluation.specs.Whole.{without_atoms}
 use Rattle.ec_plain.specs.Steps.{followed, both_on}
 use Rattle.ec_plain.proofs.Walks.{followed_over}
 use Rattle.ec_values.specs.Words.{word_view}
 use Rattle.ec_machine.specs.declared.frame.Frame.TheVariants as frame
 use Rattle.ec_machine.specs.Frames.{below, cut, here, led, plug, received, resume, waiting, without_last}
-use Rattle.ec_machine.specs.Goes.{at, env_of, world}
+use Rattle.ec_machine.specs.Goes.{at, env_of, tasks}
 use Rattle.ec_machine.proofs.Moves.{closing_led, followed_led, led_passes, pushed, resume_over, returns_stand, right_led, stands_by}
 use Rattle.ec_machine.proofs.Parts.{given_as}
 use Rattle.ec_machine.specs.Weights.{frames_weight, frames_answer}
@@ -19,23 +18,23 @@ use Rattle.ec_machine.proofs.Weighing.{flow_given, passes_on, pushed_weight, err
 use Rattle.ec_machine.proofs.machine.Machine.give_flow.Goals as goal
 
 pub returns-in-Arguments-clause-goes : goal.returns-in-Arguments-clause-goes
-returns-in-Arguments-clause-goes c = λ fs k s l.
-    let w = world fs k in
+returns-in-Arguments-clause-goes c = λ fs knowing fits k s l.
+    let w = tasks knowing fs k in
     let m = c.args.self.now in
-    ap (λ f. resume w (below (env_of m) f) (reverse m.frames) (plug w (env_of m) f (led c.args.flow (at s m)))) c.in-Arguments.is
-    ∙ ap (resume w (record (env_of m) { values = without_last c.in-Arguments.count m.values }) (reverse m.frames)) (right_led w (here (env_of m) c.in-Arguments.field-0) (map full_step_view c.in-Arguments.field-4.now) (λ v t. collect without_atoms w (here (env_of m) c.in-Arguments.field-0) (waiting c.in-Arguments.count (env_of m) ++ v ∷ []) (expressions_view c.in-Arguments.field-3.now) t (received w c.in-Arguments.field-0 c.in-Arguments.field-1)) c.args.flow (at s m))
-    ∙ ap (λ v. resume w (record (env_of m) { values = v }) (reverse m.frames) (led c.args.flow (at s m))) (sym c.drop_last.ensures)
+    ap (λ f. resume knowing w (below (env_of m) f) (reverse m.frames) (plug knowing w (env_of m) f (led c.args.flow (at s m)))) c.in-Arguments.is
+    ∙ ap (resume knowing w (record (env_of m) { values = without_last c.in-Arguments.count m.values }) (reverse m.frames)) (right_led knowing w (here (env_of m) c.in-Arguments.field-0) (map full_step_view c.in-Arguments.field-4.now) (λ v t. collect knowing w (here (env_of m) c.in-Arguments.field-0) (waiting c.in-Arguments.count (env_of m) ++ v ∷ []) (expressions_view c.in-Arguments.field-3.now) t (received w c.in-Arguments.field-0 c.in-Arguments.field-1)) c.args.flow (at s m))
+    ∙ ap (λ v. resume knowing w (record (env_of m) { values = v }) (reverse m.frames) (led c.args.flow (at s m))) (sym c.drop_last.ensures)
 
 pub returns-in_ok-push-in-Call-clause-goes : goal.returns-in_ok-push-in-Call-clause-goes
-returns-in_ok-push-in-Call-clause-goes c = λ fs k s l.
-    let w = world fs k in
+returns-in_ok-push-in-Call-clause-goes c = λ fs knowing fits k s l.
+    let w = tasks knowing fs k in
     let m = c.args.self.now in
     let e = record (env_of m) { first = c.in-Call.first } in
     let n = record m { line = c.in-Call.line; first = c.in-Call.first; frames = c.push.new.self } in
-    stands_by w s n c.returned.result _ _
-    (ap (λ f. resume w (below (env_of m) f) (reverse m.frames) (plug w (env_of m) f (led c.args.flow (at s m)))) c.in-Call.is
-    ∙ pushed w e m.frames c.push.new.self (frame.Steps c.in-Call.line c.in-Call.steps) (answered c.in-Call.line.0 c.in-Call.used (function_end (option_map word_view c.in-Call.otherwise) (led c.args.flow (at s m)))) c.in_ok-push-in-Call.ensures.ok)
-    (returns_stand w s n c.returned.result (λ t. answered c.in-Call.line.0 c.in-Call.used (function_end (option_map word_view c.in-Call.otherwise) (led c.args.flow t))) c.returned.ensures.gives)
+    stands_by knowing w s n c.returned.result _ _
+    (ap (λ f. resume knowing w (below (env_of m) f) (reverse m.frames) (plug knowing w (env_of m) f (led c.args.flow (at s m)))) c.in-Call.is
+    ∙ pushed knowing w e m.frames c.push.new.self (frame.Steps c.in-Call.line c.in-Call.steps) (answered c.in-Call.line.0 c.in-Call.used (function_end (option_map word_view c.in-Call.otherwise) (led c.args.flow (at s m)))) c.in_ok-push-in-Call.ensures.ok)
+    (returns_stand knowing w s n c.returned.result (λ t. answered c.in-Call.line.0 c.in-Call.used (function_end (option_map word_view c.in-Call.otherwise) (led c.args.flow t))) c.returned.ensures.gives)
 
 pub returns-in-Body-clause-goes : goal.returns-in-Body-clause-goes
 returns-in-Body-clause-goes c = λ fs.
@@ -56,61 +55,61 @@ returns-in-Settle-clause-goes c = λ fs.
     (c.settle.ensures.goes fs)
 
 pub returns-in-Close-clause-goes : goal.returns-in-Close-clause-goes
-returns-in-Close-clause-goes c = λ fs k s l.
-    let w = world fs k in
+returns-in-Close-clause-goes c = λ fs knowing fits k s l.
+    let w = tasks knowing fs k in
     let m = c.args.self.now in
-    ap (λ f. resume w (below (env_of m) f) (reverse m.frames) (plug w (env_of m) f (led c.args.flow (at s m)))) c.in-Close.is
-    ∙ ap (resume w (record (env_of m) { scope = cut c.in-Close.height c.in-Close.count m.scope }) (reverse m.frames)) (closing_led c.in-Close.mark c.args.flow (at s m))
-    ∙ (λ i. resume w (record (env_of m) { scope = sym c.cut.ensures i }) (reverse m.frames) (led c.args.flow (at s (record m { store = sym c.end_to.ensures i }))))
+    ap (λ f. resume knowing w (below (env_of m) f) (reverse m.frames) (plug knowing w (env_of m) f (led c.args.flow (at s m)))) c.in-Close.is
+    ∙ ap (resume knowing w (record (env_of m) { scope = cut c.in-Close.height c.in-Close.count m.scope }) (reverse m.frames)) (closing_led c.in-Close.mark c.args.flow (at s m))
+    ∙ (λ i. resume knowing w (record (env_of m) { scope = sym c.cut.ensures i }) (reverse m.frames) (led c.args.flow (at s (record m { store = sym c.end_to.ensures i }))))
 
 pub returns-in-Steps-clause-goes : goal.returns-in-Steps-clause-goes
-returns-in-Steps-clause-goes c = λ fs k s l.
-    let w = world fs k in
+returns-in-Steps-clause-goes c = λ fs knowing fits k s l.
+    let w = tasks knowing fs k in
     let m = c.args.self.now in
-    ap (λ f. resume w (below (env_of m) f) (reverse m.frames) (plug w (env_of m) f (led c.args.flow (at s m)))) c.in-Steps.is
-    ∙ ap (resume w (env_of m) (reverse m.frames)) (followed_led w (here (env_of m) c.in-Steps.field-0) (map full_step_view c.in-Steps.field-1.now) c.args.flow (at s m))
+    ap (λ f. resume knowing w (below (env_of m) f) (reverse m.frames) (plug knowing w (env_of m) f (led c.args.flow (at s m)))) c.in-Steps.is
+    ∙ ap (resume knowing w (env_of m) (reverse m.frames)) (followed_led knowing w (here (env_of m) c.in-Steps.field-0) (map full_step_view c.in-Steps.field-1.now) c.args.flow (at s m))
 
 pub returns-in-Right-clause-goes : goal.returns-in-Right-clause-goes
-returns-in-Right-clause-goes c = λ fs k s l.
-    let w = world fs k in
+returns-in-Right-clause-goes c = λ fs knowing fits k s l.
+    let w = tasks knowing fs k in
     let m = c.args.self.now in
-    ap (λ f. resume w (below (env_of m) f) (reverse m.frames) (plug w (env_of m) f (led c.args.flow (at s m)))) c.in-Right.is
-    ∙ ap (resume w (env_of m) (reverse m.frames)) (right_led w (here (env_of m) c.in-Right.field-0) (map full_step_view c.in-Right.field-4.now) (both_on c.in-Right.field-0.0 c.in-Right.field-1 (word_view c.in-Right.field-2) (word_view c.in-Right.field-3)) c.args.flow (at s m))
+    ap (λ f. resume knowing w (below (env_of m) f) (reverse m.frames) (plug knowing w (env_of m) f (led c.args.flow (at s m)))) c.in-Right.is
+    ∙ ap (resume knowing w (env_of m) (reverse m.frames)) (right_led knowing w (here (env_of m) c.in-Right.field-0) (map full_step_view c.in-Right.field-4.now) (both_on c.in-Right.field-0.0 c.in-Right.field-1 (word_view c.in-Right.field-2) (word_view c.in-Right.field-3)) c.args.flow (at s m))
 
 pub returns-in-Do-clause-goes : goal.returns-in-Do-clause-goes
-returns-in-Do-clause-goes c = λ fs k s l.
-    let w = world fs k in
+returns-in-Do-clause-goes c = λ fs knowing fits k s l.
+    let w = tasks knowing fs k in
     let m = c.args.self.now in
-    ap (λ f. resume w (below (env_of m) f) (reverse m.frames) (plug w (env_of m) f (led c.args.flow (at s m)))) c.in-Do.is
-    ∙ ap (resume w (env_of m) (reverse m.frames)) (led_passes c.args.flow (at s m) _)
+    ap (λ f. resume knowing w (below (env_of m) f) (reverse m.frames) (plug knowing w (env_of m) f (led c.args.flow (at s m)))) c.in-Do.is
+    ∙ ap (resume knowing w (env_of m) (reverse m.frames)) (led_passes c.args.flow (at s m) _)
 
 pub returns-in-Give-clause-goes : goal.returns-in-Give-clause-goes
-returns-in-Give-clause-goes c = λ fs k s l.
-    let w = world fs k in
+returns-in-Give-clause-goes c = λ fs knowing fits k s l.
+    let w = tasks knowing fs k in
     let m = c.args.self.now in
-    ap (λ f. resume w (below (env_of m) f) (reverse m.frames) (plug w (env_of m) f (led c.args.flow (at s m)))) c.in-Give.is
-    ∙ ap (resume w (env_of m) (reverse m.frames)) (led_passes c.args.flow (at s m) _)
+    ap (λ f. resume knowing w (below (env_of m) f) (reverse m.frames) (plug knowing w (env_of m) f (led c.args.flow (at s m)))) c.in-Give.is
+    ∙ ap (resume knowing w (env_of m) (reverse m.frames)) (led_passes c.args.flow (at s m) _)
 
 pub returns-in-Choose-clause-goes : goal.returns-in-Choose-clause-goes
-returns-in-Choose-clause-goes c = λ fs k s l.
-    let w = world fs k in
+returns-in-Choose-clause-goes c = λ fs knowing fits k s l.
+    let w = tasks knowing fs k in
     let m = c.args.self.now in
-    ap (λ f. resume w (below (env_of m) f) (reverse m.frames) (plug w (env_of m) f (led c.args.flow (at s m)))) c.in-Choose.is
-    ∙ ap (resume w (env_of m) (reverse m.frames)) (led_passes c.args.flow (at s m) _)
+    ap (λ f. resume knowing w (below (env_of m) f) (reverse m.frames) (plug knowing w (env_of m) f (led c.args.flow (at s m)))) c.in-Choose.is
+    ∙ ap (resume knowing w (env_of m) (reverse m.frames)) (led_passes c.args.flow (at s m) _)
 
 pub returns-in-Test-clause-goes : goal.returns-in-Test-clause-goes
-returns-in-Test-clause-goes c = λ fs k s l.
-    let w = world fs k in
+returns-in-Test-clause-goes c = λ fs knowing fits k s l.
+    let w = tasks knowing fs k in
     let m = c.args.self.now in
-    ap (λ f. resume w (below (env_of m) f) (reverse m.frames) (plug w (env_of m) f (led c.args.flow (at s m)))) c.in-Test.is
-    ∙ ap (resume w (env_of m) (reverse m.frames)) (led_passes c.args.flow (at s m) _)
+    ap (λ f. resume knowing w (below (env_of m) f) (reverse m.frames) (plug knowing w (env_of m) f (led c.args.flow (at s m)))) c.in-Test.is
+    ∙ ap (resume knowing w (env_of m) (reverse m.frames)) (led_passes c.args.flow (at s m) _)
 
 pub returns-in-Behind-clause-goes : goal.returns-in-Behind-clause-goes
-returns-in-Behind-clause-goes c = λ fs k s l.
-    let w = world fs k in
+returns-in-Behind-clause-goes c = λ fs knowing fits k s l.
+    let w = tasks knowing fs k in
     let m = c.args.self.now in
-    ap (λ f. resume w (below (env_of m) f) (reverse m.frames) (plug w (env_of m) f (led c.args.flow (at s m)))) c.in-Behind.is
-    ∙ ap (resume w (env_of m) (reverse m.frames)) (led_passes c.args.flow (at s m) _)
+    ap (λ f. resume knowing w (below (env_of m) f) (reverse m.frames) (plug knowing w (env_of m) f (led c.args.flow (at s m)))) c.in-Behind.is
+    ∙ ap (resume knowing w (env_of m) (reverse m.frames)) (led_passes c.args.flow (at s m) _)
 
 pub returns-in-Arguments-clause-nears : goal.returns-in-Arguments-clause-nears
 returns-in-Arguments-clause-nears c = passes_on _ _ _ _

@@ -5,13 +5,12 @@ use Rattle.ec_code.specs.Views.{full_step_view, statements_view}
 use Rattle.ec_evaluation.specs.Evaluate.{collect}
 use Rattle.ec_evaluation.specs.Results.{answered, ended_to, function_end, over, returned, value}
 use Rattle.ec_evaluation.specs.State.{stuck}
-use Rattle.ec_evaluation.specs.Whole.{without_atoms}
 use Rattle.ec_plain.specs.Steps.{followed, both_on}
 use Rattle.ec_plain.proofs.Walks.{followed_over}
 use Rattle.ec_values.specs.Words.{word_view}
 use Rattle.ec_machine.specs.declared.frame.Frame.TheVariants as frame
 use Rattle.ec_machine.specs.Frames.{below, here, led, plug, resume}
-use Rattle.ec_machine.specs.Goes.{at, env_of, world}
+use Rattle.ec_machine.specs.Goes.{at, env_of, tasks}
 use Rattle.ec_machine.proofs.Moves.{closing_led, followed_led, led_passes, pushed, resume_over, returns_stand, right_led, stands_by}
 use Rattle.ec_machine.proofs.Parts.{given_as}
 use Rattle.ec_machine.proofs.Weighing.{err_near, nearer, value_given}
@@ -39,27 +38,27 @@ returns-in-Arguments-clause-goes c =
     c.pass_on.ensures.goes
 
 pub returns-in-Call-clause-goes : goal.returns-in-Call-clause-goes
-returns-in-Call-clause-goes c = λ k s l.
-    let w = world c.args.functions.now k in
+returns-in-Call-clause-goes c = λ knowing fits k s l.
+    let w = tasks knowing c.args.functions.now k in
     let m = c.args.self.now in
     let e = record (env_of m) { first = c.in-Call.field-4 } in
-    ap (λ f. resume w (below (env_of m) f) (reverse m.frames) (plug w (env_of m) f (value (word_view c.args.value) (at s m)))) c.in-Call.is
-    ∙ ap (resume w e (reverse m.frames)) (followed_over without_atoms w (here e c.in-Call.field-0) (map full_step_view c.in-Call.field-3.now) stuck (at s m))
-    ∙ resume_over w e (reverse m.frames) stuck (at s m)
+    ap (λ f. resume knowing w (below (env_of m) f) (reverse m.frames) (plug knowing w (env_of m) f (value (word_view c.args.value) (at s m)))) c.in-Call.is
+    ∙ ap (resume knowing w e (reverse m.frames)) (followed_over knowing w (here e c.in-Call.field-0) (map full_step_view c.in-Call.field-3.now) stuck (at s m))
+    ∙ resume_over knowing w e (reverse m.frames) stuck (at s m)
 
 pub returns-in-Do-clause-goes : goal.returns-in-Do-clause-goes
-returns-in-Do-clause-goes c = λ k s l.
-    let w = world c.args.functions.now k in
+returns-in-Do-clause-goes c = λ knowing fits k s l.
+    let w = tasks knowing c.args.functions.now k in
     let m = c.args.self.now in
-    ap (λ f. resume w (below (env_of m) f) (reverse m.frames) (plug w (env_of m) f (value (word_view c.args.value) (at s m)))) c.in-Do.is
+    ap (λ f. resume knowing w (below (env_of m) f) (reverse m.frames) (plug knowing w (env_of m) f (value (word_view c.args.value) (at s m)))) c.in-Do.is
 
 pub returns-in-Give-clause-goes : goal.returns-in-Give-clause-goes
-returns-in-Give-clause-goes c = λ k s l.
-    let w = world c.args.functions.now k in
+returns-in-Give-clause-goes c = λ knowing fits k s l.
+    let w = tasks knowing c.args.functions.now k in
     let m = c.args.self.now in
-    stands_by w s m c.gives.result _ _
-    (ap (λ f. resume w (below (env_of m) f) (reverse m.frames) (plug w (env_of m) f (value (word_view c.args.value) (at s m)))) c.in-Give.is)
-    (returns_stand w s m c.gives.result (λ t. returned m.first (Some (word_view c.args.value)) t) c.gives.ensures.gives)
+    stands_by knowing w s m c.gives.result _ _
+    (ap (λ f. resume knowing w (below (env_of m) f) (reverse m.frames) (plug knowing w (env_of m) f (value (word_view c.args.value) (at s m)))) c.in-Give.is)
+    (returns_stand knowing w s m c.gives.result (λ t. returned m.first (Some (word_view c.args.value)) t) c.gives.ensures.gives)
 
 pub returns-in-Choose-clause-goes : goal.returns-in-Choose-clause-goes
 returns-in-Choose-clause-goes c =
@@ -83,29 +82,29 @@ returns-in-Behind-clause-goes c =
     (c.test.ensures.goes fs)
 
 pub returns-in-Body-clause-goes : goal.returns-in-Body-clause-goes
-returns-in-Body-clause-goes c = λ k s l.
-    let w = world c.args.functions.now k in
+returns-in-Body-clause-goes c = λ knowing fits k s l.
+    let w = tasks knowing c.args.functions.now k in
     let m = c.args.self.now in
-    ap (λ f. resume w (below (env_of m) f) (reverse m.frames) (plug w (env_of m) f (value (word_view c.args.value) (at s m)))) c.in-Body.is
+    ap (λ f. resume knowing w (below (env_of m) f) (reverse m.frames) (plug knowing w (env_of m) f (value (word_view c.args.value) (at s m)))) c.in-Body.is
 
 pub returns-in-Rest-clause-goes : goal.returns-in-Rest-clause-goes
-returns-in-Rest-clause-goes c = λ k s l.
-    let w = world c.args.functions.now k in
+returns-in-Rest-clause-goes c = λ knowing fits k s l.
+    let w = tasks knowing c.args.functions.now k in
     let m = c.args.self.now in
-    ap (λ f. resume w (below (env_of m) f) (reverse m.frames) (plug w (env_of m) f (value (word_view c.args.value) (at s m)))) c.in-Rest.is
+    ap (λ f. resume knowing w (below (env_of m) f) (reverse m.frames) (plug knowing w (env_of m) f (value (word_view c.args.value) (at s m)))) c.in-Rest.is
 
 pub returns-in-Settle-clause-goes : goal.returns-in-Settle-clause-goes
-returns-in-Settle-clause-goes c = λ k s l.
-    let w = world c.args.functions.now k in
+returns-in-Settle-clause-goes c = λ knowing fits k s l.
+    let w = tasks knowing c.args.functions.now k in
     let m = c.args.self.now in
-    ap (λ f. resume w (below (env_of m) f) (reverse m.frames) (plug w (env_of m) f (value (word_view c.args.value) (at s m)))) c.in-Settle.is
+    ap (λ f. resume knowing w (below (env_of m) f) (reverse m.frames) (plug knowing w (env_of m) f (value (word_view c.args.value) (at s m)))) c.in-Settle.is
 
 pub returns-in-Close-clause-goes : goal.returns-in-Close-clause-goes
-returns-in-Close-clause-goes c = λ k s l.
-    let w = world c.args.functions.now k in
+returns-in-Close-clause-goes c = λ knowing fits k s l.
+    let w = tasks knowing c.args.functions.now k in
     let m = c.args.self.now in
-    ap (λ f. resume w (below (env_of m) f) (reverse m.frames) (plug w (env_of m) f (value (word_view c.args.value) (at s m)))) c.in-Close.is
-    ∙ ap (λ sc. resume w (record (env_of m) { scope = sc }) (reverse m.frames) (value (word_view c.args.value) (at s m))) (sym c.cut.ensures)
+    ap (λ f. resume knowing w (below (env_of m) f) (reverse m.frames) (plug knowing w (env_of m) f (value (word_view c.args.value) (at s m)))) c.in-Close.is
+    ∙ ap (λ sc. resume knowing w (record (env_of m) { scope = sc }) (reverse m.frames) (value (word_view c.args.value) (at s m))) (sym c.cut.ensures)
 
 pub returns-in-Steps-clause-nears : goal.returns-in-Steps-clause-nears
 returns-in-Steps-clause-nears c = value_given c.args.self.now.frames c.args.frame _ _ c.in-Steps.is (omega (arith, c.follow.ensures.nears))

@@ -1,7 +1,6 @@
 use Rattle.std.proofs.Common.{ap, map, arith}
 use Rattle.ec_code.specs.Views.{expressions_view, full_step_view}
 use Rattle.ec_evaluation.specs.Evaluate.{collect}
-use Rattle.ec_evaluation.specs.Whole.{without_atoms}
 use Rattle.ec_plain.specs.Steps.{followed}
 use Rattle.ec_machine.specs.Frames.{here, received, waiting}
 use Rattle.ec_machine.specs.Goes.{env_of, taken}
@@ -18,9 +17,9 @@ returns-in-empty-clause-goes c =
     let xs = map full_step_view c.args.steps.now in
     let vs = waiting c.args.count (env_of m) in
     goes_as fs m c.receive.new.self (taken c.args.count (env_of m)) c.receive.result
-    (λ w t. followed without_atoms w d xs (collect without_atoms w d vs (expressions_view c.args.arguments.now) t (received w m.line c.args.callee)))
-    (λ w t. followed without_atoms w d xs (received w m.line c.args.callee vs t))
-    (λ w t. ap (λ es. followed without_atoms w d xs (collect without_atoms w d vs (expressions_view es) t (received w m.line c.args.callee))) (none_left c.args.arguments.now c.in-empty.len_below))
+    (λ knowing w t. followed knowing w d xs (collect knowing w d vs (expressions_view c.args.arguments.now) t (received w m.line c.args.callee)))
+    (λ knowing w t. followed knowing w d xs (received w m.line c.args.callee vs t))
+    (λ knowing w t. ap (λ es. followed knowing w d xs (collect knowing w d vs (expressions_view es) t (received w m.line c.args.callee))) (none_left c.args.arguments.now c.in-empty.len_below))
     c.receive.ensures.goes
 
 pub returns-in_ok-push-in-len1-up-clause-nears : goal.returns-in_ok-push-in-len1-up-clause-nears

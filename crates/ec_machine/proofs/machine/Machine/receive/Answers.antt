@@ -1,7 +1,6 @@
 use Rattle.std.proofs.Common.{◌∙◌, ap, map, arith}
 use Rattle.ec_code.specs.Views.{full_step_view}
 use Rattle.ec_evaluation.specs.Results.{done_there, on}
-use Rattle.ec_evaluation.specs.Whole.{without_atoms}
 use Rattle.ec_formats.specs.Known.{known_view}
 use Rattle.ec_functions.specs.Functions.{effect_of}
 use Rattle.ec_plain.specs.Steps.{followed}
@@ -19,9 +18,9 @@ returns-in-Known-clause-goes c =
     let xs = map full_step_view c.args.steps.now in
     let vs = waiting c.args.count (env_of m) in
     goes_as fs m c.know.new.self (taken c.args.count (env_of m)) c.know.result
-    (λ w t. followed without_atoms w d xs (received w m.line c.args.callee vs t))
-    (λ w t. followed without_atoms w d xs (done_there m.line.0 (effect_of (known_view c.in-Known.known.now) t.memory vs) t))
-    (λ w t. ap (λ f. followed without_atoms w d xs (received w m.line f vs t)) c.in-Known.is)
+    (λ knowing w t. followed knowing w d xs (received w m.line c.args.callee vs t))
+    (λ knowing w t. followed knowing w d xs (done_there m.line.0 (effect_of (known_view c.in-Known.known.now) t.memory vs) t))
+    (λ knowing w t. ap (λ f. followed knowing w d xs (received w m.line f vs t)) c.in-Known.is)
     (c.know.ensures.goes fs)
 
 pub returns-in-Object-clause-goes : goal.returns-in-Object-clause-goes
@@ -32,9 +31,9 @@ returns-in-Object-clause-goes c =
     let xs = map full_step_view c.args.steps.now in
     let vs = waiting c.args.count (env_of m) in
     goes_as fs m c.fill.new.self (taken c.args.count (env_of m)) c.fill.result
-    (λ w t. followed without_atoms w d xs (received w m.line c.args.callee vs t))
-    (λ w t. on t)
-    (λ w t. ap (λ f. followed without_atoms w d xs (received w m.line f vs t)) c.in-Object.is ∙ followed_led w d xs flow.On t)
+    (λ knowing w t. followed knowing w d xs (received w m.line c.args.callee vs t))
+    (λ knowing w t. on t)
+    (λ knowing w t. ap (λ f. followed knowing w d xs (received w m.line f vs t)) c.in-Object.is ∙ followed_led knowing w d xs flow.On t)
     (c.fill.ensures.goes fs)
 
 pub returns-in-Function-clause-nears : goal.returns-in-Function-clause-nears

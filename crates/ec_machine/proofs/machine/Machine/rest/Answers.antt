@@ -2,7 +2,6 @@ use Rattle.std.proofs.Common.{ap, arith}
 use Rattle.ec_code.specs.Views.{statements_view}
 use Rattle.ec_evaluation.specs.Execute.{run_all}
 use Rattle.ec_evaluation.specs.Results.{on_done}
-use Rattle.ec_evaluation.specs.Whole.{without_atoms}
 use Rattle.ec_machine.specs.Frames.{here, led}
 use Rattle.ec_machine.specs.Goes.{env_of}
 use Rattle.ec_machine.proofs.Moves.{goes_as}
@@ -15,9 +14,9 @@ returns-in-On-clause-goes c = λ fs.
     let d = here (env_of m) m.line in
     let xs = statements_view c.args.statements.now in
     goes_as fs m c.list.new.self (env_of m) c.list.result
-    (λ w t. on_done (led c.args.flow t) (λ u. run_all without_atoms w d xs u))
-    (λ w t. run_all without_atoms w d xs t)
-    (λ w t. ap (λ f. on_done (led f t) (λ u. run_all without_atoms w d xs u)) c.in-On.is)
+    (λ knowing w t. on_done (led c.args.flow t) (λ u. run_all knowing w d xs u))
+    (λ knowing w t. run_all knowing w d xs t)
+    (λ knowing w t. ap (λ f. on_done (led f t) (λ u. run_all knowing w d xs u)) c.in-On.is)
     (c.list.ensures.goes fs)
 
 pub returns-in-On-clause-nears : goal.returns-in-On-clause-nears

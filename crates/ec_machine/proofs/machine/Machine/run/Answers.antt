@@ -6,10 +6,9 @@ use Rattle.ec_evaluation.specs.Evaluate.{eval}
 use Rattle.ec_evaluation.specs.Execute.{declared, enter, initialized, returning, run, run_all}
 use Rattle.ec_evaluation.specs.Results.{turn, went}
 use Rattle.ec_evaluation.specs.State.{stuck}
-use Rattle.ec_evaluation.specs.Whole.{without_atoms}
 use Rattle.ec_machine.specs.declared.frame.Frame.TheVariants as frame
 use Rattle.ec_machine.specs.Frames.{here, resume}
-use Rattle.ec_machine.specs.Goes.{at, env_of, world}
+use Rattle.ec_machine.specs.Goes.{at, env_of, tasks}
 use Rattle.ec_machine.proofs.Moves.{goes_as, pushed, resume_over}
 use Rattle.ec_machine.proofs.Running.{to_OnLine, to_Nothing, to_Evaluate, to_Declare, to_Initialize, to_Block, to_Choose, to_Loop, to_Leave, to_Next, to_Return, to_Goto, to_Label, to_Embedded}
 use Rattle.ec_machine.specs.Weights.{expressions_weight, statement_weight, statements_weight, test_weight}
@@ -17,31 +16,31 @@ use Rattle.ec_machine.proofs.Weighing.{err_near, nearer, pushes, weight-OnLine, 
 use Rattle.ec_machine.proofs.machine.Machine.run.Goals as goal
 
 pub returns-in-OnLine-clause-goes : goal.returns-in-OnLine-clause-goes
-returns-in-OnLine-clause-goes c = λ k s l.
-    let w = world c.args.functions.now k in
+returns-in-OnLine-clause-goes c = λ knowing fits k s l.
+    let w = tasks knowing c.args.functions.now k in
     let m = c.args.self.now in
-    ap (resume w (env_of m) (reverse m.frames)) (to_OnLine w (env_of m) (at s m) m.line c.args.statement.now c.in-OnLine.line c.in-OnLine.inner c.get.result.now c.in-OnLine.is c.get.ensures)
+    ap (resume knowing w (env_of m) (reverse m.frames)) (to_OnLine knowing w (env_of m) (at s m) m.line c.args.statement.now c.in-OnLine.line c.in-OnLine.inner c.get.result.now c.in-OnLine.is c.get.ensures)
 
 pub returns-in-Nothing-clause-goes : goal.returns-in-Nothing-clause-goes
-returns-in-Nothing-clause-goes c = λ k s l.
-    let w = world c.args.functions.now k in
+returns-in-Nothing-clause-goes c = λ knowing fits k s l.
+    let w = tasks knowing c.args.functions.now k in
     let m = c.args.self.now in
-    ap (resume w (env_of m) (reverse m.frames)) (to_Nothing w (env_of m) (at s m) m.line c.args.statement.now c.in-Nothing.is)
+    ap (resume knowing w (env_of m) (reverse m.frames)) (to_Nothing knowing w (env_of m) (at s m) m.line c.args.statement.now c.in-Nothing.is)
 
 pub returns-in_ok-push-in-Evaluate-clause-goes : goal.returns-in_ok-push-in-Evaluate-clause-goes
-returns-in_ok-push-in-Evaluate-clause-goes c = λ k s l.
-    let w = world c.args.functions.now k in
+returns-in_ok-push-in-Evaluate-clause-goes c = λ knowing fits k s l.
+    let w = tasks knowing c.args.functions.now k in
     let m = c.args.self.now in
-    ap (resume w (env_of m) (reverse m.frames)) (to_Evaluate w (env_of m) (at s m) m.line c.args.statement.now c.in-Evaluate.expression c.in-Evaluate.is)
-    ∙ pushed w (env_of m) m.frames c.push.new.self frame.Do (eval without_atoms w (here (env_of m) m.line) (expression_view c.in-Evaluate.expression) (at s m)) c.in_ok-push-in-Evaluate.ensures.ok
+    ap (resume knowing w (env_of m) (reverse m.frames)) (to_Evaluate knowing w (env_of m) (at s m) m.line c.args.statement.now c.in-Evaluate.expression c.in-Evaluate.is)
+    ∙ pushed knowing w (env_of m) m.frames c.push.new.self frame.Do (eval knowing w (here (env_of m) m.line) (expression_view c.in-Evaluate.expression) (at s m)) c.in_ok-push-in-Evaluate.ensures.ok
 
 pub returns-in-Declare-clause-goes : goal.returns-in-Declare-clause-goes
 returns-in-Declare-clause-goes c =
     let fs = c.args.functions.now in
     let m = c.args.self.now in
     let d = here (env_of m) m.line in
-    goes_as fs m c.declare.new.self (env_of m) c.declare.result _ (λ w t. declared d c.in-Declare.slot c.in-Declare.size t)
-    (λ w t. to_Declare w (env_of m) t m.line c.args.statement.now c.in-Declare.slot c.in-Declare.size c.in-Declare.is)
+    goes_as fs m c.declare.new.self (env_of m) c.declare.result _ (λ knowing w t. declared d c.in-Declare.slot c.in-Declare.size t)
+    (λ knowing w t. to_Declare knowing w (env_of m) t m.line c.args.statement.now c.in-Declare.slot c.in-Declare.size c.in-Declare.is)
     (c.declare.ensures.goes fs)
 
 pub returns-in-Initialize-clause-goes : goal.returns-in-Initialize-clause-goes
@@ -49,8 +48,8 @@ returns-in-Initialize-clause-goes c =
     let fs = c.args.functions.now in
     let m = c.args.self.now in
     let d = here (env_of m) m.line in
-    goes_as fs m c.initialize.new.self (env_of m) c.initialize.result _ (λ w t. initialized without_atoms w d c.in-Initialize.slot c.in-Initialize.size (expressions_view c.as_slice.result.now) t)
-    (λ w t. to_Initialize w (env_of m) t m.line c.args.statement.now c.in-Initialize.slot c.in-Initialize.size c.in-Initialize.values c.as_slice.result.now c.in-Initialize.is c.as_slice.ensures)
+    goes_as fs m c.initialize.new.self (env_of m) c.initialize.result _ (λ knowing w t. initialized knowing w d c.in-Initialize.slot c.in-Initialize.size (expressions_view c.as_slice.result.now) t)
+    (λ knowing w t. to_Initialize knowing w (env_of m) t m.line c.args.statement.now c.in-Initialize.slot c.in-Initialize.size c.in-Initialize.values c.as_slice.result.now c.in-Initialize.is c.as_slice.ensures)
     c.initialize.ensures.goes
 
 pub returns-in-Block-clause-goes : goal.returns-in-Block-clause-goes
@@ -60,67 +59,67 @@ returns-in-Block-clause-goes c =
     let d = here (env_of m) m.line in
     let sizes = c.as_slice-in-Block.result.now in
     let body = c.as_slice-in-Block-2.result.now in
-    goes_as fs m c.run_block.new.self (env_of m) c.run_block.result _ (λ w t. enter w d (map size_view sizes) (statements_view body) (λ d u. run_all without_atoms w d (statements_view body) u) t)
-    (λ w t. to_Block w (env_of m) t m.line c.args.statement.now c.in-Block.sizes sizes c.in-Block.body body c.in-Block.is c.as_slice-in-Block.ensures c.as_slice-in-Block-2.ensures)
+    goes_as fs m c.run_block.new.self (env_of m) c.run_block.result _ (λ knowing w t. enter w d (map size_view sizes) (statements_view body) (λ d u. run_all knowing w d (statements_view body) u) t)
+    (λ knowing w t. to_Block knowing w (env_of m) t m.line c.args.statement.now c.in-Block.sizes sizes c.in-Block.body body c.in-Block.is c.as_slice-in-Block.ensures c.as_slice-in-Block-2.ensures)
     (c.run_block.ensures.goes fs)
 
 pub returns-in_ok-push-in-Choose-clause-goes : goal.returns-in_ok-push-in-Choose-clause-goes
-returns-in_ok-push-in-Choose-clause-goes c = λ k s l.
-    let w = world c.args.functions.now k in
+returns-in_ok-push-in-Choose-clause-goes c = λ knowing fits k s l.
+    let w = tasks knowing c.args.functions.now k in
     let m = c.args.self.now in
-    ap (resume w (env_of m) (reverse m.frames)) (to_Choose w (env_of m) (at s m) m.line c.args.statement.now c.in-Choose.test c.in-Choose.first c.in-Choose.second c.get-in-Choose.result c.get-in-Choose-2.result c.in-Choose.is c.get-in-Choose.ensures c.get-in-Choose-2.ensures)
-    ∙ pushed w (env_of m) m.frames c.push-in-Choose.new.self (frame.Choose m.line c.get-in-Choose.result c.get-in-Choose-2.result) (eval without_atoms w (here (env_of m) m.line) (expression_view c.in-Choose.test) (at s m)) c.in_ok-push-in-Choose.ensures.ok
+    ap (resume knowing w (env_of m) (reverse m.frames)) (to_Choose knowing w (env_of m) (at s m) m.line c.args.statement.now c.in-Choose.test c.in-Choose.first c.in-Choose.second c.get-in-Choose.result c.get-in-Choose-2.result c.in-Choose.is c.get-in-Choose.ensures c.get-in-Choose-2.ensures)
+    ∙ pushed knowing w (env_of m) m.frames c.push-in-Choose.new.self (frame.Choose m.line c.get-in-Choose.result c.get-in-Choose-2.result) (eval knowing w (here (env_of m) m.line) (expression_view c.in-Choose.test) (at s m)) c.in_ok-push-in-Choose.ensures.ok
 
 pub returns-in-Loop-clause-goes : goal.returns-in-Loop-clause-goes
 returns-in-Loop-clause-goes c =
     let fs = c.args.functions.now in
     let m = c.args.self.now in
     let d = here (env_of m) m.line in
-    goes_as fs m c.run_loop.new.self (env_of m) c.run_loop.result _ (λ w t. run without_atoms w d (loop_view c.get-in-Loop.result.now) t)
-    (λ w t. to_Loop w (env_of m) t m.line c.args.statement.now c.in-Loop.inner c.get-in-Loop.result.now c.in-Loop.is c.get-in-Loop.ensures)
+    goes_as fs m c.run_loop.new.self (env_of m) c.run_loop.result _ (λ knowing w t. run knowing w d (loop_view c.get-in-Loop.result.now) t)
+    (λ knowing w t. to_Loop knowing w (env_of m) t m.line c.args.statement.now c.in-Loop.inner c.get-in-Loop.result.now c.in-Loop.is c.get-in-Loop.ensures)
     (c.run_loop.ensures.goes fs)
 
 pub returns-in-Leave-clause-goes : goal.returns-in-Leave-clause-goes
-returns-in-Leave-clause-goes c = λ k s l.
-    let w = world c.args.functions.now k in
+returns-in-Leave-clause-goes c = λ knowing fits k s l.
+    let w = tasks knowing c.args.functions.now k in
     let m = c.args.self.now in
-    ap (resume w (env_of m) (reverse m.frames)) (to_Leave w (env_of m) (at s m) m.line c.args.statement.now c.in-Leave.is)
+    ap (resume knowing w (env_of m) (reverse m.frames)) (to_Leave knowing w (env_of m) (at s m) m.line c.args.statement.now c.in-Leave.is)
 
 pub returns-in-Next-clause-goes : goal.returns-in-Next-clause-goes
-returns-in-Next-clause-goes c = λ k s l.
-    let w = world c.args.functions.now k in
+returns-in-Next-clause-goes c = λ knowing fits k s l.
+    let w = tasks knowing c.args.functions.now k in
     let m = c.args.self.now in
-    ap (resume w (env_of m) (reverse m.frames)) (to_Next w (env_of m) (at s m) m.line c.args.statement.now c.in-Next.is)
+    ap (resume knowing w (env_of m) (reverse m.frames)) (to_Next knowing w (env_of m) (at s m) m.line c.args.statement.now c.in-Next.is)
 
 pub returns-in-Return-clause-goes : goal.returns-in-Return-clause-goes
 returns-in-Return-clause-goes c =
     let fs = c.args.functions.now in
     let m = c.args.self.now in
     let d = here (env_of m) m.line in
-    goes_as fs m c.run_return.new.self (env_of m) c.run_return.result _ (λ w t. returning without_atoms w d (option_map expression_view c.in-Return.value) t)
-    (λ w t. to_Return w (env_of m) t m.line c.args.statement.now c.in-Return.value c.in-Return.is)
+    goes_as fs m c.run_return.new.self (env_of m) c.run_return.result _ (λ knowing w t. returning knowing w d (option_map expression_view c.in-Return.value) t)
+    (λ knowing w t. to_Return knowing w (env_of m) t m.line c.args.statement.now c.in-Return.value c.in-Return.is)
     (c.run_return.ensures.goes fs)
 
 pub returns-in-Goto-clause-goes : goal.returns-in-Goto-clause-goes
 returns-in-Goto-clause-goes c =
     let fs = c.args.functions.now in
     let m = c.args.self.now in
-    goes_as fs m c.jump.new.self (env_of m) c.jump.result _ (λ w t. turn t (λ u. went c.in-Goto.label u))
-    (λ w t. to_Goto w (env_of m) t m.line c.args.statement.now c.in-Goto.label c.in-Goto.is)
+    goes_as fs m c.jump.new.self (env_of m) c.jump.result _ (λ knowing w t. turn t (λ u. went c.in-Goto.label u))
+    (λ knowing w t. to_Goto knowing w (env_of m) t m.line c.args.statement.now c.in-Goto.label c.in-Goto.is)
     (c.jump.ensures.goes fs)
 
 pub returns-in-Label-clause-goes : goal.returns-in-Label-clause-goes
-returns-in-Label-clause-goes c = λ k s l.
-    let w = world c.args.functions.now k in
+returns-in-Label-clause-goes c = λ knowing fits k s l.
+    let w = tasks knowing c.args.functions.now k in
     let m = c.args.self.now in
-    ap (resume w (env_of m) (reverse m.frames)) (to_Label w (env_of m) (at s m) m.line c.args.statement.now c.in-Label.field-0 c.in-Label.inner c.get-in-Label.result.now c.in-Label.is c.get-in-Label.ensures)
+    ap (resume knowing w (env_of m) (reverse m.frames)) (to_Label knowing w (env_of m) (at s m) m.line c.args.statement.now c.in-Label.field-0 c.in-Label.inner c.get-in-Label.result.now c.in-Label.is c.get-in-Label.ensures)
 
 pub returns-in-Embedded-clause-goes : goal.returns-in-Embedded-clause-goes
-returns-in-Embedded-clause-goes c = λ k s l.
-    let w = world c.args.functions.now k in
+returns-in-Embedded-clause-goes c = λ knowing fits k s l.
+    let w = tasks knowing c.args.functions.now k in
     let m = c.args.self.now in
-    ap (resume w (env_of m) (reverse m.frames)) (to_Embedded w (env_of m) (at s m) m.line c.args.statement.now c.in-Embedded.field-0 c.in-Embedded.is)
-    ∙ resume_over w (env_of m) (reverse m.frames) stuck (at s m)
+    ap (resume knowing w (env_of m) (reverse m.frames)) (to_Embedded knowing w (env_of m) (at s m) m.line c.args.statement.now c.in-Embedded.field-0 fits c.in-Embedded.is)
+    ∙ resume_over knowing w (env_of m) (reverse m.frames) stuck (at s m)
 
 pub returns-in-OnLine-clause-nears : goal.returns-in-OnLine-clause-nears
 returns-in-OnLine-clause-nears c = nearer _ _ _ _ (omega (arith, ap statement_weight c.in-OnLine.is ∙ weight-OnLine _ _, ap statement_weight c.get.ensures))

@@ -1,6 +1,5 @@
 use Rattle.ec_evaluation.specs.Evaluate.{turn_of}
 use Rattle.ec_evaluation.specs.Execute.{tested}
-use Rattle.ec_evaluation.specs.Whole.{without_atoms}
 use Rattle.ec_machine.specs.Frames.{behind_of, body_of, here, test_of}
 use Rattle.ec_machine.specs.Goes.{env_of}
 use Rattle.ec_machine.proofs.Moves.{goes_as}
@@ -13,8 +12,8 @@ returns-then-inner-clause-goes c = λ fs.
     let m = c.args.self.now in
     let d = here (env_of m) m.line in
     let y = c.args.inner.now in
-    goes_as fs m c.test.new.self (env_of m) c.test.result _ (λ w t. tested without_atoms w d (test_of y) (behind_of y) (body_of y) t)
-    (λ w t. loop_tested w d t y c.if-inner.true)
+    goes_as fs m c.test.new.self (env_of m) c.test.result _ (λ knowing w t. tested knowing w d (test_of y) (behind_of y) (body_of y) t)
+    (λ knowing w t. loop_tested knowing w d t y c.if-inner.true)
     (c.test.ensures.goes fs)
 
 pub returns-else-inner-clause-goes : goal.returns-else-inner-clause-goes
@@ -22,8 +21,8 @@ returns-else-inner-clause-goes c = λ fs.
     let m = c.args.self.now in
     let d = here (env_of m) m.line in
     let y = c.args.inner.now in
-    goes_as fs m c.turn.new.self (env_of m) c.turn.result _ (λ w t. w (turn_of d (test_of y) (behind_of y) (body_of y)) t)
-    (λ w t. loop_turned w d t y c.if-inner.false)
+    goes_as fs m c.turn.new.self (env_of m) c.turn.result _ (λ knowing w t. w (turn_of d (test_of y) (behind_of y) (body_of y)) t)
+    (λ knowing w t. loop_turned knowing w d t y c.if-inner.false)
     (c.turn.ensures.goes fs)
 
 pub returns-then-inner-clause-nears : goal.returns-then-inner-clause-nears

@@ -1,7 +1,7 @@
 use Rattle.ec_machine.proofs.Parts.{focus_as}
 use Rattle.ec_machine.specs.declared.frame.Focus.TheVariants as focus
 use Rattle.std.proofs.Common.{arith, ap, subst, sym}
-use Rattle.ec_machine.specs.Weights.{focus_weight, IsPut}
+use Rattle.ec_machine.specs.Weights.{focus_weight, IsOutside}
 use Rattle.ec_machine.proofs.machine.Machine.step.Goals as goal
 
 pub returns-in-Runs-clause-goes : goal.returns-in-Runs-clause-goes
@@ -40,4 +40,7 @@ pub returns-in-Leads-clause-nears : goal.returns-in-Leads-clause-nears
 returns-in-Leads-clause-nears c = λ _. omega (arith, c.hand_flow.ensures.nears, ap (λ f. focus_weight f c.args.self.now.frames) c.in-Leads.is)
 
 pub returns-in-Puts-clause-nears : goal.returns-in-Puts-clause-nears
-returns-in-Puts-clause-nears c = λ p. absurd (p (subst IsPut (sym c.in-Puts.is) tt))
+returns-in-Puts-clause-nears c = λ p. absurd (p (subst IsOutside (sym c.in-Puts.is) tt))
+
+pub returns-in-Calls-clause-nears : goal.returns-in-Calls-clause-nears
+returns-in-Calls-clause-nears c = λ p. absurd (p (subst IsOutside (sym c.in-Calls.is) tt))

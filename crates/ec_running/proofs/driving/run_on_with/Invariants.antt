@@ -1,0 +1,14 @@
+use Rattle.std.proofs.Common.{◌≡◌}
+use Rattle.ec_running.specs.LibraryRuns.{ComesWith}
+use Rattle.ec_running.specs.Runs.{answer_with}
+use Rattle.ec_running.proofs.driving.run_on_with.Given as goal
+
+abbrev pub invariant-loop-next : goal.invariant-loop-next
+invariant-loop-next g l = record {
+  comes : ComesWith g.O.Sink.held g.O.Sink.faults g.E.Sink.held g.E.Sink.faults l.fn.machine.turns (λ k s. answer_with (g.L.Library.knowing l.fn.library) l.functions k l.fn.machine l.fn.focus s)
+      (g.L.Library.session l.fn.library) (g.L.Library.session l.library) l.fn.out l.out l.fn.err l.err l.machine (g.L.Library.knowing l.fn.library) l.functions l.focus;
+  same : g.L.Library.knowing l.library ≡ g.L.Library.knowing l.fn.library;
+}
+
+abbrev pub decreases-loop-next : goal.decreases-loop-next
+decreases-loop-next g l = l.machine.turns

@@ -1,0 +1,68 @@
+//! Calls of a library.
+
+ghost use Rattle.std.specs.Prelude.{◌≡◌, ◌≤◌};
+ghost use Rattle.ec_running.specs.Sessions.{Called};
+
+use ec_base::Line;
+use ec_bytes::Ptr;
+use ec_machine::{End, Stop};
+use ec_memory::Store;
+
+/// What makes the calls of the library in a program.
+pub trait Library {
+    ghost use Rattle.std.specs.Prelude.{Option};
+    ghost use Rattle.ec_evaluation.specs.Evaluate.{Step as Knowing};
+    ghost use Rattle.ec_running.specs.Sessions.{Session, Suits};
+
+    /// What the calls do, by their numbers: the step of a run that makes them.
+    ghost knowing: { Self → Knowing };
+
+    /// What is known of the state of a run beside its memory, where anything is.
+    ghost session: { Self → Option Session };
+
+    /// Makes a call, with the objects in scope by their pointers. Its traps are at this line.
+    ///
+    /// After want of memory a front of what the call says was said.
+    fn call(
+        &mut self,
+        store: &mut Store,
+        turns: &mut u64,
+        line: Line,
+        scope: &[Ptr],
+        number: u32,
+    ) -> Result<(), Stop>
+        ensures same { knowing self.new ≡ knowing self.old }
+        ensures called { Called (knowing self.old) number line.0 scope.now store.old turns.old
+            (session self.old) store.new turns.new (session self.new) result }
+        ensures fewer { turns.new ≤ turns.old };
+
+    /// Whole runs go by the step.
+    ghost suits: { (x : Self) → Suits (knowing x) };
+}
+
+/// The library of programs that make no call of one.
+#[derive(Clone, Copy)]
+pub struct NoLibrary;
+
+impl Library for NoLibrary {
+    ghost use Rattle.std.specs.Prelude.{None};
+    ghost use Rattle.ec_evaluation.specs.Whole.{without_atoms};
+    ghost use Rattle.ec_running.specs.Without.{without_suits};
+
+    ghost knowing = { λ _. without_atoms };
+
+    ghost session = { λ _. None };
+
+    ghost suits = { λ _. without_suits };
+
+    fn call(
+        &mut self,
+        _store: &mut Store,
+        _turns: &mut u64,
+        _line: Line,
+        _scope: &[Ptr],
+        _number: u32,
+    ) -> Result<(), Stop> {
+        Err(Stop::Over(End::Stuck))
+    }
+}
