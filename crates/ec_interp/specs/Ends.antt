@@ -1,0 +1,22 @@
+-- The ends of runs, as the machine names them.
+use Rattle.ec_base.specs.declared.stop.Trap.TheVariants as traps
+use Rattle.ec_machine.specs.declared.stop.End.TheVariants as ends
+use Rattle.ec_memory.specs.declared.store.MakeStop.{MakeStop}
+use Rattle.ec_memory.specs.declared.store.MakeStop.TheVariants as makes
+use Rattle.ec_running.specs.declared.halt.Halt.{Halt}
+use Rattle.ec_running.specs.declared.halt.Halt.TheVariants as halt
+use Rattle.ec_interp.specs.declared.end.RunEnd.{RunEnd}
+use Rattle.ec_interp.specs.declared.end.RunEnd.TheVariants as end
+
+abbrev pub halt_of : RunEnd → Halt
+halt_of (end.Exited n) = halt.Over (ends.Exited n)
+halt_of (end.Trapped trap line) = halt.Over (ends.Trapped trap line)
+halt_of end.TurnsSpent = halt.Over ends.TurnsSpent
+halt_of end.Stuck = halt.Over ends.Stuck
+halt_of end.WriteFault = halt.WriteFault
+halt_of end.OutOfMemory = halt.OutOfMemory
+
+-- where an object of the program was not made, on line 1
+abbrev pub stopped : MakeStop → RunEnd
+stopped makes.Spent = end.Trapped traps.Spent (record { 0 = 1 })
+stopped makes.OutOfMemory = end.OutOfMemory

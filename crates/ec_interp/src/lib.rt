@@ -1,0 +1,9 @@
+//! Whole runs of resolved programs: a machine for a program, which opens it, runs it to its end, and keeps the memory that
+//! is there then.
+#![tactic(auto)]
+
+mod end;
+mod machine;
+
+pub use end::RunEnd;
+pub use machine::Machine;
