@@ -30,7 +30,9 @@ use Rattle.ec_expansion.specs.Programs.{block_of, block_for, embedded, unit_of}
 use Rattle.ec_expansion.specs.Statements.{written_tops}
 use Rattle.ec_written_shape.specs.Blocks.{IsBlockOption}
 use Rattle.ec_written_shape.specs.Bounds.{are_written_actions, is_written_statement, are_written_statements, is_written_bound}
-use Rattle.ec_written_sources.specs.Written.{written_of, is_directive, has_written_hosts, have_written_hosts, are_hosts_written}
+use Rattle.ec_bound_shape.specs.Counts.{are_counted}
+use Rattle.ec_bound_shape.specs.Written.{is_directive, has_written_hosts, have_written_hosts, are_hosts_written}
+use Rattle.ec_written_sources.specs.Written.{written_of}
 use Rattle.ec_written_sources.proofs.Statements.{AreStatements, statements_written, source_statements}
 
 -- ---- the phases one after the other
@@ -105,6 +107,7 @@ module _
     (program_is : (u : UnitData) (embedded : ℕ → Option StmtKindData) → is_source_shape u ≡ true → is_kept written u ≡ true → ((n : ℕ) → IsBlockOption (embedded n)) → is_written_shape (unit_of (written_tops embedded u.tops)) ≡ true)
     (block_for_is : (handlers : List MarkData) (es : List EmbData) (n : ℕ) (e : EmbData) (b : BoundData) → is_line e.line.0 ≡ true → are_written_actions e.line.0 (action_among handlers e.place) ≡ true → are_written_statements es ≡ true → is_written_statement e.kind ≡ true
     → is_written_bound e.line.0 b ≡ true → IsBlockOption (block_for handlers es n e b))
+    (hosts_are : (text : Text) (p : BoundProgram) → each is_byte text ≡ true → DeclaredIncludesStartNothing text → ReadsSource text (Ok p) → are_counted p.bounds ≡ true → are_hosts_written p ≡ true)
   where
     tree_shape : (text : Text) (v : UnitData) → each is_byte text ≡ true → DeclaredIncludesStartNothing text → ReadsTree text (Ok v) → is_source_shape v ≡ true
     tree_shape text v b q (statements pieces ts u es answer l c x is r e) = subst (λ ts. are_source_tops ts ≡ true) (same_tops u v es e) (derived_shape ts u (tokens_are text pieces ts b l c (q pieces c) x) is)
@@ -180,9 +183,10 @@ module _
       by_blocks : ((n : ℕ) → IsBlockOption (embedded p.program.handlers p.program.unit.embs p.bounds n)) → is_written_shape (written_of p) ≡ true
       by_blocks blocks = program_is p.program.unit (embedded p.program.handlers p.program.unit.embs p.bounds) shape kept blocks
 
-    pub with_statements_shape : (text : Text) (p : BoundProgram) → each is_byte text ≡ true → ReadsSource text (Ok p) → DeclaredIncludesStartNothing text → are_hosts_written p ≡ true → is_written_shape (written_of p) ≡ true
-    with_statements_shape text p b r k h =
+    pub with_statements_shape : (text : Text) (p : BoundProgram) → each is_byte text ≡ true → ReadsSource text (Ok p) → DeclaredIncludesStartNothing text → are_counted p.bounds ≡ true → is_written_shape (written_of p) ≡ true
+    with_statements_shape text p b r k c =
         let s = statements_are text p b r k in
+        let h = hosts_are text p b k r c in
         by_blocks text p b r k (λ n. embedded_is p.program.handlers p.program.unit.embs p.program.unit.embs p.bounds n n (statements_written p.program.unit.embs s) s h)
 
     pub without_statements_shape : (text : Text) (p : BoundProgram) → each is_byte text ≡ true → ReadsSource text (Ok p) → DeclaredIncludesStartNothing text → p.program.unit.embs ≡ [] → is_written_shape (written_of p) ≡ true

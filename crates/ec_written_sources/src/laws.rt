@@ -1,19 +1,21 @@
 //! What holds of the written C of sources, as the contract of a function that does nothing.
 
 ghost use Rattle.std.specs.Prelude.{◌≡◌, true, [], Result, Ok};
+ghost use Rattle.ec_bound_shape.specs.Counts.{are_counted};
 ghost use Rattle.ec_language.specs.Letters.{Text, each};
 ghost use Rattle.ec_phases.specs.Sources.{BoundProgram, ReadsSource};
 ghost use Rattle.ec_source_shape.specs.Includes.{DeclaredIncludesStartNothing};
 ghost use Rattle.ec_writing.specs.Shapes.{is_byte, is_written_shape};
-ghost use Rattle.ec_written_sources.specs.Written.{written_of, are_hosts_written};
+ghost use Rattle.ec_written_sources.specs.Written.{written_of};
 
+use ec_bound_shape::accepted_hosts_can_be_written;
 use ec_kept_shape::phases_keep_what_is_written;
 use ec_source_shape::{derived_trees_have_source_shape, sources_have_source_shape};
 use ec_written_shape::{blocks_have_written_shape, expanded_programs_have_written_shape};
 
 /// What is written of an accepted source has the written shape, so that it is read back, if its declarations after EXEC SQL
-/// have no `#include` line in which an embedded piece would start; and if it has no embedded statement, or the hosts of each and
-/// the actions that hold at it can be written.
+/// have no `#include` line in which an embedded piece would start; and if it has no embedded statement, or the sizes and counts
+/// of the hosts of each are of type long.
 #[tactic(none)]
 pub fn sources_are_written_in_shape()
     ensures alone { (text : Text) (p : BoundProgram) → each is_byte text ≡ true
@@ -21,11 +23,12 @@ pub fn sources_are_written_in_shape()
         → p.program.unit.embs ≡ [] → is_written_shape (written_of p) ≡ true }
     ensures embedded { (text : Text) (p : BoundProgram) → each is_byte text ≡ true
         → ReadsSource text (Ok p) → DeclaredIncludesStartNothing text
-        → are_hosts_written p ≡ true → is_written_shape (written_of p) ≡ true }
+        → are_counted p.bounds ≡ true → is_written_shape (written_of p) ≡ true }
 {
     sources_have_source_shape();
     derived_trees_have_source_shape();
     phases_keep_what_is_written();
     expanded_programs_have_written_shape();
     blocks_have_written_shape();
+    accepted_hosts_can_be_written();
 }

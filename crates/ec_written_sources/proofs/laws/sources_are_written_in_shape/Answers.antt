@@ -8,4 +8,5 @@ returns c =
     let kept = c.phases_keep_what_is_written.ensures in
     let programs = c.expanded_programs_have_written_shape.ensures in
     let blocks = c.blocks_have_written_shape.ensures in
-    record { alone = without_statements_shape tokens derived kept programs blocks; embedded = with_statements_shape tokens derived kept programs blocks }
+    let hosts = c.accepted_hosts_can_be_written.ensures in
+    record { alone = without_statements_shape tokens derived kept programs blocks hosts; embedded = with_statements_shape tokens derived kept programs blocks hosts }

@@ -1,0 +1,17 @@
+mod Bounds
+mod Characters
+mod Derived
+mod Each
+mod EmbeddedRules
+mod Expressions
+mod Forms
+mod Initializers
+mod Operands
+mod Places
+mod Programs
+mod References
+mod Rules
+mod SentParts
+mod StatementTokens
+mod Statements
+mod TreeNumbers
