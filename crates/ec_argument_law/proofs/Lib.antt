@@ -1,0 +1,3 @@
+mod AllArguments
+mod BoundSame
+mod Pointers

@@ -1,0 +1,5 @@
+use Rattle.ec_argument_law.proofs.Pointers.{leaf_pointed}
+use Rattle.ec_argument_law.proofs.places.pointers_lead_to_leaves.Goals as goal
+
+pub returns : goal.returns
+returns g = λ at s w structs t l e x lies place. leaf_pointed at s w structs lies place

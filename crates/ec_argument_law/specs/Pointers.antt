@@ -1,0 +1,83 @@
+-- What the pointers in the arguments of a written call are resolved to, where the call stands.
+use Rattle.std.specs.Prelude.{◌≡◌, ℕ, Bool, true, false, List, [], ◌∷◌, Option, Some, None, option_map}
+use Rattle.ec_ctypes.specs.Layout.{member_of}
+use Rattle.ec_ctypes.specs.trees.Exprs.{ExprData}
+use Rattle.ec_ctypes.specs.trees.Types.{TyData, void, arithmetic, pointer, array, structure, StructData}
+use Rattle.ec_hosts.specs.Leaves.{Path, LeafData}
+use Rattle.ec_hosts.specs.Places.{size_of}
+use Rattle.ec_typing.specs.Operands.{OperandData, member_type}
+use Rattle.ec_typing.specs.Worlds.{Place, World, members_of, is_complete}
+use Rattle.ec_resolved.specs.Resolved.{Exp}
+use Rattle.ec_resolving.specs.Conversions.{size_in}
+use Rattle.ec_resolving.specs.Storage.{Storage, Resolving, reached, ◌>>=◌}
+use Rattle.ec_resolving.specs.Operands.{Found, found, offset_among, value_rule}
+use Rattle.ec_resolving.specs.Expressions.{expr}
+
+-- an expression as a value
+abbrev pub value_of : Place → ExprData → Resolving Found
+value_of at e = expr at e >>= value_rule at
+
+-- where a part of a program stands
+module _ (at : Place) (s : Storage) (w : World) where
+  -- The expression is a place of this type with this address, and makes nothing
+  pub record IsPlace (e : ExprData) (t : TyData) (x : Exp) : Type 0 where
+    pub operand : OperandData
+    pub is : expr at e s w ≡ reached (found operand x true) s w
+    pub type : operand.type ≡ Some t
+    pub place : operand.is_place ≡ true
+
+  -- its value is this pointer to one of this type, and it makes nothing
+  pub record IsPointer (e : ExprData) (t : TyData) (x : Exp) : Type 0 where
+    pub operand : OperandData
+    pub is : value_of at e s w ≡ reached (found operand x false) s w
+    pub type : operand.type ≡ Some (pointer t)
+
+-- what a pointer to a place of this type leads to: an array is the pointer to its first element
+abbrev pub target_of : TyData → TyData
+target_of void = void
+target_of (arithmetic a) = arithmetic a
+target_of (pointer t) = pointer t
+target_of (array t n) = t
+target_of (structure k) = structure k
+
+-- ---- what is known of structs where a host stands
+
+module _ (w : World) (structs : List StructData) where
+  -- the struct has a member of this type where the layout has it
+  pub record HasMember (k : ℕ) (name : List ℕ) (t : TyData) (offset : ℕ) : Type 0 where
+    pub type : member_type name (members_of k w) ≡ Some (Some t)
+    pub place : offset_among w name (members_of k w) ≡ Some offset
+    pub laid_out : option_map (λ m. m.0) (member_of structs k name) ≡ Some offset
+
+  -- the members of a path lead from a struct to a type
+  pub data Leads : TyData → Path → TyData → Type 0 where
+    leads_here : {t : TyData} → Leads t [] t
+    leads_on : {k : ℕ} {name : List ℕ} {offset : ℕ} {t u : TyData} {path : Path}
+        → HasMember k name t offset → Leads t path u → Leads (structure k) ((k, name) ∷ path) u
+
+  -- the first element of an array is complete, and has the size that the layout gives
+  pub record HasElements (u apart : TyData) : Type 0 where
+    pub complete : is_complete w u ≡ true
+    pub size : size_in w u ≡ size_of structs apart
+
+  -- a leaf lies in a host of this type
+  pub data LiesIn : TyData → LeafData → Type 0 where
+    in_itself : {t whole element apart : TyData} {path : Path} {count : ℕ} → Leads t path whole
+        → LiesIn t (record {
+          in_first = false;
+          path = path;
+          whole = whole;
+          element = element;
+          count = count;
+          apart = apart;
+        })
+    in_first_of : {u whole element apart : TyData} {path : Path} {n count : ℕ}
+        → HasElements u apart → Leads u path whole
+        → LiesIn (array u n) (record {
+          in_first = true;
+          path = path;
+          whole = whole;
+          element = element;
+          count = count;
+          apart = apart;
+        })

@@ -1,0 +1,22 @@
+//! What the expressions in a written call are resolved to.
+
+ghost use Rattle.std.specs.Prelude.{List};
+ghost use Rattle.ec_ctypes.specs.trees.Exprs.{ExprData};
+ghost use Rattle.ec_ctypes.specs.trees.Types.{TyData, StructData};
+ghost use Rattle.ec_hosts.specs.Leaves.{LeafData};
+ghost use Rattle.ec_hosts.specs.Places.{leaf_pointer};
+ghost use Rattle.ec_resolved.specs.Resolved.{Exp};
+ghost use Rattle.ec_resolving.specs.Storage.{Storage};
+ghost use Rattle.ec_typing.specs.Worlds.{Place, World};
+ghost use Rattle.ec_direct.specs.Leaves.{leaf_place};
+ghost use Rattle.ec_argument_law.specs.Pointers.{IsPlace, IsPointer, target_of, LiesIn};
+
+/// The pointer that is written for a leaf is resolved to the place of the leaf, where the host is a place in whose type the
+/// leaf lies: to the member's place in the host or in its first element, and without making anything.
+#[tactic(none)]
+pub fn pointers_lead_to_leaves()
+    ensures { (at : Place) (s : Storage) (w : World) (structs : List StructData) (t : TyData)
+        (l : LeafData) (e : ExprData) (x : Exp)
+        → LiesIn w structs t l → IsPlace at s w e t x
+        → IsPointer at s w (leaf_pointer e l) (target_of l.whole) (leaf_place structs x l) }
+{}

@@ -1,0 +1,13 @@
+mod Alike
+mod Bare
+mod Blocks
+mod ByType
+mod Done
+mod Evaluated
+mod Keeping
+mod Kept
+mod Memories
+mod Plain
+mod Tests
+mod TidyRuns
+mod Whole

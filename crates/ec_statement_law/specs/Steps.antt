@@ -1,0 +1,16 @@
+-- What a statement does by itself where it stands, before its handlers.
+use Rattle.std.specs.Prelude.{ℕ, List}
+use Rattle.ec_ctypes.specs.trees.Types.{StructData}
+use Rattle.ec_resolved.specs.Resolved.{Exp}
+use Rattle.ec_evaluation.specs.State.{State}
+use Rattle.ec_evaluation.specs.Results.{Res, turn}
+use Rattle.ec_evaluation.specs.Evaluate.{World, Context, Step}
+use Rattle.ec_calls.specs.Steps.{settled}
+use Rattle.ec_direct.specs.Places.{placed}
+use Rattle.ec_direct.specs.Statements.{Statement}
+use Rattle.ec_direct.specs.Executing.{statement_done}
+
+-- its places, its turn, and what it does; its messages name this line
+abbrev pub stepped_alone : Step → World → Context → List StructData → ℕ → Statement Exp → State → Res
+stepped_alone step w c structs line x s =
+    placed step w c x s (λ y s. turn s (λ s. settled c.line (statement_done structs line y s)))

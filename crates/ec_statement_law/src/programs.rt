@@ -1,0 +1,33 @@
+//! What holds of whole programs.
+
+ghost use Rattle.std.specs.Prelude.{◌≡◌, ℕ, false, List, Option};
+ghost use Rattle.ec_ctypes.specs.trees.Checked.{TypedData};
+ghost use Rattle.ec_resolved.specs.Programs.{Program};
+ghost use Rattle.ec_resolved.specs.Resolved.{Stm};
+ghost use Rattle.ec_resolving.specs.Storage.{LibraryCall, StatementForm};
+ghost use Rattle.ec_resolving.specs.Programs.{resolve, embedded_statements_of};
+ghost use Rattle.ec_evaluation.specs.State.{Answer, State};
+ghost use Rattle.ec_evaluation.specs.Expanded.{written_program};
+ghost use Rattle.ec_evaluation.specs.Whole.{whole, program_meaning};
+ghost use Rattle.ec_calls.specs.Steps.{library_step};
+ghost use Rattle.ec_direct.specs.Direct.{direct_step, direct_meaning};
+ghost use Rattle.ec_statement_law.specs.Clean.{CleanProgram};
+ghost use Rattle.ec_statement_law.specs.Whole.{IsWrittenAt};
+
+/// A program with a block in the place of each embedded statement, run over the library, does what the program does by its
+/// embedded statements: from every state to the same result, with every object the same. So the source means what this
+/// program means, for every number of turns, every connection and all answers.
+#[tactic(none)]
+pub fn written_programs_do_what_sources_do()
+    ensures states { (t : TypedData) (forms : List StatementForm) (calls : List LibraryCall)
+        (text : ℕ → Stm) (p : Program) → CleanProgram (IsWrittenAt t forms calls text) p
+        → (s : State) → whole (direct_step t forms) p s
+        ≡ whole (library_step calls) (written_program text p) s }
+    ensures meanings { (t : TypedData) (calls : List LibraryCall) (text : ℕ → Stm)
+        → CleanProgram (IsWrittenAt t (embedded_statements_of false t.unit) calls text)
+        (resolve false t.unit)
+        → (turns : ℕ) (ready : Option (ℕ × List ℕ)) (answers : List Answer)
+        → direct_meaning t turns ready answers
+        ≡ program_meaning (library_step calls) (written_program text (resolve false t.unit)) turns
+        ready answers }
+{}
