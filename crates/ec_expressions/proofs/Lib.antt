@@ -1,0 +1,2 @@
+pub mod Leanings
+pub mod Steps
