@@ -42,7 +42,8 @@ module _ (g : ExprData → Exp) where
   member_with (descriptor name) = descriptor (text_with name)
 
   -- a call that runs a text
-  abbrev pub run_with : TextArg ExprData → List ℕ → List (Member ExprData) → List (Member ExprData) → library.Call Exp
+  abbrev pub run_with : TextArg ExprData → List ℕ → List (Member ExprData)
+      → List (Member ExprData) → library.Call Exp
   run_with at bytes ins outs =
       library.run (text_with at) (library.normal bytes) (map member_with ins) (map member_with outs)
 
@@ -70,12 +71,16 @@ module _ (p : ProgramData) (g : ExprData → Exp) where
     pub is_held : text_of e ≡ held e
     pub is : g e ≡ x
 
+  -- the text of a host is that of its first reference
+  abbrev pub HostTextIs : ExprData → Around → Type 0
+  HostTextIs e x =
+      PointsTo (text_pointer (type_of p e x) e)
+      (text_place p.structs (type_of p e x) (reference_at 0 x))
+
   abbrev pub TextIs : TextArgData → Around → Type 0
   TextIs (word_arg bytes) x = Unit {0}
-  TextIs (host_arg e) x =
-      PointsTo (text_pointer (type_of p e x) e) (text_place p.structs (type_of p e x) (reference_at 0 x))
-  TextIs (host_with_indicator e i) x =
-      PointsTo (text_pointer (type_of p e x) e) (text_place p.structs (type_of p e x) (reference_at 0 x))
+  TextIs (host_arg e) x = HostTextIs e x
+  TextIs (host_with_indicator e i) x = HostTextIs e x
 
   abbrev pub OptionIs : Option TextArgData → Around → Type 0
   OptionIs None x = Unit {0}
@@ -99,12 +104,14 @@ module _ (p : ProgramData) (g : ExprData → Exp) where
   OutputsAre (area_outs a) x = TextIs a x
 
   -- The call of a statement that runs a text over a connection, with the places to which its pointers lead, is that of the statement by its places
-  pub record IsRun (prepared : Option Text) (d : Option EmbData) (c : Cursor) (e : EmbData) (x : Around) : Type 0 where
+  pub record IsRun (prepared : Option Text) (d : Option EmbData) (c : Cursor) (e : EmbData)
+      (x : Around) : Type 0 where
     pub at : TextArg ExprData
     pub bytes : Text
     pub ins : List (Member ExprData)
     pub outs : List (Member ExprData)
     pub statement : Statement Exp
-    pub written : call_by prepared e.kind (statement_bound p e d x.denoted) ≡ Some (library.run at (library.normal bytes) ins outs)
+    pub written : call_by prepared e.kind (statement_bound p e d x.denoted)
+        ≡ Some (library.run at (library.normal bytes) ins outs)
     pub resolved : statement_of p e c x ≡ Some statement
     pub same : run_with g at bytes ins outs ≡ call_of p.structs statement

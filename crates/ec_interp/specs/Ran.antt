@@ -19,7 +19,9 @@ abbrev pub IsFront : List ℕ → List ℕ → Type 0
 IsFront front whole = (rest : List ℕ) × (whole ≡ front ++ rest)
 
 -- `held` and `faults` are the members of the sinks, `seen` is what is seen of the run that the program means, and `store` is the memory of the machine
-module _ {O E : Type 0} (held : O → Option (List ℕ)) (faults : O → ℕ) (held' : E → Option (List ℕ)) (faults' : E → ℕ) (seen : Observed) (out out' : O) (err err' : E) (store : Memory) where
+module _ {O E : Type 0} (held : O → Option (List ℕ)) (faults : O → ℕ)
+    (held' : E → Option (List ℕ)) (faults' : E → ℕ) (seen : Observed) (out out' : O) (err err' : E)
+    (store : Memory) where
   -- the run is over with this ending, the outputs took all that is printed, and the memory is that at the end
   pub record IsOver (ending : Ending) : Type 0 where
     pub prints : Prints held faults held' faults' out out' err err' seen.output seen.errors

@@ -53,4 +53,6 @@ abbrev pub TidyWorld : World → Type 0
 TidyWorld w = (t : Task) (s : State) → LeavesTidy s.memory (w t s)
 
 abbrev pub TidyStep : Step → Type 0
-TidyStep step = (w : World) → TidyWorld w → (c : Context) (a : Atom) (s : State) → LeavesTidy s.memory (step w c a s)
+TidyStep step =
+    (w : World) → TidyWorld w → (c : Context) (a : Atom) (s : State)
+    → LeavesTidy s.memory (step w c a s)

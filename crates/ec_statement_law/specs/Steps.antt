@@ -11,6 +11,7 @@ use Rattle.ec_direct.specs.Statements.{Statement}
 use Rattle.ec_direct.specs.Executing.{statement_done}
 
 -- its places, its turn, and what it does; its messages name this line
-abbrev pub stepped_alone : Step → World → Context → List StructData → ℕ → Statement Exp → State → Res
+abbrev pub stepped_alone : Step → World → Context → List StructData → ℕ → Statement Exp → State
+    → Res
 stepped_alone step w c structs line x s =
     placed step w c x s (λ y s. turn s (λ s. settled c.line (statement_done structs line y s)))

@@ -12,7 +12,8 @@ use Rattle.ec_statement_law.specs.Calls.{call_of, cut_of, keeps_rules, HasTarget
 use Rattle.ec_statement_law.specs.Blocks.{block_stm, any_calls_library}
 
 -- the forms of a source's embedded statements, the calls of the library in what is written, and the statement in the place of each
-module _ (t : TypedData) (forms : List StatementForm) (calls : List LibraryCall) (text : ℕ → Stm) where
+module _ (t : TypedData) (forms : List StatementForm) (calls : List LibraryCall)
+    (text : ℕ → Stm) where
   -- The embedded statement of this number stands on this line, and in its place its block
   pub record IsWrittenAt (line n : ℕ) : Type 0 where
     pub emb : EmbData
