@@ -110,14 +110,7 @@ class SharedMaker(Maker):
                             lambda: "db@host", lambda: "DEFAULT"])()
         if target == "DEFAULT":
             return "CONNECT TO DEFAULT"
-        text = f"CONNECT TO {target}"
-        if self.chance(0.4):
-            text += f" AS {self.text_argument(['con1', 'con2'])}"
-        if self.chance(0.4):
-            text += f" USER {self.text_argument(['me', 'you'])}"
-            if self.chance(0.6):
-                text += self.pick([" IDENTIFIED BY ", " USING ", " / ", "/"]) + self.text_argument(["pass", "word"])
-        return text
+        return self.connected_to(target, ["con1", "con2"])
 
     def fetch(self):
         return super().fetch() if self.cursors else self.transaction()

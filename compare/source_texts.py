@@ -270,9 +270,13 @@ class Maker:
     def connect(self):
         target = self.pick([lambda: self.text_argument(self.connections), lambda: "tcp:postgresql://localhost:5432/db",
                             lambda: "db @ host", lambda: "DEFAULT", lambda: "default", lambda: "'DEFAULT'"])()
+        return self.connected_to(target, ["con1", "con2", "Default"])
+
+    def connected_to(self, target, names):
+        """CONNECT to a target, at times by one of these names, and with a user."""
         text = f"CONNECT TO {target}"
         if self.chance(0.4):
-            text += f" AS {self.text_argument(['con1', 'con2', 'Default'])}"
+            text += f" AS {self.text_argument(names)}"
         if self.chance(0.4):
             text += f" USER {self.text_argument(['me', 'you'])}"
             if self.chance(0.6):
