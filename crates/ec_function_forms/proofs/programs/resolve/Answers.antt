@@ -1,0 +1,8 @@
+use Rattle.ec_function_forms.proofs.Whole.{resolved}
+use Rattle.ec_function_forms.proofs.programs.resolve.Goals as goal
+
+pub walked-requires : goal.walked-requires
+walked-requires c = c.requires.no_statements
+
+pub returns : goal.returns
+returns c = resolved c.walked.result c.args.written c.args.unit.now c.requires.no_violations c.walked.ensures

@@ -1,0 +1,18 @@
+-- Programs in which the checks find nothing, and their resolved forms. Both stay shut, since the walk of the checks is all of them.
+use Rattle.std.specs.Prelude.{◌≡◌, Bool, []}
+use Rattle.ec_ctypes.specs.trees.Units.{UnitData}
+use Rattle.ec_resolved.specs.Programs.{Program}
+use Rattle.ec_resolving.specs.Programs.{program_by, resolve, walked}
+use Rattle.ec_typing.specs.Answers.{violations}
+
+-- nothing is found, as written C or not
+unfoldable pub FindsNothing : Bool → UnitData → Type 0
+FindsNothing written u = violations written u ≡ []
+
+-- what is left of a program
+unfoldable pub resolved_form : Bool → UnitData → Program
+resolved_form written u = resolve written u
+
+-- what is left of it whatever is found
+unfoldable pub walked_form : Bool → UnitData → Program
+walked_form written u = program_by (walked written u).storage
