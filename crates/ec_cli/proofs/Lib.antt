@@ -3,6 +3,7 @@ pub mod BuilderLemmas
 pub mod CallText
 pub mod Commands
 pub mod Effects
+pub mod Executions
 pub mod FaultLemmas
 pub mod Fields
 pub mod Flushes
@@ -17,6 +18,7 @@ pub mod ReadBack
 pub mod ReadsLemmas
 pub mod RefusalLemmas
 pub mod Runs
+pub mod SameRack
 pub mod Sessions
 pub mod SourceLemmas
 pub mod Statements

@@ -1,5 +1,6 @@
 pub mod Answers
 pub mod Ending
+pub mod Executing
 pub mod Fronts
 pub mod Machine
 pub mod PartTexts

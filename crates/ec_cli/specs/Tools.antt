@@ -1,5 +1,5 @@
--- What a call of the tool does, the last line on standard error aside: a translation, or what the
--- words of a run name.
+-- What a call of the tool does, the last line on standard error aside: a translation, a run of written
+-- C, or what the words of a run of a source name.
 use Rattle.std.specs.Prelude.{◌≡◌, ℕ, ◌⊎◌, List, Option, String}
 use Rattle.std.specs.declared.alloc.Global.{Global as Allocator}
 use Rattle.std.specs.declared.dyn_box.DynBox.{DynBox}
@@ -7,23 +7,37 @@ use Rattle.ec_link.specs.declared.rack.Rack.{Rack}
 use Rattle.ec_link.specs.Logged.{Talk}
 use Rattle.ec_cli.specs.declared.ending.Ending.{Ending}
 use Rattle.ec_cli.specs.Answers.{Answers}
+use Rattle.ec_cli.specs.Executing.{IsExecuting, HasTurns, Executes}
 use Rattle.ec_cli.specs.Translating.{IsTranslating, Translates}
 
-module _ {I O X : Type 0} {F : X → Type 0} (left : I → Option (List ℕ)) (reads : I → ℕ)
-    (held : O → Option (List ℕ)) (puts : O → ℕ) (talk : DynBox X Allocator F → Option Talk) where
-  -- a translation leaves the rack as it was
+module _ {I O E X : Type 0} {F : X → Type 0} (left : I → Option (List ℕ)) (reads : I → ℕ)
+    (held : O → Option (List ℕ)) (puts : O → ℕ) (told : E → Option (List ℕ)) (tells : E → ℕ)
+    (talk : DynBox X Allocator F → Option Talk) where
+  -- a translation leaves the rack as it was, and says nothing on standard error
   pub record HasTranslated (words : List (String Allocator)) (input input' : I) (out out' : O)
-      (rack rack' : Rack X F) (ending : Ending) : Type 0 where
+      (err err' : E) (rack rack' : Rack X F) (ending : Ending) : Type 0 where
     pub named : IsTranslating words
+    pub silent : err' ≡ err
     pub unlinked : rack' ≡ rack
     pub translates : Translates left reads held puts input input' out out' ending
 
+  pub record HasExecuted (words : List (String Allocator)) (input input' : I) (out out' : O)
+      (err err' : E) (rack rack' : Rack X F) (ending : Ending) : Type 0 where
+    pub turns : ℕ
+    pub named : HasTurns words turns
+    pub executes : Executes held puts told tells talk left reads turns input input' out out' err err'
+        rack rack' ending
+
   pub record HasRun (words : List (String Allocator)) (input input' : I) (out out' : O)
-      (rack rack' : Rack X F) (ending : Ending) : Type 0 where
+      (err err' : E) (rack rack' : Rack X F) (ending : Ending) : Type 0 where
     pub other : IsTranslating words → ⊥
+    pub unexecuted : IsExecuting words → ⊥
+    pub silent : err' ≡ err
     pub answers : Answers left reads held puts talk words input input' out out' rack rack' ending
 
-  abbrev pub Does : List (String Allocator) → I → I → O → O → Rack X F → Rack X F → Ending → Type 0
-  Does words input input' out out' rack rack' ending =
-      HasTranslated words input input' out out' rack rack' ending
-      ⊎ HasRun words input input' out out' rack rack' ending
+  abbrev pub Does : List (String Allocator) → I → I → O → O → E → E → Rack X F → Rack X F → Ending
+      → Type 0
+  Does words input input' out out' err err' rack rack' ending =
+      HasTranslated words input input' out out' err err' rack rack' ending
+      ⊎ HasExecuted words input input' out out' err err' rack rack' ending
+      ⊎ HasRun words input input' out out' err err' rack rack' ending

@@ -30,8 +30,8 @@ fn names_run(words: &[String]) -> bool
     read_words(words).is_some()
 }
 
-// Whether the rack has more slots than are taken.
-fn is_crowded(rack: &Rack) -> bool
+/// Whether the rack has more slots than are taken.
+pub fn is_crowded(rack: &Rack) -> bool
     ensures { IsTrue result ↔ IsCrowded rack.now }
 {
     rack.slots().len() > SLOT_LIMIT

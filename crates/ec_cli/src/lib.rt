@@ -3,6 +3,7 @@
 
 mod command;
 mod ending;
+mod execution;
 mod laws;
 mod machine;
 mod message;

@@ -7,5 +7,5 @@ mod number;
 mod program;
 mod stop;
 
-pub use program::run;
+pub use program::{release, run};
 pub use stop::RunEnd;

@@ -2,7 +2,7 @@
 --
 -- The first word is the command's. Behind it stand options and other words, in any order. An option's value is the next
 -- word, or joined to it by `=`. The first `--` is passed over, and no word behind it is an option.
-use Rattle.std.specs.Prelude.{ℕ, ◌+◌, ◌-◌, ◌*◌, ◌==◌, nat_le, nat_eq, Bool, true, false, ◌&&◌, if◌then◌else◌, List, [], ◌∷◌, codes, take, drop, Option, Some, None, option_and_then, position}
+use Rattle.std.specs.Prelude.{ℕ, ◌+◌, ◌-◌, ◌*◌, ◌==◌, nat_le, nat_eq, Bool, true, false, ◌&&◌, ◌||◌, if◌then◌else◌, List, [], ◌∷◌, codes, take, drop, Option, Some, None, option_and_then, position}
 use Rattle.std.specs.Char.{is_ascii_digit}
 use Rattle.std.specs.Cmp.Lexicographic.{pointwise}
 use Rattle.ec_words.specs.declared.links.LinkSpec.{LinkSpec}
@@ -157,6 +157,17 @@ run_words words = run_with (is_right (sayings anything words)) (turns_in (saying
 abbrev pub words_of : List Word → Option RunWords
 words_of [] = None
 words_of (first ∷ words) = if is_word first (codes "run") then run_words words else None
+
+-- What the words ask of the run of written C, which has the same options and links; or none where they name another
+-- command, or none.
+abbrev pub execution_of : List Word → Option RunWords
+execution_of [] = None
+execution_of (first ∷ words) = if is_word first (codes "exec") then run_words words else None
+
+-- what is asked of either of the two
+abbrev pub asked : List Word → Option RunWords
+asked [] = None
+asked (first ∷ words) = if is_word first (codes "run") || is_word first (codes "exec") then run_words words else None
 
 -- the links of a run, and none where the words name no command
 abbrev pub links_of : Option RunWords → List LinkSpec

@@ -1,6 +1,6 @@
 //! Worked examples of what words name.
 ghost use Rattle.std.specs.Prelude.{◌≡◌, codes, true, false, [], ◌∷◌, None, Some};
-ghost use Rattle.ec_words.specs.Words.{words_of, run_of, names_translation, translates_with};
+ghost use Rattle.ec_words.specs.Words.{words_of, run_of, execution_of, asked, links_of, names_translation, translates_with};
 ghost use Rattle.ec_words.specs.declared.links.LinkSpec.TheVariants.{Memory, File};
 
 /// What lists of words name, computed: a run with its turns and links, or nothing.
@@ -30,4 +30,14 @@ pub fn word_examples()
     ensures translation_turns { translates_with (codes "--turns=2") ≡ false }
     ensures translation_link { translates_with (codes "a=memory") ≡ false }
     ensures run_translation { names_translation (codes "run" ∷ []) ≡ false }
+    ensures exec { execution_of (codes "exec" ∷ []) ≡ run_of 1000000 [] }
+    ensures exec_none { execution_of [] ≡ None }
+    ensures exec_other { execution_of (codes "executes" ∷ []) ≡ None }
+    ensures exec_turns { execution_of (codes "exec" ∷ codes "--turns" ∷ codes "0" ∷ []) ≡ run_of 0 [] }
+    ensures exec_link { execution_of (codes "exec" ∷ codes "--turns=9" ∷ codes "+a=memory" ∷ []) ≡ run_of 9 (Memory true (codes "a") ∷ []) }
+    ensures exec_run { execution_of (codes "run" ∷ []) ≡ None }
+    ensures run_exec { words_of (codes "exec" ∷ []) ≡ None }
+    ensures exec_links { links_of (asked (codes "exec" ∷ codes "a=memory" ∷ [])) ≡ Memory false (codes "a") ∷ [] }
+    ensures run_links { links_of (asked (codes "run" ∷ codes "a=memory" ∷ [])) ≡ Memory false (codes "a") ∷ [] }
+    ensures no_links { links_of (asked (codes "translate" ∷ codes "a=memory" ∷ [])) ≡ [] }
 {}

@@ -1,9 +1,9 @@
 //! The links that the words name.
 ghost use Rattle.std.specs.Prelude.{◌≡◌, ◌++◌, [], map, option_map, IfOk, OnOk, string_bytes};
-ghost use Rattle.ec_words.specs.Words.{links_of, sayings, links_in, with_said, anything, words_of};
+ghost use Rattle.ec_words.specs.Words.{links_of, sayings, links_in, with_said, anything, asked};
 ghost use Rattle.ec_words.specs.Reading.{spec_of, said_of};
 
-use crate::words::{Expecting, LinkWord, Saying, read_word, read_words};
+use crate::words::{Expecting, LinkWord, Saying, read_word, run_behind, run_turns};
 use ec_base::{Bytes, List, Name, OutOfMemory};
 use std::alloc::Global;
 
@@ -70,13 +70,10 @@ fn links_behind(alloc: Global, words: &[String]) -> Result<List<LinkSpec>, OutOf
 
 /// The links that the words name, in order, or none where the words name no command.
 pub fn links_named(alloc: Global, words: &[String]) -> Result<List<LinkSpec>, OutOfMemory>
-    ensures { IfOk result (λ it. it ≡ links_of (words_of (map string_bytes words.now))) }
+    ensures { IfOk result (λ it. it ≡ links_of (asked (map string_bytes words.now))) }
 {
-    if read_words(words).is_none() {
-        return Ok(List::new(alloc));
-    }
-    match words {
-        [_, rest @ ..] => links_behind(alloc, rest),
-        [] => Ok(List::new(alloc)),
+    match run_behind(words) {
+        Some(rest) if run_turns(rest).is_some() => links_behind(alloc, rest),
+        _ => Ok(List::new(alloc)),
     }
 }

@@ -1,6 +1,6 @@
 //! What the words behind the program's name ask for.
-ghost use Rattle.std.specs.Prelude.{◌≡◌, ◌==◌, codes, map, option_map, position, string_bytes};
-ghost use Rattle.ec_words.specs.Words.{text_behind, number_from, turns_of, is_word, link_of, unmarked_link, named_link, file_of, said_turns, said_link, joined_or_link, reads, at_end, sayings, anything, is_nothing, run_words, words_of};
+ghost use Rattle.std.specs.Prelude.{◌≡◌, ◌==◌, ◌||◌, None, codes, map, option_map, position, string_bytes, MatchOption};
+ghost use Rattle.ec_words.specs.Words.{text_behind, number_from, turns_of, is_word, link_of, unmarked_link, named_link, file_of, said_turns, said_link, joined_or_link, reads, at_end, sayings, anything, is_nothing, run_words, words_of, execution_of, asked};
 ghost use Rattle.ec_words.specs.Words as spec;
 ghost use Rattle.ec_words.specs.Reading.{spec_of, said_of, expected_of, tally_with, tallied_over};
 
@@ -231,9 +231,9 @@ fn turns_in(tally: Tally, expecting: Expecting) -> Option<u64>
     Some(tally.turns.unwrap_or(USUAL_TURNS))
 }
 
-// The turns of a run by the words behind the command's, or none where they don't fit it.
+/// The turns of a run by the words behind the command's, or none where they don't fit it.
 #[tactic(auto, using(crate::proofs::WordLemmas::tally_step, crate::proofs::WordLemmas::tallied_is))]
-fn run_turns(words: &[String]) -> Option<u64>
+pub fn run_turns(words: &[String]) -> Option<u64>
     ensures { result ≡ option_map (λ it. it.turns) (run_words (map string_bytes words.now)) }
 {
     let mut tally = Tally {
@@ -261,6 +261,24 @@ fn say_nothing(words: &[String]) -> bool
     }
 }
 
+// Whether a word is that of a command that runs a program.
+fn names_run(word: &[u8]) -> bool
+    ensures { result ≡ (is_word word.now (codes "run") || is_word word.now (codes "exec")) }
+{
+    is_word(word, b"run") || is_word(word, b"exec")
+}
+
+/// The words behind the command's, where they are those of a run, of a source or of written C.
+pub fn run_behind(words: &[String]) -> Option<&[String]>
+    ensures { MatchOption result (asked (map string_bytes words.now) ≡ None)
+        (λ rest. asked (map string_bytes words.now) ≡ run_words (map string_bytes rest.now)) }
+{
+    match words {
+        [first, rest @ ..] if names_run(first.as_bytes()) => Some(rest),
+        _ => None,
+    }
+}
+
 /// Whether the words name a translation: `translate`, with nothing behind it but a `--`. It takes no memory.
 pub fn names_translation(words: &[String]) -> bool
     ensures { result ≡ spec.names_translation (map string_bytes words.now) }
@@ -268,6 +286,16 @@ pub fn names_translation(words: &[String]) -> bool
     match words {
         [first, rest @ ..] => is_word(first.as_bytes(), b"translate") && say_nothing(rest),
         [] => false,
+    }
+}
+
+/// How many turns the run of written C has that the words ask for, or none where they name none. It takes no memory.
+pub fn read_execution(words: &[String]) -> Option<u64>
+    ensures { result ≡ option_map (λ it. it.turns) (execution_of (map string_bytes words.now)) }
+{
+    match words {
+        [first, rest @ ..] if is_word(first.as_bytes(), b"exec") => run_turns(rest),
+        _ => None,
     }
 }
 

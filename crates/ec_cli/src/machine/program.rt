@@ -107,8 +107,8 @@ fn execute<O: Sink>(
     end
 }
 
-// Gives a connection back, if there is one.
-fn release(rack: &mut Rack, conn: Option<Conn>)
+/// Gives a connection back, if there is one.
+pub fn release(rack: &mut Rack, conn: Option<Conn>)
     requires { IsOpen rack.old conn }
     ensures released { MatchOption conn (slots_of rack.new ≡ slots_of rack.old) (GivesBack (slots_of rack.old) (slots_of rack.new)) }
     ensures log { log_of rack.new ≡ log_of rack.old }

@@ -84,3 +84,36 @@ returns-clause-read_steady g c = tools.read_steady c.perform-ending.ensures
 
 pub returns-clause-write_steady : goal.returns-clause-write_steady
 returns-clause-write_steady g c = tools.write_steady c.perform-ending.ensures
+
+pub returns-clause-own_execution : goal.returns-clause-own_execution
+returns-clause-own_execution g c = tools.own_execution c.perform-ending.ensures
+
+pub returns-clause-crowded_execution : goal.returns-clause-crowded_execution
+returns-clause-crowded_execution g c = tools.crowded_execution c.perform-ending.ensures
+
+pub returns-clause-written_refused : goal.returns-clause-written_refused
+returns-clause-written_refused g c = tools.written_refused c.perform-ending.ensures
+
+pub returns-clause-written_limit : goal.returns-clause-written_limit
+returns-clause-written_limit g c = tools.written_limit c.perform-ending.ensures
+
+pub returns-clause-executed : goal.returns-clause-executed
+returns-clause-executed g c = tools.executed _ _ (tools.announced c.put_last_line.result c.put_last_line.ensures.ok c.put_last_line.ensures.part) c.perform-ending.ensures
+
+pub returns-clause-executed_part : goal.returns-clause-executed_part
+returns-clause-executed_part g c = tools.executed_part _ _ (tools.announced c.put_last_line.result c.put_last_line.ensures.ok c.put_last_line.ensures.part) c.perform-ending.ensures
+
+pub returns-clause-executed_want : goal.returns-clause-executed_want
+returns-clause-executed_want g c = tools.executed_want _ _ (tools.announced c.put_last_line.result c.put_last_line.ensures.ok c.put_last_line.ensures.part) c.perform-ending.ensures
+
+pub returns-clause-executed_steady : goal.returns-clause-executed_steady
+returns-clause-executed_steady g c = tools.executed_steady _ _ (tools.announced c.put_last_line.result c.put_last_line.ensures.ok c.put_last_line.ensures.part) c.perform-ending.ensures
+
+pub returns-clause-either_fault : goal.returns-clause-either_fault
+returns-clause-either_fault g c = tools.either_fault _ _ (tools.announced c.put_last_line.result c.put_last_line.ensures.ok c.put_last_line.ensures.part) c.perform-ending.ensures
+
+pub returns-clause-decides_execution : goal.returns-clause-decides_execution
+returns-clause-decides_execution g c = tools.decides_execution _ _ (tools.announced c.put_last_line.result c.put_last_line.ensures.ok c.put_last_line.ensures.part) c.perform-ending.ensures
+
+pub returns-clause-last_line : goal.returns-clause-last_line
+returns-clause-last_line g c = tools.last_line _ _ (tools.announced c.put_last_line.result c.put_last_line.ensures.ok c.put_last_line.ensures.part) c.perform-ending.ensures

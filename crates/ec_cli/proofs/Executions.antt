@@ -1,0 +1,364 @@
+-- From the run of a program to what is promised of a call that runs written C.
+use Rattle.std.proofs.Common.{◌≡◌, ℕ, ◌+◌, ◌≤◌, ◌<◌, ◌^◌, List, [], ◌++◌, length, refl, ap, sym, ◌∙◌, subst, arith, Option, Some, inl, inr, Result, Ok, Err}
+use Rattle.std.specs.Prelude.{◌⊎◌, ◌↔◌}
+use Rattle.std.specs.declared.alloc.Global.{Global as Allocator}
+use Rattle.std.specs.declared.dyn_box.DynBox.{DynBox}
+use Rattle.ec_base.specs.declared.fault.FaultKind.{FaultKind}
+use Rattle.ec_base.specs.declared.fault.LimitKind.{LimitKind}
+use Rattle.ec_base.specs.declared.fault.LimitKind.TheVariants.{L1, L2, L3, L4, L5, L6, L7, L8}
+use Rattle.ec_base.specs.declared.line.Line.{Line}
+use Rattle.ec_base.specs.declared.stop.InputStop.{InputStop}
+use Rattle.ec_base.specs.declared.stop.InputStop.TheVariants as input_stop
+use Rattle.ec_base.specs.declared.stop.Stop.{Stop}
+use Rattle.ec_base.specs.declared.stop.Stop.TheVariants as stops
+use Rattle.ec_base.specs.Causes.{Rose}
+use Rattle.ec_base.specs.Reading.{ReadsAll, ReadsPart}
+use Rattle.ec_base.proofs.Transfers.{Reads-none, ReadsAll-text, ReadsPart-long}
+use Rattle.ec_link.specs.declared.logged.Logged.{Logged}
+use Rattle.ec_link.specs.declared.rack.Rack.{Rack}
+use Rattle.ec_link.specs.Logged.{Talk}
+use Rattle.ec_link.specs.Rack.{slots_of, log_of}
+use Rattle.ec_link.specs.Slot.{states, talk_at}
+use Rattle.ec_link.specs.SlotState.{ready_slot}
+use Rattle.ec_link.specs.Told.{KeepsTalks, SparesDropped}
+use Rattle.ec_observed.specs.Headline.{IsRead, RefusesAt, ReadsWithin}
+use Rattle.ec_observed.specs.Observed.{answers_in}
+use Rattle.ec_evaluation.specs.State as evaluation
+use Rattle.ec_evaluation.specs.State.{Answer}
+use Rattle.ec_resolved.specs.Programs.{Program}
+use Rattle.ec_execution.specs.Programs.{IsProgram, meaning}
+use Rattle.ec_execution.specs.Runs.{Runs, RunsPart}
+use Rattle.ec_execute.specs.declared.running.RunEnd.{RunEnd}
+use Rattle.ec_execute.specs.declared.running.RunEnd.TheVariants as ends
+use Rattle.ec_execute.specs.Answers.{TellsProgram}
+use Rattle.ec_execute.specs.Ends.{Performs}
+use Rattle.ec_cli.specs.Answers.{IsCrowded, grown}
+use Rattle.ec_cli.specs.Executing.{IsOfProgram, IsOfCarried, IsOfExecution, EndsAs, ending_of_program, limit_of, text_refusal, IsRefusedWritten, PassesWritten, DecidesExecution, meaning_over, Untouched, CarriedOut, CarriedPart, Carries, RefusesText, ExecutesText, ExecutesWhole, ExecutesPart, MayExecute, Executes}
+use Rattle.ec_cli.specs.Machine.{RunsOver}
+use Rattle.ec_cli.specs.declared.ending.Ending.{Ending}
+use Rattle.ec_cli.specs.declared.ending.Ending.TheVariants.{Wrote, Exited, Trapped, TurnsSpent, Usage, Refused, Limit, ReadFault, WriteFault, OutOfMemory}
+use Rattle.ec_cli.proofs.SameRack.{no_growth, logged, same_log, same_talks, same_dropped}
+
+either : {A B C : Type 0} → (A → C) → (B → C) → A ⊎ B → C
+either f g (inl a) = f a
+either f g (inr b) = g b
+
+-- ---- endings
+
+-- how a program that was carried out ends
+abbrev pub Sorted : Ending → Type 0
+Sorted ending = IsOfProgram ending ⊎ (ending ≡ WriteFault) ⊎ (ending ≡ OutOfMemory)
+
+sorted : (ending : Ending) → IsOfCarried ending → Sorted ending
+sorted (Exited status) h = inl tt
+sorted (Trapped trap line) h = inl tt
+sorted TurnsSpent h = inl tt
+sorted WriteFault h = inr (inl refl)
+sorted OutOfMemory h = inr (inr refl)
+sorted Wrote h = absurd h
+sorted Usage h = absurd h
+sorted (Refused kind line) h = absurd h
+sorted (Limit kind) h = absurd h
+sorted ReadFault h = absurd h
+
+carried_is_own : (ending : Ending) → IsOfCarried ending → IsOfExecution ending
+carried_is_own (Exited status) h = tt
+carried_is_own (Trapped trap line) h = tt
+carried_is_own TurnsSpent h = tt
+carried_is_own WriteFault h = tt
+carried_is_own OutOfMemory h = tt
+carried_is_own Wrote h = absurd h
+carried_is_own Usage h = absurd h
+carried_is_own (Refused kind line) h = tt
+carried_is_own (Limit kind) h = tt
+carried_is_own ReadFault h = tt
+
+-- every limit but that on slots is one of a text
+pub limit_same : (kind : LimitKind) → (kind ≡ L7 → ⊥) → Limit kind ≡ limit_of kind
+limit_same L1 h = refl
+limit_same L2 h = refl
+limit_same L3 h = refl
+limit_same L4 h = refl
+limit_same L5 h = refl
+limit_same L6 h = refl
+limit_same L7 h = absurd (h refl)
+limit_same L8 h = refl
+
+-- ---- a text that is refused
+
+limited : (text : List ℕ) (kind : LimitKind) → IsProgram text (Err (stops.Limit kind)) → RefusesText text (limit_of kind)
+limited text L1 h = (λ e. cc (e), h)
+limited text L2 h = (λ e. cc (e), h)
+limited text L3 h = (λ e. cc (e), h)
+limited text L4 h = (λ e. cc (e), h)
+limited text L5 h = (λ e. cc (e), h)
+limited text L6 h = (λ e. cc (e), h)
+limited text L7 h = tt
+limited text L8 h = (λ e. cc (e), h)
+
+pub refuses : (text : List ℕ) (stop : Stop) → TellsProgram text (Err stop) → RefusesText text (text_refusal stop)
+refuses text (stops.Refused kind line) h = h
+refuses text (stops.Limit kind) h = limited text kind h
+refuses text stops.OutOfMemory h = tt
+
+refused_not_run : (text : List ℕ) (ending : Ending) → RefusesText text ending → IsOfProgram ending → ⊥
+refused_not_run text (Exited status) h k = h
+refused_not_run text (Trapped trap line) h k = h
+refused_not_run text TurnsSpent h k = h
+refused_not_run text Wrote h k = k
+refused_not_run text Usage h k = k
+refused_not_run text (Refused kind line) h k = k
+refused_not_run text (Limit kind) h k = k
+refused_not_run text ReadFault h k = k
+refused_not_run text WriteFault h k = k
+refused_not_run text OutOfMemory h k = k
+
+refused_is_own : (text : List ℕ) (ending : Ending) → RefusesText text ending → IsOfExecution ending
+refused_is_own text (Exited status) h = tt
+refused_is_own text (Trapped trap line) h = tt
+refused_is_own text TurnsSpent h = tt
+refused_is_own text Wrote h = absurd h
+refused_is_own text Usage h = absurd h
+refused_is_own text (Refused kind line) h = tt
+refused_is_own text (Limit kind) h = tt
+refused_is_own text ReadFault h = tt
+refused_is_own text WriteFault h = tt
+refused_is_own text OutOfMemory h = tt
+
+refused_decides : (turns : ℕ) (ready : Option (ℕ × List ℕ)) (answers : List Answer) (text : List ℕ) (ending : Ending) → length text ≤ 2 ^ 24 → RefusesText text ending
+    → DecidesExecution turns ready answers text ending
+refused_decides turns ready answers text (Refused kind line) small h = inr (inr (small, (Err (stops.Refused kind line), h, refl)))
+refused_decides turns ready answers text (Limit kind) small h = inr (inr (small, (Err (stops.Limit kind), h.1, limit_same kind h.0)))
+refused_decides turns ready answers text OutOfMemory small h = inl refl
+refused_decides turns ready answers text (Exited status) small h = absurd h
+refused_decides turns ready answers text (Trapped trap line) small h = absurd h
+refused_decides turns ready answers text TurnsSpent small h = absurd h
+refused_decides turns ready answers text Wrote small h = absurd h
+refused_decides turns ready answers text Usage small h = absurd h
+refused_decides turns ready answers text ReadFault small h = absurd h
+refused_decides turns ready answers text WriteFault small h = absurd h
+
+-- the ending where reading the input stopped
+abbrev pub stopped_ending : InputStop → Ending
+stopped_ending input_stop.Fault = ReadFault
+stopped_ending input_stop.TooLong = Limit L6
+stopped_ending input_stop.OutOfMemory = OutOfMemory
+
+module _ {O E X : Type 0} {F : X → Type 0} (held : O → Option (List ℕ)) (puts : O → ℕ) (told : E → Option (List ℕ)) (tells : E → ℕ) (talk : DynBox X Allocator F → Option Talk) where
+  -- ---- a program
+
+  module _ (p : Program) (turns : ℕ) (out out' : O) (err err' : E) (rack rack' : Rack X F) (same : log_of rack' ≡ log_of rack) (slots : RunsOver (slots_of rack) [] (slots_of rack')) where
+    grown_none : grown rack rack' ≡ []
+    grown_none = no_growth rack rack' same
+
+    over_slots : RunsOver (slots_of rack) (grown rack rack') (slots_of rack')
+    over_slots = subst (λ w. RunsOver (slots_of rack) w (slots_of rack')) (sym grown_none) slots
+
+    carried_out : (e : evaluation.Ending) (ending : Ending) → EndsAs e ending → Runs held puts told tells (meaning_over p turns rack rack') [] e out out' err err'
+        → CarriedOut held puts told tells talk p turns out out' err err' rack rack' ending
+    carried_out e ending agrees r = record {
+      ended = e;
+      ends = agrees;
+      runs = subst (λ w. Runs held puts told tells (meaning_over p turns rack rack') w e out out' err err') (sym grown_none) r;
+      slots = over_slots;
+    }
+
+    carried_part : RunsPart held puts told tells (meaning_over p turns rack rack') [] out out' err err' → CarriedPart held puts told tells talk p turns out out' err err' rack rack'
+    carried_part r = record {
+      part = subst (λ w. RunsPart held puts told tells (meaning_over p turns rack rack') w out out' err err') (sym grown_none) r;
+      slots = over_slots;
+    }
+
+    module _ (talks : KeepsTalks (talk_at talk (slots_of rack)) (talk_at talk (slots_of rack')) []) (dropped : SparesDropped (states (slots_of rack)) (states (slots_of rack')) []) where
+      talks_kept : KeepsTalks (talk_at talk (slots_of rack)) (talk_at talk (slots_of rack')) (grown rack rack')
+      talks_kept = subst (λ w. KeepsTalks (talk_at talk (slots_of rack)) (talk_at talk (slots_of rack')) w) (sym grown_none) talks
+
+      dropped_spared : SparesDropped (states (slots_of rack)) (states (slots_of rack')) (grown rack rack')
+      dropped_spared = subst (λ w. SparesDropped (states (slots_of rack)) (states (slots_of rack')) w) (sym grown_none) dropped
+
+      ran : (e : evaluation.Ending) (ending : Ending) → EndsAs e ending → IsOfCarried ending → (ending ≡ WriteFault → ⊥) → (ending ≡ OutOfMemory → ⊥)
+          → Runs held puts told tells (meaning_over p turns rack rack') [] e out out' err err' → Carries held puts told tells talk p turns out out' err err' rack rack' ending
+      ran e ending agrees own calm room r = record {
+        whole = λ h. carried_out e ending agrees r;
+        part = λ h. absurd (either calm room h);
+        ends = own;
+        talks = talks_kept;
+        dropped = dropped_spared;
+        logged = logged rack rack' same;
+        fault = λ h. absurd (calm h);
+        steady = λ h. (r.output.steady, r.errors.steady);
+      }
+
+      pub carries : (end : RunEnd) → ((ready : Option (ℕ × List ℕ)) (answers : List Answer) → Performs held puts told tells (meaning p turns ready answers) out out' err err' end)
+          → Carries held puts told tells talk p turns out out' err err' rack rack' (ending_of_program end)
+      carries (ends.Exited status) h = ran (evaluation.exited status) (Exited status) refl tt (λ e. cc (e)) (λ e. cc (e)) (h (ready_slot (states (slots_of rack))) (answers_in (grown rack rack')))
+      carries (ends.Trapped trap line) h = ran (evaluation.trapped trap line.0) (Trapped trap line) refl tt (λ e. cc (e)) (λ e. cc (e)) (h (ready_slot (states (slots_of rack))) (answers_in (grown rack rack')))
+      carries ends.TurnsSpent h = ran evaluation.turns_spent TurnsSpent refl tt (λ e. cc (e)) (λ e. cc (e)) (h (ready_slot (states (slots_of rack))) (answers_in (grown rack rack')))
+      carries ends.WriteFault h =
+          let done = h (ready_slot (states (slots_of rack))) (answers_in (grown rack rack')) in
+          record {
+            whole = λ e. absurd e;
+            part = λ e. carried_part done.0;
+            ends = tt;
+            talks = talks_kept;
+            dropped = dropped_spared;
+            logged = logged rack rack' same;
+            fault = λ e. done.1;
+            steady = λ e. absurd (e refl);
+          }
+      carries ends.OutOfMemory h =
+          let done = h (ready_slot (states (slots_of rack))) (answers_in (grown rack rack')) in
+          record {
+            whole = λ e. absurd e;
+            part = λ e. carried_part done.0;
+            ends = tt;
+            talks = talks_kept;
+            dropped = dropped_spared;
+            logged = logged rack rack' same;
+            fault = λ e. absurd (cc (e));
+            steady = λ e. (done.1, done.2);
+          }
+
+      -- with the ending of the run
+      pub carries_by : (end : RunEnd) (ending : Ending) → ending ≡ ending_of_program end
+          → ((ready : Option (ℕ × List ℕ)) (answers : List Answer) → Performs held puts told tells (meaning p turns ready answers) out out' err err' end)
+          → Carries held puts told tells talk p turns out out' err err' rack rack' ending
+      carries_by end ending e h = subst (λ x. Carries held puts told tells talk p turns out out' err err' rack rack' x) (sym e) (carries end h)
+
+  -- ---- a call
+
+  module _ {I : Type 0} (left : I → Option (List ℕ)) (reads : I → ℕ) (turns : ℕ) (input input' : I) (out out' : O) (err err' : E) (rack rack' : Rack X F) where
+    abbrev Done : Ending → Type 0
+    Done ending = Executes held puts told tells talk left reads turns input input' out out' err err' rack rack' ending
+
+    abbrev Decided : Ending → Type 0
+    Decided ending = (text : List ℕ) → (IsCrowded rack → ⊥) → left input ≡ Some text
+        → (Rose (reads input) (reads input') → ⊥) → (Rose (puts out) (puts out') → ⊥) → (Rose (tells err) (tells err') → ⊥)
+        → DecidesExecution turns (ready_slot (states (slots_of rack))) (answers_in (grown rack rack')) text ending
+
+    abbrev Refusing : Ending → Type 0
+    Refusing ending = (kind : FaultKind) (line : Line) → ending ≡ Refused kind line → RefusesAt IsRefusedWritten (left input) (left input') kind line.0
+
+    abbrev Limiting : Ending → Type 0
+    Limiting ending = (kind : LimitKind) → (kind ≡ L7 → ⊥) → ending ≡ Limit kind → PassesWritten (left input) (left input') kind
+
+    read_of : (text : List ℕ) → ReadsAll left reads input input' (2 ^ 24) text → IsRead (left input) (left input') text
+    read_of text r = record { taken = r.reads.taken; ended = r.ended; within = r.within }
+
+    -- nothing was run
+    idle : (ending : Ending) → Untouched held puts told tells talk out out' err err' rack rack' → (IsOfProgram ending → ⊥) → (ending ≡ WriteFault → ⊥) → IsOfExecution ending
+        → ((ending ≡ Limit L7) ↔ IsCrowded rack) → (ending ≡ Limit L7 → input' ≡ input) → Refusing ending → Limiting ending
+        → (ending ≡ ReadFault → Rose (reads input) (reads input')) → ReadsWithin (left input) (left input') → ((ending ≡ ReadFault → ⊥) → reads input' ≡ reads input) → Decided ending
+        → Done ending
+    idle ending u not_run calm own crowded unread refused limit fault within steady decides = record {
+      whole = λ h. absurd (not_run h);
+      part = λ h. absurd (calm h);
+      want = λ h. inl u;
+      other = inr (inr (inr u));
+      ends = own;
+      crowded = crowded;
+      unread = unread;
+      talks = same_talks talk rack rack' u.links;
+      dropped = same_dropped rack rack' u.links;
+      logged = same_log rack rack' u.links;
+      refused = refused;
+      limit = limit;
+      read_fault = fault;
+      write_fault = λ h. absurd (calm h);
+      within = within;
+      reads_steady = steady;
+      puts_steady = λ h. ap puts u.output;
+      tells_steady = λ h. ap tells u.errors;
+      decides = decides;
+    }
+
+    -- the text was refused
+    text_refused : (ending : Ending) (text : List ℕ) → (IsCrowded rack → ⊥) → ReadsAll left reads input input' (2 ^ 24) text → RefusesText text ending
+        → Untouched held puts told tells talk out out' err err' rack rack' → Done ending
+    text_refused ending text room r h u =
+        idle ending u (refused_not_run text ending h) (λ e. subst (RefusesText text) e h) (refused_is_own text ending h)
+        ((λ e. absurd ((subst (RefusesText text) e h).0 refl)), (λ full. absurd (room full)))
+        (λ e. absurd ((subst (RefusesText text) e h).0 refl))
+        (λ kind line e. record { text = text; read = read_of text r; fault = subst (RefusesText text) e h })
+        (λ kind other e. inr (record { text = text; read = read_of text r; limit = (subst (RefusesText text) e h).1 }))
+        (λ e. absurd (subst (RefusesText text) e h))
+        (record { bytes = text; taken = r.reads.taken; bounded = omega (arith, r.within) })
+        (λ e. r.reads.steady)
+        (λ told none e calm calm' calm''. subst (λ w. DecidesExecution turns (ready_slot (states (slots_of rack))) (answers_in (grown rack rack')) w ending) (ReadsAll-text e r)
+        (refused_decides turns _ _ text ending r.within h))
+
+    -- a program that was carried out ends as it means to
+    concluded : (ending : Ending) (text : List ℕ) (p : Program) → length text ≤ 2 ^ 24 → IsProgram text (Ok p) → Carries held puts told tells talk p turns out out' err err' rack rack' ending
+        → (Rose (puts out) (puts out') → ⊥) → (Rose (tells err) (tells err') → ⊥) → Sorted ending → DecidesExecution turns (ready_slot (states (slots_of rack))) (answers_in (grown rack rack')) text ending
+    concluded ending text p small is c calm calm' (inl h) =
+        let w = c.whole h in inr (inr (small, (Ok p, is, subst (λ e. EndsAs e ending) (sym w.runs.ends) w.ends)))
+    concluded ending text p small is c calm calm' (inr (inl e)) = absurd (either calm calm' (c.fault e))
+    concluded ending text p small is c calm calm' (inr (inr e)) = inl e
+
+    other_of : (ending : Ending) → Sorted ending → IsOfProgram ending ⊎ (ending ≡ WriteFault) ⊎ (ending ≡ OutOfMemory) ⊎ Untouched held puts told tells talk out out' err err' rack rack'
+    other_of ending (inl h) = inl h
+    other_of ending (inr (inl e)) = inr (inl e)
+    other_of ending (inr (inr e)) = inr (inr (inl e))
+
+    -- its program was run
+    text_run : (ending : Ending) (text : List ℕ) (p : Program) → (IsCrowded rack → ⊥) → ReadsAll left reads input input' (2 ^ 24) text → IsProgram text (Ok p)
+        → Carries held puts told tells talk p turns out out' err err' rack rack' ending → Done ending
+    text_run ending text p room r is c = record {
+      whole = λ h. record { text = text; read = read_of text r; program = p; is = is; carried = c.whole h };
+      part = λ h. record { text = text; read = read_of text r; program = p; is = is; carried = c.part (inl h) };
+      want = λ h. inr (record { text = text; read = read_of text r; program = p; is = is; carried = c.part (inr h) });
+      other = other_of ending (sorted ending c.ends);
+      ends = carried_is_own ending c.ends;
+      crowded = ((λ e. absurd (subst IsOfCarried e c.ends)), (λ full. absurd (room full)));
+      unread = λ e. absurd (subst IsOfCarried e c.ends);
+      talks = c.talks;
+      dropped = c.dropped;
+      logged = c.logged;
+      refused = λ kind line e. absurd (subst IsOfCarried e c.ends);
+      limit = λ kind but e. absurd (subst IsOfCarried e c.ends);
+      read_fault = λ e. absurd (subst IsOfCarried e c.ends);
+      write_fault = c.fault;
+      within = record { bytes = text; taken = r.reads.taken; bounded = omega (arith, r.within) };
+      reads_steady = λ e. r.reads.steady;
+      puts_steady = λ h. (c.steady h).0;
+      tells_steady = λ h. (c.steady h).1;
+      decides = λ told none e calm calm' calm''. subst (λ w. DecidesExecution turns (ready_slot (states (slots_of rack))) (answers_in (grown rack rack')) w ending) (ReadsAll-text e r)
+          (concluded ending text p r.within is c calm' calm'' (sorted ending c.ends));
+    }
+
+    -- the input was read to its end
+    pub executes : (ending : Ending) (text : List ℕ) → (IsCrowded rack → ⊥) → ReadsAll left reads input input' (2 ^ 24) text
+        → ExecutesText held puts told tells talk turns text out out' err err' rack rack' ending → Done ending
+    executes ending text room r (inl ran) = text_run ending text ran.0 room r ran.1 ran.2
+    executes ending text room r (inr h) = text_refused ending text room r h.0 h.1
+
+    -- reading it stopped
+    pub stopped : (stop : InputStop) → (IsCrowded rack → ⊥) → ReadsPart left reads input input' (2 ^ 24) stop → Untouched held puts told tells talk out out' err err' rack rack' → Done (stopped_ending stop)
+    stopped input_stop.Fault room r u =
+        idle ReadFault u (λ h. h) (λ e. cc (e)) tt ((λ e. absurd (cc (e))), (λ full. absurd (room full))) (λ e. absurd (cc (e)))
+        (λ kind line e. absurd (cc (e))) (λ kind but e. absurd (cc (e))) (λ e. r.reason.0)
+        (record { bytes = r.bytes; taken = r.taken; bounded = omega (arith, r.reason.1) })
+        (λ e. absurd (e refl)) (λ text none e calm calm' calm''. absurd (calm r.reason.0))
+    stopped input_stop.TooLong room r u =
+        idle (Limit L6) u (λ h. h) (λ e. cc (e)) tt ((λ e. absurd (cc (e))), (λ full. absurd (room full))) (λ e. absurd (cc (e)))
+        (λ kind line e. absurd (cc (e)))
+        (λ kind but e. inl (cc (e), record { bytes = r.bytes; taken = r.taken; long = r.reason.1; bounded = r.reason.2 }))
+        (λ e. absurd (cc (e)))
+        (record { bytes = r.bytes; taken = r.taken; bounded = r.reason.2 })
+        (λ e. r.reason.0) (λ text none e calm calm' calm''. inr (inl (ReadsPart-long e r, refl)))
+    stopped input_stop.OutOfMemory room r u =
+        idle OutOfMemory u (λ h. h) (λ e. cc (e)) tt ((λ e. absurd (cc (e))), (λ full. absurd (room full))) (λ e. absurd (cc (e)))
+        (λ kind line e. absurd (cc (e))) (λ kind but e. absurd (cc (e))) (λ e. absurd (cc (e)))
+        (record { bytes = r.bytes; taken = r.taken; bounded = r.reason.1 })
+        (λ e. r.reason.0) (λ text none e calm calm' calm''. inl refl)
+
+    -- an input that was not read
+    unread_within : input' ≡ input → ReadsWithin (left input) (left input')
+    unread_within same = subst (λ i. ReadsWithin (left input) (left i)) (sym same) (record { bytes = []; taken = (Reads-none {left = left} {faults = reads} input).taken; bounded = omega arith })
+
+    -- the rack has too many slots
+    pub full : IsCrowded rack → input' ≡ input → Untouched held puts told tells talk out out' err err' rack rack' → Done (Limit L7)
+    full crowded same u =
+        idle (Limit L7) u (λ h. h) (λ e. cc (e)) tt ((λ e. crowded), (λ h. refl)) (λ e. same)
+        (λ kind line e. absurd (cc (e))) (λ kind but e. absurd (but (cc (e)))) (λ e. absurd (cc (e)))
+        (unread_within same) (λ e. ap reads same) (λ text none e calm calm' calm''. absurd (none crowded))

@@ -1,0 +1,252 @@
+-- What a call that runs written C answers, and what it leaves.
+use Rattle.std.specs.Prelude.{◌≡◌, ℕ, ◌^◌, ◌<◌, ◌≤◌, ◌⊎◌, ◌↔◌, List, ◌++◌, map, length, option_map, is_some, IsTrue, Option, Some, Result, Ok, Err, String}
+use Rattle.std.specs.String.{string_bytes}
+use Rattle.std.specs.declared.alloc.Global.{Global as Allocator}
+use Rattle.std.specs.declared.dyn_box.DynBox.{DynBox}
+use Rattle.ec_base.specs.declared.fault.FaultKind.{FaultKind}
+use Rattle.ec_base.specs.declared.fault.LimitKind.{LimitKind}
+use Rattle.ec_base.specs.declared.fault.LimitKind.TheVariants.{L1, L2, L3, L4, L5, L6, L7, L8}
+use Rattle.ec_base.specs.declared.line.Line.{Line}
+use Rattle.ec_base.specs.declared.stop.Stop.{Stop}
+use Rattle.ec_base.specs.declared.stop.Stop.TheVariants as stops
+use Rattle.ec_base.specs.Causes.{Rose}
+use Rattle.ec_link.specs.declared.rack.Rack.{Rack}
+use Rattle.ec_link.specs.Logged.{Talk}
+use Rattle.ec_link.specs.Rack.{slots_of, log_of}
+use Rattle.ec_link.specs.Slot.{states, talk_at}
+use Rattle.ec_link.specs.SlotState.{ready_slot}
+use Rattle.ec_link.specs.Told.{KeepsTalks, SparesDropped}
+use Rattle.ec_observed.specs.Headline.{IsRead, RefusesAt, IsTooLong, ReadsWithin}
+use Rattle.ec_observed.specs.Observed.{answers_in}
+use Rattle.ec_evaluation.specs.State as evaluation
+use Rattle.ec_evaluation.specs.State.{Answer}
+use Rattle.ec_evaluation.specs.Whole.{Observed}
+use Rattle.ec_resolved.specs.Programs.{Program}
+use Rattle.ec_execution.specs.Programs.{IsProgram, meaning}
+use Rattle.ec_execution.specs.Runs.{Runs, RunsPart}
+use Rattle.ec_execute.specs.declared.running.RunEnd.{RunEnd}
+use Rattle.ec_execute.specs.declared.running.RunEnd.TheVariants as ends
+use Rattle.ec_words.specs.Words.{execution_of}
+use Rattle.ec_cli.specs.Answers.{IsCrowded, Announces, grown}
+use Rattle.ec_cli.specs.Machine.{RunsOver}
+use Rattle.ec_cli.specs.declared.ending.Ending.{Ending}
+use Rattle.ec_cli.specs.declared.ending.Ending.TheVariants.{Wrote, Exited, Trapped, TurnsSpent, Usage, Refused, Limit, ReadFault, WriteFault, OutOfMemory}
+
+-- the words name a run of written C, and one of so many turns
+abbrev pub IsExecuting : List (String Allocator) → Type 0
+IsExecuting words = IsTrue (is_some (execution_of (map string_bytes words)))
+
+abbrev pub HasTurns : List (String Allocator) → ℕ → Type 0
+HasTurns words turns =
+    option_map (λ it. it.turns) (execution_of (map string_bytes words)) ≡ Some turns
+
+-- ---- endings
+
+-- endings of a program that was run to its end
+abbrev pub IsOfProgram : Ending → Type 0
+IsOfProgram (Exited status) = Unit {0}
+IsOfProgram (Trapped trap line) = Unit {0}
+IsOfProgram TurnsSpent = Unit {0}
+IsOfProgram Wrote = ⊥
+IsOfProgram Usage = ⊥
+IsOfProgram (Refused kind line) = ⊥
+IsOfProgram (Limit kind) = ⊥
+IsOfProgram ReadFault = ⊥
+IsOfProgram WriteFault = ⊥
+IsOfProgram OutOfMemory = ⊥
+
+-- endings of a program that was carried out, the whole or a part of it
+abbrev pub IsOfCarried : Ending → Type 0
+IsOfCarried (Exited status) = Unit {0}
+IsOfCarried (Trapped trap line) = Unit {0}
+IsOfCarried TurnsSpent = Unit {0}
+IsOfCarried WriteFault = Unit {0}
+IsOfCarried OutOfMemory = Unit {0}
+IsOfCarried Wrote = ⊥
+IsOfCarried Usage = ⊥
+IsOfCarried (Refused kind line) = ⊥
+IsOfCarried (Limit kind) = ⊥
+IsOfCarried ReadFault = ⊥
+
+-- endings of the command
+abbrev pub IsOfExecution : Ending → Type 0
+IsOfExecution Wrote = ⊥
+IsOfExecution Usage = ⊥
+IsOfExecution (Exited status) = Unit {0}
+IsOfExecution (Trapped trap line) = Unit {0}
+IsOfExecution TurnsSpent = Unit {0}
+IsOfExecution (Refused kind line) = Unit {0}
+IsOfExecution (Limit kind) = Unit {0}
+IsOfExecution ReadFault = Unit {0}
+IsOfExecution WriteFault = Unit {0}
+IsOfExecution OutOfMemory = Unit {0}
+
+-- the call ends as the program does
+abbrev pub EndsAs : evaluation.Ending → Ending → Type 0
+EndsAs (evaluation.exited status) ending = ending ≡ Exited status
+EndsAs (evaluation.trapped trap line) ending = ending ≡ Trapped trap (record { 0 = line })
+EndsAs evaluation.turns_spent ending = ending ≡ TurnsSpent
+EndsAs (evaluation.waits slot request) ending = ⊥
+EndsAs evaluation.stuck ending = ⊥
+
+-- the ending of a run
+abbrev pub ending_of_program : RunEnd → Ending
+ending_of_program (ends.Exited status) = Exited status
+ending_of_program (ends.Trapped trap line) = Trapped trap line
+ending_of_program ends.TurnsSpent = TurnsSpent
+ending_of_program ends.WriteFault = WriteFault
+ending_of_program ends.OutOfMemory = OutOfMemory
+
+-- a limit of a text: every one but that on slots, which is none of a text's
+abbrev pub limit_of : LimitKind → Ending
+limit_of L7 = OutOfMemory
+limit_of kind = Limit kind
+
+-- the ending of a text that is refused
+abbrev pub text_refusal : Stop → Ending
+text_refusal (stops.Refused kind line) = Refused kind line
+text_refusal (stops.Limit kind) = limit_of kind
+text_refusal stops.OutOfMemory = OutOfMemory
+
+-- ---- what a text decides
+
+-- the text is refused for this fault at this line, as written C
+abbrev pub IsRefusedWritten : List ℕ → FaultKind → ℕ → Type 0
+IsRefusedWritten text kind line = IsProgram text (Err (stops.Refused kind (record { 0 = line })))
+
+-- the input was read to its end and passes this limit, or more than 2^24 bytes came
+pub record LimitsWritten (input input' : Option (List ℕ)) (kind : LimitKind) : Type 0 where
+  pub text : List ℕ
+  pub read : IsRead input input' text
+  pub limit : IsProgram text (Err (stops.Limit kind))
+
+abbrev pub PassesWritten : Option (List ℕ) → Option (List ℕ) → LimitKind → Type 0
+PassesWritten input input' kind =
+    ((kind ≡ L6) × IsTooLong input input') ⊎ LimitsWritten input input' kind
+
+-- a text is refused, or there was no memory for it
+abbrev pub RefusesText : List ℕ → Ending → Type 0
+RefusesText text (Refused kind line) = IsProgram text (Err (stops.Refused kind line))
+RefusesText text (Limit kind) = (kind ≡ L7 → ⊥) × IsProgram text (Err (stops.Limit kind))
+RefusesText text OutOfMemory = Unit {0}
+RefusesText text (Exited status) = ⊥
+RefusesText text (Trapped trap line) = ⊥
+RefusesText text TurnsSpent = ⊥
+RefusesText text Wrote = ⊥
+RefusesText text Usage = ⊥
+RefusesText text ReadFault = ⊥
+RefusesText text WriteFault = ⊥
+
+-- what the call ends with, where the text is run as this program or refused for this
+abbrev pub Concludes : ℕ → Option (ℕ × List ℕ) → List Answer → Result Program Stop → Ending → Type 0
+Concludes turns ready answers (Ok program) ending =
+    EndsAs (meaning program turns ready answers).ending ending
+Concludes turns ready answers (Err stop) ending = ending ≡ text_refusal stop
+
+abbrev pub AnswersProgram : ℕ → Option (ℕ × List ℕ) → List Answer → List ℕ → Ending → Type 0
+AnswersProgram turns ready answers text ending =
+    (answer : Result Program Stop) × IsProgram text answer × Concludes turns ready answers answer ending
+
+-- What a text decides, where nothing fails: more than 2^24 bytes pass the limit; any other text is refused as the phases of
+-- written C say, or ends as its program does. Want of memory may come at any point.
+abbrev pub DecidesExecution : ℕ → Option (ℕ × List ℕ) → List Answer → List ℕ → Ending → Type 0
+DecidesExecution turns ready answers text ending =
+    (ending ≡ OutOfMemory)
+    ⊎ ((2 ^ 24 < length text) × (ending ≡ Limit L6))
+    ⊎ ((length text ≤ 2 ^ 24) × AnswersProgram turns ready answers text ending)
+
+-- ---- runs
+
+-- what a program means over the slots and the log of a rack
+abbrev pub meaning_over : {X : Type 0} {F : X → Type 0} → Program → ℕ → Rack X F → Rack X F → Observed
+meaning_over program turns rack rack' =
+    meaning program turns (ready_slot (states (slots_of rack))) (answers_in (grown rack rack'))
+
+-- the last line was put behind what was done
+pub record BeforeLine {E : Type 0} (told : E → Option (List ℕ)) (tells : E → ℕ) (last : E) (line : List ℕ) (Done : E → Type 0) : Type 0 where
+  pub between : E
+  pub done : Done between
+  pub announced : Announces told tells between last line
+
+module _ {O E X : Type 0} {F : X → Type 0} (held : O → Option (List ℕ)) (puts : O → ℕ) (told : E → Option (List ℕ)) (tells : E → ℕ) (talk : DynBox X Allocator F → Option Talk) where
+  -- nothing was run
+  pub record Untouched (out out' : O) (err err' : E) (rack rack' : Rack X F) : Type 0 where
+    pub output : out' ≡ out
+    pub errors : err' ≡ err
+    pub links : rack' ≡ rack
+
+  -- the whole of what the program means was carried out, and the slot that was ready is free
+  pub record CarriedOut (program : Program) (turns : ℕ) (out out' : O) (err err' : E) (rack rack' : Rack X F) (ending : Ending) : Type 0 where
+    pub ended : evaluation.Ending
+    pub ends : EndsAs ended ending
+    pub runs : Runs held puts told tells (meaning_over program turns rack rack') (grown rack rack') ended out out' err err'
+    pub slots : RunsOver (slots_of rack) (grown rack rack') (slots_of rack')
+
+  -- a part of it was
+  pub record CarriedPart (program : Program) (turns : ℕ) (out out' : O) (err err' : E) (rack rack' : Rack X F) : Type 0 where
+    pub part : RunsPart held puts told tells (meaning_over program turns rack rack') (grown rack rack') out out' err err'
+    pub slots : RunsOver (slots_of rack) (grown rack rack') (slots_of rack')
+
+  -- what carrying a program out does, by its ending
+  pub record Carries (program : Program) (turns : ℕ) (out out' : O) (err err' : E) (rack rack' : Rack X F) (ending : Ending) : Type 0 where
+    pub whole : IsOfProgram ending → CarriedOut program turns out out' err err' rack rack' ending
+    pub part : (ending ≡ WriteFault) ⊎ (ending ≡ OutOfMemory) → CarriedPart program turns out out' err err' rack rack'
+    pub ends : IsOfCarried ending
+    pub talks : KeepsTalks (talk_at talk (slots_of rack)) (talk_at talk (slots_of rack')) (grown rack rack')
+    pub dropped : SparesDropped (states (slots_of rack)) (states (slots_of rack')) (grown rack rack')
+    pub logged : log_of rack' ≡ log_of rack ++ grown rack rack'
+    pub fault : ending ≡ WriteFault → Rose (puts out) (puts out') ⊎ Rose (tells err) (tells err')
+    pub steady : (ending ≡ WriteFault → ⊥) → (puts out' ≡ puts out) × (tells err' ≡ tells err)
+
+  -- what a text leads to
+  abbrev pub ExecutesText : ℕ → List ℕ → O → O → E → E → Rack X F → Rack X F → Ending → Type 0
+  ExecutesText turns text out out' err err' rack rack' ending =
+      ((program : Program) × IsProgram text (Ok program) × Carries program turns out out' err err' rack rack' ending)
+      ⊎ (RefusesText text ending × Untouched out out' err err' rack rack')
+
+  module _ {I : Type 0} (left : I → Option (List ℕ)) where
+    -- the input was read to its end, and the whole of what its program means was carried out
+    pub record ExecutesWhole (turns : ℕ) (input input' : I) (out out' : O) (err err' : E) (rack rack' : Rack X F) (ending : Ending) : Type 0 where
+      pub text : List ℕ
+      pub read : IsRead (left input) (left input') text
+      pub program : Program
+      pub is : IsProgram text (Ok program)
+      pub carried : CarriedOut program turns out out' err err' rack rack' ending
+
+    -- a part of it was
+    pub record ExecutesPart (turns : ℕ) (input input' : I) (out out' : O) (err err' : E) (rack rack' : Rack X F) : Type 0 where
+      pub text : List ℕ
+      pub read : IsRead (left input) (left input') text
+      pub program : Program
+      pub is : IsProgram text (Ok program)
+      pub carried : CarriedPart program turns out out' err err' rack rack'
+
+    -- nothing was run, or a part
+    abbrev pub MayExecute : ℕ → I → I → O → O → E → E → Rack X F → Rack X F → Type 0
+    MayExecute turns input input' out out' err err' rack rack' =
+        Untouched out out' err err' rack rack'
+        ⊎ ExecutesPart turns input input' out out' err err' rack rack'
+
+    -- everything that is promised of a call that runs written C, but of the last line
+    pub record Executes (reads : I → ℕ) (turns : ℕ) (input input' : I) (out out' : O) (err err' : E) (rack rack' : Rack X F) (ending : Ending) : Type 0 where
+      pub whole : IsOfProgram ending → ExecutesWhole turns input input' out out' err err' rack rack' ending
+      pub part : ending ≡ WriteFault → ExecutesPart turns input input' out out' err err' rack rack'
+      pub want : ending ≡ OutOfMemory → MayExecute turns input input' out out' err err' rack rack'
+      pub other : IsOfProgram ending ⊎ (ending ≡ WriteFault) ⊎ (ending ≡ OutOfMemory) ⊎ Untouched out out' err err' rack rack'
+      pub ends : IsOfExecution ending
+      pub crowded : (ending ≡ Limit L7) ↔ IsCrowded rack
+      pub unread : ending ≡ Limit L7 → input' ≡ input
+      pub talks : KeepsTalks (talk_at talk (slots_of rack)) (talk_at talk (slots_of rack')) (grown rack rack')
+      pub dropped : SparesDropped (states (slots_of rack)) (states (slots_of rack')) (grown rack rack')
+      pub logged : log_of rack' ≡ log_of rack ++ grown rack rack'
+      pub refused : (kind : FaultKind) (line : Line) → ending ≡ Refused kind line → RefusesAt IsRefusedWritten (left input) (left input') kind line.0
+      pub limit : (kind : LimitKind) → (kind ≡ L7 → ⊥) → ending ≡ Limit kind → PassesWritten (left input) (left input') kind
+      pub read_fault : ending ≡ ReadFault → Rose (reads input) (reads input')
+      pub write_fault : ending ≡ WriteFault → Rose (puts out) (puts out') ⊎ Rose (tells err) (tells err')
+      pub within : ReadsWithin (left input) (left input')
+      pub reads_steady : (ending ≡ ReadFault → ⊥) → reads input' ≡ reads input
+      pub puts_steady : (ending ≡ WriteFault → ⊥) → puts out' ≡ puts out
+      pub tells_steady : (ending ≡ WriteFault → ⊥) → tells err' ≡ tells err
+      pub decides : (text : List ℕ) → (IsCrowded rack → ⊥) → left input ≡ Some text
+          → (Rose (reads input) (reads input') → ⊥) → (Rose (puts out) (puts out') → ⊥) → (Rose (tells err) (tells err') → ⊥)
+          → DecidesExecution turns (ready_slot (states (slots_of rack))) (answers_in (grown rack rack')) text ending

@@ -1,0 +1,192 @@
+-- From the run of a machine to what a program means.
+use Rattle.std.proofs.Common.{◌≡◌, ◌⊎◌, inl, inr, ℕ, suc, ◌≤◌, List, [], ◌++◌, refl, ap, sym, ◌∙◌, subst, arith, Option, None, Some, append-nil}
+use Rattle.std.specs.Io.KnownBytes.{Appends, Keeps}
+use Rattle.ec_base.specs.Causes.{Rose}
+use Rattle.ec_base.specs.Putting.{Puts, Took}
+use Rattle.ec_base.proofs.Transfers.{Took-puts}
+use Rattle.ec_code.specs.declared.program.Program.{Program as Code}
+use Rattle.ec_code.specs.Views.{program_view}
+use Rattle.ec_evaluation.specs.Agree.{richer, beside, same_over, Kept, Agree, Never, Any, state_of}
+use Rattle.ec_evaluation.specs.Expanded.{itself}
+use Rattle.ec_evaluation.specs.Results.{Res, value, on, broke, continued, went, back, over}
+use Rattle.ec_evaluation.specs.State.{Answer, State, Ending}
+use Rattle.ec_evaluation.specs.Whole.{Observed, observed, opening_state, program_meaning, whole_within, without_atoms}
+use Rattle.ec_evaluation.proofs.WholeRuns.{within_twins, holds_at_end}
+use Rattle.ec_objects.specs.Memory.{Memory}
+use Rattle.ec_observed.specs.Run.{IsFront}
+use Rattle.ec_resolved.specs.Programs.{Program}
+use Rattle.ec_interp.specs.declared.end.RunEnd.{RunEnd as MachineEnd}
+use Rattle.ec_interp.specs.declared.end.RunEnd.TheVariants as machine
+use Rattle.ec_interp.specs.Ran as ran
+use Rattle.ec_execution.specs.Programs.{meaning}
+use Rattle.ec_execution.specs.Runs.{Runs, RunsPart}
+use Rattle.ec_execute.specs.declared.running.RunEnd.{RunEnd}
+use Rattle.ec_execute.specs.declared.running.RunEnd.TheVariants as ends
+use Rattle.ec_execute.specs.Ends.{Performs, end_of}
+
+-- ---- a run that asks nothing
+
+-- what is said so far
+abbrev Silent : State → Type 0
+Silent s = s.conversation ≡ []
+
+silent_kept : Kept Silent Never Any 0 []
+silent_kept = record { memory = λ s m p. p; printed = λ s o e p. p; turn = λ s k e p. p; both = λ e own. tt; spent = inr refl; first_later = λ e s t u a b. a; same_later = λ s. tt; later_still = λ s t u a b. tt; memory_later = λ s m. tt; printed_later = λ s o e. tt; turn_later = λ s k. tt; richer_later = λ s. tt }
+
+silent_step : Agree Silent Never Any 0 [] without_atoms without_atoms itself
+silent_step = record {
+  no_label = λ l n. refl;
+  embeds = λ w w' r c n. record { same = λ s s' p. same_over tt p; later = λ u. tt };
+  libraries = λ w w' r c n. record { same = λ s s' p. same_over tt p; later = λ u. tt };
+}
+
+-- what is seen of a run is what its last state has
+seen_said : (r : Res) → (observed r).conversation ≡ (state_of r).conversation
+seen_said (value v s) = refl
+seen_said (on s) = refl
+seen_said (broke s) = refl
+seen_said (continued s) = refl
+seen_said (went l s) = refl
+seen_said (back v s) = refl
+seen_said (over e s) = refl
+
+-- nothing is said to a server
+nothing_said : (p : Program) (turns : ℕ) (ready : Option (ℕ × List ℕ)) (answers : List Answer) → (program_meaning without_atoms p turns ready answers).conversation ≡ []
+nothing_said p turns ready answers =
+    let s = opening_state ready answers turns in
+    let twins = within_twins Silent Never Any 0 [] silent_kept without_atoms silent_step p turns s (richer 0 [] s) (beside refl) in
+    seen_said (whole_within without_atoms p turns s) ∙ holds_at_end Silent silent_kept twins
+
+-- ---- parts
+
+all_of : {A : Type 0} (xs : List A) → IsFront xs xs
+all_of xs = record { rest = []; same = sym (append-nil xs) }
+
+none_of : {A : Type 0} (xs : List A) → IsFront [] xs
+none_of xs = record { rest = xs; same = refl }
+
+-- bytes that were appended stay so where what is known is kept
+appends_kept : (a b c : Option (List ℕ)) (bs : List ℕ) → Appends a b bs → Keeps b c → Appends a c bs
+appends_kept None b c bs p q = tt
+appends_kept (Some x) None c bs p q = absurd p
+appends_kept (Some x) (Some y) None bs p q = absurd q
+appends_kept (Some x) (Some y) (Some z) bs p q = q ∙ p
+
+puts_kept : {S : Type 0} {held : S → Option (List ℕ)} {faults : S → ℕ} {a b c : S} {bs : List ℕ} → Puts held faults a b bs → Keeps (held b) (held c) → faults c ≡ faults b → Puts held faults a c bs
+puts_kept p k e = record { taken = appends_kept _ _ _ _ p.taken k; steady = e ∙ p.steady }
+
+took_kept : {S : Type 0} {held : S → Option (List ℕ)} {faults : S → ℕ} {a b c : S} {bs : List ℕ} → Took held faults a b bs → Keeps (held b) (held c) → faults b ≤ faults c → Took held faults a c bs
+took_kept p k later = record { taken = appends_kept _ _ _ _ p.taken k; later = omega (arith, p.later, later) }
+
+rose_before : (a b c : ℕ) → a ≤ b → Rose b c → Rose a c
+rose_before a b c p q = omega arith
+
+rose_later : (a b c : ℕ) → Rose a b → b ≤ c → Rose a c
+rose_later a b c p q = omega arith
+
+module _ {O E : Type 0} (held : O → Option (List ℕ)) (puts : O → ℕ) (told : E → Option (List ℕ)) (tells : E → ℕ) where
+  -- all of it is a part of it
+  part_of_whole : {m : Observed} {e : Ending} {out out' : O} {err err' : E} → Runs held puts told tells m [] e out out' err err' → RunsPart held puts told tells m [] out out' err err'
+  part_of_whole {m} r = record {
+    printed = m.output;
+    complained = m.errors;
+    conversation = none_of m.conversation;
+    output_front = all_of m.output;
+    errors_front = all_of m.errors;
+    output = Took-puts r.output;
+    errors = Took-puts r.errors;
+  }
+
+  -- ---- the machine
+
+  left_of : {m : Observed} {out out' : O} {err err' : E} (printed complained : List ℕ) → ran.IsFront printed m.output → ran.IsFront complained m.errors
+      → Took held puts out out' printed → Took told tells err err' complained → RunsPart held puts told tells m [] out out' err err'
+  left_of {m} printed complained a b p q = record {
+    printed = printed;
+    complained = complained;
+    conversation = none_of m.conversation;
+    output_front = record { rest = a.0; same = a.1 };
+    errors_front = record { rest = b.0; same = b.1 };
+    output = p;
+    errors = q;
+  }
+
+  over_of : {m : Observed} {out out' : O} {err err' : E} {memory : Memory} {e : Ending} → m.conversation ≡ [] → ran.IsOver held puts told tells m out out' err err' memory e → Runs held puts told tells m [] e out out' err err'
+  over_of silent o = record { ends = o.ends; conversation = silent; output = o.prints.output; errors = o.prints.errors }
+
+  performed : (m : Observed) (out out' : O) (err err' : E) (memory : Memory) (end : MachineEnd) → m.conversation ≡ [] → ran.Ran held puts told tells m out out' err err' memory end
+      → Performs held puts told tells m out out' err err' (end_of end)
+  performed m out out' err err' memory (machine.Exited status) silent o = over_of silent o
+  performed m out out' err err' memory (machine.Trapped trap line) silent o = over_of silent o
+  performed m out out' err err' memory machine.TurnsSpent silent o = over_of silent o
+  performed m out out' err err' memory machine.Stuck silent o = (part_of_whole (over_of silent o), o.prints.output.steady, o.prints.errors.steady)
+  performed m out out' err err' memory machine.WriteFault silent f = (left_of f.printed f.complained f.output f.errors f.prints.output f.prints.errors, f.prints.failed)
+  performed m out out' err err' memory machine.OutOfMemory silent l =
+      (left_of l.printed l.complained l.output l.errors (Took-puts l.prints.output) (Took-puts l.prints.errors), l.prints.output.steady, l.prints.errors.steady)
+
+  performs : (p : Program) (turns : ℕ) (ready : Option (ℕ × List ℕ)) (answers : List Answer) (out out' : O) (err err' : E) (memory : Memory) (end : MachineEnd)
+      → ran.Ran held puts told tells (program_meaning without_atoms p turns ready answers) out out' err err' memory end
+      → Performs held puts told tells (meaning p turns ready answers) out out' err err' (end_of end)
+  unfolding meaning
+  performs p turns ready answers out out' err err' memory end r = performed _ out out' err err' memory end (nothing_said p turns ready answers) r
+
+  -- by a machine for the program
+  pub performs_by : (a b : Code) → a ≡ b → (turns : ℕ) (ready : Option (ℕ × List ℕ)) (answers : List Answer) (out out' : O) (err err' : E) (memory : Memory) (end : MachineEnd) (result : RunEnd)
+      → result ≡ end_of end → ran.Ran held puts told tells (program_meaning without_atoms (program_view a) turns ready answers) out out' err err' memory end
+      → Performs held puts told tells (meaning (program_view b) turns ready answers) out out' err err' result
+  performs_by a b same turns ready answers out out' err err' memory end result e r =
+      subst (λ x. Performs held puts told tells (meaning (program_view b) turns ready answers) out out' err err' x) (sym e)
+      (performs (program_view b) turns ready answers out out' err err' memory end
+      (subst (λ q. ran.Ran held puts told tells (program_meaning without_atoms (program_view q) turns ready answers) out out' err err' memory end) same r))
+
+  -- ---- both outputs pass on what they kept back
+
+  module _ (m : Observed) (out put flushed : O) (err said passed : E) (output : Keeps (held put) (held flushed)) (errors : Keeps (told said) (told passed)) where
+    whole_kept : {e : Ending} → puts flushed ≡ puts put → tells passed ≡ tells said → Runs held puts told tells m [] e out put err said → Runs held puts told tells m [] e out flushed err passed
+    whole_kept a b r = record {
+      ends = r.ends;
+      conversation = r.conversation;
+      output = puts_kept r.output output a;
+      errors = puts_kept r.errors errors b;
+    }
+
+    part_kept : puts put ≤ puts flushed → tells said ≤ tells passed → RunsPart held puts told tells m [] out put err said → RunsPart held puts told tells m [] out flushed err passed
+    part_kept a b r = record {
+      printed = r.printed;
+      complained = r.complained;
+      conversation = r.conversation;
+      output_front = r.output_front;
+      errors_front = r.errors_front;
+      output = took_kept r.output output a;
+      errors = took_kept r.errors errors b;
+    }
+
+    part_of : (end : RunEnd) → Performs held puts told tells m out put err said end → RunsPart held puts told tells m [] out put err said
+    part_of (ends.Exited status) h = part_of_whole h
+    part_of (ends.Trapped trap line) h = part_of_whole h
+    part_of ends.TurnsSpent h = part_of_whole h
+    part_of ends.WriteFault h = h.0
+    part_of ends.OutOfMemory h = h.0
+
+    still_risen : puts put ≤ puts flushed → tells said ≤ tells passed → Rose (puts out) (puts put) ⊎ Rose (tells err) (tells said) → Rose (puts out) (puts flushed) ⊎ Rose (tells err) (tells passed)
+    still_risen a b (inl r) = inl (rose_later _ _ _ r a)
+    still_risen a b (inr r) = inr (rose_later _ _ _ r b)
+
+    has_risen : puts out ≤ puts put → tells err ≤ tells said → Rose (puts put) (puts flushed) ⊎ Rose (tells said) (tells passed) → Rose (puts out) (puts flushed) ⊎ Rose (tells err) (tells passed)
+    has_risen a b (inl r) = inl (rose_before _ _ _ a r)
+    has_risen a b (inr r) = inr (rose_before _ _ _ b r)
+
+    -- where both did
+    pub flushed_whole : (end : RunEnd) → puts flushed ≡ puts put → tells passed ≡ tells said → Performs held puts told tells m out put err said end → Performs held puts told tells m out flushed err passed end
+    flushed_whole (ends.Exited status) a b h = whole_kept a b h
+    flushed_whole (ends.Trapped trap line) a b h = whole_kept a b h
+    flushed_whole ends.TurnsSpent a b h = whole_kept a b h
+    flushed_whole ends.WriteFault a b h = (part_kept (omega (arith, a)) (omega (arith, b)) h.0, still_risen (omega (arith, a)) (omega (arith, b)) h.1)
+    flushed_whole ends.OutOfMemory a b h = (part_kept (omega (arith, a)) (omega (arith, b)) h.0, a ∙ h.1, b ∙ h.2)
+
+    -- where one of them failed
+    pub flushed_part : (end : RunEnd) → puts put ≤ puts flushed → tells said ≤ tells passed → Rose (puts put) (puts flushed) ⊎ Rose (tells said) (tells passed)
+        → Performs held puts told tells m out put err said end → Performs held puts told tells m out flushed err passed ends.WriteFault
+    flushed_part end a b rose h =
+        let part = part_of end h in
+        (part_kept a b part, has_risen part.output.later part.errors.later rose)
