@@ -17,25 +17,31 @@ cut_of name args = cut is_chars name args
 -- ten values: a symbol, a pointer, a length, a count and a distance, without indicators
 abbrev pub ten : Sym → ℕ → ℕ → ℕ → ℕ → List (Arg ℕ) → List (Arg ℕ)
 ten s p size count step rest =
-    symbol s ∷ pointer p ∷ long_constant size ∷ long_constant count ∷ long_constant step ∷ symbol sym.NoIndicator ∷ null ∷ long_constant 0 ∷ long_constant 0 ∷ long_constant 0 ∷ rest
+    symbol s ∷ pointer p ∷ long_constant size ∷ long_constant count ∷ long_constant step
+    ∷ symbol sym.NoIndicator ∷ null ∷ long_constant 0 ∷ long_constant 0 ∷ long_constant 0 ∷ rest
 
 -- an int at 500, with these indicators at 700
 abbrev pub told : ℕ → Sym → ℕ → ℕ → List (Arg ℕ) → List (Arg ℕ)
 told count s indicators step rest =
-    symbol sym.Int ∷ pointer 500 ∷ long_constant 0 ∷ long_constant count ∷ long_constant 4 ∷ symbol s ∷ pointer 700 ∷ long_constant 0 ∷ long_constant indicators ∷ long_constant step ∷ rest
+    symbol sym.Int ∷ pointer 500 ∷ long_constant 0 ∷ long_constant count ∷ long_constant 4
+    ∷ symbol s ∷ pointer 700 ∷ long_constant 0
+    ∷ long_constant indicators ∷ long_constant step ∷ rest
 
 -- a constant, and a descriptor of this name, with these three numbers
 abbrev pub const : List ℕ → ℕ → ℕ → ℕ → List (Arg ℕ) → List (Arg ℕ)
 const bytes size count step rest =
-    symbol sym.Const ∷ literal bytes ∷ long_constant size ∷ long_constant count ∷ long_constant step ∷ symbol sym.NoIndicator ∷ null ∷ long_constant 0 ∷ long_constant 0 ∷ long_constant 0 ∷ rest
+    symbol sym.Const ∷ literal bytes ∷ long_constant size ∷ long_constant count ∷ long_constant step
+    ∷ symbol sym.NoIndicator ∷ null ∷ long_constant 0 ∷ long_constant 0 ∷ long_constant 0 ∷ rest
 
 abbrev pub area : Arg ℕ → List (Arg ℕ) → List (Arg ℕ)
 area name rest =
-    symbol sym.Descriptor ∷ name ∷ long_constant 1 ∷ long_constant 1 ∷ long_constant 1 ∷ symbol sym.NoIndicator ∷ null ∷ long_constant 0 ∷ long_constant 0 ∷ long_constant 0 ∷ rest
+    symbol sym.Descriptor ∷ name ∷ long_constant 1 ∷ long_constant 1 ∷ long_constant 1
+    ∷ symbol sym.NoIndicator ∷ null ∷ long_constant 0 ∷ long_constant 0 ∷ long_constant 0 ∷ rest
 
 -- ECPGdo on line 3 over the current connection, from its inputs on
 abbrev pub select : List (Arg ℕ) → Option (Cut ℕ)
-select rest = cut_of library.Do (int_constant 3 ∷ null ∷ symbol sym.StatementNormal ∷ literal (codes "s") ∷ rest)
+select rest = cut_of library.Do
+    (int_constant 3 ∷ null ∷ symbol sym.StatementNormal ∷ literal (codes "s") ∷ rest)
 
 abbrev pub ends_inputs : List (Arg ℕ) → List (Arg ℕ)
 ends_inputs rest = symbol sym.EndOfInputs ∷ rest
@@ -55,10 +61,19 @@ abbrev pub selects : List (Member ℕ) → List (Member ℕ) → Option (Cut ℕ
 selects ins outs = Some (record { line = 3; call = run absent (normal (codes "s")) ins outs })
 
 abbrev pub alone : Sym → ℕ → ℕ → ℕ → ℕ → Member ℕ
-alone s p size count step = host (record { sym = s; value = p; size = size; count = count; step = step; ind = None })
+alone s p size count step =
+    host (record { sym = s; value = p; size = size; count = count; step = step; ind = None })
 
 abbrev pub beside : ℕ → Sym → ℕ → ℕ → Member ℕ
-beside count s indicators step = host (record { sym = sym.Int; value = 500; size = 0; count = count; step = 4; ind = Some (record { sym = s; value = 700; count = indicators; step = step }) })
+beside count s indicators step =
+    host (record {
+      sym = sym.Int;
+      value = 500;
+      size = 0;
+      count = count;
+      step = 4;
+      ind = Some (record { sym = s; value = 700; count = indicators; step = step });
+    })
 
 -- a call on line 7
 abbrev pub on_7 : LibName → List (Arg ℕ) → Option (Cut ℕ)

@@ -45,7 +45,8 @@ module _ {A : Type 0} where
   abbrev pub indicator_of : Sym → TextArg A → ℕ → ℕ → ℕ → Option (Option (Indicator A))
   indicator_of sym.NoIndicator absent zero zero zero = Some None
   indicator_of sym.NoIndicator _ _ _ _ = None
-  indicator_of s (held a) zero count step = Some (Some (record { sym = s; value = a; count = count; step = step }))
+  indicator_of s (held a) zero count step =
+      Some (Some (record { sym = s; value = a; count = count; step = step }))
   indicator_of _ _ _ _ _ = None
 
   -- a value that is one, and what is behind it
@@ -71,7 +72,9 @@ module _ {A : Type 0} where
   descriptor_of _ _ _ _ _ = None
 
   abbrev pub host_of : Sym → TextArg A → ℕ → ℕ → ℕ → Option (Indicator A) → Option (Member A)
-  host_of s (held a) size count step ind = Some (host (record { sym = s; value = a; size = size; count = count; step = step; ind = ind }))
+  host_of s (held a) size count step ind =
+      Some (host
+      (record { sym = s; value = a; size = size; count = count; step = step; ind = ind }))
   host_of s _ _ _ _ _ = None
 
   -- a member, by its symbol
@@ -105,7 +108,8 @@ module _ {A : Type 0} where
   next_members ends zero args = None
   next_members ends (suc n) args = elim (begins_with ends args) [
     | true ↦ Some ([], behind_first args)
-    | false ↦ and_then (next_member args) (λ m r. and_then (next_members ends n r) (λ ms r. Some (m ∷ ms, r)))
+    | false ↦ and_then (next_member args)
+        (λ m r. and_then (next_members ends n r) (λ ms r. Some (m ∷ ms, r)))
   ]
 
 -- the symbols that end the inputs, the outputs and the items
@@ -155,10 +159,14 @@ module _ {A : Type 0} where
 
   -- a statement, by its symbol
   abbrev pub statement_of : Sym → List (Arg A) → Read A (Statement A)
-  statement_of sym.StatementNormal args = and_then (next_literal args) (λ text r. Some (normal text, r))
-  statement_of sym.StatementExecute args = and_then (next_literal args) (λ name r. Some (prepared name, r))
-  statement_of sym.StatementExecImmediate args = and_then (next_text args) (λ text r. Some (immediate text, r))
-  statement_of sym.StatementOpen args = and_then (next_literal args) (λ head r. and_then (next_literal r) (λ name r. Some (opening head name, r)))
+  statement_of sym.StatementNormal args =
+      and_then (next_literal args) (λ text r. Some (normal text, r))
+  statement_of sym.StatementExecute args =
+      and_then (next_literal args) (λ name r. Some (prepared name, r))
+  statement_of sym.StatementExecImmediate args =
+      and_then (next_text args) (λ text r. Some (immediate text, r))
+  statement_of sym.StatementOpen args = and_then (next_literal args)
+      (λ head r. and_then (next_literal r) (λ name r. Some (opening head name, r)))
   statement_of _ args = None
 
   abbrev pub next_statement : List (Arg A) → Read A (Statement A)
@@ -173,7 +181,8 @@ module _ {A : Type 0} where
       and_then (next_text args) (λ connection r.
       and_then (next_statement r) (λ statement r.
       and_then (next_members ends_inputs (length args) r) (λ ins r.
-      and_then (next_members ends_outputs (length args) r) (λ outs r. Some (run connection statement ins outs, r)))))
+      and_then (next_members ends_outputs (length args) r)
+      (λ outs r. Some (run connection statement ins outs, r)))))
 
   abbrev pub read_connect : List (Arg A) → Read A (Call A)
   read_connect args =
@@ -190,7 +199,8 @@ module _ {A : Type 0} where
 
   -- a connection, a literal and nothing else
   abbrev pub read_literal : (TextArg A → List ℕ → Call A) → List (Arg A) → Read A (Call A)
-  read_literal made args = and_then (next_text args) (λ connection r. and_then (next_literal r) (λ text r. Some (made connection text, r)))
+  read_literal made args = and_then (next_text args)
+      (λ connection r. and_then (next_literal r) (λ text r. Some (made connection text, r)))
 
   abbrev pub read_prepare : List (Arg A) → Read A (Call A)
   read_prepare args =
@@ -199,9 +209,11 @@ module _ {A : Type 0} where
       and_then (next_text r) (λ text r. Some (prepare connection name text, r))))
 
   abbrev pub read_count : (TextArg A → Member A → Call A) → List (Arg A) → Read A (Call A)
-  read_count made args = and_then (next_text args) (λ name r. and_then (next_member r) (λ m r. Some (made name m, r)))
+  read_count made args =
+      and_then (next_text args) (λ name r. and_then (next_member r) (λ m r. Some (made name m, r)))
 
-  abbrev pub read_items : (TextArg A → Member A → List (ItemMember A) → Call A) → List (Arg A) → Read A (Call A)
+  abbrev pub read_items : (TextArg A → Member A → List (ItemMember A) → Call A) →
+      List (Arg A) → Read A (Call A)
   read_items made args =
       and_then (next_text args) (λ name r.
       and_then (next_member r) (λ index r.

@@ -56,12 +56,14 @@ is_small n = nat_le n 16777216
 -- elements of this size, if it is one: one or more, at least their size apart
 abbrev pub fits_element : Option ℕ → ℕ → ℕ → ℕ → Bool
 fits_element None size count step = false
-fits_element (Some element) size count step = nat_le 1 count && nat_le element step && is_small size && is_small count && is_small step
+fits_element (Some element) size count step =
+    nat_le 1 count && nat_le element step && is_small size && is_small count && is_small step
 
 -- at least as many indicators as elements, at least their size apart
 abbrev pub fits_indicator : Option ℕ → ℕ → ℕ → ℕ → Bool
 fits_indicator None count indicators step = false
-fits_indicator (Some element) count indicators step = nat_le count indicators && nat_le element step && is_small indicators && is_small step
+fits_indicator (Some element) count indicators step =
+    nat_le count indicators && nat_le element step && is_small indicators && is_small step
 
 module _ {A : Type 0} where
   abbrev pub fits_indicators : Option (Indicator A) → ℕ → Bool
@@ -69,7 +71,9 @@ module _ {A : Type 0} where
   fits_indicators (Some i) count = fits_indicator (indicator_size i.sym) count i.count i.step
 
   abbrev pub fits_place : Place A → Bool
-  fits_place p = fits_element (element_size p.sym p.size) p.size p.count p.step && fits_indicators p.ind p.count
+  fits_place p =
+      fits_element (element_size p.sym p.size) p.size p.count p.step
+      && fits_indicators p.ind p.count
 
   -- a host of one element
   abbrev pub is_single : Place A → Bool
@@ -154,8 +158,10 @@ module _ {A : Type 0} (is_text : A → Bool) where
 
   -- NULL stands for the current connection, and for a user, a password and a name that aren't given
   abbrev pub is_call : Call A → Bool
-  is_call (run connection statement ins outs) = is_optional_text connection && is_statement statement && are_inputs ins && are_outputs outs
-  is_call (connect target user password name) = is_given_text target && is_optional_text user && is_optional_text password && is_optional_text name
+  is_call (run connection statement ins outs) =
+      is_optional_text connection && is_statement statement && are_inputs ins && are_outputs outs
+  is_call (connect target user password name) = is_given_text target
+      && is_optional_text user && is_optional_text password && is_optional_text name
   is_call (disconnect name) = is_given_text name
   is_call (set_connection name) = is_given_text name
   is_call (set_autocommit on connection) = is_optional_text connection

@@ -13,7 +13,8 @@ pub record Store : Type 0 where
 
 -- a store into which nothing is put
 abbrev pub new_store : ℕ → ℕ → List ℕ → Store
-new_store room chunk failing = record { held = []; room = room; chunk = chunk; failing = failing; call = 0; faults = 0 }
+new_store room chunk failing =
+    record { held = []; room = room; chunk = chunk; failing = failing; call = 0; faults = 0 }
 
 -- a put of `piece` took its first `count` bytes
 pub record Takes (old : Store) (piece : List ℕ) (count : ℕ) (new : Store) : Type 0 where

@@ -12,7 +12,8 @@ pub record Supply : Type 0 where
 
 -- a supply of which nothing is read
 abbrev pub new_supply : List ℕ → ℕ → List ℕ → Supply
-new_supply bytes chunk failing = record { left = bytes; chunk = chunk; failing = failing; call = 0; faults = 0 }
+new_supply bytes chunk failing =
+    record { left = bytes; chunk = chunk; failing = failing; call = 0; faults = 0 }
 
 -- a read into `wanted` bytes gave `count`
 pub record Gives (old : Supply) (wanted count : ℕ) (new : Supply) : Type 0 where

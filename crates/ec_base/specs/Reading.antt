@@ -10,12 +10,14 @@ abbrev pub block : ℕ
 block = 8192
 
 -- the source gave `bytes`, and its count of faults is the same
-pub record Reads {S : Type 0} (left : S → Option (List ℕ)) (faults : S → ℕ) (old new : S) (bytes : List ℕ) : Type 0 where
+pub record Reads {S : Type 0} (left : S → Option (List ℕ))
+    (faults : S → ℕ) (old new : S) (bytes : List ℕ) : Type 0 where
   pub taken : Consumes (left old) (left new) bytes
   pub steady : faults new ≡ faults old
 
 -- the source gave `bytes`, at most `limit` of them, and is at its end
-pub record ReadsAll {S : Type 0} (left : S → Option (List ℕ)) (faults : S → ℕ) (old new : S) (limit : ℕ) (bytes : List ℕ) : Type 0 where
+pub record ReadsAll {S : Type 0} (left : S → Option (List ℕ))
+    (faults : S → ℕ) (old new : S) (limit : ℕ) (bytes : List ℕ) : Type 0 where
   pub reads : Reads left faults old new bytes
   pub ended : IsAtEnd (left new)
   pub within : length bytes ≤ limit
@@ -28,7 +30,8 @@ IsReason TooLong before now limit count = (now ≡ before) × (limit < count) ×
 IsReason OutOfMemory before now limit count = (now ≡ before) × (count ≤ limit + block)
 
 -- the source gave some bytes, and reading stopped there
-pub record ReadsPart {S : Type 0} (left : S → Option (List ℕ)) (faults : S → ℕ) (old new : S) (limit : ℕ) (stop : InputStop) : Type 0 where
+pub record ReadsPart {S : Type 0} (left : S → Option (List ℕ))
+    (faults : S → ℕ) (old new : S) (limit : ℕ) (stop : InputStop) : Type 0 where
   pub bytes : List ℕ
   pub taken : Consumes (left old) (left new) bytes
   pub later : faults old ≤ faults new

@@ -15,7 +15,8 @@ pub struct Calls {
 
 impl Calls {
     pub fn new(alloc: Global, failing: &[u64]) -> Result<Calls, OutOfMemory>
-        ensures { IfOk result (λ calls. calls ≡ record { failing = failing.now; call = 0; faults = 0 }) }
+        ensures { IfOk result
+            (λ calls. calls ≡ record { failing = failing.now; call = 0; faults = 0 }) }
     {
         Ok(Calls {
             failing: List::from_slice(alloc, failing)?,

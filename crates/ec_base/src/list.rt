@@ -119,7 +119,8 @@ impl<T> List<T> {
 
     /// Takes the last element out.
     pub fn pop(&mut self) -> Option<T>
-        ensures { MatchOption result ((self.old ≡ []) × (self.new ≡ [])) (λ last. self.old ≡ self.new ++ last ∷ []) }
+        ensures { MatchOption result ((self.old ≡ []) × (self.new ≡ []))
+            (λ last. self.old ≡ self.new ++ last ∷ []) }
     {
         self.items.pop()
     }
@@ -201,7 +202,9 @@ impl<T: Drop> IntoIterator for List<T> {
 
     type IntoIter = IntoIter<T, Global>;
 
-    ghost into_iter_gives = { λ list it. (into_iter_items it ≡ list) × (into_iter_len it ≡ length list) × (into_iter_len it < 2 ^ 64) × EveryRun (into_iter_steps {X = T} {Z = Heap}) (λ p. ItemsAre p (into_iter_items p.from)) };
+    ghost into_iter_gives = { λ list it. (into_iter_items it ≡ list)
+        × (into_iter_len it ≡ length list) × (into_iter_len it < 2 ^ 64) × EveryRun
+        (into_iter_steps {X = T} {Z = Heap}) (λ p. ItemsAre p (into_iter_items p.from)) };
 
     fn into_iter(self) -> IntoIter<T, Global> {
         self.into_vec().into_iter()

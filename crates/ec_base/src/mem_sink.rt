@@ -25,9 +25,17 @@ impl Model for MemSink {
 
     ghost Value = { Store };
 
-    ghost view = { λ s. record { held = s.held.items; room = s.room; chunk = s.chunk; failing = s.calls.failing; call = s.calls.call; faults = s.calls.faults } };
+    ghost view = { λ s. record {
+      held = s.held.items;
+      room = s.room;
+      chunk = s.chunk;
+      failing = s.calls.failing;
+      call = s.calls.call;
+      faults = s.calls.faults;
+    } };
 
-    ghost invariant = { λ s. (length s.held.items ≤ s.room) × (s.room ≤ vec_capacity s.held) × (0 < s.chunk) };
+    ghost invariant = { λ s. (length s.held.items ≤ s.room)
+        × (s.room ≤ vec_capacity s.held) × (0 < s.chunk) };
 }
 
 impl MemSink {
@@ -69,7 +77,8 @@ impl Sink for MemSink {
         ensures bound { IfOk result (λ count. count ≤ length piece.now) }
         ensures bytes { WriteAppends (Some self.old.held) (Some self.new.held) result piece.now }
         ensures cause { HasCause self.old.faults self.new.faults result }
-        ensures exact { MatchResult result (λ count. Takes self.old piece.now count self.new) (λ _. FailsToTake self.old self.new) }
+        ensures exact { MatchResult result (λ count. Takes self.old piece.now count self.new)
+            (λ _. FailsToTake self.old self.new) }
     {
         let named = self.calls.begin();
         let space = self.room - self.held.len();

@@ -26,7 +26,13 @@ impl Model for MemSource {
 
     ghost Value = { Supply };
 
-    ghost view = { λ s. record { left = drop s.given s.bytes; chunk = s.chunk; failing = s.calls.failing; call = s.calls.call; faults = s.calls.faults } };
+    ghost view = { λ s. record {
+      left = drop s.given s.bytes;
+      chunk = s.chunk;
+      failing = s.calls.failing;
+      call = s.calls.call;
+      faults = s.calls.faults;
+    } };
 
     ghost invariant = { λ s. (s.given ≤ length s.bytes) × (0 < s.chunk) };
 }
@@ -62,7 +68,8 @@ impl Source for MemSource {
         ensures bound { ReadsAtMost result buf.new }
         ensures bytes { ReadConsumes (Some self.old.left) (Some self.new.left) result buf.new }
         ensures cause { HasCause self.old.faults self.new.faults result }
-        ensures exact { MatchResult result (λ count. Gives self.old (length buf.old) count self.new) (λ _. FailsToGive self.old self.new) }
+        ensures exact { MatchResult result (λ count. Gives self.old (length buf.old) count self.new)
+            (λ _. FailsToGive self.old self.new) }
     {
         if self.calls.begin() {
             return Err(self.calls.fail());

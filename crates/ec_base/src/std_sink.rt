@@ -48,9 +48,11 @@ impl<W: Write + Drop> Sink for StdSink<W> {
         requires { 0 < length piece.now }
         ensures some { IfOk result (λ count. 0 < count) }
         ensures bound { IfOk result (λ count. count ≤ length piece.now) }
-        ensures bytes { WriteAppends (W.contents self.old.0) (W.contents self.new.0) result piece.now }
+        ensures bytes { WriteAppends (W.contents self.old.0)
+            (W.contents self.new.0) result piece.now }
         ensures cause { HasCause self.old.1 self.new.1 result }
-        ensures exact { MatchResult result (λ _. self.new.1 ≡ self.old.1) (λ _. self.new.1 ≡ one_more self.old.1) }
+        ensures exact { MatchResult result (λ _. self.new.1 ≡ self.old.1)
+            (λ _. self.new.1 ≡ one_more self.old.1) }
     {
         match self.writer.write(piece) {
             Ok(0) | Err(_) => {
@@ -64,7 +66,8 @@ impl<W: Write + Drop> Sink for StdSink<W> {
     fn flush(&mut self) -> Result<(), Failed>
         ensures bytes { Keeps (W.contents self.old.0) (W.contents self.new.0) }
         ensures cause { HasCause self.old.1 self.new.1 result }
-        ensures exact { MatchResult result (λ _. self.new.1 ≡ self.old.1) (λ _. self.new.1 ≡ one_more self.old.1) }
+        ensures exact { MatchResult result (λ _. self.new.1 ≡ self.old.1)
+            (λ _. self.new.1 ≡ one_more self.old.1) }
     {
         match self.writer.flush() {
             Ok(()) => Ok(()),

@@ -45,9 +45,11 @@ impl<R: Read + Drop> Source for StdSource<R> {
     fn read(&mut self, buf: &mut [u8]) -> Result<usize, Failed>
         requires { 0 < length buf.old }
         ensures bound { ReadsAtMost result buf.new }
-        ensures bytes { ReadConsumes (R.remaining self.old.0) (R.remaining self.new.0) result buf.new }
+        ensures bytes { ReadConsumes (R.remaining self.old.0)
+            (R.remaining self.new.0) result buf.new }
         ensures cause { HasCause self.old.1 self.new.1 result }
-        ensures exact { MatchResult result (λ _. self.new.1 ≡ self.old.1) (λ _. self.new.1 ≡ one_more self.old.1) }
+        ensures exact { MatchResult result (λ _. self.new.1 ≡ self.old.1)
+            (λ _. self.new.1 ≡ one_more self.old.1) }
     {
         match self.reader.read(buf) {
             Ok(count) => Ok(count),

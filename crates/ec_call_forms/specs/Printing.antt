@@ -9,7 +9,8 @@ use Rattle.ec_resolving.specs.Operands.{Found, passed}
 
 -- the output that a stream is
 abbrev pub stream_channel : ExprData → Channel
-stream_channel (identifier x) = if same_text x (codes "stderr") then standard_error else standard_output
+stream_channel (identifier x) = if same_text x (codes "stderr") then standard_error
+    else standard_output
 stream_channel _ = standard_output
 
 -- a call of a function without a format, if there is one, with parameters that may have no type

@@ -37,10 +37,13 @@ done line false (Some (suc n)) s = gives tt s
 done line false None s = gives tt s
 
 -- a reply to a statement, where outputs are wanted or not, and what is done with rows
-abbrev pub replied : ℕ → Bool → (Sheet → State → Outcome (Unit {0})) → Reply → State → Outcome (Unit {0})
+abbrev pub replied : ℕ → Bool → (Sheet → State → Outcome (Unit {0})) →
+    Reply → State → Outcome (Unit {0})
 replied line wanted store (Rows table tx) s = store table s
-replied line wanted store (Done count tx) s = done line wanted count (with_memory (counted_area (count_of count) s.memory) s)
-replied line wanted store (Refused state message tx) s = refused line (server_code state.0) state.0 message s
+replied line wanted store (Done count tx) s =
+    done line wanted count (with_memory (counted_area (count_of count) s.memory) s)
+replied line wanted store (Refused state message tx) s =
+    refused line (server_code state.0) state.0 message s
 replied line wanted store Connected s = raised line found.ReplyOutOfPlace s
 replied line wanted store NoTarget s = raised line found.ReplyOutOfPlace s
 replied line wanted store Broken s = raised line found.ConnectionBroken s

@@ -17,16 +17,19 @@ Areas = List (Text × List Item)
 -- the items of a descriptor
 abbrev pub area_named : Text → Areas → Option (List Item)
 area_named name [] = None
-area_named name (a ∷ as') = elim (same_name a.0 name) [ true ↦ Some a.1 | false ↦ area_named name as' ]
+area_named name (a ∷ as') =
+    elim (same_name a.0 name) [ true ↦ Some a.1 | false ↦ area_named name as' ]
 
 -- with these items under a name: in the place of those that are there, or behind all others
 abbrev pub with_area : Text → List Item → Areas → Areas
 with_area name items [] = (name, items) ∷ []
-with_area name items (a ∷ as') = elim (same_name a.0 name) [ true ↦ (name, items) ∷ as' | false ↦ a ∷ with_area name items as' ]
+with_area name items (a ∷ as') =
+    elim (same_name a.0 name) [ true ↦ (name, items) ∷ as' | false ↦ a ∷ with_area name items as' ]
 
 abbrev pub without_area : Text → Areas → Areas
 without_area name [] = []
-without_area name (a ∷ as') = elim (same_name a.0 name) [ true ↦ as' | false ↦ a ∷ without_area name as' ]
+without_area name (a ∷ as') =
+    elim (same_name a.0 name) [ true ↦ as' | false ↦ a ∷ without_area name as' ]
 
 -- a new item: NULL, without a name, of type 12
 abbrev pub new_item : Item
@@ -45,11 +48,13 @@ raised_to n items = items ++ replicate (n - length items) new_item
 -- a text as a number of an integer type: NULL is none
 abbrev pub number_as : Arith → Field → Option ℤ
 number_as type None = None
-number_as type (Some text) = option_and_then (λ z. elim (fits type z) [ true ↦ Some z | false ↦ None ]) (field_number text)
+number_as type (Some text) =
+    option_and_then (λ z. elim (fits type z) [ true ↦ Some z | false ↦ None ]) (field_number text)
 
 -- a number from the first to the second, as a natural number
 abbrev pub within : ℕ → ℕ → ℤ → Option ℕ
-within low high z = elim (int_le (pos low) z && int_le z (pos high)) [ true ↦ Some (unsigned_abs z) | false ↦ None ]
+within low high z =
+    elim (int_le (pos low) z && int_le z (pos high)) [ true ↦ Some (unsigned_abs z) | false ↦ None ]
 
 -- ---- items
 
@@ -89,7 +94,8 @@ set_item item.Octets text it = None
 abbrev pub items_of : List Col → List Field → List Item
 items_of [] fields = []
 items_of (c ∷ cs) [] = []
-items_of (c ∷ cs) (field ∷ fields) = record { content = field; label = c.name; code = c.code } ∷ items_of cs fields
+items_of (c ∷ cs) (field ∷ fields) =
+    record { content = field; label = c.name; code = c.code } ∷ items_of cs fields
 
 -- the contents of items, in order
 abbrev pub contents : List Item → List Field

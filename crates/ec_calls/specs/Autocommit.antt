@@ -10,11 +10,16 @@ abbrev pub with_autocommit : Bool → Connection → Connection
 with_autocommit on c = record c { autocommit = on }
 
 abbrev pub switched : Bool → Connection → State → Outcome (Unit {0})
-switched on c s = gives tt (record s { connections = changed_at c.slot (with_autocommit on) s.connections })
+switched on c s =
+    gives tt (record s { connections = changed_at c.slot (with_autocommit on) s.connections })
 
 -- whether a transaction is to be committed first: autocommit goes on, was off, and the server is in a transaction
 abbrev pub commits_first : Bool → Connection → Bool
-commits_first true c = elim c.autocommit [ true ↦ false | false ↦ elim (is_idle c.told) [ true ↦ false | false ↦ true ] ]
+commits_first true c =
+    elim c.autocommit [
+      | true ↦ false
+      | false ↦ elim (is_idle c.told) [ true ↦ false | false ↦ true ]
+    ]
 commits_first false c = false
 
 abbrev pub autocommit_set : ℕ → Bool → Connection → State → Outcome (Unit {0})

@@ -14,7 +14,8 @@ use Rattle.ec_calls.specs.Inputs.{text_read, given_read}
 -- a new connection is the current one: autocommit is off, and the server is in no transaction
 abbrev pub opened : Text → ℕ → State → State
 opened name slot s = record s {
-  connections = s.connections ++ record { name = name; slot = slot; autocommit = false; told = Idle; prepared = [] } ∷ [];
+  connections = s.connections
+      ++ record { name = name; slot = slot; autocommit = false; told = Idle; prepared = [] } ∷ [];
   current = Some name;
 }
 
@@ -28,7 +29,11 @@ opened_by line name (None, reply) s = raised line found.NotConnected s
 abbrev pub connecting : ℕ → Text → Request → List Answer → State → Outcome (Unit {0})
 connecting line name request [] s = over (waiting None request) s
 connecting line name request (answer ∷ more) s =
-    opened_by line name answer (record s { conversation = s.conversation ++ exchange answer.0 request answer.1 ∷ []; answers = more })
+    opened_by line name answer
+    (record s {
+      conversation = s.conversation ++ exchange answer.0 request answer.1 ∷ [];
+      answers = more;
+    })
 
 -- a name that is in use gives a code without a request
 abbrev pub unless_named : ℕ → Text → Request → Option Connection → State → Outcome (Unit {0})
@@ -40,14 +45,16 @@ abbrev pub own_name : Text → Option Text → Text
 own_name target None = target
 own_name target (Some name) = name
 
-abbrev pub connect_call : ℕ → TextArg ℕ → TextArg ℕ → TextArg ℕ → TextArg ℕ → State → Outcome (Unit {0})
+abbrev pub connect_call : ℕ → TextArg ℕ → TextArg ℕ →
+    TextArg ℕ → TextArg ℕ → State → Outcome (Unit {0})
 connect_call line target user password name s =
     next (given_read target s) (λ server s.
     next (text_read user s) (λ by s.
     next (text_read password s) (λ word s.
     next (text_read name s) (λ called s.
     next (begun_area s) (λ _ s.
-    unless_named line (own_name server called) (request.Connect server by word) (connection_named (own_name server called) s.connections) s)))))
+    unless_named line (own_name server called) (request.Connect server by word)
+    (connection_named (own_name server called) s.connections) s)))))
 
 -- the connection of this name is the current one
 abbrev pub set_connection_call : ℕ → TextArg ℕ → State → Outcome (Unit {0})

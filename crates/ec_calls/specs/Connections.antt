@@ -19,7 +19,8 @@ same_name a b = pointwise nat_eq a b
 -- the connection of a name
 abbrev pub connection_named : Text → List Connection → Option Connection
 connection_named name [] = None
-connection_named name (c ∷ cs) = elim (same_name c.name name) [ true ↦ Some c | false ↦ connection_named name cs ]
+connection_named name (c ∷ cs) =
+    elim (same_name c.name name) [ true ↦ Some c | false ↦ connection_named name cs ]
 
 -- the name that is asked for, or that of the current connection
 abbrev pub wanted_name : Option Text → State → Option Text
@@ -56,7 +57,8 @@ with_told (Some tx) c = record c { told = tx }
 -- the connection of a slot, changed
 abbrev pub changed_at : ℕ → (Connection → Connection) → List Connection → List Connection
 changed_at slot change [] = []
-changed_at slot change (c ∷ cs) = elim (nat_eq c.slot slot) [ true ↦ change c ∷ cs | false ↦ c ∷ changed_at slot change cs ]
+changed_at slot change (c ∷ cs) =
+    elim (nat_eq c.slot slot) [ true ↦ change c ∷ cs | false ↦ c ∷ changed_at slot change cs ]
 
 -- ---- requests
 
@@ -89,7 +91,8 @@ controlled line Broken s = raised line found.ControlRefused s
 
 -- transaction control over a connection
 abbrev pub control_sent : ℕ → Connection → Text → State → Outcome (Unit {0})
-control_sent line c text s = next (asked c.slot (request.Text text []) s) (λ reply t. controlled line reply t)
+control_sent line c text s =
+    next (asked c.slot (request.Text text []) s) (λ reply t. controlled line reply t)
 
 abbrev pub is_idle : Tx → Bool
 is_idle Idle = true

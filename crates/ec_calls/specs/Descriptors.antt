@@ -20,7 +20,8 @@ with_descriptor name items s = record s { descriptors = with_area name items s.d
 
 -- an empty descriptor, in the place of one that is there
 abbrev pub allocate_call : ℕ → TextArg ℕ → State → Outcome (Unit {0})
-allocate_call line name s = next (given_read name s) (λ called s. next (begun_area s) (λ _ s. gives tt (with_descriptor called [] s)))
+allocate_call line name s = next (given_read name s)
+    (λ called s. next (begun_area s) (λ _ s. gives tt (with_descriptor called [] s)))
 
 abbrev pub deallocate_descriptor_call : ℕ → TextArg ℕ → State → Outcome (Unit {0})
 deallocate_descriptor_call line name s =
@@ -41,13 +42,15 @@ in_range line (Some n) s = gives n s
 
 -- a text as a number from the first to the second
 abbrev pub index_of : ℕ → ℕ → ℕ → Field → State → Outcome ℕ
-index_of line low high text s = next (found_number line (number_as Long text) s) (λ z t. in_range line (within low high z) t)
+index_of line low high text s =
+    next (found_number line (number_as Long text) s) (λ z t. in_range line (within low high z) t)
 
 -- ---- COUNT
 
 -- a field is stored in a host
 abbrev pub stored_in : ℕ → Member ℕ → Field → State → Outcome (Unit {0})
-stored_in line (host p) field s = next (present (host_data p) s) (λ h t. field_kept line h 0 field t)
+stored_in line (host p) field s =
+    next (present (host_data p) s) (λ h t. field_kept line h 0 field t)
 stored_in line (constant bytes) field s = over stuck s
 stored_in line (descriptor name) field s = over stuck s
 
@@ -100,7 +103,8 @@ items_stored line asked it (i ∷ is) s =
     next (item_stored line asked i.1 (item_text i.0 it) s) (λ _ t. items_stored line asked it is t)
 
 -- the index is one of those that are there
-abbrev pub get_items_call : ℕ → TextArg ℕ → Member ℕ → List (ItemMember ℕ) → State → Outcome (Unit {0})
+abbrev pub get_items_call : ℕ → TextArg ℕ → Member ℕ →
+    List (ItemMember ℕ) → State → Outcome (Unit {0})
 get_items_call line name index wanted s =
     next (given_read name s) (λ called s.
     next (member_read index s) (λ text s.
@@ -115,7 +119,8 @@ get_items_call line name index wanted s =
 -- values are read in order
 abbrev pub values_read : List (ItemMember ℕ) → State → Outcome (List (Kind × Field))
 values_read [] s = gives [] s
-values_read (i ∷ is) s = next (member_read i.1 s) (λ text t. next (values_read is t) (λ rest u. gives ((i.0, text) ∷ rest) u))
+values_read (i ∷ is) s = next (member_read i.1 s)
+    (λ text t. next (values_read is t) (λ rest u. gives ((i.0, text) ∷ rest) u))
 
 abbrev pub or_new : Option Item → Item
 or_new None = new_item
@@ -124,7 +129,8 @@ or_new (Some it) = it
 -- an item that is set raises the count where there are fewer; one that can't be set changes nothing
 abbrev pub item_set : ℕ → Text → ℕ → List Item → Option Item → State → Outcome (Unit {0})
 item_set line name n items None s = raised line found.NotAnInteger s
-item_set line name n items (Some it) s = gives tt (with_descriptor name (slice_set (raised_to n items) (n - 1) it) s)
+item_set line name n items (Some it) s =
+    gives tt (with_descriptor name (slice_set (raised_to n items) (n - 1) it) s)
 
 abbrev pub items_set : ℕ → Text → ℕ → List (Kind × Field) → State → Outcome (Unit {0})
 items_set line name n [] s = gives tt s
@@ -134,7 +140,8 @@ items_set line name n (v ∷ vs) s =
     items_set line name n vs u))
 
 -- the index is tested before the items
-abbrev pub set_items_call : ℕ → TextArg ℕ → Member ℕ → List (ItemMember ℕ) → State → Outcome (Unit {0})
+abbrev pub set_items_call : ℕ → TextArg ℕ → Member ℕ →
+    List (ItemMember ℕ) → State → Outcome (Unit {0})
 set_items_call line name index given s =
     next (given_read name s) (λ called s.
     next (member_read index s) (λ text s.

@@ -9,7 +9,8 @@ use Rattle.ec_calls.specs.Inputs.{given_read}
 
 abbrev pub without_connection : Text → List Connection → List Connection
 without_connection name [] = []
-without_connection name (c ∷ cs) = elim (same_name c.name name) [ true ↦ cs | false ↦ c ∷ without_connection name cs ]
+without_connection name (c ∷ cs) =
+    elim (same_name c.name name) [ true ↦ cs | false ↦ c ∷ without_connection name cs ]
 
 -- the name of the connection that was opened last
 abbrev pub last_name : List Connection → Option Text
@@ -20,7 +21,8 @@ last_name (c ∷ d ∷ cs) = last_name (d ∷ cs)
 -- the current connection, where that of a name is gone: the one opened last of those that are left, if it was the current one
 abbrev pub current_without : Text → Option Text → List Connection → Option Text
 current_without name None left = None
-current_without name (Some current) left = elim (same_name current name) [ true ↦ last_name left | false ↦ Some current ]
+current_without name (Some current) left =
+    elim (same_name current name) [ true ↦ last_name left | false ↦ Some current ]
 
 abbrev pub removed : Text → State → State
 removed name s = record s {
@@ -44,8 +46,12 @@ one_closed line name s = next (connection_for line name s) (λ c t. closed c t)
 abbrev pub disconnected : ℕ → Text → State → Outcome (Unit {0})
 disconnected line name s = elim (same_name name (codes "CURRENT")) [
   | true ↦ one_closed line None s
-  | false ↦ elim (same_name name (codes "ALL")) [ true ↦ all_closed (reverse s.connections) s | false ↦ one_closed line (Some name) s ]
+  | false ↦ elim (same_name name (codes "ALL")) [
+    | true ↦ all_closed (reverse s.connections) s
+    | false ↦ one_closed line (Some name) s
+  ]
 ]
 
 abbrev pub disconnect_call : ℕ → TextArg ℕ → State → Outcome (Unit {0})
-disconnect_call line name s = next (given_read name s) (λ called s. next (begun_area s) (λ _ s. disconnected line called s))
+disconnect_call line name s =
+    next (given_read name s) (λ called s. next (begun_area s) (λ _ s. disconnected line called s))

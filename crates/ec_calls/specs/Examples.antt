@@ -22,7 +22,8 @@ use Rattle.ec_calls.specs.Library.{call_done}
 
 -- a connection of this name and slot, with autocommit or without, and what the server told last
 abbrev pub link : Text → ℕ → Bool → Tx → Connection
-link name slot autocommit told = record { name = name; slot = slot; autocommit = autocommit; told = told; prepared = [] }
+link name slot autocommit told =
+    record { name = name; slot = slot; autocommit = autocommit; told = told; prepared = [] }
 
 -- a program's first connection, which is ready
 abbrev pub ready : Connection
@@ -84,18 +85,50 @@ denied sqlstate message = reply.Refused (record { 0 = sqlstate }) message Idle
 
 -- an int at the front of an object
 abbrev pub int_in : ℕ → Member ℕ
-int_in object = host (record { sym = sym.Int; value = pointer_to object 0; size = 0; count = 1; step = 4; ind = None })
+int_in object = host
+    (record {
+      sym = sym.Int;
+      value = pointer_to object 0;
+      size = 0;
+      count = 1;
+      step = 4;
+      ind = None;
+    })
 
 -- the same with an int at the front of another one as its indicator
 abbrev pub int_told : ℕ → ℕ → Member ℕ
-int_told object told = host (record { sym = sym.Int; value = pointer_to object 0; size = 0; count = 1; step = 4; ind = Some (record { sym = sym.Int; value = pointer_to told 0; count = 1; step = 4 }) })
+int_told object told =
+    host (record {
+      sym = sym.Int;
+      value = pointer_to object 0;
+      size = 0;
+      count = 1;
+      step = 4;
+      ind = Some (record { sym = sym.Int; value = pointer_to told 0; count = 1; step = 4 });
+    })
 
 -- chars at an offset of an object, so many elements and so far apart
 abbrev pub chars_in : ℕ → ℕ → ℕ → ℕ → ℕ → Member ℕ
-chars_in object offset size count step = host (record { sym = sym.Char; value = pointer_to object offset; size = size; count = count; step = step; ind = None })
+chars_in object offset size count step =
+    host (record {
+      sym = sym.Char;
+      value = pointer_to object offset;
+      size = size;
+      count = count;
+      step = step;
+      ind = None;
+    })
 
 abbrev pub ints_in : ℕ → ℕ → ℕ → ℕ → Member ℕ
-ints_in object offset count step = host (record { sym = sym.Int; value = pointer_to object offset; size = 0; count = count; step = step; ind = None })
+ints_in object offset count step =
+    host (record {
+      sym = sym.Int;
+      value = pointer_to object offset;
+      size = 0;
+      count = count;
+      step = step;
+      ind = None;
+    })
 
 -- ---- what is seen
 
@@ -135,7 +168,16 @@ abbrev pub Shown : Type 0
 Shown = Ended × ℤ × Text × ℤ × List ObjectData × List (Option ℕ × Request)
 
 abbrev pub shown : Outcome (Unit {0}) → Shown
-shown o = (ended_of o, long_at (left_by o).memory 16, area_part (left_by o).memory 248 5, long_at (left_by o).memory 208, drop 1 (left_by o).memory, map (λ x. (x.slot, x.request)) (left_by o).conversation)
+shown o = (
+  ended_of o,
+  long_at (left_by o).memory 16,
+  area_part (left_by o).memory 248 5,
+  long_at
+      (left_by o).memory 208,
+  drop 1 (left_by o).memory,
+  map
+      (λ x. (x.slot, x.request)) (left_by o).conversation,
+)
 
 -- a call on line 3
 abbrev pub does : Call ℕ → State → Shown
@@ -162,7 +204,8 @@ fails code sqlstate count objects said = (goes_on, code, sqlstate, count, object
 
 -- what is seen of connections
 abbrev pub connections_left : Call ℕ → State → List Connection × Option Text
-connections_left call s = ((left_by (call_done 3 call s)).connections, (left_by (call_done 3 call s)).current)
+connections_left call s =
+    ((left_by (call_done 3 call s)).connections, (left_by (call_done 3 call s)).current)
 
 abbrev pub descriptors_left : Call ℕ → State → List (Text × List Item)
 descriptors_left call s = (left_by (call_done 3 call s)).descriptors

@@ -10,7 +10,9 @@ use Rattle.ec_calls.specs.Outcomes.{Text, Field, stuck, Outcome, gives, over, ne
 -- ---- hosts, by their symbols
 
 abbrev pub indicator_data : Indicator ℕ → Option IndicatorData
-indicator_data i = option_map (λ kind. record { kind = kind; place = i.value; step = i.step }) (indicator_type i.sym)
+indicator_data i =
+    option_map (λ kind. record { kind = kind; place = i.value; step = i.step })
+    (indicator_type i.sym)
 
 abbrev pub indicators_data : Option (Indicator ℕ) → Option (Option IndicatorData)
 indicators_data None = Some None
@@ -19,7 +21,13 @@ indicators_data (Some i) = option_map Some (indicator_data i)
 -- the host that a call is given, if its symbols are types
 abbrev pub host_data : Place ℕ → Option HostData
 host_data p =
-    option_and_then (λ holds. option_map (λ indicator. record { holds = holds; place = p.value; step = p.step; indicator = indicator }) (indicators_data p.ind)) (holding p.sym p.size)
+    option_and_then
+    (λ holds. option_map (λ indicator. record {
+      holds = holds;
+      place = p.value;
+      step = p.step;
+      indicator = indicator;
+    }) (indicators_data p.ind)) (holding p.sym p.size)
 
 -- ---- texts
 
@@ -57,9 +65,12 @@ with_area name inputs = record inputs { area = Some name }
 
 abbrev pub inputs_read : List (Member ℕ) → State → Outcome Inputs
 inputs_read [] s = gives no_inputs s
-inputs_read (host p ∷ ms) s = next (value_read p s) (λ field t. next (inputs_read ms t) (λ rest u. gives (with_param field rest) u))
-inputs_read (constant bytes ∷ ms) s = next (inputs_read ms s) (λ rest t. gives (with_param (Some bytes) rest) t)
-inputs_read (descriptor name ∷ ms) s = next (given_read name s) (λ bytes t. next (inputs_read ms t) (λ rest u. gives (with_area bytes rest) u))
+inputs_read (host p ∷ ms) s = next (value_read p s)
+    (λ field t. next (inputs_read ms t) (λ rest u. gives (with_param field rest) u))
+inputs_read (constant bytes ∷ ms) s =
+    next (inputs_read ms s) (λ rest t. gives (with_param (Some bytes) rest) t)
+inputs_read (descriptor name ∷ ms) s = next (given_read name s)
+    (λ bytes t. next (inputs_read ms t) (λ rest u. gives (with_area bytes rest) u))
 
 -- one value: an index or what an item is set from
 abbrev pub member_read : Member ℕ → State → Outcome Field

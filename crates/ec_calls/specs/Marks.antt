@@ -51,7 +51,10 @@ after_first b c = elim (is_e b) [
 
 -- behind the word `E`: a quote directly behind it is escaped
 abbrev after_e : ℕ → ℕ → Where
-after_e b c = elim (b == 39) [ true ↦ escaped | false ↦ elim (goes_on_word b) [ true ↦ in_word | false ↦ after_first b c ] ]
+after_e b c = elim (b == 39) [
+  | true ↦ escaped
+  | false ↦ elim (goes_on_word b) [ true ↦ in_word | false ↦ after_first b c ]
+]
 
 abbrev after_word : ℕ → ℕ → Where
 after_word b c = elim (goes_on_word b) [ true ↦ in_word | false ↦ after_first b c ]
@@ -80,21 +83,25 @@ opens_dashed b c = b == 45 && c == 45
 -- what becomes of a text from its front, where the next mark has this number
 abbrev pub marked : Where → ℕ → Text → Text
 marked (quoted q) n [] = []
-marked (quoted q) n (b ∷ bs) = b ∷ elim (b == q) [ true ↦ marked between n bs | false ↦ marked (quoted q) n bs ]
+marked (quoted q) n (b ∷ bs) =
+    b ∷ elim (b == q) [ true ↦ marked between n bs | false ↦ marked (quoted q) n bs ]
 marked escaped n [] = []
 marked escaped n (b ∷ []) = b ∷ []
 marked escaped n (b ∷ c ∷ bs) = elim (b == 92 || (b == 39 && c == 39)) [
   | true ↦ b ∷ c ∷ marked escaped n bs
-  | false ↦ b ∷ elim (b == 39) [ true ↦ marked between n (c ∷ bs) | false ↦ marked escaped n (c ∷ bs) ]
+  | false ↦ b
+      ∷ elim (b == 39) [ true ↦ marked between n (c ∷ bs) | false ↦ marked escaped n (c ∷ bs) ]
 ]
 marked dashed n [] = []
-marked dashed n (b ∷ bs) = b ∷ elim (b == 10) [ true ↦ marked between n bs | false ↦ marked dashed n bs ]
+marked dashed n (b ∷ bs) =
+    b ∷ elim (b == 10) [ true ↦ marked between n bs | false ↦ marked dashed n bs ]
 marked (commented deep) n [] = []
 marked (commented deep) n (b ∷ []) = b ∷ []
 marked (commented deep) n (b ∷ c ∷ bs) = elim (opens_comment b c) [
   | true ↦ b ∷ c ∷ marked (commented (suc deep)) n bs
   | false ↦ elim (closes_comment b c) [
-    | true ↦ b ∷ c ∷ elim deep [ zero ↦ marked between n bs | suc outer ↦ marked (commented outer) n bs ]
+    | true ↦ b ∷ c
+        ∷ elim deep [ zero ↦ marked between n bs | suc outer ↦ marked (commented outer) n bs ]
     | false ↦ b ∷ marked (commented deep) n (c ∷ bs)
   ]
 ]
@@ -104,7 +111,10 @@ marked w n (b ∷ c ∷ bs) = elim (b == 63) [
   | true ↦ codes "$" ++ decimal n ++ marked between (suc n) (c ∷ bs)
   | false ↦ elim (opens_comment b c) [
     | true ↦ b ∷ c ∷ marked (commented 0) n bs
-    | false ↦ elim (opens_dashed b c) [ true ↦ b ∷ c ∷ marked dashed n bs | false ↦ b ∷ marked (behind w b c) n (c ∷ bs) ]
+    | false ↦ elim (opens_dashed b c) [
+      | true ↦ b ∷ c ∷ marked dashed n bs
+      | false ↦ b ∷ marked (behind w b c) n (c ∷ bs)
+    ]
   ]
 ]
 

@@ -64,11 +64,13 @@ counted_area n m = area_counted m n
 
 -- a code with its state and its message ends the call
 abbrev pub refused : {A : Type 0} → ℕ → ℤ → Text → Text → State → Outcome A
-refused line code state message s = finished (with_memory (told_area code state message line s.memory) s)
+refused line code state message s =
+    finished (with_memory (told_area code state message line s.memory) s)
 
 -- what the library finds wrong by itself ends the call
 abbrev pub raised : {A : Type 0} → ℕ → Finding → State → Outcome A
-raised line finding s = refused line (code_of finding) (state_of finding) (text_of_finding finding) s
+raised line finding s =
+    refused line (code_of finding) (state_of finding) (text_of_finding finding) s
 
 -- the area is set to its opening value
 abbrev pub begun_area : State → Outcome (Unit {0})

@@ -13,15 +13,21 @@ use Rattle.ec_calls.specs.Running.{prepared_text, found_text}
 -- with this text under a name: in the place of the one that is there, or behind all others
 abbrev pub with_text : Text → Text → List (Text × Text) → List (Text × Text)
 with_text name text [] = (name, text) ∷ []
-with_text name text (p ∷ ps) = elim (same_name p.0 name) [ true ↦ (name, text) ∷ ps | false ↦ p ∷ with_text name text ps ]
+with_text name text (p ∷ ps) =
+    elim (same_name p.0 name) [ true ↦ (name, text) ∷ ps | false ↦ p ∷ with_text name text ps ]
 
 abbrev pub without_text : Text → List (Text × Text) → List (Text × Text)
 without_text name [] = []
-without_text name (p ∷ ps) = elim (same_name p.0 name) [ true ↦ ps | false ↦ p ∷ without_text name ps ]
+without_text name (p ∷ ps) =
+    elim (same_name p.0 name) [ true ↦ ps | false ↦ p ∷ without_text name ps ]
 
 -- the prepared statements of a connection, changed
 abbrev pub prepared_anew : ℕ → (List (Text × Text) → List (Text × Text)) → State → State
-prepared_anew slot change s = record s { connections = changed_at slot (λ c. record c { prepared = change c.prepared }) s.connections }
+prepared_anew slot change s =
+    record s {
+      connections = changed_at slot
+          (λ c. record c { prepared = change c.prepared }) s.connections;
+    }
 
 -- the text is sent with its marks as parameters, and is there once the server took it
 abbrev pub prepare_call : ℕ → TextArg ℕ → Text → TextArg ℕ → State → Outcome (Unit {0})

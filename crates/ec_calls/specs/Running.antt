@@ -48,7 +48,8 @@ is_wanted (area name) = true
 -- rows into a descriptor: one row is taken, more are a code
 abbrev pub row_into : ℕ → Text → Sheet → List (List Field) → State → Outcome (Unit {0})
 row_into line name table [] s = gives tt s
-row_into line name table (fields ∷ []) s = gives tt (record s { descriptors = with_area name (items_of table.cols fields) s.descriptors })
+row_into line name table (fields ∷ []) s =
+    gives tt (record s { descriptors = with_area name (items_of table.cols fields) s.descriptors })
 row_into line name table (fields ∷ more ∷ rows) s = raised line found.TooManyRows s
 
 abbrev pub rows_stored : ℕ → Outputs → Sheet → State → Outcome (Unit {0})
@@ -77,7 +78,8 @@ statement_read (opening head name) s = gives (cursor head name) s
 -- the text that is prepared under a name
 abbrev pub prepared_text : Text → List (Text × Text) → Option Text
 prepared_text name [] = None
-prepared_text name (p ∷ ps) = elim (same_name p.0 name) [ true ↦ Some p.1 | false ↦ prepared_text name ps ]
+prepared_text name (p ∷ ps) =
+    elim (same_name p.0 name) [ true ↦ Some p.1 | false ↦ prepared_text name ps ]
 
 abbrev pub found_text : {A : Type 0} → ℕ → Option Text → (Text → A) → State → Outcome A
 found_text line None made s = raised line found.NoStatement s
@@ -86,8 +88,10 @@ found_text line (Some bytes) made s = gives (made bytes) s
 -- the request of a statement, for any parameters. A prepared statement that it needs has to be there
 abbrev pub request_of : ℕ → Wanted → Connection → State → Outcome (List Field → Request)
 request_of line (text bytes) c s = gives (λ params. request.Text bytes params) s
-request_of line (execution name) c s = found_text line (prepared_text name c.prepared) (λ bytes params. request.Exec name params) s
-request_of line (cursor head name) c s = found_text line (prepared_text name c.prepared) (λ bytes params. request.Text (head ++ bytes) params) s
+request_of line (execution name) c s =
+    found_text line (prepared_text name c.prepared) (λ bytes params. request.Exec name params) s
+request_of line (cursor head name) c s = found_text line (prepared_text name c.prepared)
+    (λ bytes params. request.Text (head ++ bytes) params) s
 
 -- ---- descriptors
 
@@ -102,7 +106,8 @@ area_found line name s = found_area line (area_named name s.descriptors) s
 -- the parameters: the values, and then the contents of the descriptor
 abbrev pub params_behind : ℕ → List Field → Option Text → State → Outcome (List Field)
 params_behind line params None s = gives params s
-params_behind line params (Some name) s = next (area_found line name s) (λ items t. gives (params ++ contents items) t)
+params_behind line params (Some name) s =
+    next (area_found line name s) (λ items t. gives (params ++ contents items) t)
 
 abbrev pub params_of : ℕ → Inputs → State → Outcome (List Field)
 params_of line inputs s = params_behind line inputs.params inputs.area s
@@ -128,7 +133,8 @@ carried_out line name wanted inputs outputs s =
     replied line (is_wanted outputs) (table_kept line outputs) reply s)))))))
 
 -- what a call does: it reads the name of its connection, its statement, its inputs and the name of its outputs' descriptor, and carries the statement out
-abbrev pub run_call : ℕ → TextArg ℕ → Statement ℕ → List (Member ℕ) → List (Member ℕ) → State → Outcome (Unit {0})
+abbrev pub run_call : ℕ → TextArg ℕ → Statement ℕ →
+    List (Member ℕ) → List (Member ℕ) → State → Outcome (Unit {0})
 run_call line connection statement ins outs s =
     next (text_read connection s) (λ name s.
     next (statement_read statement s) (λ wanted s.

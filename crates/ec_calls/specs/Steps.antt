@@ -23,21 +23,29 @@ settled line (outcome.finished s) = on s
 settled line (outcome.over halt s) = over (ending_of line halt) s
 
 -- the arguments, in order. A symbol, a literal and a constant are what they are
-abbrev pub arguments_given : Step → World → Context → List (Arg Exp) → State → (List (Arg ℕ) → State → Res) → Res
+abbrev pub arguments_given : Step → World → Context →
+    List (Arg Exp) → State → (List (Arg ℕ) → State → Res) → Res
 arguments_given step w c [] s go = go [] s
-arguments_given step w c (symbol x ∷ args) s go = arguments_given step w c args s (λ given t. go (symbol x ∷ given) t)
-arguments_given step w c (literal bytes ∷ args) s go = arguments_given step w c args s (λ given t. go (literal bytes ∷ given) t)
-arguments_given step w c (null ∷ args) s go = arguments_given step w c args s (λ given t. go (null ∷ given) t)
-arguments_given step w c (int_constant n ∷ args) s go = arguments_given step w c args s (λ given t. go (int_constant n ∷ given) t)
-arguments_given step w c (long_constant n ∷ args) s go = arguments_given step w c args s (λ given t. go (long_constant n ∷ given) t)
+arguments_given step w c (symbol x ∷ args) s go =
+    arguments_given step w c args s (λ given t. go (symbol x ∷ given) t)
+arguments_given step w c (literal bytes ∷ args) s go =
+    arguments_given step w c args s (λ given t. go (literal bytes ∷ given) t)
+arguments_given step w c (null ∷ args) s go =
+    arguments_given step w c args s (λ given t. go (null ∷ given) t)
+arguments_given step w c (int_constant n ∷ args) s go =
+    arguments_given step w c args s (λ given t. go (int_constant n ∷ given) t)
+arguments_given step w c (long_constant n ∷ args) s go =
+    arguments_given step w c args s (λ given t. go (long_constant n ∷ given) t)
 arguments_given step w c (pointer e ∷ args) s go =
-    on_value (eval step w c e s) (λ v t. at_address v t (λ p. arguments_given step w c args t (λ given u. go (pointer p ∷ given) u)))
+    on_value (eval step w c e s) (λ v t. at_address v t
+    (λ p. arguments_given step w c args t (λ given u. go (pointer p ∷ given) u)))
 arguments_given step w c (stray ∷ args) s go = over state.stuck s
 
 -- a call by its name and its arguments as they are written
 abbrev pub called : Step → World → Context → LibName → List (Arg Exp) → State → Res
 called step w c name args s =
-    arguments_given step w c args s (λ given t. turn t (λ u. settled c.line (library_call name given u)))
+    arguments_given step w c args s
+    (λ given t. turn t (λ u. settled c.line (library_call name given u)))
 
 abbrev pub called_of : Step → World → Context → Option (LibName × List (Arg Exp)) → State → Res
 called_of step w c None s = over state.stuck s

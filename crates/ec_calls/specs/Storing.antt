@@ -22,7 +22,10 @@ found_by code = elim (same_code code found.NotAnInteger) [
   | true ↦ found.NotAnInteger
   | false ↦ elim (same_code code found.NotUnsigned) [
     | true ↦ found.NotUnsigned
-    | false ↦ elim (same_code code found.NotABool) [ true ↦ found.NotABool | false ↦ found.NullWithoutIndicator ]
+    | false ↦ elim (same_code code found.NotABool) [
+      | true ↦ found.NotABool
+      | false ↦ found.NullWithoutIndicator
+    ]
   ]
 ]
 
@@ -51,7 +54,8 @@ in_column column fields = elim (slice_get fields column) [ None ↦ None | Some 
 abbrev pub column_kept : ℕ → HostData → ℕ → ℕ → List (List Field) → State → Outcome (Unit {0})
 column_kept line h column row [] s = gives tt s
 column_kept line h column row (fields ∷ rows) s =
-    next (field_kept line h row (in_column column fields) s) (λ _ t. column_kept line h column (suc row) rows t)
+    next (field_kept line h row (in_column column fields) s)
+    (λ _ t. column_kept line h column (suc row) rows t)
 
 -- target by target, in each row by row
 abbrev pub targets_kept : ℕ → ℕ → List (Place ℕ) → List (List Field) → State → Outcome (Unit {0})
@@ -72,7 +76,10 @@ measured line columns rows targets s = elim (nat_lt columns (length targets)) [
   | true ↦ raised line found.TooManyTargets s
   | false ↦ elim (nat_lt (length targets) columns) [
     | true ↦ raised line found.TooFewTargets s
-    | false ↦ elim (any_fewer rows targets) [ true ↦ raised line found.TooManyRows s | false ↦ gives tt s ]
+    | false ↦ elim (any_fewer rows targets) [
+      | true ↦ raised line found.TooManyRows s
+      | false ↦ gives tt s
+    ]
   ]
 ]
 
@@ -82,10 +89,13 @@ rows_into line targets columns rows s =
     next (measured line columns (length rows) targets s) (λ _ t. targets_kept line 0 targets rows t)
 
 -- no row is a code
-abbrev pub counted_rows : ℕ → List (List Field) → (State → Outcome (Unit {0})) → State → Outcome (Unit {0})
+abbrev pub counted_rows : ℕ → List (List Field) →
+    (State → Outcome (Unit {0})) → State → Outcome (Unit {0})
 counted_rows line [] store s = raised line found.NoData s
 counted_rows line (fields ∷ rows) store s = store s
 
 -- the number of rows is told first
-abbrev pub with_rows : ℕ → List (List Field) → (State → Outcome (Unit {0})) → State → Outcome (Unit {0})
-with_rows line rows store s = counted_rows line rows store (with_memory (counted_area (length rows) s.memory) s)
+abbrev pub with_rows : ℕ → List (List Field) →
+    (State → Outcome (Unit {0})) → State → Outcome (Unit {0})
+with_rows line rows store s =
+    counted_rows line rows store (with_memory (counted_area (length rows) s.memory) s)

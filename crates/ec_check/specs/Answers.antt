@@ -10,7 +10,10 @@ use Rattle.ec_typing.specs.Answers.{check_answer}
 
 -- The program with its types, or the first of its violations. Want of memory alone is free.
 abbrev pub Checks : Bool → UnitData → List ℕ → List MarkData → Result Typed Stop → Type 0
-Checks written u hosts handlers (Ok typed) = check_answer written u hosts handlers ≡ Ok (typed_view typed)
-Checks written u hosts handlers (Err (Refused kind line)) = check_answer written u hosts handlers ≡ Err (Refused kind line)
-Checks written u hosts handlers (Err (Limit kind)) = check_answer written u hosts handlers ≡ Err (Limit kind)
+Checks written u hosts handlers (Ok typed) =
+    check_answer written u hosts handlers ≡ Ok (typed_view typed)
+Checks written u hosts handlers (Err (Refused kind line)) =
+    check_answer written u hosts handlers ≡ Err (Refused kind line)
+Checks written u hosts handlers (Err (Limit kind)) =
+    check_answer written u hosts handlers ≡ Err (Limit kind)
 Checks written u hosts handlers (Err OutOfMemory) = Unit {0}

@@ -17,20 +17,23 @@ abbrev pub numbered_as : Option TyData → Rule (Unit {0})
 numbered_as t = number_as (type_or_void t)
 
 -- the name of a function stands for it before its parameters
-abbrev pub function_begins : FuncData → Place → Option TyData → ℕ → Option EntryData → Rule (Unit {0})
+abbrev pub function_begins : FuncData → Place →
+    Option TyData → ℕ → Option EntryData → Rule (Unit {0})
 function_begins f at r k before = do
   begin_function f.name (function k (is_done before || is_some f.body) r None)
   free_name at f.name
   numbered_as r
 
 -- the name of a function stands for it with its parameters
-abbrev pub function_known : FuncData → Place → Option TyData → ℕ → Option EntryData → List (Option TyData) → Rule (Unit {0})
+abbrev pub function_known : FuncData → Place → Option TyData →
+    ℕ → Option EntryData → List (Option TyData) → Rule (Unit {0})
 function_known f at r k before ps = do
   know_function f.name (function k (is_done before || is_some f.body) r (Some ps))
   demand at F10 (may_follow (is_some f.body) r ps before)
 
 -- the parameters and the body of a function
-abbrev pub function_inside : List EmbData → FuncData → Place → Option TyData → ℕ → Option EntryData → Rule (Unit {0})
+abbrev pub function_inside : List EmbData → FuncData → Place →
+    Option TyData → ℕ → Option EntryData → Rule (Unit {0})
 function_inside es f at r k before = do
   enter
   ps ← params at (is_some f.body) f.params

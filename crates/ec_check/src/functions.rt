@@ -380,7 +380,8 @@ fn begun_function(
     is_done: bool,
     r: &Option<Ty>,
 ) -> Result<Entry, OutOfMemory>
-    ensures { IfOk result (λ entry. entry_view entry ≡ function number is_done (type_view r.now) None) }
+    ensures { IfOk result
+        (λ entry. entry_view entry ≡ function number is_done (type_view r.now) None) }
 {
     Ok(Entry::Function {
         number,

@@ -111,35 +111,47 @@ abbrev pub Decides : List ℕ → Ending → Type 0
 Decides text ending =
     (ending ≡ OutOfMemory)
     ⊎ ((2 ^ 24 < length text) × (ending ≡ Limit L6))
-    ⊎ ((length text ≤ 2 ^ 24) × ((p : Source) × IsSource text p × (ending ≡ Exited (p.status % 256))))
-    ⊎ ((length text ≤ 2 ^ 24) × ((n : ℕ) × FaultAt text n × (ending ≡ Refused F9 (record { 0 = n }))))
+    ⊎ ((length text ≤ 2 ^ 24)
+    × ((p : Source) × IsSource text p × (ending ≡ Exited (p.status % 256))))
+    ⊎ ((length text ≤ 2 ^ 24)
+    × ((n : ℕ) × FaultAt text n × (ending ≡ Refused F9 (record { 0 = n }))))
 
 -- a line was put, or its front where the sink failed
 abbrev pub Announces : {S : Type 0} → (S → Option (List ℕ)) → (S → ℕ) → S → S → List ℕ → Type 0
-Announces held faults old new text = Puts held faults old new text ⊎ PutsPart held faults old new text
+Announces held faults old new text = Puts held faults old new text
+    ⊎ PutsPart held faults old new text
 
 -- what the log of a rack grew by in a call
 abbrev pub grown : {X : Type 0} {F : X → Type 0} → Rack X F → Rack X F → List Logged
 grown rack rack' = growth_of (log_of rack) (log_of rack')
 
-module _ {I O X : Type 0} {F : X → Type 0} (left : I → Option (List ℕ)) (reads : I → ℕ) (held : O → Option (List ℕ)) (puts : O → ℕ) (talk : DynBox X Allocator F → Option Talk) where
+module _ {I O X : Type 0} {F : X → Type 0} (left : I → Option (List ℕ)) (reads : I → ℕ)
+    (held : O → Option (List ℕ)) (puts : O → ℕ) (talk : DynBox X Allocator F → Option Talk) where
   -- the rack and the output are as they were
   abbrev pub IsUntouched : O → O → Rack X F → Rack X F → Type 0
   IsUntouched out out' rack rack' = (rack' ≡ rack) × (out' ≡ out)
 
   -- a part of what a source means was carried out
   pub record RanPart (input input' : I) (out out' : O) (rack rack' : Rack X F) : Type 0 where
-    pub run : RunsPart IsSource direct_meaning (left input) (left input') (held out) (held out') (states (slots_of rack)) (grown rack rack')
+    pub run : RunsPart IsSource direct_meaning (left input) (left input')
+        (held out) (held out') (states (slots_of rack)) (grown rack rack')
     pub slots : RunsOver (slots_of rack) (grown rack rack') (slots_of rack')
 
   -- everything that is promised of a call, the line on standard error aside
-  pub record Answers (words : List (String Allocator)) (input input' : I) (out out' : O) (rack rack' : Rack X F) (ending : Ending) : Type 0 where
-    pub whole : (status : ℕ) → ending ≡ Exited status → RunsWhole IsSource direct_meaning (left input) (left input') (held out) (held out') (states (slots_of rack)) (grown rack rack') status
+  pub record Answers (words : List (String Allocator)) (input input' : I)
+      (out out' : O) (rack rack' : Rack X F) (ending : Ending) : Type 0 where
+    pub whole : (status : ℕ) → ending ≡ Exited status →
+        RunsWhole IsSource direct_meaning (left input) (left input') (held out)
+        (held out') (states (slots_of rack)) (grown rack rack') status
     pub part : ending ≡ WriteFault → RanPart input input' out out' rack rack'
-    pub want : ending ≡ OutOfMemory → IsUntouched out out' rack rack' ⊎ RanPart input input' out out' rack rack'
-    pub slots : (status : ℕ) → ending ≡ Exited status → RunsOver (slots_of rack) (grown rack rack') (slots_of rack')
-    pub talks : KeepsTalks (talk_at talk (slots_of rack)) (talk_at talk (slots_of rack')) (grown rack rack')
-    pub dropped : SparesDropped (states (slots_of rack)) (states (slots_of rack')) (grown rack rack')
+    pub want : ending ≡ OutOfMemory → IsUntouched out out' rack rack'
+        ⊎ RanPart input input' out out' rack rack'
+    pub slots : (status : ℕ) → ending ≡ Exited status →
+        RunsOver (slots_of rack) (grown rack rack') (slots_of rack')
+    pub talks : KeepsTalks (talk_at talk (slots_of rack))
+        (talk_at talk (slots_of rack')) (grown rack rack')
+    pub dropped : SparesDropped (states (slots_of rack))
+        (states (slots_of rack')) (grown rack rack')
     pub logged : log_of rack' ≡ log_of rack ++ grown rack rack'
     pub untouched : IsRefusal ending → IsUntouched out out' rack rack'
     pub own : IsOwn ending
@@ -148,7 +160,8 @@ module _ {I O X : Type 0} {F : X → Type 0} (left : I → Option (List ℕ)) (r
     pub crowded : ending ≡ Limit L7 → IsRun words × IsCrowded rack × (input' ≡ input)
     pub full : IsRun words → IsCrowded rack → ending ≡ Limit L7
     pub run : (IsRun words → ⊥) → ending ≡ Usage
-    pub refused : (kind : FaultKind) (line : Line) → ending ≡ Refused kind line → RefusesAt IsFault (left input) (left input') kind line.0
+    pub refused : (kind : FaultKind) (line : Line) → ending ≡ Refused kind line →
+        RefusesAt IsFault (left input) (left input') kind line.0
     pub limit : ending ≡ Limit L6 → IsTooLong (left input) (left input')
     pub read_fault : ending ≡ ReadFault → Rose (reads input) (reads input')
     pub write_fault : ending ≡ WriteFault → Rose (puts out) (puts out')
@@ -157,42 +170,54 @@ module _ {I O X : Type 0} {F : X → Type 0} (left : I → Option (List ℕ)) (r
     pub within : ReadsWithin (left input) (left input')
     pub reads_steady : (ending ≡ ReadFault → ⊥) → reads input' ≡ reads input
     pub puts_steady : (ending ≡ WriteFault → ⊥) → puts out' ≡ puts out
-    pub decides : (text : List ℕ) → IsRun words → (IsCrowded rack → ⊥) → left input ≡ Some text → (Rose (reads input) (reads input') → ⊥) → (Rose (puts out) (puts out') → ⊥) → Decides text ending
+    pub decides : (text : List ℕ) → IsRun words → (IsCrowded rack → ⊥) → left input ≡ Some text →
+        (Rose (reads input) (reads input') → ⊥) →
+        (Rose (puts out) (puts out') → ⊥) → Decides text ending
 
-module _ {O X : Type 0} {F : X → Type 0} (held : O → Option (List ℕ)) (puts : O → ℕ) (talk : DynBox X Allocator F → Option Talk) where
+module _ {O X : Type 0} {F : X → Type 0} (held : O → Option (List ℕ))
+    (puts : O → ℕ) (talk : DynBox X Allocator F → Option Talk) where
   -- what a source means, over the slots and the log of the rack
   abbrev pub meaning_of : Source → Rack X F → Rack X F → Observed
-  meaning_of p rack rack' = direct_meaning p (connection_slot (states (slots_of rack))) (answers_in (growth_of (log_of rack) (log_of rack')))
+  meaning_of p rack rack' = direct_meaning p (connection_slot (states (slots_of rack)))
+      (answers_in (growth_of (log_of rack) (log_of rack')))
 
   -- the whole of what one of these sources means was carried out
-  pub record Whole (Is : Source → Type 0) (out out' : O) (rack rack' : Rack X F) (status : ℕ) : Type 0 where
+  pub record Whole (Is : Source → Type 0) (out out' : O)
+      (rack rack' : Rack X F) (status : ℕ) : Type 0 where
     pub program : Source
     pub is : Is program
-    pub whole : IsWhole (meaning_of program rack rack') (growth_of (log_of rack) (log_of rack')) (held out) (held out') status
+    pub whole : IsWhole (meaning_of program rack rack')
+        (growth_of (log_of rack) (log_of rack')) (held out) (held out') status
     pub slots : RunsOver (slots_of rack) (growth_of (log_of rack) (log_of rack')) (slots_of rack')
 
   -- a part of what one of these sources means was carried out
   pub record Part (Is : Source → Type 0) (out out' : O) (rack rack' : Rack X F) : Type 0 where
     pub program : Source
     pub is : Is program
-    pub part : IsPart (meaning_of program rack rack') (growth_of (log_of rack) (log_of rack')) (held out) (held out')
+    pub part : IsPart (meaning_of program rack rack')
+        (growth_of (log_of rack) (log_of rack')) (held out) (held out')
     pub slots : RunsOver (slots_of rack) (growth_of (log_of rack) (log_of rack')) (slots_of rack')
 
   -- what running one of these sources does, by its ending
-  pub record Ran (Is : Source → Type 0) (out out' : O) (rack rack' : Rack X F) (ending : Ending) : Type 0 where
+  pub record Ran (Is : Source → Type 0) (out out' : O)
+      (rack rack' : Rack X F) (ending : Ending) : Type 0 where
     pub whole : (status : ℕ) → ending ≡ Exited status → Whole Is out out' rack rack' status
     pub part : ending ≡ WriteFault → Part Is out out' rack rack'
     pub want : ending ≡ OutOfMemory → ((rack' ≡ rack) × (out' ≡ out)) ⊎ Part Is out out' rack rack'
-    pub talks : KeepsTalks (talk_at talk (slots_of rack)) (talk_at talk (slots_of rack')) (growth_of (log_of rack) (log_of rack'))
-    pub dropped : SparesDropped (states (slots_of rack)) (states (slots_of rack')) (growth_of (log_of rack) (log_of rack'))
+    pub talks : KeepsTalks (talk_at talk (slots_of rack))
+        (talk_at talk (slots_of rack')) (growth_of (log_of rack) (log_of rack'))
+    pub dropped : SparesDropped (states (slots_of rack))
+        (states (slots_of rack')) (growth_of (log_of rack) (log_of rack'))
     pub logged : log_of rack' ≡ log_of rack ++ growth_of (log_of rack) (log_of rack')
     pub fault : ending ≡ WriteFault → Rose (puts out) (puts out')
     pub later : puts out ≤ puts out'
     pub steady : (ending ≡ WriteFault → ⊥) → puts out' ≡ puts out
 
   -- what a text leads to: a refusal that touches nothing, or a run
-  pub record Led (text : List ℕ) (out out' : O) (rack rack' : Rack X F) (ending : Ending) : Type 0 where
+  pub record Led (text : List ℕ) (out out' : O)
+      (rack rack' : Rack X F) (ending : Ending) : Type 0 where
     pub ran : Ran (IsSource text) out out' rack rack' ending
-    pub refused : (kind : FaultKind) (line : Line) → ending ≡ Refused kind line → (kind ≡ F9) × FaultAt text line.0
+    pub refused : (kind : FaultKind) (line : Line) →
+        ending ≡ Refused kind line → (kind ≡ F9) × FaultAt text line.0
     pub untouched : IsRefusal ending → (rack' ≡ rack) × (out' ≡ out)
     pub ends : IsOfText ending

@@ -145,7 +145,8 @@ Concludes turns ready answers (Err stop) ending = ending ≡ text_refusal stop
 
 abbrev pub AnswersProgram : ℕ → Option (ℕ × List ℕ) → List Answer → List ℕ → Ending → Type 0
 AnswersProgram turns ready answers text ending =
-    (answer : Result Program Stop) × IsProgram text answer × Concludes turns ready answers answer ending
+    (answer : Result Program Stop) × IsProgram text answer
+    × Concludes turns ready answers answer ending
 
 -- What a text decides, where nothing fails: more than 2^24 bytes pass the limit; any other text is refused as the phases of
 -- written C say, or ends as its program does. Want of memory may come at any point.
@@ -158,17 +159,20 @@ DecidesExecution turns ready answers text ending =
 -- ---- runs
 
 -- what a program means over the slots and the log of a rack
-abbrev pub meaning_over : {X : Type 0} {F : X → Type 0} → Program → ℕ → Rack X F → Rack X F → Observed
+abbrev pub meaning_over : {X : Type 0} {F : X → Type 0} →
+    Program → ℕ → Rack X F → Rack X F → Observed
 meaning_over program turns rack rack' =
     meaning program turns (ready_slot (states (slots_of rack))) (answers_in (grown rack rack'))
 
 -- the last line was put behind what was done
-pub record BeforeLine {E : Type 0} (told : E → Option (List ℕ)) (tells : E → ℕ) (last : E) (line : List ℕ) (Done : E → Type 0) : Type 0 where
+pub record BeforeLine {E : Type 0} (told : E → Option (List ℕ))
+    (tells : E → ℕ) (last : E) (line : List ℕ) (Done : E → Type 0) : Type 0 where
   pub between : E
   pub done : Done between
   pub announced : Announces told tells between last line
 
-module _ {O E X : Type 0} {F : X → Type 0} (held : O → Option (List ℕ)) (puts : O → ℕ) (told : E → Option (List ℕ)) (tells : E → ℕ) (talk : DynBox X Allocator F → Option Talk) where
+module _ {O E X : Type 0} {F : X → Type 0} (held : O → Option (List ℕ)) (puts : O → ℕ)
+    (told : E → Option (List ℕ)) (tells : E → ℕ) (talk : DynBox X Allocator F → Option Talk) where
   -- nothing was run
   pub record Untouched (out out' : O) (err err' : E) (rack rack' : Rack X F) : Type 0 where
     pub output : out' ≡ out
@@ -176,24 +180,32 @@ module _ {O E X : Type 0} {F : X → Type 0} (held : O → Option (List ℕ)) (p
     pub links : rack' ≡ rack
 
   -- the whole of what the program means was carried out, and the slot that was ready is free
-  pub record CarriedOut (program : Program) (turns : ℕ) (out out' : O) (err err' : E) (rack rack' : Rack X F) (ending : Ending) : Type 0 where
+  pub record CarriedOut (program : Program) (turns : ℕ) (out out' : O)
+      (err err' : E) (rack rack' : Rack X F) (ending : Ending) : Type 0 where
     pub ended : evaluation.Ending
     pub ends : EndsAs ended ending
-    pub runs : Runs held puts told tells (meaning_over program turns rack rack') (grown rack rack') ended out out' err err'
+    pub runs : Runs held puts told tells (meaning_over program turns rack rack')
+        (grown rack rack') ended out out' err err'
     pub slots : RunsOver (slots_of rack) (grown rack rack') (slots_of rack')
 
   -- a part of it was
-  pub record CarriedPart (program : Program) (turns : ℕ) (out out' : O) (err err' : E) (rack rack' : Rack X F) : Type 0 where
-    pub part : RunsPart held puts told tells (meaning_over program turns rack rack') (grown rack rack') out out' err err'
+  pub record CarriedPart (program : Program) (turns : ℕ) (out out' : O)
+      (err err' : E) (rack rack' : Rack X F) : Type 0 where
+    pub part : RunsPart held puts told tells
+        (meaning_over program turns rack rack') (grown rack rack') out out' err err'
     pub slots : RunsOver (slots_of rack) (grown rack rack') (slots_of rack')
 
   -- what carrying a program out does, by its ending
-  pub record Carries (program : Program) (turns : ℕ) (out out' : O) (err err' : E) (rack rack' : Rack X F) (ending : Ending) : Type 0 where
+  pub record Carries (program : Program) (turns : ℕ) (out out' : O)
+      (err err' : E) (rack rack' : Rack X F) (ending : Ending) : Type 0 where
     pub whole : IsOfProgram ending → CarriedOut program turns out out' err err' rack rack' ending
-    pub part : (ending ≡ WriteFault) ⊎ (ending ≡ OutOfMemory) → CarriedPart program turns out out' err err' rack rack'
+    pub part : (ending ≡ WriteFault) ⊎ (ending ≡ OutOfMemory) →
+        CarriedPart program turns out out' err err' rack rack'
     pub ends : IsOfCarried ending
-    pub talks : KeepsTalks (talk_at talk (slots_of rack)) (talk_at talk (slots_of rack')) (grown rack rack')
-    pub dropped : SparesDropped (states (slots_of rack)) (states (slots_of rack')) (grown rack rack')
+    pub talks : KeepsTalks (talk_at talk (slots_of rack))
+        (talk_at talk (slots_of rack')) (grown rack rack')
+    pub dropped : SparesDropped (states (slots_of rack))
+        (states (slots_of rack')) (grown rack rack')
     pub logged : log_of rack' ≡ log_of rack ++ grown rack rack'
     pub fault : ending ≡ WriteFault → Rose (puts out) (puts out') ⊎ Rose (tells err) (tells err')
     pub steady : (ending ≡ WriteFault → ⊥) → (puts out' ≡ puts out) × (tells err' ≡ tells err)
@@ -201,12 +213,14 @@ module _ {O E X : Type 0} {F : X → Type 0} (held : O → Option (List ℕ)) (p
   -- what a text leads to
   abbrev pub ExecutesText : ℕ → List ℕ → O → O → E → E → Rack X F → Rack X F → Ending → Type 0
   ExecutesText turns text out out' err err' rack rack' ending =
-      ((program : Program) × IsProgram text (Ok program) × Carries program turns out out' err err' rack rack' ending)
+      ((program : Program) × IsProgram text (Ok program)
+      × Carries program turns out out' err err' rack rack' ending)
       ⊎ (RefusesText text ending × Untouched out out' err err' rack rack')
 
   module _ {I : Type 0} (left : I → Option (List ℕ)) where
     -- the input was read to its end, and the whole of what its program means was carried out
-    pub record ExecutesWhole (turns : ℕ) (input input' : I) (out out' : O) (err err' : E) (rack rack' : Rack X F) (ending : Ending) : Type 0 where
+    pub record ExecutesWhole (turns : ℕ) (input input' : I) (out out' : O)
+        (err err' : E) (rack rack' : Rack X F) (ending : Ending) : Type 0 where
       pub text : List ℕ
       pub read : IsRead (left input) (left input') text
       pub program : Program
@@ -214,7 +228,8 @@ module _ {O E X : Type 0} {F : X → Type 0} (held : O → Option (List ℕ)) (p
       pub carried : CarriedOut program turns out out' err err' rack rack' ending
 
     -- a part of it was
-    pub record ExecutesPart (turns : ℕ) (input input' : I) (out out' : O) (err err' : E) (rack rack' : Rack X F) : Type 0 where
+    pub record ExecutesPart (turns : ℕ) (input input' : I) (out out' : O)
+        (err err' : E) (rack rack' : Rack X F) : Type 0 where
       pub text : List ℕ
       pub read : IsRead (left input) (left input') text
       pub program : Program
@@ -228,25 +243,35 @@ module _ {O E X : Type 0} {F : X → Type 0} (held : O → Option (List ℕ)) (p
         ⊎ ExecutesPart turns input input' out out' err err' rack rack'
 
     -- everything that is promised of a call that runs written C, but of the last line
-    pub record Executes (reads : I → ℕ) (turns : ℕ) (input input' : I) (out out' : O) (err err' : E) (rack rack' : Rack X F) (ending : Ending) : Type 0 where
-      pub whole : IsOfProgram ending → ExecutesWhole turns input input' out out' err err' rack rack' ending
+    pub record Executes (reads : I → ℕ) (turns : ℕ) (input input' : I) (out out' : O)
+        (err err' : E) (rack rack' : Rack X F) (ending : Ending) : Type 0 where
+      pub whole : IsOfProgram ending →
+          ExecutesWhole turns input input' out out' err err' rack rack' ending
       pub part : ending ≡ WriteFault → ExecutesPart turns input input' out out' err err' rack rack'
       pub want : ending ≡ OutOfMemory → MayExecute turns input input' out out' err err' rack rack'
-      pub other : IsOfProgram ending ⊎ (ending ≡ WriteFault) ⊎ (ending ≡ OutOfMemory) ⊎ Untouched out out' err err' rack rack'
+      pub other : IsOfProgram ending ⊎ (ending ≡ WriteFault)
+          ⊎ (ending ≡ OutOfMemory) ⊎ Untouched out out' err err' rack rack'
       pub ends : IsOfExecution ending
       pub crowded : (ending ≡ Limit L7) ↔ IsCrowded rack
       pub unread : ending ≡ Limit L7 → input' ≡ input
-      pub talks : KeepsTalks (talk_at talk (slots_of rack)) (talk_at talk (slots_of rack')) (grown rack rack')
-      pub dropped : SparesDropped (states (slots_of rack)) (states (slots_of rack')) (grown rack rack')
+      pub talks : KeepsTalks (talk_at talk (slots_of rack))
+          (talk_at talk (slots_of rack')) (grown rack rack')
+      pub dropped : SparesDropped (states (slots_of rack))
+          (states (slots_of rack')) (grown rack rack')
       pub logged : log_of rack' ≡ log_of rack ++ grown rack rack'
-      pub refused : (kind : FaultKind) (line : Line) → ending ≡ Refused kind line → RefusesAt IsRefusedWritten (left input) (left input') kind line.0
-      pub limit : (kind : LimitKind) → (kind ≡ L7 → ⊥) → ending ≡ Limit kind → PassesWritten (left input) (left input') kind
+      pub refused : (kind : FaultKind) (line : Line) → ending ≡ Refused kind line →
+          RefusesAt IsRefusedWritten (left input) (left input') kind line.0
+      pub limit : (kind : LimitKind) → (kind ≡ L7 → ⊥) →
+          ending ≡ Limit kind → PassesWritten (left input) (left input') kind
       pub read_fault : ending ≡ ReadFault → Rose (reads input) (reads input')
-      pub write_fault : ending ≡ WriteFault → Rose (puts out) (puts out') ⊎ Rose (tells err) (tells err')
+      pub write_fault : ending ≡ WriteFault →
+          Rose (puts out) (puts out') ⊎ Rose (tells err) (tells err')
       pub within : ReadsWithin (left input) (left input')
       pub reads_steady : (ending ≡ ReadFault → ⊥) → reads input' ≡ reads input
       pub puts_steady : (ending ≡ WriteFault → ⊥) → puts out' ≡ puts out
       pub tells_steady : (ending ≡ WriteFault → ⊥) → tells err' ≡ tells err
       pub decides : (text : List ℕ) → (IsCrowded rack → ⊥) → left input ≡ Some text
-          → (Rose (reads input) (reads input') → ⊥) → (Rose (puts out) (puts out') → ⊥) → (Rose (tells err) (tells err') → ⊥)
-          → DecidesExecution turns (ready_slot (states (slots_of rack))) (answers_in (grown rack rack')) text ending
+          → (Rose (reads input) (reads input') → ⊥) →
+          (Rose (puts out) (puts out') → ⊥) → (Rose (tells err) (tells err') → ⊥)
+          → DecidesExecution turns (ready_slot (states (slots_of rack)))
+          (answers_in (grown rack rack')) text ending

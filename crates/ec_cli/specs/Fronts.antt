@@ -12,7 +12,8 @@ abbrev pub front_of : {A : Type 0} → Option (A × Bor (List ℕ)) → Option (
 front_of found = option_map (λ f. (f.0, f.1.now)) found
 
 -- the answer is the one value with its text at the front, and what stands behind that text, or no value has its text there
-pub record ReadsFront {A : Type 0} (found : Option (A × List ℕ)) (Ok : A → Type 0) (text : A → List ℕ) (whole : List ℕ) : Type 0 where
+pub record ReadsFront {A : Type 0} (found : Option (A × List ℕ))
+    (Ok : A → Type 0) (text : A → List ℕ) (whole : List ℕ) : Type 0 where
   pub exact : ReadsAs found (λ f. Ok f.0) (λ f. text f.0 ++ f.1) whole
 
 -- the answer is what stands behind the fixed text, or the text does not begin with it
@@ -20,8 +21,11 @@ pub record ReadsFixed (found : Option (List ℕ)) (fixed : List ℕ) (whole : Li
   pub exact : ReadsAs found (λ rest. Unit {0}) (λ rest. fixed ++ rest) whole
 
 -- these values stand at the front, one behind the other, with this text behind them, at whose front none stands; and no others do
-pub record ReadsAll {A : Type 0} (Ok : A → Type 0) (text : A → List ℕ) (whole : List ℕ) (values : List A) (rest : List ℕ) : Type 0 where
-  pub exact : ReadsAs {A = List A × List ℕ} (Some (values, rest)) (λ f. AllByRecursion Ok f.0 × ReadsFront None Ok text f.1) (λ f. flat_map text f.0 ++ f.1) whole
+pub record ReadsAll {A : Type 0} (Ok : A → Type 0) (text : A → List ℕ)
+    (whole : List ℕ) (values : List A) (rest : List ℕ) : Type 0 where
+  pub exact : ReadsAs {A = List A × List ℕ} (Some (values, rest))
+      (λ f. AllByRecursion Ok f.0 × ReadsFront None Ok text f.1)
+      (λ f. flat_map text f.0 ++ f.1) whole
 
 -- the text begins with a byte that passes the test
 abbrev pub BeginsWith : (ℕ → Bool) → List ℕ → Type 0

@@ -36,9 +36,11 @@ end_of (Err stops.WriteFault) = ends.WriteFault
 end_of (Err stops.OutOfMemory) = ends.OutOfMemory
 
 -- what a run over the first connection does to the slots: nothing where none is ready
-abbrev pub RunsOver : {X : Type 0} {F : X → Type 0} → List (Slot X F) → List Logged → List (Slot X F) → Type 0
+abbrev pub RunsOver : {X : Type 0} {F : X → Type 0} →
+    List (Slot X F) → List Logged → List (Slot X F) → Type 0
 RunsOver before growth after =
-    MatchOption (ready_slot (states before)) ((growth ≡ []) × (after ≡ before)) (λ _. Ran before growth after)
+    MatchOption (ready_slot (states before))
+    ((growth ≡ []) × (after ≡ before)) (λ _. Ran before growth after)
 
 module _ {X : Type 0} {F : X → Type 0} where
   -- the slot of a connection, if there is one, is taken
@@ -47,20 +49,26 @@ module _ {X : Type 0} {F : X → Type 0} where
 
   module _ (talk : DynBox X Allocator F → Option Talk) (faults : DynBox X Allocator F → ℕ) where
     -- a call of the library: its text was sent, and the reply stored
-    pub record Called (call : Call) (pointer : Option Pointer) (memory memory' : List ℤ) (old : Rack X F) (was : Conn X F) (new : Rack X F) (now : Conn X F) : Type 0 where
+    pub record Called (call : Call) (pointer : Option Pointer) (memory memory' : List ℤ)
+        (old : Rack X F) (was : Conn X F) (new : Rack X F) (now : Conn X F) : Type 0 where
       pub reply : Reply
-      pub asked : Asks talk faults old was new now (record { slot = Some (slot_of was); request = call_request call; reply = reply } ∷ [])
+      pub asked : Asks talk faults old was new now
+          (record { slot = Some (slot_of was); request = call_request call; reply = reply } ∷ [])
       pub stored : memory' ≡ store_reply call pointer reply memory
 
     -- any number of asks of a connection, if there is one
-    abbrev pub MayAsk : Rack X F → Option (Conn X F) → Rack X F → Option (Conn X F) → List Logged → Type 0
-    MayAsk old None new None growth = (growth ≡ []) × (slots_of new ≡ slots_of old) × (log_of new ≡ log_of old)
+    abbrev pub MayAsk : Rack X F → Option (Conn X F) →
+        Rack X F → Option (Conn X F) → List Logged → Type 0
+    MayAsk old None new None growth = (growth ≡ [])
+        × (slots_of new ≡ slots_of old) × (log_of new ≡ log_of old)
     MayAsk old (Some was) new (Some now) growth = Asks talk faults old was new now growth
     MayAsk old _ new _ growth = ⊥
 
     module _ {S : Type 0} (held : S → Option (List ℕ)) (fails : S → ℕ) where
       -- an action was done
-      pub record Done (globals : List Global) (action : Action) (memory memory' : List ℤ) (old : Rack X F) (was : Option (Conn X F)) (out : S) (new : Rack X F) (now : Option (Conn X F)) (out' : S) : Type 0 where
+      pub record Done (globals : List Global) (action : Action) (memory memory' : List ℤ)
+          (old : Rack X F) (was : Option (Conn X F)) (out : S)
+          (new : Rack X F) (now : Option (Conn X F)) (out' : S) : Type 0 where
         pub growth : List Logged
         pub printed : List ℕ
         pub asked : MayAsk old was new now growth
@@ -68,39 +76,65 @@ module _ {X : Type 0} {F : X → Type 0} where
         pub does : Does globals (option_map slot_of was) action memory memory' growth printed
 
       -- an action stopped in the middle: nothing was said, and the front of what it prints was put
-      pub record Stopped (globals : List Global) (action : Action) (memory : List ℤ) (old : Rack X F) (was : Option (Conn X F)) (out : S) (new : Rack X F) (now : Option (Conn X F)) (out' : S) : Type 0 where
+      pub record Stopped (globals : List Global) (action : Action) (memory : List ℤ)
+          (old : Rack X F) (was : Option (Conn X F)) (out : S)
+          (new : Rack X F) (now : Option (Conn X F)) (out' : S) : Type 0 where
         pub asked : MayAsk old was new now []
         pub printed : List ℕ
         pub put : Took held fails out out' printed
         pub begins : Begins globals (option_map slot_of was) action memory printed
 
       -- the statements up to `rest` were done
-      pub record Reached (globals : List Global) (body : List WrittenStatement) (memory : List ℤ) (rest : List WrittenStatement) (memory' : List ℤ) (old : Rack X F) (was : Option (Conn X F)) (out : S) (new : Rack X F) (now : Option (Conn X F)) (out' : S) : Type 0 where
+      pub record Reached (globals : List Global) (body : List WrittenStatement) (memory : List ℤ)
+          (rest : List WrittenStatement) (memory' : List ℤ)
+          (old : Rack X F) (was : Option (Conn X F))
+          (out : S) (new : Rack X F) (now : Option (Conn X F)) (out' : S) : Type 0 where
         pub growth : List Logged
         pub printed : List ℕ
         pub asked : MayAsk old was new now growth
         pub put : Puts held fails out out' printed
-        pub reaches : Reaches globals (option_map slot_of was) body memory rest memory' growth printed
+        pub reaches : Reaches globals
+            (option_map slot_of was) body memory rest memory' growth printed
 
       -- the run of the statements stopped in the middle
-      pub record Broke (globals : List Global) (body : List WrittenStatement) (memory : List ℤ) (old : Rack X F) (was : Option (Conn X F)) (out : S) (new : Rack X F) (now : Option (Conn X F)) (out' : S) : Type 0 where
+      pub record Broke (globals : List Global) (body : List WrittenStatement) (memory : List ℤ)
+          (old : Rack X F) (was : Option (Conn X F)) (out : S)
+          (new : Rack X F) (now : Option (Conn X F)) (out' : S) : Type 0 where
         pub growth : List Logged
         pub printed : List ℕ
         pub asked : MayAsk old was new now growth
         pub put : Took held fails out out' printed
-        pub output : IsFront printed (output_of (acts globals (option_map slot_of was) body (record { memory = memory; output = []; conversation = []; answers = answers_in growth })))
-        pub said : IsFront growth (said_of (acts globals (option_map slot_of was) body (record { memory = memory; output = []; conversation = []; answers = answers_in growth })))
+        pub output : IsFront printed
+            (output_of
+            (acts globals (option_map slot_of was) body (record {
+              memory = memory;
+              output = [];
+              conversation = [];
+              answers = answers_in growth;
+            })))
+        pub said : IsFront growth
+            (said_of
+            (acts globals (option_map slot_of was) body (record {
+              memory = memory;
+              output = [];
+              conversation = [];
+              answers = answers_in growth;
+            })))
 
       -- the program ran to its end, with this status
-      pub record Finished (program : Written) (old : Rack X F) (was : Option (Conn X F)) (out : S) (new : Rack X F) (now : Option (Conn X F)) (out' : S) (status : ℕ) : Type 0 where
+      pub record Finished (program : Written) (old : Rack X F) (was : Option (Conn X F)) (out : S)
+          (new : Rack X F) (now : Option (Conn X F)) (out' : S) (status : ℕ) : Type 0 where
         pub growth : List Logged
         pub asked : MayAsk old was new now growth
-        pub whole : IsWhole (written_meaning program (option_map slot_of was) (answers_in growth)) growth (held out) (held out') status
+        pub whole : IsWhole (written_meaning program (option_map slot_of was)
+            (answers_in growth)) growth (held out) (held out') status
         pub steady : fails out' ≡ fails out
 
       -- the program stopped in the middle
-      pub record Cut (program : Written) (old : Rack X F) (was : Option (Conn X F)) (out : S) (new : Rack X F) (now : Option (Conn X F)) (out' : S) : Type 0 where
+      pub record Cut (program : Written) (old : Rack X F) (was : Option (Conn X F))
+          (out : S) (new : Rack X F) (now : Option (Conn X F)) (out' : S) : Type 0 where
         pub growth : List Logged
         pub asked : MayAsk old was new now growth
-        pub part : IsPart (written_meaning program (option_map slot_of was) (answers_in growth)) growth (held out) (held out')
+        pub part : IsPart (written_meaning program (option_map slot_of was)
+            (answers_in growth)) growth (held out) (held out')
         pub later : fails out ≤ fails out'

@@ -37,7 +37,8 @@ statement_text s = unlines (statement_lines s)
 
 -- the text of the end of `main`
 abbrev pub ending_text : Line × ℕ → List ℕ
-ending_text e = unlines (line_mark e.0 ∷ (codes "return " ++ decimal e.1 ++ codes ";") ∷ codes "}" ∷ [])
+ending_text e =
+    unlines (line_mark e.0 ∷ (codes "return " ++ decimal e.1 ++ codes ";") ∷ codes "}" ∷ [])
 
 -- the text of a call, and the end of its block
 abbrev pub call_lines_text : Call → List ℕ
@@ -45,5 +46,6 @@ call_lines_text c = unlines (call_text c ∷ codes "}" ∷ [])
 
 -- what a call says of its host, from the pointer to the end of the block
 abbrev pub host_text : Host → List ℕ
-host_text h = letter_text h.pointer ++ codes ", " ++ ((decimal h.length ++ codes "L, ") ++ ((decimal h.count ++ codes "L, ")
+host_text h = letter_text h.pointer ++ codes ", "
+    ++ ((decimal h.length ++ codes "L, ") ++ ((decimal h.count ++ codes "L, ")
     ++ (decimal h.distance ++ codes "L, ECPGt_NO_INDICATOR, NULL, 0L, 0L, 0L, ECPGt_EORT);\n}\n")))

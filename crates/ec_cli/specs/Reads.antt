@@ -6,7 +6,8 @@ use Rattle.ec_firstpath.specs.declared.source.Letter.{Letter}
 -- the answer is the one value with this text, or there is none
 abbrev pub ReadsAs : {A T : Type 0} → Option A → (A → Type 0) → (A → T) → T → Type 0
 ReadsAs {A} None Ok text line = (a : A) → Ok a → line ≢ text a
-ReadsAs {A} (Some x) Ok text line = Ok x × (line ≡ text x) × ((a : A) → Ok a → line ≡ text a → a ≡ x)
+ReadsAs {A} (Some x) Ok text line = Ok x × (line ≡ text x)
+    × ((a : A) → Ok a → line ≡ text a → a ≡ x)
 
 -- any value
 abbrev pub IsAny : {A : Type 0} → A → Type 0

@@ -31,8 +31,10 @@ source_of b = record { letters = b.letters; body = b.body; status = status_at b.
 abbrev pub lines_at : Stage → List Letter → List Statement → List SourceLine
 lines_at Declarations letters body = map declaration letters
 lines_at Body letters body = map declaration letters ++ (opening ∷ map statement body)
-lines_at (Left n) letters body = map declaration letters ++ (opening ∷ map statement body ++ (leaving n ∷ []))
-lines_at (Closed n) letters body = map declaration letters ++ (opening ∷ map statement body ++ (leaving n ∷ closing ∷ []))
+lines_at (Left n) letters body =
+    map declaration letters ++ (opening ∷ map statement body ++ (leaving n ∷ []))
+lines_at (Closed n) letters body =
+    map declaration letters ++ (opening ∷ map statement body ++ (leaving n ∷ closing ∷ []))
 
 -- the lines that are taken
 abbrev pub lines_of : SourceBuilder → List SourceLine
@@ -49,7 +51,8 @@ pub record IsSound (b : SourceBuilder) : Type 0 where
 
 -- some source begins with these lines
 abbrev pub Begins : List SourceLine → Type 0
-Begins lines = (p : Source) × IsValid p × ((more : List SourceLine) × (source_lines p ≡ lines ++ more))
+Begins lines = (p : Source) × IsValid p
+    × ((more : List SourceLine) × (source_lines p ≡ lines ++ more))
 
 -- one more line is taken
 pub record Takes (old new : SourceBuilder) (next : SourceLine) : Type 0 where

@@ -29,19 +29,40 @@ said_of (waiting slot request m) = m.conversation
 abbrev pub Does : List Global → Option ℕ → Action → List ℤ → List ℤ → List Logged → List ℕ → Type 0
 Does globals ready action old new growth printed =
     (output : List ℕ) (said : List Logged) (answers : List Answer)
-    → act globals ready action (record { memory = old; output = output; conversation = said; answers = answers_in growth ++ answers })
-    ≡ on (record { memory = new; output = output ++ printed; conversation = said ++ growth; answers = answers })
+    → act globals ready action (record {
+      memory = old;
+      output = output;
+      conversation = said;
+      answers = answers_in growth ++ answers;
+    })
+    ≡ on (record {
+      memory = new;
+      output = output ++ printed;
+      conversation = said ++ growth;
+      answers = answers;
+    })
 
 -- the action, without an answer, prints `printed` and perhaps more
 abbrev pub Begins : List Global → Option ℕ → Action → List ℤ → List ℕ → Type 0
 Begins globals ready action memory printed =
     (output : List ℕ) (said : List Logged)
-    → IsFront (output ++ printed) (output_of (act globals ready action (record { memory = memory; output = output; conversation = said; answers = [] })))
-    × IsFront said (said_of (act globals ready action (record { memory = memory; output = output; conversation = said; answers = [] })))
+    → IsFront (output ++ printed)
+    (output_of (act globals ready action
+    (record { memory = memory; output = output; conversation = said; answers = [] })))
+    × IsFront said
+    (said_of (act globals ready action
+    (record { memory = memory; output = output; conversation = said; answers = [] })))
 
 -- all statements together mean what those of `rest` mean, after `growth` was said and `printed` was printed
-abbrev pub Reaches : List Global → Option ℕ → List WrittenStatement → List ℤ → List WrittenStatement → List ℤ → List Logged → List ℕ → Type 0
+abbrev pub Reaches : List Global → Option ℕ → List WrittenStatement →
+    List ℤ → List WrittenStatement → List ℤ → List Logged → List ℕ → Type 0
 Reaches globals ready body old rest new growth printed =
     (answers : List Answer)
-    → acts globals ready body (record { memory = old; output = []; conversation = []; answers = answers_in growth ++ answers })
-    ≡ acts globals ready rest (record { memory = new; output = printed; conversation = growth; answers = answers })
+    → acts globals ready body (record {
+      memory = old;
+      output = [];
+      conversation = [];
+      answers = answers_in growth ++ answers;
+    })
+    ≡ acts globals ready rest
+    (record { memory = new; output = printed; conversation = growth; answers = answers })

@@ -25,8 +25,8 @@ module _ {I O E X : Type 0} {F : X → Type 0} (left : I → Option (List ℕ)) 
       (err err' : E) (rack rack' : Rack X F) (ending : Ending) : Type 0 where
     pub turns : ℕ
     pub named : HasTurns words turns
-    pub executes : Executes held puts told tells talk left reads turns input input' out out' err err'
-        rack rack' ending
+    pub executes : Executes held puts told tells talk left reads turns
+        input input' out out' err err' rack rack' ending
 
   pub record HasRun (words : List (String Allocator)) (input input' : I) (out out' : O)
       (err err' : E) (rack rack' : Rack X F) (ending : Ending) : Type 0 where

@@ -89,7 +89,8 @@ fn ended(end: RunEnd) -> Ending
 fn run_source<O: Sink>(alloc: Global, source: Source, out: &mut O, rack: &mut Rack) -> Ending
     requires valid { IsValid source }
     requires bounded { length source.letters + length source.body + 3 < 2 ^ 31 }
-    ensures ran { Ran O.held O.faults (talk_by ⟦<dyn Link as Link>⟧) (λ p. p ≡ source) out.old out.new rack.old rack.new result }
+    ensures ran { Ran O.held O.faults (talk_by ⟦<dyn Link as Link>⟧)
+        (λ p. p ≡ source) out.old out.new rack.old rack.new result }
     ensures ends { IsOfRun result }
 {
     match translate(alloc, source) {
@@ -101,7 +102,8 @@ fn run_source<O: Sink>(alloc: Global, source: Source, out: &mut O, rack: &mut Ra
 // Runs the source in a text.
 fn run_text<O: Sink>(alloc: Global, text: Bytes, out: &mut O, rack: &mut Rack) -> Ending
     requires { length text ≤ 2 ^ 24 }
-    ensures { Led O.held O.faults (talk_by ⟦<dyn Link as Link>⟧) text out.old out.new rack.old rack.new result }
+    ensures { Led O.held O.faults
+        (talk_by ⟦<dyn Link as Link>⟧) text out.old out.new rack.old rack.new result }
 {
     match parse(alloc, text) {
         Ok(source) => run_source(alloc, source, out, rack),
@@ -117,7 +119,8 @@ pub fn command<I: Input, O: Sink>(
     out: &mut O,
     rack: &mut Rack,
 ) -> Ending
-    ensures { Answers I.left I.faults O.held O.faults (talk_by ⟦<dyn Link as Link>⟧) words.now input.old input.new out.old out.new rack.old rack.new result }
+    ensures { Answers I.left I.faults O.held O.faults (talk_by ⟦<dyn Link as Link>⟧) words.now
+        input.old input.new out.old out.new rack.old rack.new result }
 {
     if !names_run(words) {
         return Ending::Usage;

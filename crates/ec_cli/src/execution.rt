@@ -100,8 +100,9 @@ pub fn execute<I: Input, O: Sink, E: Sink>(
     err: &mut E,
     rack: &mut Rack,
 ) -> Ending
-    ensures { Executes O.held O.faults E.held E.faults (talk_by ⟦<dyn Link as Link>⟧) I.left
-        I.faults turns input.old input.new out.old out.new err.old err.new rack.old rack.new result }
+    ensures { Executes O.held O.faults E.held E.faults (talk_by ⟦<dyn Link as Link>⟧)
+        I.left I.faults turns
+        input.old input.new out.old out.new err.old err.new rack.old rack.new result }
 {
     if is_crowded(rack) {
         return Ending::Limit(LimitKind::L7);

@@ -6,7 +6,8 @@ ghost use Rattle.ec_firstpath.specs.Source.{IsSource};
 
 /// A text is that of at most one source, has at most one fault, and never both: so what it leads to is one answer.
 pub fn one_reading()
-    ensures source { (text : List ℕ) (p : Source) (q : Source) → IsSource text p → IsSource text q → p ≡ q }
+    ensures source { (text : List ℕ) (p : Source) (q : Source) →
+        IsSource text p → IsSource text q → p ≡ q }
     ensures fault { (text : List ℕ) (m : ℕ) (n : ℕ) → FaultAt text m → FaultAt text n → m ≡ n }
     ensures apart { (text : List ℕ) (n : ℕ) (p : Source) → FaultAt text n → IsSource text p → ⊥ }
 {}

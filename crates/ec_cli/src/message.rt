@@ -27,8 +27,10 @@ fn put_message<E: Sink>(
     name: &str,
     line: Option<Line>,
 ) -> Result<(), Failed>
-    ensures ok { OnOk result (Puts E.held E.faults err.old err.new (message kind.now name.now line)) }
-    ensures part { OnErr result (PutsPart E.held E.faults err.old err.new (message kind.now name.now line)) }
+    ensures ok { OnOk result
+        (Puts E.held E.faults err.old err.new (message kind.now name.now line)) }
+    ensures part { OnErr result
+        (PutsPart E.held E.faults err.old err.new (message kind.now name.now line)) }
 {
     put_all(err, b"ecpgc: ")?;
     put_all(err, kind.as_bytes())?;

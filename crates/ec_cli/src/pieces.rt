@@ -11,7 +11,8 @@ use ec_firstpath::Letter;
 
 /// What stands in `line` between `prefix` and `suffix`, if it begins with the one and ends with the other behind it.
 pub fn between<'a>(line: &'a [u8], prefix: &[u8], suffix: &[u8]) -> Option<&'a [u8]>
-    ensures { ReadsAs (option_copied result) IsAny (text_between prefix.now (λ m. m) suffix.now) line.now }
+    ensures { ReadsAs (option_copied result) IsAny
+        (text_between prefix.now (λ m. m) suffix.now) line.now }
 {
     line.strip_prefix(prefix)?.strip_suffix(suffix)
 }

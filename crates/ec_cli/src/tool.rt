@@ -101,7 +101,8 @@ pub fn ec_main<I: Source, O: Sink, E: Sink>(
     // A run to its end is the whole of what the source means, over the answers that the log got in this call.
     ensures whole { (status : ℕ) → IsRun words.now → result ≡ Ending.Exited status →
         RunsWhole IsSource direct_meaning (I.left input.old) (I.left input.new)
-        (O.held out.old) (O.held out.new) (states (slots_of rack.old)) (grown rack.old rack.new) status }
+        (O.held out.old) (O.held out.new) (states (slots_of rack.old))
+        (grown rack.old rack.new) status }
 
     // A run that stopped is a part of it, and want of memory may also come before anything was done.
     ensures part { IsRun words.now → result ≡ Ending.WriteFault →
@@ -155,12 +156,14 @@ pub fn ec_main<I: Source, O: Sink, E: Sink>(
         RefusesAt IsRefusedWritten (I.left input.old) (I.left input.new) kind line.0 }
     ensures written_limit { (kind : LimitKind) → IsExecuting words.now → (kind ≡ L7 → ⊥)
         → result ≡ Ending.Limit kind → PassesWritten (I.left input.old) (I.left input.new) kind }
-    ensures read_fault { result ≡ Ending.ReadFault → Rose (I.faults input.old) (I.faults input.new) }
+    ensures read_fault { result ≡ Ending.ReadFault →
+        Rose (I.faults input.old) (I.faults input.new) }
     ensures write_fault { (IsExecuting words.now → ⊥) → result ≡ Ending.WriteFault →
         Rose (O.faults out.old) (O.faults out.new) }
     ensures either_fault { IsExecuting words.now → result ≡ Ending.WriteFault →
         Rose (O.faults out.old) (O.faults out.new) ⊎ Rose (E.faults err.old) (E.faults err.new) }
-    ensures decides { (text : List ℕ) → IsRun words.now → (IsCrowded rack.old → ⊥) → I.left input.old ≡ Some text
+    ensures decides { (text : List ℕ) → IsRun words.now →
+        (IsCrowded rack.old → ⊥) → I.left input.old ≡ Some text
         → (Rose (I.faults input.old) (I.faults input.new) → ⊥)
         → (Rose (O.faults out.old) (O.faults out.new) → ⊥) → Decides text result }
     ensures decides_translation { (text : List ℕ) → IsTranslating words.now
@@ -175,7 +178,8 @@ pub fn ec_main<I: Source, O: Sink, E: Sink>(
         (answers_in (grown rack.old rack.new)) text result }
 
     // With every other answer, want of memory among them, no count rose.
-    ensures read_steady { (result ≡ Ending.ReadFault → ⊥) → I.faults input.new ≡ I.faults input.old }
+    ensures read_steady { (result ≡ Ending.ReadFault → ⊥) →
+        I.faults input.new ≡ I.faults input.old }
     ensures write_steady { (result ≡ Ending.WriteFault → ⊥) → O.faults out.new ≡ O.faults out.old }
 
     ensures executed_steady { (turns : ℕ) → HasTurns words.now turns

@@ -19,7 +19,12 @@ leaf_view (leaf.Constant w) = of.constant (word_view w)
 leaf_view leaf.Faulty = of.faulty
 
 abbrev pub update_view : Update → of.Update
-update_view u = record { kind = kind_type u.kind; widened = kind_type u.widened; operation = operation_view u.operation; gives_old = u.gives_old }
+update_view u = record {
+  kind = kind_type u.kind;
+  widened = kind_type u.widened;
+  operation = operation_view u.operation;
+  gives_old = u.gives_old;
+}
 
 abbrev pub one_made : Unary → of.Exp → of.Exp
 one_made (unary.Member offset) e = of.member offset e

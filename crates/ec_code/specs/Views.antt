@@ -52,7 +52,8 @@ full_step_step (FullStep-F.One u) = one u
 full_step_step (FullStep-F.Two b e) = two b e
 
 abbrev pub expression_view : Expression → of.Exp
-expression_view = fold-Expression of.Exp Step of.Exp of.Exp expression_step full_step_step head_step full_step
+expression_view =
+    fold-Expression of.Exp Step of.Exp of.Exp expression_step full_step_step head_step full_step
 
 abbrev pub full_view : Full → of.Exp
 full_view = fold-Full of.Exp Step of.Exp of.Exp expression_step full_step_step head_step full_step
@@ -61,7 +62,8 @@ abbrev pub head_view : Head → of.Exp
 head_view = fold-Head of.Exp Step of.Exp of.Exp expression_step full_step_step head_step full_step
 
 abbrev pub full_step_view : FullStep → Step
-full_step_view = fold-FullStep of.Exp Step of.Exp of.Exp expression_step full_step_step head_step full_step
+full_step_view =
+    fold-FullStep of.Exp Step of.Exp of.Exp expression_step full_step_step head_step full_step
 
 abbrev pub expressions_view : List Expression → of.Exps
 expressions_view es = exps_of (map expression_view es)
@@ -86,7 +88,9 @@ statement_step (Statement-F.Label l x) = of.label l x
 statement_step (Statement-F.Embedded n) = of.embedded_statement n
 
 abbrev pub loop_step : Loop-F of.Stm of.Stm → of.Stm
-loop_step x = of.loop x.tested (option_map expression_view x.test) (option_map expression_view x.behind) x.body
+loop_step x =
+    of.loop x.tested (option_map expression_view x.test)
+    (option_map expression_view x.behind) x.body
 
 abbrev pub statement_view : Statement → of.Stm
 statement_view = fold-Statement of.Stm of.Stm statement_step loop_step
@@ -98,7 +102,18 @@ abbrev pub statements_view : List Statement → of.Stms
 statements_view ss = stms_of (map statement_view ss)
 
 abbrev pub function_view : Function → programs.Function
-function_view f = record { parameters = map kind_type f.parameters; objects = map size_view f.objects; body = statements_view f.body; otherwise = option_map word_view f.otherwise }
+function_view f =
+    record {
+      parameters = map kind_type f.parameters;
+      objects = map size_view f.objects;
+      body = statements_view f.body;
+      otherwise = option_map word_view f.otherwise;
+    }
 
 abbrev pub program_view : Program → programs.Program
-program_view p = record { globals = p.globals; literals = p.literals; functions = map function_view p.functions; main = p.main }
+program_view p = record {
+  globals = p.globals;
+  literals = p.literals;
+  functions = map function_view p.functions;
+  main = p.main;
+}

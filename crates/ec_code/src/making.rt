@@ -32,7 +32,8 @@ impl Expression {
 
     /// A call of a known function. It takes no memory.
     pub fn known(alloc: Global, known: Known, arguments: List<Expression>) -> Expression
-        ensures { expression_view result ≡ of.known (known_view known) (expressions_view arguments) }
+        ensures { expression_view result
+            ≡ of.known (known_view known) (expressions_view arguments) }
     {
         full(alloc, Head::Known(known, arguments))
     }
@@ -46,7 +47,8 @@ impl Expression {
 
     /// The expression with a unary step behind it.
     pub fn unary(self, step: Unary) -> Result<Expression, OutOfMemory>
-        ensures { IfOk result (λ made. expression_view made ≡ one_made step (expression_view self)) }
+        ensures { IfOk result
+            (λ made. expression_view made ≡ one_made step (expression_view self)) }
     {
         match self {
             Expression::Plain(plain) => plain_with(plain, PlainStep::One(step)),

@@ -20,7 +20,8 @@ HasText (Ok None) = ⊥
 HasText (Err trap) = ⊥
 
 -- a parameter, or the trap in its place; memory may be wanted for a text alone
-abbrev pub GivesParameter : Result (Option (List ℕ)) ConvStop → Result (Option (List ℕ)) Trap → Type 0
+abbrev pub GivesParameter : Result (Option (List ℕ)) ConvStop →
+    Result (Option (List ℕ)) Trap → Type 0
 GivesParameter (Ok text) r = r ≡ Ok text
 GivesParameter (Err (stops.Trapped trap)) r = r ≡ Err trap
 GivesParameter (Err (stops.Code code)) r = ⊥

@@ -10,8 +10,11 @@ use Rattle.ec_transfer.specs.Hosts.{HostData}
 
 -- the answer is the parameter that the host gives
 abbrev pub Sends : HostPlace → Memory → Result (Option (List ℕ)) ConvStop → Type 0
-Sends place m answer = (h : HostData) → given_host place ≡ Some h → GivesParameter answer (parameter m h)
+Sends place m answer = (h : HostData) →
+    given_host place ≡ Some h → GivesParameter answer (parameter m h)
 
 -- the answer, and the memory behind it, are what the field leaves in a row of the host
-abbrev pub Stores : HostPlace → ℕ → Option (List ℕ) → Memory → Result Bool ConvStop → Memory → Type 0
-Stores place row field m answer after = (h : HostData) → given_host place ≡ Some h → leaves answer after ≡ Some (field_stored m h row field)
+abbrev pub Stores : HostPlace → ℕ → Option (List ℕ) →
+    Memory → Result Bool ConvStop → Memory → Type 0
+Stores place row field m answer after = (h : HostData) → given_host place ≡ Some h →
+    leaves answer after ≡ Some (field_stored m h row field)

@@ -13,11 +13,17 @@ abbrev pub indicator_view : Indicator → IndicatorData
 indicator_view i = record { kind = i.kind; place = i.at.0; step = i.step }
 
 abbrev pub host_view : Host → HostData
-host_view h = record { holds = held_by h.element; place = h.at.0; step = h.step; indicator = option_map indicator_view h.indicator }
+host_view h = record {
+  holds = held_by h.element;
+  place = h.at.0;
+  step = h.step;
+  indicator = option_map indicator_view h.indicator;
+}
 
 -- the indicators that a call is given, if their symbol is one that they may have
 abbrev pub given_indicator : Sym × Ptr × ℕ × ℕ → Option IndicatorData
-given_indicator i = option_map (λ kind. record { kind = kind; place = i.1.0; step = i.3 }) (indicator_type i.0)
+given_indicator i =
+    option_map (λ kind. record { kind = kind; place = i.1.0; step = i.3 }) (indicator_type i.0)
 
 abbrev pub given_indicators : Option (Sym × Ptr × ℕ × ℕ) → Option (Option IndicatorData)
 given_indicators None = Some None
@@ -25,7 +31,8 @@ given_indicators (Some i) = option_map Some (given_indicator i)
 
 abbrev pub placed : Ptr → ℕ → Option (Option IndicatorData) → Holding → Option HostData
 placed at step None holds = None
-placed at step (Some indicator) holds = Some (record { holds = holds; place = at.0; step = step; indicator = indicator })
+placed at step (Some indicator) holds =
+    Some (record { holds = holds; place = at.0; step = step; indicator = indicator })
 
 -- the host that a call is given, if its symbol is a type
 abbrev pub given_host : HostPlace → Option HostData

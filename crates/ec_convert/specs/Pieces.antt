@@ -13,7 +13,8 @@ use Rattle.ec_transfer.specs.Hosts.{Holding, integer, truth, characters, pointed
 abbrev pub piece_bytes : List ℕ → Piece → List ℕ
 piece_bytes field (piece.Number t z) = integer_bytes t z
 piece_bytes field (piece.Text taken zeros) = take taken field ++ replicate zeros 0
-piece_bytes field (piece.Counted taken zeros) = integer_bytes Int (pos taken) ++ take taken field ++ replicate zeros 0
+piece_bytes field (piece.Counted taken zeros) =
+    integer_bytes Int (pos taken) ++ take taken field ++ replicate zeros 0
 
 -- what is taken is there, and numbers fit
 abbrev pub IsPiece : List ℕ → Piece → Type 0

@@ -45,7 +45,8 @@ IsValue t z = (least t ≤ℤ z) × (z ≤ℤ greatest t)
 
 -- whether each value of the second type is one of the first
 abbrev pub represents_all : Arith → Arith → Bool
-represents_all wide narrow = int_le (least wide) (least narrow) && int_le (greatest narrow) (greatest wide)
+represents_all wide narrow =
+    int_le (least wide) (least narrow) && int_le (greatest narrow) (greatest wide)
 
 -- the conversion rank (6.3.1.1, 1)
 abbrev pub rank : Arith → ℕ
@@ -87,7 +88,8 @@ mixed unsigned signed =
 
 -- the common type of two promoted types (6.3.1.8, 1)
 abbrev pub common : Arith → Arith → Arith
-common a b = if is_signed a then (if is_signed b then higher a b else mixed b a) else (if is_signed b then mixed a b else higher a b)
+common a b = if is_signed a then (if is_signed b then higher a b else mixed b a)
+    else (if is_signed b then mixed a b else higher a b)
   where
     higher : Arith → Arith → Arith
     higher x y = if nat_le (rank y) (rank x) then x else y
@@ -116,9 +118,11 @@ converted t z = if is_signed t then wrapped_signed (width t) z else wrapped_unsi
 pub data Converts : Arith → ℤ → ℤ → Type 0 where
   false_value : Converts Boolean (pos 0) (pos 0)
   true_value : {value : ℤ} → value ≢ pos 0 → Converts Boolean value (pos 1)
-  wraps : {to : Arith} {value result : ℤ} → to ≢ Boolean → IsValue to result → (times : ℤ) → result ≡ value +ℤ (times *ℤ pos (2 ^ width to)) → Converts to value result
+  wraps : {to : Arith} {value result : ℤ} → to ≢ Boolean → IsValue to result →
+      (times : ℤ) → result ≡ value +ℤ (times *ℤ pos (2 ^ width to)) → Converts to value result
 
 -- the numbers from `low` to `high` are values of the type, and the next ones wrap round to the other end
 abbrev pub WrapsBetween : Arith → ℤ → ℤ → Type 0
 WrapsBetween t low high =
-    (converted t low ≡ low) × (converted t high ≡ high) × (converted t (high +ℤ pos 1) ≡ low) × (converted t (low -ℤ pos 1) ≡ high)
+    (converted t low ≡ low) × (converted t high ≡ high)
+    × (converted t (high +ℤ pos 1) ≡ low) × (converted t (low -ℤ pos 1) ≡ high)

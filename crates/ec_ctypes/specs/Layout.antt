@@ -44,7 +44,10 @@ offset_behind used member = next_multiple_of used member.align
 
 -- members so far, and one more behind them: the bytes up to its end, and the greatest alignment
 abbrev pub with_member : Shape → Shape → Shape
-with_member before member = record { size = offset_behind before.size member + member.size; align = max before.align member.align }
+with_member before member = record {
+  size = offset_behind before.size member + member.size;
+  align = max before.align member.align;
+}
 
 -- no members so far
 abbrev pub no_members : Shape
@@ -53,12 +56,15 @@ no_members = record { size = 0; align = 1 }
 -- the members so far, and then these
 abbrev pub with_members : List (Option Shape) → Shape → List MemberData → Option Shape
 with_members shapes before [] = Some before
-with_members shapes before (m ∷ ms) = option_and_then (λ member. with_members shapes (with_member before member) ms) (shape_among shapes m.1)
+with_members shapes before (m ∷ ms) = option_and_then
+    (λ member. with_members shapes (with_member before member) ms) (shape_among shapes m.1)
 
 -- the shape of a struct with these members: its size is rounded up to its alignment
 abbrev pub struct_shape : List (Option Shape) → List MemberData → Option Shape
 struct_shape shapes [] = None
-struct_shape shapes (m ∷ ms) = option_map (λ all. record { size = next_multiple_of all.size all.align; align = all.align }) (with_members shapes no_members (m ∷ ms))
+struct_shape shapes (m ∷ ms) =
+    option_map (λ all. record { size = next_multiple_of all.size all.align; align = all.align })
+    (with_members shapes no_members (m ∷ ms))
 
 -- the shapes of structs, each over the shapes of those before it
 abbrev pub shapes_behind : List (Option Shape) → List StructData → List (Option Shape)
@@ -73,14 +79,19 @@ abbrev pub shape_of : List StructData → TyData → Option Shape
 shape_of structs ty = shape_among (shapes_of structs) ty
 
 -- the offset and the type of the first member of this name, of members that stand behind others
-abbrev pub member_behind : List (Option Shape) → Shape → List ℕ → List MemberData → Option (ℕ × TyData)
+abbrev pub member_behind : List (Option Shape) →
+    Shape → List ℕ → List MemberData → Option (ℕ × TyData)
 member_behind shapes before name [] = None
 member_behind shapes before name (m ∷ ms) =
-    option_and_then (λ member. if pointwise nat_eq m.0 name then Some (offset_behind before.size member, m.1) else member_behind shapes (with_member before member) name ms) (shape_among shapes m.1)
+    option_and_then
+    (λ member. if pointwise nat_eq m.0 name then Some (offset_behind before.size member, m.1)
+    else member_behind shapes (with_member before member) name ms) (shape_among shapes m.1)
 
 -- the offset and the type of the member of this name, in the struct of this number
 abbrev pub member_of : List StructData → ℕ → List ℕ → Option (ℕ × TyData)
-member_of structs k name = option_and_then (λ d. member_behind (shapes_of (take k structs)) no_members name d.members) (slice_get structs k)
+member_of structs k name = option_and_then
+    (λ d. member_behind (shapes_of (take k structs)) no_members name d.members)
+    (slice_get structs k)
 
 -- a shape of at most 2^24 bytes
 abbrev pub limited : Option Shape → Option Shape
@@ -110,7 +121,8 @@ pub record HasElements (ty : TyData) (count : ℕ) (element : TyData) : Type 0 w
   pub single : IsElement element
   pub positive : 0 < count
   pub small : count ≤ 2 ^ 24
-  pub shape : (structs : List StructData) → shape_of structs ty ≡ option_map (repeated count) (shape_of structs element)
+  pub shape : (structs : List StructData) →
+      shape_of structs ty ≡ option_map (repeated count) (shape_of structs element)
 
 -- this type has no shape within the limit, whatever the structs
 abbrev pub IsTooMany : TyData → Type 0

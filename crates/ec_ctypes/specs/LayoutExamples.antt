@@ -23,15 +23,23 @@ char_int = struct ((codes "c", arithmetic Char) ∷ (codes "n", arithmetic Int) 
 
 -- 1: struct { char c; struct char_int inner; char d; }
 abbrev pub nested : StructData
-nested = struct ((codes "c", arithmetic Char) ∷ (codes "inner", structure 0) ∷ (codes "d", arithmetic Char) ∷ [])
+nested = struct
+    ((codes "c", arithmetic Char) ∷ (codes "inner", structure 0)
+    ∷ (codes "d", arithmetic Char) ∷ [])
 
 -- 2: the struct of a VARCHAR of 5, { int len; char arr[5]; }
 abbrev pub varchar_5 : StructData
-varchar_5 = record { tag = None; varchar = true; members = (codes "len", arithmetic Int) ∷ (codes "arr", array (arithmetic Char) 5) ∷ [] }
+varchar_5 = record {
+  tag = None;
+  varchar = true;
+  members = (codes "len", arithmetic Int) ∷ (codes "arr", array (arithmetic Char) 5) ∷ [];
+}
 
 -- 3: struct { bool a; short b; bool c; }
 abbrev pub bool_short : StructData
-bool_short = struct ((codes "a", arithmetic Bool) ∷ (codes "b", arithmetic Short) ∷ (codes "c", arithmetic Bool) ∷ [])
+bool_short = struct
+    ((codes "a", arithmetic Bool) ∷ (codes "b", arithmetic Short)
+    ∷ (codes "c", arithmetic Bool) ∷ [])
 
 -- 4: struct { char c; long n; }
 abbrev pub char_long : StructData
@@ -43,7 +51,8 @@ unlisted = struct []
 
 -- 6: struct { struct unlisted *next; struct char_long rows[3]; short s; }
 abbrev pub rows : StructData
-rows = struct ((codes "next", pointer (structure 5)) ∷ (codes "rows", array (structure 4) 3) ∷ (codes "s", arithmetic Short) ∷ [])
+rows = struct ((codes "next", pointer (structure 5))
+    ∷ (codes "rows", array (structure 4) 3) ∷ (codes "s", arithmetic Short) ∷ [])
 
 -- 7: a struct that holds itself
 abbrev pub itself : StructData
@@ -58,12 +67,14 @@ abbrev pub one_char : StructData
 one_char = struct ((codes "c", arithmetic Char) ∷ [])
 
 abbrev pub examples : List StructData
-examples = char_int ∷ nested ∷ varchar_5 ∷ bool_short ∷ char_long ∷ unlisted ∷ rows ∷ itself ∷ ahead ∷ one_char ∷ []
+examples = char_int ∷ nested ∷ varchar_5 ∷ bool_short
+    ∷ char_long ∷ unlisted ∷ rows ∷ itself ∷ ahead ∷ one_char ∷ []
 
 -- the structs of sqlca: 0, that of its member sqlerrm, and 1, the whole
 abbrev pub sqlca_structs : List StructData
 sqlca_structs =
-    struct ((codes "sqlerrml", arithmetic Int) ∷ (codes "sqlerrmc", array (arithmetic Char) 150) ∷ [])
+    struct ((codes "sqlerrml", arithmetic Int)
+    ∷ (codes "sqlerrmc", array (arithmetic Char) 150) ∷ [])
     ∷ struct
     ((codes "sqlcaid", array (arithmetic Char) 8)
     ∷ (codes "sqlabc", arithmetic Long)

@@ -15,7 +15,9 @@ use Rattle.ec_ctypes.specs.views.Stmts.{kind_step}
 use Rattle.ec_ctypes.specs.views.Embedded.{text_arg_view, emb_kind_view}
 
 -- an expression round two others is seen as this data of the two
-abbrev pub Holds : (ExprData → ExprData → Expr-F BaseData InitData ExprData DeclData DeclaratorData) → (ExprData → ExprData → ExprData) → Type 0
+abbrev pub Holds :
+    (ExprData → ExprData → Expr-F BaseData InitData ExprData DeclData DeclaratorData) →
+    (ExprData → ExprData → ExprData) → Type 0
 Holds around together = (a b : ExprData) → expr_step (around a b) ≡ together a b
 
 -- an `if` with its statement and the one behind `else`
@@ -28,7 +30,8 @@ HoldsBranches condition then_part else_part =
 abbrev pub HoldsParts : ForParts → StmtData → Type 0
 HoldsParts parts body =
     kind_step (StmtKind-F.For parts body)
-    ≡ for_stmt (expr_option_view parts.first) (expr_option_view parts.condition) (expr_option_view parts.step) body
+    ≡ for_stmt (expr_option_view parts.first)
+    (expr_option_view parts.condition) (expr_option_view parts.step) body
 
 -- a host with its indicator
 abbrev pub HoldsIndicator : Expr → Expr → Type 0
@@ -40,4 +43,5 @@ HoldsIndicator host indicator =
 abbrev pub HoldsArguments : TextArg → Option TextArg → Option TextArg → Option TextArg → Type 0
 HoldsArguments target name user password =
     emb_kind_view (emb_kind.Connect target name user password)
-    ≡ connect (text_arg_view target) (option_map text_arg_view name) (option_map text_arg_view user) (option_map text_arg_view password)
+    ≡ connect (text_arg_view target) (option_map text_arg_view name)
+    (option_map text_arg_view user) (option_map text_arg_view password)

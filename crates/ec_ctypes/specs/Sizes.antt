@@ -20,15 +20,18 @@ shape_at structs id = shape_of (structs_view structs) (structure id)
 
 -- the shape of a struct with these members, which stands behind these structs
 abbrev pub shape_behind : List StructDef → List (List ℕ × Ty) → Option Shape
-shape_behind structs members = struct_shape (shapes_of (structs_view structs)) (map member_view members)
+shape_behind structs members =
+    struct_shape (shapes_of (structs_view structs)) (map member_view members)
 
 -- the bytes up to the end of the last of these members, and the widest alignment of one
 abbrev pub members_in : List StructDef → List (List ℕ × Ty) → Option Shape
-members_in structs members = with_members (shapes_of (structs_view structs)) no_members (map member_view members)
+members_in structs members =
+    with_members (shapes_of (structs_view structs)) no_members (map member_view members)
 
 -- the offset and the type of the first of these members that has this name
 abbrev pub named_in : List StructDef → List (List ℕ × Ty) → List ℕ → Option (ℕ × TyData)
-named_in structs members name = member_behind (shapes_of (structs_view structs)) no_members name (map member_view members)
+named_in structs members name =
+    member_behind (shapes_of (structs_view structs)) no_members name (map member_view members)
 
 -- the offset and the type of the member of this name, in the struct of this number
 abbrev pub member_in : List StructDef → ℕ → List ℕ → Option (ℕ × TyData)

@@ -18,7 +18,11 @@ kept_if passes n ns = if passes then ns ++ n ∷ [] else ns
 
 -- one declaration more: whether it stands in a section, and whether it is that of a function
 abbrev pub counted : Bool → Bool → CountData → CountData
-counted section is_function c = record { next = c.next + 1; hosts = kept_if section c.next c.hosts; functions = kept_if is_function c.next c.functions }
+counted section is_function c = record {
+  next = c.next + 1;
+  hosts = kept_if section c.next c.hosts;
+  functions = kept_if is_function c.next c.functions;
+}
 
 abbrev pub count_items : Bool → DeclaratorList → CountData → CountData
 count_items section no_declarators c = c

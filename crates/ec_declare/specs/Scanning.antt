@@ -40,7 +40,11 @@ waiting (Some stop) line = None
 
 abbrev pub opened : ℕ → Line → ScanData → ScanData
 opened zero line s = record s { depth = 1; section = true; pending = waiting s.first line }
-opened (suc depth) line s = record s { depth = suc (suc depth); section = true; first = or_else s.first (Some (Refused F9 line)) }
+opened (suc depth) line s = record s {
+  depth = suc (suc depth);
+  section = true;
+  first = or_else s.first (Some (Refused F9 line));
+}
 
 abbrev pub closed : ℕ → Line → ScanData → ScanData
 closed zero line s = record s { section = false; first = or_else s.first (Some (Refused F9 line)) }
@@ -48,7 +52,8 @@ closed (suc zero) line s = record s { depth = 0; section = false; pending = None
 closed (suc (suc depth)) line s = record s { depth = suc depth; section = false }
 
 abbrev pub step : PlaceData → ScanData → ScanData
-step (holds line uses) s = record s { first = or_else s.first (stop_on line (fault_of s.section uses)) }
+step (holds line uses) s =
+    record s { first = or_else s.first (stop_on line (fault_of s.section uses)) }
 step (mark true line) s = opened s.depth line s
 step (mark false line) s = closed s.depth line s
 

@@ -21,7 +21,8 @@ abbrev pub uses_view : Uses → UsesData
 uses_view u = record { any = u.any; left_out = u.left_out; lacks_length = u.lacks_length }
 
 abbrev pub scan_view : Scan → ScanData
-scan_view s = record { depth = s.depth; section = s.in_section; pending = s.pending; first = s.first }
+scan_view s =
+    record { depth = s.depth; section = s.in_section; pending = s.pending; first = s.first }
 
 abbrev pub count_view : Count → CountData
 count_view c = record { next = c.next; hosts = c.hosts; functions = c.functions }

@@ -42,7 +42,9 @@ abbrev mutual
   walk_decls (decls d ds) w = walk_decls ds (walk_decl d w)
 
   pub walk_decl : DeclData → ScanData → ScanData
-  walk_decl (decl b items section line) w = walk_declarators items (walk_base b (step (holds line (in_base b & in_declarators b items)) w))
+  walk_decl (decl b items section line) w =
+      walk_declarators items
+      (walk_base b (step (holds line (in_base b & in_declarators b items)) w))
 
   pub walk_declarators : DeclaratorList → ScanData → ScanData
   walk_declarators no_declarators w = w
@@ -83,10 +85,15 @@ abbrev mutual
   walk_kind line empty_stmt w = step (holds line (in_kind empty_stmt)) w
   walk_kind line (expr_stmt e) w = walk_expr e (step (holds line (in_kind (expr_stmt e))) w)
   walk_kind line (block_stmt ss) w = walk_stmts ss (step (holds line (in_kind (block_stmt ss))) w)
-  walk_kind line (if_stmt e s other) w = walk_stmt_option other (walk_stmt s (walk_expr e (step (holds line (in_kind (if_stmt e s other))) w)))
-  walk_kind line (while_stmt e s) w = walk_stmt s (walk_expr e (step (holds line (in_kind (while_stmt e s))) w))
-  walk_kind line (do_stmt s e) w = walk_expr e (walk_stmt s (step (holds line (in_kind (do_stmt s e))) w))
-  walk_kind line (for_stmt x y z s) w = walk_stmt s (walk_option z (walk_option y (walk_option x (step (holds line (in_kind (for_stmt x y z s))) w))))
+  walk_kind line (if_stmt e s other) w = walk_stmt_option other
+      (walk_stmt s (walk_expr e (step (holds line (in_kind (if_stmt e s other))) w)))
+  walk_kind line (while_stmt e s) w =
+      walk_stmt s (walk_expr e (step (holds line (in_kind (while_stmt e s))) w))
+  walk_kind line (do_stmt s e) w =
+      walk_expr e (walk_stmt s (step (holds line (in_kind (do_stmt s e))) w))
+  walk_kind line (for_stmt x y z s) w =
+      walk_stmt s (walk_option z
+      (walk_option y (walk_option x (step (holds line (in_kind (for_stmt x y z s))) w))))
   walk_kind line break_stmt w = step (holds line (in_kind break_stmt)) w
   walk_kind line continue_stmt w = step (holds line (in_kind continue_stmt)) w
   walk_kind line (return_stmt e) w = walk_option e (step (holds line (in_kind (return_stmt e))) w)
@@ -113,7 +120,9 @@ walk_body None w = w
 walk_body (Some ss) w = walk_stmts ss w
 
 abbrev pub walk_function : FuncData → ScanData → ScanData
-walk_function f w = walk_body f.body (walk_params f.params (walk_base f.base (step (holds f.line (in_function f)) w)))
+walk_function f w =
+    walk_body f.body
+    (walk_params f.params (walk_base f.base (step (holds f.line (in_function f)) w)))
 
 abbrev pub walk_top : TopData → ScanData → ScanData
 walk_top (include_top bytes) w = w

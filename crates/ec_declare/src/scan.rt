@@ -80,7 +80,8 @@ impl Scan {
 
     /// A place that holds these uses.
     pub(crate) fn place(&mut self, line: Line, uses: Uses)
-        ensures { scan_view self.new ≡ spec.step (holds line (uses_view uses)) (scan_view self.old) }
+        ensures { scan_view self.new
+            ≡ spec.step (holds line (uses_view uses)) (scan_view self.old) }
     {
         let fault = stop_on(line, fault_of(self.in_section, uses));
         self.first = or_else(self.first, fault);

@@ -26,7 +26,9 @@ connection_of (inr v) = text_of (inr v)
 -- ---- CONNECT
 
 abbrev pub password_form : Form
-password_form = optional (choice (row (word (codes "IDENTIFIED") ∷ word (codes "BY") ∷ text_form ∷ [])) (both (word (codes "USING")) text_form ∷ both (one (sign (codes "/"))) text_form ∷ []))
+password_form =
+    optional (choice (row (word (codes "IDENTIFIED") ∷ word (codes "BY") ∷ text_form ∷ []))
+    (both (word (codes "USING")) text_form ∷ both (one (sign (codes "/"))) text_form ∷ []))
 
 abbrev pub password_of : Of password_form → Option TextArgData
 password_of (inl (inl v)) = Some (text_of v.1.1)
@@ -39,17 +41,21 @@ user_form = both text_form password_form
 
 -- AS with a name and USER with a user, each or not
 abbrev pub tail_form : Terminal → Terminal → Form
-tail_form as_word user_word = choice (row (one as_word ∷ text_form ∷ optional (both (word (codes "USER")) user_form) ∷ [])) (both (one user_word) user_form ∷ nothing ∷ [])
+tail_form as_word user_word =
+    choice (row (one as_word ∷ text_form ∷ optional (both (word (codes "USER")) user_form) ∷ []))
+    (both (one user_word) user_form ∷ nothing ∷ [])
 
 abbrev pub connected : TextArgData → Option TextArgData → Of user_form → EmbKindData
 unfolding user_form
 connected target name v = connect target name (Some (text_of v.0)) (password_of v.1)
 
-abbrev pub user_or_none : TextArgData → Option TextArgData → Of (optional (both (word (codes "USER")) user_form)) → EmbKindData
+abbrev pub user_or_none : TextArgData → Option TextArgData →
+    Of (optional (both (word (codes "USER")) user_form)) → EmbKindData
 user_or_none target name (inl v) = connected target name v.1
 user_or_none target name (inr v) = connect target name None None
 
-abbrev pub connection : (as_word user_word : Terminal) → TextArgData → Of (tail_form as_word user_word) → EmbKindData
+abbrev pub connection : (as_word user_word : Terminal) →
+    TextArgData → Of (tail_form as_word user_word) → EmbKindData
 connection a u target (inl v) = user_or_none target (Some (connection_of v.1.0)) v.1.1
 connection a u target (inr (inl v)) = connected target None v.1
 connection a u target (inr (inr v)) = connect target None None None
@@ -67,7 +73,8 @@ with_tail target v = connection (keyword (codes "AS")) (keyword (codes "USER")) 
 
 abbrev pub with_parted_tail : TextArgData → Of parted_tail → EmbKindData
 unfolding parted_tail
-with_parted_tail target v = connection (parted_word (codes "AS")) (parted_word (codes "USER")) target v
+with_parted_tail target v =
+    connection (parted_word (codes "AS")) (parted_word (codes "USER")) target v
 
 -- DEFAULT alone is a word
 abbrev pub target_bytes : List SqlToken → TextArgData
@@ -77,7 +84,8 @@ target_bytes ts = word_arg (bytes_of ts)
 -- The target is a quote, a host, or the bytes up to AS, USER or the end; a `:` begins a host where a word stands directly behind it.
 unfoldable pub target_form : Form
 target_form = choice (both (one plain_quote) plain_tail) (
-    both (one (colon reference)) (choice (both (both name_form indicator_form) plain_tail) (both (both (one target_behind) (many (one target_more))) plain_tail ∷ parted_tail ∷ []))
+    both (one (colon reference)) (choice (both (both name_form indicator_form) plain_tail)
+    (both (both (one target_behind) (many (one target_more))) plain_tail ∷ parted_tail ∷ []))
     ∷ both (both (one target_start) (many (one target_more))) plain_tail
     ∷ []
     )
@@ -85,7 +93,8 @@ target_form = choice (both (one plain_quote) plain_tail) (
 abbrev pub target_of : Of target_form → EmbKindData
 unfolding target_form
 target_of (inl v) = with_tail (word_arg (unquoted v.0.bytes)) v.1
-target_of (inr (inl (c, inl v))) = with_tail (text_of_host (record { value = named v.0.0; indicator = indicator_of v.0.1 })) v.1
+target_of (inr (inl (c, inl v))) =
+    with_tail (text_of_host (record { value = named v.0.0; indicator = indicator_of v.0.1 })) v.1
 target_of (inr (inl (c, inr (inl v)))) = with_tail (target_bytes (c ∷ v.0.0 ∷ v.0.1)) v.1
 target_of (inr (inl (c, inr (inr v)))) = with_parted_tail (target_bytes (c ∷ [])) v
 target_of (inr (inr v)) = with_tail (target_bytes (v.0.0 ∷ v.0.1)) v.1
@@ -102,8 +111,10 @@ connect_of v = target_of v.1.1
 -- `TO` alone is a name; before another it is none
 unfoldable pub set_connection_form : Form
 set_connection_form =
-    row (word (codes "SET") ∷ word (codes "CONNECTION") ∷ choice (both (word (codes "TO")) (optional text_form)) (
-    both (one (sign (codes "="))) text_form ∷ one (word_but (codes "TO")) ∷ one plain_quote ∷ host_form reference ∷ []
+    row (word (codes "SET") ∷ word (codes "CONNECTION")
+    ∷ choice (both (word (codes "TO")) (optional text_form)) (
+    both (one (sign (codes "="))) text_form ∷ one (word_but (codes "TO"))
+    ∷ one plain_quote ∷ host_form reference ∷ []
     ) ∷ [])
 
 abbrev pub set_connection_of : Of set_connection_form → EmbKindData
@@ -113,7 +124,8 @@ set_connection_of (s, (c, inl (t, inr v))) = set_connection (word_arg t.bytes)
 set_connection_of (s, (c, inr (inl v))) = set_connection (connection_of v.1)
 set_connection_of (s, (c, inr (inr (inl t)))) = set_connection (word_arg (or_default t.bytes))
 set_connection_of (s, (c, inr (inr (inr (inl t))))) = set_connection (word_arg (unquoted t.bytes))
-set_connection_of (s, (c, inr (inr (inr (inr h))))) = set_connection (text_of_host (host_of reference h))
+set_connection_of (s, (c, inr (inr (inr (inr h))))) =
+    set_connection (text_of_host (host_of reference h))
 
 -- ---- DISCONNECT
 
@@ -122,7 +134,8 @@ disconnect_form = both (word (codes "DISCONNECT")) (optional text_form)
 
 -- CURRENT, ALL and DEFAULT in upper case
 abbrev pub or_special : Text → Text
-or_special t = if same_word (codes "CURRENT") t then codes "CURRENT" else if same_word (codes "ALL") t then codes "ALL" else or_default t
+or_special t = if same_word (codes "CURRENT") t then codes "CURRENT"
+    else if same_word (codes "ALL") t then codes "ALL" else or_default t
 
 abbrev pub ended_of : Of text_form → TextArgData
 unfolding text_form
@@ -137,7 +150,9 @@ disconnect_of (d, inr v) = disconnect (word_arg (codes "CURRENT"))
 -- ---- SET AUTOCOMMIT
 
 unfoldable pub autocommit_form : Form
-autocommit_form = row (word (codes "SET") ∷ word (codes "AUTOCOMMIT") ∷ either (word (codes "TO")) (one (sign (codes "="))) ∷ either (word (codes "ON")) (word (codes "OFF")) ∷ [])
+autocommit_form =
+    row (word (codes "SET") ∷ word (codes "AUTOCOMMIT") ∷ either (word (codes "TO"))
+    (one (sign (codes "="))) ∷ either (word (codes "ON")) (word (codes "OFF")) ∷ [])
 
 abbrev pub autocommit_of : Of autocommit_form → EmbKindData
 unfolding autocommit_form

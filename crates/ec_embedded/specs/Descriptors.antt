@@ -20,7 +20,8 @@ allocate_of (a, (d, v)) = allocate_area (text_of v)
 -- ---- GET DESCRIPTOR
 
 unfoldable pub item_form : Form
-item_form = choice (word (codes "DATA")) (word (codes "INDICATOR") ∷ word (codes "NAME") ∷ word (codes "TYPE") ∷ word (codes "RETURNED_OCTET_LENGTH") ∷ [])
+item_form = choice (word (codes "DATA")) (word (codes "INDICATOR") ∷ word (codes "NAME")
+    ∷ word (codes "TYPE") ∷ word (codes "RETURNED_OCTET_LENGTH") ∷ [])
 
 abbrev pub item_of : Of item_form → Item
 unfolding item_form
@@ -40,11 +41,13 @@ got_of (h, (s, v)) = (item_of v, host_of reference h)
 -- A `:` behind the host of the name or of the index begins the host that is stored into, so the indicator of these two is spelled.
 unfoldable pub get_form : Form
 get_form = row (word (codes "GET") ∷ word (codes "DESCRIPTOR") ∷ spelled_text_form
-    ∷ either (row (word (codes "VALUE") ∷ spelled_value_form ∷ listed got_form ∷ [])) (row (host_form reference ∷ one (sign (codes "=")) ∷ word (codes "COUNT") ∷ [])) ∷ [])
+    ∷ either (row (word (codes "VALUE") ∷ spelled_value_form ∷ listed got_form ∷ []))
+    (row (host_form reference ∷ one (sign (codes "=")) ∷ word (codes "COUNT") ∷ [])) ∷ [])
 
 abbrev pub get_of : Of get_form → EmbKindData
 unfolding get_form
-get_of (g, (d, (a, inl (v, (i, l))))) = get_items (spelled_text_of a) (spelled_value_of i) (gathered got_of l.0 l.1)
+get_of (g, (d, (a, inl (v, (i, l))))) =
+    get_items (spelled_text_of a) (spelled_value_of i) (gathered got_of l.0 l.1)
 get_of (g, (d, (a, inr (h, v)))) = get_count (spelled_text_of a) (host_of reference h)
 
 -- ---- SET DESCRIPTOR
@@ -87,7 +90,8 @@ settings first others = first ∷ map (λ p. setting_of p.1) others
 -- what stands behind an index that is a host: its indicator or not, and the settings
 unfoldable pub behind_host_form : Form
 behind_host_form = choice (both (reference_form reference) (listed setting_form)) (
-    both (word (codes "INDICATOR")) (either (both (reference_form reference) (listed setting_form)) (both assigned_form (further setting_form)))
+    both (word (codes "INDICATOR")) (either (both (reference_form reference) (listed setting_form))
+    (both assigned_form (further setting_form)))
     ∷ both (both other_item_form assigned_form) (further setting_form)
     ∷ []
     )
@@ -98,12 +102,16 @@ index_host e i = host_input (record { value = e; indicator = i })
 abbrev pub behind_host_of : ExprData → Of behind_host_form → InputData × List (Item × InputData)
 unfolding behind_host_form
 behind_host_of e (inl (i, l)) = (index_host e (Some (named i.1)), settings (setting_of l.0) l.1)
-behind_host_of e (inr (inl (w, inl (i, l)))) = (index_host e (Some (named i.1)), settings (setting_of l.0) l.1)
-behind_host_of e (inr (inl (w, inr (a, l)))) = (index_host e None, settings (item.Indicator, assigned_of a) l)
-behind_host_of e (inr (inr (a, l))) = (index_host e None, settings (other_item_of a.0, assigned_of a.1) l)
+behind_host_of e (inr (inl (w, inl (i, l)))) =
+    (index_host e (Some (named i.1)), settings (setting_of l.0) l.1)
+behind_host_of e (inr (inl (w, inr (a, l)))) =
+    (index_host e None, settings (item.Indicator, assigned_of a) l)
+behind_host_of e (inr (inr (a, l))) =
+    (index_host e None, settings (other_item_of a.0, assigned_of a.1) l)
 
 unfoldable pub set_value_form : Form
-set_value_form = either (both (reference_form input) behind_host_form) (both constant_form (listed setting_form))
+set_value_form =
+    either (both (reference_form input) behind_host_form) (both constant_form (listed setting_form))
 
 abbrev pub set_value_of : Of set_value_form → InputData × List (Item × InputData)
 unfolding set_value_form
@@ -112,7 +120,8 @@ set_value_of (inr (c, l)) = (constant_of c, settings (setting_of l.0) l.1)
 
 unfoldable pub set_form : Form
 set_form = row (word (codes "SET") ∷ word (codes "DESCRIPTOR") ∷ text_form
-    ∷ either (both (word (codes "COUNT")) assigned_form) (both (word (codes "VALUE")) set_value_form) ∷ [])
+    ∷ either (both (word (codes "COUNT")) assigned_form)
+    (both (word (codes "VALUE")) set_value_form) ∷ [])
 
 abbrev pub set_of : Of set_form → EmbKindData
 unfolding set_form

@@ -17,7 +17,8 @@ use Rattle.std.specs.Prelude.{ℤ, pos, Option, Some, None}
 -- ---- WHENEVER
 
 unfoldable pub condition_form : Form
-condition_form = choice (word (codes "SQLERROR")) (word (codes "SQLWARNING") ∷ both (word (codes "NOT")) (word (codes "FOUND")) ∷ [])
+condition_form = choice (word (codes "SQLERROR"))
+    (word (codes "SQLWARNING") ∷ both (word (codes "NOT")) (word (codes "FOUND")) ∷ [])
 
 abbrev pub condition_of : Of condition_form → Cond
 unfolding condition_form
@@ -40,7 +41,8 @@ argument_of (inr (inl t)) = decimal_constant t.bytes
 argument_of (inr (inr t)) = character (character_in (character_value t.bytes))
 
 unfoldable pub arguments_form : Form
-arguments_form = row (one (sign (codes "(")) ∷ optional (listed argument_form) ∷ one (sign (codes ")")) ∷ [])
+arguments_form =
+    row (one (sign (codes "(")) ∷ optional (listed argument_form) ∷ one (sign (codes ")")) ∷ [])
 
 abbrev pub arguments_of : Of arguments_form → ExprList
 unfolding arguments_form
@@ -50,7 +52,8 @@ arguments_of (p, (inr v, q)) = no_exprs
 -- `DO BREAK` and `DO CONTINUE`, or the call of a function
 unfoldable pub do_form : Form
 do_form = choice (both (word (codes "BREAK")) (optional arguments_form)) (
-    both (word (codes "CONTINUE")) (optional arguments_form) ∷ both (one (other_word (codes "BREAK" ∷ codes "CONTINUE" ∷ []))) arguments_form ∷ []
+    both (word (codes "CONTINUE")) (optional arguments_form)
+    ∷ both (one (other_word (codes "BREAK" ∷ codes "CONTINUE" ∷ []))) arguments_form ∷ []
     )
 
 abbrev pub do_of : Of do_form → ActionData
@@ -102,7 +105,9 @@ include_of v = include_sqlca
 unfoldable pub cursor_form : Form
 cursor_form = row (word (codes "DECLARE")
     ∷ one any_word
-    ∷ optional (choice (word (codes "INSENSITIVE")) (word (codes "ASENSITIVE") ∷ word (codes "SCROLL") ∷ row (word (codes "NO") ∷ word (codes "SCROLL") ∷ []) ∷ []))
+    ∷ optional
+    (choice (word (codes "INSENSITIVE")) (word (codes "ASENSITIVE")
+    ∷ word (codes "SCROLL") ∷ row (word (codes "NO") ∷ word (codes "SCROLL") ∷ []) ∷ []))
     ∷ word (codes "CURSOR")
     ∷ optional (both (either (word (codes "WITH")) (word (codes "WITHOUT"))) (word (codes "HOLD")))
     ∷ word (codes "FOR")

@@ -10,7 +10,8 @@ use Rattle.ec_embedded.specs.References.{Form, Of, row, choice, optional, word, 
 -- ---- PREPARE
 
 unfoldable pub prepare_form : Form
-prepare_form = row (word (codes "PREPARE") ∷ one any_word ∷ word (codes "FROM") ∷ statement_text_form ∷ [])
+prepare_form =
+    row (word (codes "PREPARE") ∷ one any_word ∷ word (codes "FROM") ∷ statement_text_form ∷ [])
 
 abbrev pub prepare_of : Of prepare_form → EmbKindData
 unfolding prepare_form
@@ -21,7 +22,8 @@ prepare_of (p, (n, (f, v))) = prepare n.bytes (statement_text_of v)
 -- INTO and USING, each once at most, in either order
 unfoldable pub lists_form : Form
 lists_form = choice (row (word (codes "INTO") ∷ outs_form ∷ using_form ∷ [])) (
-    row (word (codes "USING") ∷ ins_form ∷ optional (both (word (codes "INTO")) outs_form) ∷ []) ∷ nothing ∷ []
+    row (word (codes "USING") ∷ ins_form ∷ optional (both (word (codes "INTO")) outs_form) ∷ [])
+    ∷ nothing ∷ []
     )
 
 abbrev pub outs_or_none : Of (optional (both (word (codes "INTO")) outs_form)) → OutsData
@@ -50,8 +52,10 @@ execute_of (e, inr v) = executed v.0.bytes v.1
 
 -- of a prepared statement, or of a descriptor; PREPARE and DESCRIPTOR alone are names
 unfoldable pub deallocate_form : Form
-deallocate_form = both (word (codes "DEALLOCATE")) (choice (both (word (codes "PREPARE")) (optional (one any_word))) (
-    both (word (codes "DESCRIPTOR")) (optional text_form) ∷ one (other_word (codes "PREPARE" ∷ codes "DESCRIPTOR" ∷ [])) ∷ []
+deallocate_form = both (word (codes "DEALLOCATE"))
+    (choice (both (word (codes "PREPARE")) (optional (one any_word))) (
+    both (word (codes "DESCRIPTOR")) (optional text_form)
+    ∷ one (other_word (codes "PREPARE" ∷ codes "DESCRIPTOR" ∷ [])) ∷ []
     ))
 
 abbrev pub deallocate_of : Of deallocate_form → EmbKindData
@@ -64,7 +68,9 @@ deallocate_of (d, inr (inr n)) = deallocate n.bytes
 
 -- behind AT, where descriptors have no place
 unfoldable pub deallocate_at_form : Form
-deallocate_at_form = both (word (codes "DEALLOCATE")) (either (both (word (codes "PREPARE")) (optional (one any_word))) (one (word_but (codes "PREPARE"))))
+deallocate_at_form =
+    both (word (codes "DEALLOCATE")) (either
+    (both (word (codes "PREPARE")) (optional (one any_word))) (one (word_but (codes "PREPARE"))))
 
 abbrev pub deallocate_at_of : Of deallocate_at_form → EmbKindData
 unfolding deallocate_at_form

@@ -31,7 +31,8 @@ abbrev pub p : String → PartData
 p t = host_part (plain t)
 
 abbrev pub with_indicator : String → String → HostData
-with_indicator t i = record { value = identifier (codes t); indicator = Some (identifier (codes i)) }
+with_indicator t i =
+    record { value = identifier (codes t); indicator = Some (identifier (codes i)) }
 
 -- ---- answers
 

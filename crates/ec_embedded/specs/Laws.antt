@@ -16,8 +16,10 @@ use Rattle.ec_embedded.specs.Terminals.{alphabet, no_counts}
 
 -- The verdict of the reading on any tokens is that of the form, and there is no other.
 pub record IsReadExactly (form : Form) : Type 0 where
-  pub exact : (w : Tokens) → Judges alphabet form no_counts w (judged w (read alphabet form no_counts w))
-  pub single : (w : Tokens) (a b : Judged (Of form) SqlToken) → Judges alphabet form no_counts w a → Judges alphabet form no_counts w b → a ≡ b
+  pub exact : (w : Tokens) →
+      Judges alphabet form no_counts w (judged w (read alphabet form no_counts w))
+  pub single : (w : Tokens) (a b : Judged (Of form) SqlToken) →
+      Judges alphabet form no_counts w a → Judges alphabet form no_counts w b → a ≡ b
 
 -- The plain reading gives what the tokens of a statement are.
 abbrev pub IsAnswered : Type 0

@@ -24,7 +24,8 @@ first_is_among ws (t ∷ w) = is any_word t && is_word_among ws t.bytes
 
 -- TYPE and VAR of Oracle's kind, DESCRIBE, and the precompiler's own conditions
 abbrev pub left_out_words : List Text
-left_out_words = codes "TYPE" ∷ codes "VAR" ∷ codes "DESCRIBE" ∷ codes "DEFINE" ∷ codes "UNDEF" ∷ codes "IFDEF" ∷ codes "IFNDEF" ∷ codes "ELSE" ∷ codes "ENDIF" ∷ []
+left_out_words = codes "TYPE" ∷ codes "VAR" ∷ codes "DESCRIBE" ∷ codes "DEFINE"
+    ∷ codes "UNDEF" ∷ codes "IFDEF" ∷ codes "IFNDEF" ∷ codes "ELSE" ∷ codes "ENDIF" ∷ []
 
 abbrev pub is_name : Sort → Bool
 is_name name = true
@@ -33,18 +34,23 @@ is_name _ = false
 -- a file that INCLUDE names, which isn't sqlca
 abbrev pub names_file : Tokens → Bool
 names_file [] = false
-names_file (t ∷ w) = is (word_but (codes "sqlca")) t || is_name (sort_of t) || is (sign (codes "<")) t
+names_file (t ∷ w) = is (word_but (codes "sqlca")) t
+    || is_name (sort_of t) || is (sign (codes "<")) t
 
 -- An SQLDA that is named without SQL: DESCRIPTOR directly behind an INTO outside parentheses that isn't that of INSERT or MERGE, or, in OPEN and EXECUTE, behind USING. `inserts`: the token before is INSERT or MERGE.
 abbrev pub names_area : Bool → ℕ → Bool → Tokens → Bool
 names_area using depth inserts [] = false
 names_area using depth inserts (t ∷ w) =
-    (is_first (codes "DESCRIPTOR") w && ((depth == 0 && is (keyword (codes "INTO")) t && not inserts) || (using && is (keyword (codes "USING")) t)))
-    || names_area using (depth_behind depth t) (is (keyword (codes "INSERT")) t || is (keyword (codes "MERGE")) t) w
+    (is_first (codes "DESCRIPTOR") w
+    && ((depth == 0 && is (keyword (codes "INTO")) t && not inserts)
+    || (using && is (keyword (codes "USING")) t)))
+    || names_area using (depth_behind depth t)
+    (is (keyword (codes "INSERT")) t || is (keyword (codes "MERGE")) t) w
 
 -- `PREPARE name AS`, `DECLARE name STATEMENT`, `DECLARE name BINARY`
 abbrev pub names_then : Text → List Text → Tokens → Bool
-names_then first thirds w = is_first first w && first_is_word (drop 1 w) && first_is_among thirds (drop 2 w)
+names_then first thirds w =
+    is_first first w && first_is_word (drop 1 w) && first_is_among thirds (drop 2 w)
 
 abbrev pub is_left_out : Tokens → Bool
 is_left_out w =

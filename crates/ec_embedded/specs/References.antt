@@ -52,7 +52,8 @@ word w = one (keyword w)
 abbrev pub undoubled : Text → Text
 undoubled [] = []
 undoubled (b ∷ []) = b ∷ []
-undoubled (b ∷ c ∷ bs) = elim (b == single_quote) [ true ↦ b ∷ undoubled bs | false ↦ b ∷ undoubled (c ∷ bs) ]
+undoubled (b ∷ c ∷ bs) =
+    elim (b == single_quote) [ true ↦ b ∷ undoubled bs | false ↦ b ∷ undoubled (c ∷ bs) ]
 
 -- what stands in a quote
 abbrev pub unquoted : Text → Text
@@ -60,7 +61,8 @@ unquoted t = undoubled (take (length t - 2) (drop 1 t))
 
 -- a decimal constant, of the first type that has it (ISO/IEC 9899:1999, 6.4.4.1). Leading zeros don't make it octal
 abbrev pub decimal_constant : Text → ExprData
-decimal_constant b = integer (digits_value 10 b) (arithmetic (if nat_lt (digits_value 10 b) (2 ^ 31) then Int else Long))
+decimal_constant b = integer (digits_value 10 b)
+    (arithmetic (if nat_lt (digits_value 10 b) (2 ^ 31) then Int else Long))
 
 -- ---- references
 
@@ -68,7 +70,8 @@ decimal_constant b = integer (digits_value 10 b) (arithmetic (if nat_lt (digits_
 unfoldable pub suffix_form : Form
 suffix_form = choice (row (one (suffix_sign (codes ".")) ∷ one glued_word ∷ [])) (
     row (one (suffix_sign (codes "->")) ∷ one glued_word ∷ [])
-    ∷ row (one (suffix_sign (codes "[")) ∷ either (one glued_word) (one glued_number) ∷ one (glued_sign (codes "]")) ∷ [])
+    ∷ row (one (suffix_sign (codes "[")) ∷ either (one glued_word) (one glued_number)
+    ∷ one (glued_sign (codes "]")) ∷ [])
     ∷ []
     )
 
@@ -130,7 +133,8 @@ spelled_host_of b v = record { value = named v.0.1; indicator = spelled_indicato
 -- ---- names
 
 abbrev pub text_of_host : HostData → TextArgData
-text_of_host h = elim h.indicator [ None ↦ host_arg h.value | Some i ↦ host_with_indicator h.value i ]
+text_of_host h =
+    elim h.indicator [ None ↦ host_arg h.value | Some i ↦ host_with_indicator h.value i ]
 
 -- a word, a quote or a host
 unfoldable pub text_form : Form
@@ -164,7 +168,8 @@ statement_text_of (inr h) = text_of_host (host_of reference h)
 
 -- a number with or without `-`, or a quote
 unfoldable pub constant_form : Form
-constant_form = choice (one input_number) (both (one input_minus) (one whole_number) ∷ one input_quote ∷ [])
+constant_form =
+    choice (one input_number) (both (one input_minus) (one whole_number) ∷ one input_quote ∷ [])
 
 abbrev pub constant_of : Of constant_form → InputData
 unfolding constant_form

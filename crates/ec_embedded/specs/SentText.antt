@@ -7,12 +7,14 @@ use Rattle.ec_language.specs.Letters.{Text, dollar}
 abbrev pub parameters : ℕ → ℕ → Text
 parameters first zero = []
 parameters first (suc zero) = dollar ∷ decimal first
-parameters first (suc (suc count)) = dollar ∷ (decimal first ++ (codes ", " ++ parameters (suc first) (suc count)))
+parameters first (suc (suc count)) =
+    dollar ∷ (decimal first ++ (codes ", " ++ parameters (suc first) (suc count)))
 
 abbrev pub sent_from : (HostData → ℕ) → ℕ → List PartData → Text
 sent_from leaves first [] = []
 sent_from leaves first (bytes_part b ∷ parts) = b ++ sent_from leaves first parts
-sent_from leaves first (host_part h ∷ parts) = parameters first (leaves h) ++ sent_from leaves (first + leaves h) parts
+sent_from leaves first (host_part h ∷ parts) =
+    parameters first (leaves h) ++ sent_from leaves (first + leaves h) parts
 
 -- the text of the parts, by how many leaves each host stands for
 abbrev pub sent_text : (HostData → ℕ) → List PartData → Text

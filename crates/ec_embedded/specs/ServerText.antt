@@ -28,7 +28,8 @@ abbrev pub is_arrow : SqlToken → SqlToken → Bool
 is_arrow a b = is (suffix_sign (codes "->")) a && is glued_word b
 
 abbrev pub is_index : SqlToken → SqlToken → SqlToken → Bool
-is_index a b c = is (suffix_sign (codes "[")) a && (is glued_word b || is glued_number b) && is (glued_sign (codes "]")) c
+is_index a b c = is (suffix_sign (codes "[")) a
+    && (is glued_word b || is glued_number b) && is (glued_sign (codes "]")) c
 
 abbrev pub place_at : SqlToken → ExprData
 place_at b = if is glued_word b then identifier b.bytes else decimal_constant b.bytes
@@ -42,19 +43,31 @@ suffixes n e [] = done e n []
 suffixes n e (a ∷ []) = done e n (a ∷ [])
 suffixes n e (a ∷ b ∷ []) = elim (is_member a b) [
   | true ↦ counted_suffix n (a ∷ b ∷ []) (λ m. done (member e b.bytes) m [])
-  | false ↦ elim (is_arrow a b) [ true ↦ counted_suffix n (a ∷ b ∷ []) (λ m. done (arrow e b.bytes) m []) | false ↦ done e n (a ∷ b ∷ []) ]
+  | false ↦ elim (is_arrow a b) [
+    | true ↦ counted_suffix n (a ∷ b ∷ [])
+        (λ m. done (arrow e b.bytes) m [])
+    | false ↦ done e n (a ∷ b ∷ [])
+  ]
 ]
 suffixes n e (a ∷ b ∷ c ∷ w) = elim (is_member a b) [
   | true ↦ counted_suffix n (a ∷ b ∷ c ∷ w) (λ m. suffixes m (member e b.bytes) (c ∷ w))
   | false ↦ elim (is_arrow a b) [
     | true ↦ counted_suffix n (a ∷ b ∷ c ∷ w) (λ m. suffixes m (arrow e b.bytes) (c ∷ w))
-    | false ↦ elim (is_index a b c) [ true ↦ counted_suffix n (a ∷ b ∷ c ∷ w) (λ m. suffixes m (index e (place_at b)) w) | false ↦ done e n (a ∷ b ∷ c ∷ w) ]
+    | false ↦ elim (is_index a b c) [
+      | true ↦ counted_suffix n (a ∷ b ∷ c ∷ w)
+          (λ m. suffixes m (index e (place_at b)) w)
+      | false ↦ done e n (a ∷ b ∷ c ∷ w)
+    ]
   ]
 ]
 
 -- the reference that begins here, which may be an input
 unfoldable pub reference_at : Begins → Counts → Tokens → Reading ExprData
-reference_at b n (a ∷ c ∷ w) = elim (step_by b n) [ None ↦ over_limit (a ∷ c ∷ w) | Some m ↦ suffixes m (identifier c.bytes) w ]
+reference_at b n (a ∷ c ∷ w) =
+    elim (step_by b n) [
+      | None ↦ over_limit (a ∷ c ∷ w)
+      | Some m ↦ suffixes m (identifier c.bytes) w
+    ]
 reference_at b n w = stuck w
 
 -- the word INDICATOR before a reference
@@ -64,9 +77,11 @@ begins_indicator [] = false
 
 abbrev pub with_indicator : ExprData → Counts → Tokens → Reading HostData
 with_indicator e n w = elim (begins_host w) [
-  | true ↦ and_then (reference_at reference n w) (λ i m r. done (record { value = e; indicator = Some i }) m r)
+  | true ↦ and_then (reference_at reference n w)
+      (λ i m r. done (record { value = e; indicator = Some i }) m r)
   | false ↦ elim (begins_indicator w) [
-    | true ↦ and_then (reference_at reference n (drop 1 w)) (λ i m r. done (record { value = e; indicator = Some i }) m r)
+    | true ↦ and_then (reference_at reference n (drop 1 w))
+        (λ i m r. done (record { value = e; indicator = Some i }) m r)
     | false ↦ done (record { value = e; indicator = None }) n w
   ]
 ]
@@ -94,7 +109,8 @@ begins_more [] = false
 abbrev pub more_hosts : ℕ → Counts → Tokens → Reading (List HostData)
 more_hosts zero n w = done [] n w
 more_hosts (suc k) n w = elim (begins_more w) [
-  | true ↦ and_then (host_at reference n (drop 1 w)) (λ h m r. and_then (more_hosts k m r) (λ hs i q. done (h ∷ hs) i q))
+  | true ↦ and_then (host_at reference n (drop 1 w))
+      (λ h m r. and_then (more_hosts k m r) (λ hs i q. done (h ∷ hs) i q))
   | false ↦ done [] n w
 ]
 
@@ -110,7 +126,11 @@ text_at n (t ∷ w) = elim (is any_word t) [
   | true ↦ done (word_arg t.bytes) n w
   | false ↦ elim (is plain_quote t) [
     | true ↦ done (word_arg (unquoted t.bytes)) n w
-    | false ↦ elim (begins_host (t ∷ w)) [ true ↦ and_then (host_at reference n (t ∷ w)) (λ h m r. done (text_of_host h) m r) | false ↦ no_host (t ∷ w) ]
+    | false ↦ elim (begins_host (t ∷ w)) [
+      | true ↦ and_then (host_at reference n (t ∷ w))
+          (λ h m r. done (text_of_host h) m r)
+      | false ↦ no_host (t ∷ w)
+    ]
   ]
 ]
 
@@ -118,7 +138,8 @@ text_at n (t ∷ w) = elim (is any_word t) [
 unfoldable pub into_list : Counts → Tokens → Reading OutsData
 into_list n w = elim (begins_area w) [
   | true ↦ and_then (text_at n (drop 2 w)) (λ a m r. done (area_outs a) m r)
-  | false ↦ and_then (host_at reference n w) (λ h m r. and_then (more_hosts (length r) m r) (λ hs i q. done (listed_outs (h ∷ hs)) i q))
+  | false ↦ and_then (host_at reference n w)
+      (λ h m r. and_then (more_hosts (length r) m r) (λ hs i q. done (listed_outs (h ∷ hs)) i q))
 ]
 
 -- ---- a statement, cut into tokens, hosts and the list of an INTO
@@ -131,7 +152,8 @@ pub data Cut : Type 0 where
 
 -- the parentheses that are open behind a token
 abbrev pub depth_behind : ℕ → SqlToken → ℕ
-depth_behind d t = if is (sign (codes "(")) t then suc d else if is (sign (codes ")")) t then d - 1 else d
+depth_behind d t = if is (sign (codes "(")) t then suc d
+    else if is (sign (codes ")")) t then d - 1 else d
 
 abbrev pub cons_cut : Cut → Reading (List Cut) → Reading (List Cut)
 cons_cut c o = and_then o (λ cs n w. done (c ∷ cs) n w)
@@ -141,9 +163,14 @@ abbrev pub cuts : ℕ → ℕ → Bool → Counts → Tokens → Reading (List C
 cuts zero d free n w = done [] n w
 cuts (suc k) d free n [] = done [] n []
 cuts (suc k) d free n (t ∷ w) = elim (d == 0 && begins_into (t ∷ w)) [
-  | true ↦ elim free [ true ↦ and_then (into_list n w) (λ o m r. cons_cut (into o) (cuts k d false m r)) | false ↦ stuck (t ∷ w) ]
+  | true ↦ elim free [
+    | true ↦ and_then (into_list n w)
+        (λ o m r. cons_cut (into o) (cuts k d false m r))
+    | false ↦ stuck (t ∷ w)
+  ]
   | false ↦ elim (begins_host (t ∷ w)) [
-    | true ↦ and_then (host_at input n (t ∷ w)) (λ h m r. cons_cut (host t.gap h) (cuts k d free m r))
+    | true ↦
+        and_then (host_at input n (t ∷ w)) (λ h m r. cons_cut (host t.gap h) (cuts k d free m r))
     | false ↦ cons_cut (token t) (cuts k (depth_behind d t) free n w)
   ]
 ]
@@ -175,16 +202,22 @@ outs_in (c ∷ cs) = outs_in cs
 -- ---- the statements
 
 unfoldable pub server_at : Counts → Tokens → Reading EmbKindData
-server_at n w = and_then (cuts (length w) 0 true n w) (λ cs m r. done (server_text (parts true false cs) (outs_in cs)) m r)
+server_at n w = and_then (cuts (length w) 0 true n w)
+    (λ cs m r. done (server_text (parts true false cs) (outs_in cs)) m r)
 
 -- transaction control: no hosts
 abbrev pub plain_cuts : Tokens → Counts → Reading (List Cut)
 plain_cuts [] n = done [] n []
-plain_cuts (t ∷ w) n = elim (begins_host (t ∷ w)) [ true ↦ stuck (t ∷ w) | false ↦ cons_cut (token t) (plain_cuts w n) ]
+plain_cuts (t ∷ w) n =
+    elim (begins_host (t ∷ w)) [
+      | true ↦ stuck (t ∷ w)
+      | false ↦ cons_cut (token t) (plain_cuts w n)
+    ]
 
 abbrev pub bytes_in : List PartData → Text
 bytes_in (bytes_part b ∷ ps) = b
 bytes_in _ = []
 
 unfoldable pub transaction_at : Counts → Tokens → Reading EmbKindData
-transaction_at n w = and_then (plain_cuts w n) (λ cs m r. done (trans (bytes_in (parts true false cs))) m r)
+transaction_at n w =
+    and_then (plain_cuts w n) (λ cs m r. done (trans (bytes_in (parts true false cs))) m r)

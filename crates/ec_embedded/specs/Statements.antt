@@ -33,10 +33,15 @@ pub record Entry : Type 0 where
   pub behind_at : Option Made
 
 abbrev pub without_at : List Text → (form : Form) → (Of form → EmbKindData) → Entry
-without_at words form make = record { words = words; alone = record { form = form; make = make }; behind_at = None }
+without_at words form make =
+    record { words = words; alone = record { form = form; make = make }; behind_at = None }
 
 abbrev pub with_at : List Text → (form : Form) → (Of form → EmbKindData) → Entry
-with_at words form make = record { words = words; alone = record { form = form; make = make }; behind_at = Some (record { form = form; make = make }) }
+with_at words form make = record {
+  words = words;
+  alone = record { form = form; make = make };
+  behind_at = Some (record { form = form; make = make });
+}
 
 abbrev pub entries : List Entry
 entries =
@@ -48,7 +53,11 @@ entries =
     ∷ with_at (codes "OPEN" ∷ []) open_form open_of
     ∷ with_at (codes "EXECUTE" ∷ []) execute_form execute_of
     ∷ with_at (codes "PREPARE" ∷ []) prepare_form prepare_of
-    ∷ record { words = codes "DEALLOCATE" ∷ []; alone = record { form = deallocate_form; make = deallocate_of }; behind_at = Some (record { form = deallocate_at_form; make = deallocate_at_of }) }
+    ∷ record {
+      words = codes "DEALLOCATE" ∷ [];
+      alone = record { form = deallocate_form; make = deallocate_of };
+      behind_at = Some (record { form = deallocate_at_form; make = deallocate_at_of });
+    }
     ∷ without_at (codes "ALLOCATE" ∷ []) allocate_form allocate_of
     ∷ without_at (codes "GET" ∷ []) get_form get_of
     ∷ without_at (codes "WHENEVER" ∷ []) whenever_form whenever_of
@@ -80,28 +89,41 @@ prepared_in _ = None
 abbrev pub declared_for : Text → Tokens → Counts → Tokens → Reading EmbKindData
 declared_for name all n [] = stuck []
 declared_for name all n (t ∷ w) = elim (prepared_in (t ∷ w)) [
-  | Some p ↦ and_then (cuts (length all - 1) 0 false n all) (λ cs m r. done (declare_cursor name (bytes_part (bytes_in (parts true false cs) ++ codes " ") ∷ []) (Some p)) m [])
-  | None ↦ made (λ cs. declare_cursor name (parts true false cs) None) (cuts (length all) 0 false n all)
+  | Some p ↦
+      and_then (cuts (length all - 1) 0 false n all)
+      (λ cs m r. done (declare_cursor name
+      (bytes_part (bytes_in (parts true false cs) ++ codes " ") ∷ []) (Some p)) m [])
+  | None ↦
+      made (λ cs. declare_cursor name (parts true false cs) None) (cuts (length all) 0 false n all)
 ]
 
 unfoldable pub declare_at : Counts → Tokens → Reading EmbKindData
-declare_at n w = and_then (read alphabet cursor_form n w) (λ v m r. declared_for (cursor_name v) w m r)
+declare_at n w =
+    and_then (read alphabet cursor_form n w) (λ v m r. declared_for (cursor_name v) w m r)
 
 -- ---- all statements
 
 abbrev pub transaction_words : List Text
-transaction_words = codes "BEGIN" ∷ codes "START" ∷ codes "COMMIT" ∷ codes "END" ∷ codes "ROLLBACK" ∷ codes "ABORT" ∷ codes "SAVEPOINT" ∷ codes "RELEASE" ∷ []
+transaction_words = codes "BEGIN" ∷ codes "START" ∷ codes "COMMIT" ∷ codes "END"
+    ∷ codes "ROLLBACK" ∷ codes "ABORT" ∷ codes "SAVEPOINT" ∷ codes "RELEASE" ∷ []
 
 abbrev pub by_first : Bool → Counts → Tokens → Reading EmbKindData
 by_first at n w = elim (is_first (codes "DECLARE") w) [
   | true ↦ elim at [ true ↦ stuck w | false ↦ declare_at n w ]
-  | false ↦ elim (first_is_among transaction_words w) [ true ↦ transaction_at n w | false ↦ server_at n w ]
+  | false ↦ elim (first_is_among transaction_words w) [
+    | true ↦ transaction_at n w
+    | false ↦ server_at n w
+  ]
 ]
 
 -- what is done; whether AT stands before it
 abbrev pub kind_at : Bool → Counts → Tokens → Reading EmbKindData
 kind_at at n [] = stuck []
-kind_at at n (t ∷ w) = elim (chosen entries (t ∷ w)) [ Some e ↦ by_entry at n (t ∷ w) e | None ↦ by_first at n (t ∷ w) ]
+kind_at at n (t ∷ w) =
+    elim (chosen entries (t ∷ w)) [
+      | Some e ↦ by_entry at n (t ∷ w) e
+      | None ↦ by_first at n (t ∷ w)
+    ]
 
 unfoldable pub at_form : Form
 at_form = both (word (codes "AT")) text_form

@@ -25,10 +25,12 @@ pub data Sort : Type 0 where
   mark : Sort
 
 abbrev pub number_sort : Text → Sort
-number_sort b = if not (each is_digit b) then number else if nat_lt (digits_value 10 b) (2 ^ 63) then fitting else whole
+number_sort b = if not (each is_digit b) then number
+    else if nat_lt (digits_value 10 b) (2 ^ 63) then fitting else whole
 
 abbrev pub quoted_sort : Text → Sort
-quoted_sort b = if not (begins (λ c. c == single_quote) b) then name else if is_some (character_value b) then character else quote
+quoted_sort b = if not (begins (λ c. c == single_quote) b) then name
+    else if is_some (character_value b) then character else quote
 
 abbrev pub sort_by : SqlClass → Text → Sort
 sort_by sql.word b = word
@@ -99,7 +101,12 @@ sorts = word ∷ fitting ∷ whole ∷ number ∷ character ∷ quote ∷ name �
 
 abbrev pub apart_in : (Sort → Bool → Test) → (Sort → Bool → Test) → List Sort → Bool
 apart_in f g [] = true
-apart_in f g (s ∷ l) = elim (tests_apart (f s true) (g s true)) [ true ↦ elim (tests_apart (f s false) (g s false)) [ true ↦ apart_in f g l | false ↦ false ] | false ↦ false ]
+apart_in f g (s ∷ l) =
+    elim (tests_apart (f s true) (g s true)) [
+      | true ↦ elim (tests_apart (f s false)
+          (g s false)) [ true ↦ apart_in f g l | false ↦ false ]
+      | false ↦ false
+    ]
 
 abbrev pub apart : Terminal → Terminal → Bool
 apart t u = apart_in t.test u.test sorts
@@ -122,12 +129,15 @@ max_suffixes = 64
 
 abbrev pub step_by : Begins → Counts → Option Counts
 step_by nothing n = Some n
-step_by input n = if nat_le (suc n.inputs) max_inputs then Some (record { inputs = suc n.inputs; suffixes = 0 }) else None
+step_by input n = if nat_le (suc n.inputs) max_inputs
+    then Some (record { inputs = suc n.inputs; suffixes = 0 }) else None
 step_by reference n = Some (record { inputs = n.inputs; suffixes = 0 })
-step_by suffix n = if nat_le (suc n.suffixes) max_suffixes then Some (record { inputs = n.inputs; suffixes = suc n.suffixes }) else None
+step_by suffix n = if nat_le (suc n.suffixes) max_suffixes
+    then Some (record { inputs = n.inputs; suffixes = suc n.suffixes }) else None
 
 abbrev pub alphabet : Alphabet Terminal SqlToken Counts
-alphabet = record { is = is; apart = apart; example = λ t. t.example; step = λ n t. step_by t.begins n }
+alphabet =
+    record { is = is; apart = apart; example = λ t. t.example; step = λ n t. step_by t.begins n }
 
 -- ---- the terminals of the forms
 
@@ -180,65 +190,117 @@ on_characters _ gap = none
 
 -- this word
 abbrev pub keyword : Text → Terminal
-keyword w = record { test = on_words (among (w ∷ [])); begins = nothing; example = some_token sql.word w false }
+keyword w = record {
+  test = on_words (among (w ∷ []));
+  begins = nothing;
+  example = some_token sql.word w false;
+}
 
 -- this word, with a gap before it
 abbrev pub parted_word : Text → Terminal
-parted_word w = record { test = on_parted_words (among (w ∷ [])); begins = nothing; example = some_token sql.word w true }
+parted_word w = record {
+  test = on_parted_words (among (w ∷ []));
+  begins = nothing;
+  example = some_token sql.word w true;
+}
 
 abbrev pub any_word : Terminal
-any_word = record { test = on_words all; begins = nothing; example = some_token sql.word (codes "x") false }
+any_word =
+    record {
+      test = on_words all;
+      begins = nothing;
+      example = some_token sql.word (codes "x") false;
+    }
 
 -- any word but these
 abbrev pub other_word : List Text → Terminal
-other_word ws = record { test = on_words (but ws); begins = nothing; example = some_token sql.word (codes "_") false }
+other_word ws = record {
+  test = on_words (but ws);
+  begins = nothing;
+  example = some_token sql.word (codes "_") false;
+}
 
 abbrev pub word_but : Text → Terminal
 word_but w = other_word (w ∷ [])
 
 -- a word with no gap before it
 abbrev pub glued_word : Terminal
-glued_word = record { test = on_glued_words; begins = nothing; example = some_token sql.word (codes "x") false }
+glued_word = record {
+  test = on_glued_words;
+  begins = nothing;
+  example = some_token sql.word (codes "x") false;
+}
 
 abbrev pub sign : Text → Terminal
 sign m = record { test = on_marks m; begins = nothing; example = some_token sql.mark m false }
 
 -- the `:` of a reference, which may be that of an input
 abbrev pub colon : Begins → Terminal
-colon b = record { test = on_marks (codes ":"); begins = b; example = some_token sql.mark (codes ":") false }
+colon b = record {
+  test = on_marks (codes ":");
+  begins = b;
+  example = some_token sql.mark (codes ":") false;
+}
 
 -- the first token of a suffix, and the last one
 abbrev pub suffix_sign : Text → Terminal
-suffix_sign m = record { test = on_glued_marks m; begins = suffix; example = some_token sql.mark m false }
+suffix_sign m =
+    record { test = on_glued_marks m; begins = suffix; example = some_token sql.mark m false }
 
 abbrev pub glued_sign : Text → Terminal
-glued_sign m = record { test = on_glued_marks m; begins = nothing; example = some_token sql.mark m false }
+glued_sign m =
+    record { test = on_glued_marks m; begins = nothing; example = some_token sql.mark m false }
 
 -- a number with the type of a decimal constant, with no gap before it and with or without one
 abbrev pub glued_number : Terminal
-glued_number = record { test = on_glued_fitting; begins = nothing; example = some_token sql.number (codes "0") false }
+glued_number = record {
+  test = on_glued_fitting;
+  begins = nothing;
+  example = some_token sql.number (codes "0") false;
+}
 
 abbrev pub fitting_number : Terminal
-fitting_number = record { test = on_fitting; begins = nothing; example = some_token sql.number (codes "0") false }
+fitting_number =
+    record {
+      test = on_fitting;
+      begins = nothing;
+      example = some_token sql.number (codes "0") false;
+    }
 
 abbrev pub whole_number : Terminal
-whole_number = record { test = on_wholes; begins = nothing; example = some_token sql.number (codes "0") false }
+whole_number =
+    record { test = on_wholes; begins = nothing; example = some_token sql.number (codes "0") false }
 
 -- constants that are inputs: a number, the sign before one, and a quote
 abbrev pub input_number : Terminal
-input_number = record { test = on_wholes; begins = input; example = some_token sql.number (codes "0") false }
+input_number =
+    record { test = on_wholes; begins = input; example = some_token sql.number (codes "0") false }
 
 abbrev pub input_minus : Terminal
-input_minus = record { test = on_marks (codes "-"); begins = input; example = some_token sql.mark (codes "-") false }
+input_minus = record {
+  test = on_marks (codes "-");
+  begins = input;
+  example = some_token sql.mark (codes "-") false;
+}
 
 abbrev pub input_quote : Terminal
-input_quote = record { test = on_quotes; begins = input; example = some_token sql.quoted (codes "''") false }
+input_quote =
+    record { test = on_quotes; begins = input; example = some_token sql.quoted (codes "''") false }
 
 abbrev pub plain_quote : Terminal
-plain_quote = record { test = on_quotes; begins = nothing; example = some_token sql.quoted (codes "''") false }
+plain_quote =
+    record {
+      test = on_quotes;
+      begins = nothing;
+      example = some_token sql.quoted (codes "''") false;
+    }
 
 abbrev pub character_constant : Terminal
-character_constant = record { test = on_characters; begins = nothing; example = some_token sql.quoted (codes "'x'") false }
+character_constant = record {
+  test = on_characters;
+  begins = nothing;
+  example = some_token sql.quoted (codes "'x'") false;
+}
 
 -- what a target may begin with that is neither a quote nor a reference
 abbrev pub on_target : Sort → Bool → Test
@@ -260,10 +322,19 @@ on_target_behind word true = but (codes "AS" ∷ codes "USER" ∷ [])
 on_target_behind _ gap = all
 
 abbrev pub target_start : Terminal
-target_start = record { test = on_target; begins = nothing; example = some_token sql.word (codes "x") false }
+target_start =
+    record { test = on_target; begins = nothing; example = some_token sql.word (codes "x") false }
 
 abbrev pub target_more : Terminal
-target_more = record { test = on_target_more; begins = nothing; example = some_token sql.word (codes "x") false }
+target_more = record {
+  test = on_target_more;
+  begins = nothing;
+  example = some_token sql.word (codes "x") false;
+}
 
 abbrev pub target_behind : Terminal
-target_behind = record { test = on_target_behind; begins = nothing; example = some_token sql.mark (codes ":") true }
+target_behind = record {
+  test = on_target_behind;
+  begins = nothing;
+  example = some_token sql.mark (codes ":") true;
+}

@@ -18,13 +18,19 @@ end_of machine.Stuck = ends.OutOfMemory
 end_of machine.WriteFault = ends.WriteFault
 end_of machine.OutOfMemory = ends.OutOfMemory
 
-module _ {O E : Type 0} (held : O → Option (List ℕ)) (puts : O → ℕ) (told : E → Option (List ℕ)) (tells : E → ℕ) where
+module _ {O E : Type 0} (held : O → Option (List ℕ))
+    (puts : O → ℕ) (told : E → Option (List ℕ)) (tells : E → ℕ) where
   -- The whole of what the program means was carried out, or a part of it. Nothing was said to a server.
   abbrev pub Performs : Observed → O → O → E → E → RunEnd → Type 0
-  Performs m out out' err err' (ends.Exited status) = Runs held puts told tells m [] (exited status) out out' err err'
-  Performs m out out' err err' (ends.Trapped trap line) = Runs held puts told tells m [] (trapped trap line.0) out out' err err'
-  Performs m out out' err err' ends.TurnsSpent = Runs held puts told tells m [] turns_spent out out' err err'
+  Performs m out out' err err' (ends.Exited status) =
+      Runs held puts told tells m [] (exited status) out out' err err'
+  Performs m out out' err err' (ends.Trapped trap line) =
+      Runs held puts told tells m [] (trapped trap line.0) out out' err err'
+  Performs m out out' err err' ends.TurnsSpent =
+      Runs held puts told tells m [] turns_spent out out' err err'
   Performs m out out' err err' ends.WriteFault =
-      RunsPart held puts told tells m [] out out' err err' × (Rose (puts out) (puts out') ⊎ Rose (tells err) (tells err'))
+      RunsPart held puts told tells m [] out out' err err'
+      × (Rose (puts out) (puts out') ⊎ Rose (tells err) (tells err'))
   Performs m out out' err err' ends.OutOfMemory =
-      RunsPart held puts told tells m [] out out' err err' × (puts out' ≡ puts out) × (tells err' ≡ tells err)
+      RunsPart held puts told tells m [] out out' err err'
+      × (puts out' ≡ puts out) × (tells err' ≡ tells err)

@@ -6,9 +6,11 @@ use Rattle.ec_evaluation.specs.Whole.{Observed}
 use Rattle.ec_link.specs.declared.logged.Logged.{Logged}
 use Rattle.ec_observed.specs.Run.{IsFront}
 
-module _ {O E : Type 0} (held : O → Option (List ℕ)) (puts : O → ℕ) (told : E → Option (List ℕ)) (tells : E → ℕ) where
+module _ {O E : Type 0} (held : O → Option (List ℕ))
+    (puts : O → ℕ) (told : E → Option (List ℕ)) (tells : E → ℕ) where
   -- The whole of it: the program ends so, what was said is what the log grew by, and the outputs took all that it prints.
-  pub record Runs (meaning : Observed) (growth : List Logged) (ending : Ending) (out out' : O) (err err' : E) : Type 0 where
+  pub record Runs (meaning : Observed) (growth : List Logged)
+      (ending : Ending) (out out' : O) (err err' : E) : Type 0 where
     pub ends : meaning.ending ≡ ending
     pub conversation : meaning.conversation ≡ growth
     pub output : Puts held puts out out' meaning.output
@@ -16,7 +18,8 @@ module _ {O E : Type 0} (held : O → Option (List ℕ)) (puts : O → ℕ) (tol
 
   -- A part of it: the log grew by the front of what is said, and the outputs took fronts of what is printed. Either may have
   -- failed behind its front.
-  pub record RunsPart (meaning : Observed) (growth : List Logged) (out out' : O) (err err' : E) : Type 0 where
+  pub record RunsPart (meaning : Observed) (growth : List Logged)
+      (out out' : O) (err err' : E) : Type 0 where
     pub printed : List ℕ
     pub complained : List ℕ
     pub conversation : IsFront growth meaning.conversation

@@ -13,8 +13,10 @@ use Rattle.ec_expansion.specs.Programs.{embedded}
 use Rattle.ec_expansion.specs.Statements.{listed_stmts}
 
 abbrev pub written_at : Typed → List Bound → ℕ → Option StmtKindData
-written_at typed bounds = embedded (typed_view typed).handlers (typed_view typed).unit.embs (map bound_view bounds)
+written_at typed bounds =
+    embedded (typed_view typed).handlers (typed_view typed).unit.embs (map bound_view bounds)
 
 -- the block of a statement, by its call
 abbrev pub block_with : List MarkData → EmbData → ExprData → StmtKindData
-block_with handlers e it = block_stmt (listed_stmts (stmt e.line (expr_stmt it) ∷ tests e.line (action_among handlers e.place)))
+block_with handlers e it = block_stmt
+    (listed_stmts (stmt e.line (expr_stmt it) ∷ tests e.line (action_among handlers e.place)))

@@ -15,8 +15,18 @@ is_plain_kind _ = true
 
 -- what is written of the others
 abbrev pub other_item : (ℕ → Option StmtKindData) → Line → StmtKindData → List StmtData
-other_item embedded line kind = elim kind [ decl_stmt d ↦ decl_stmts line (written_decl line.0 d) | emb_stmt k ↦ optional_stmt line (embedded k) | _ ↦ [] ]
+other_item embedded line kind = elim kind [
+  | decl_stmt d ↦ decl_stmts line (written_decl line.0 d)
+  | emb_stmt k ↦ optional_stmt line (embedded k)
+  | _ ↦ []
+]
 
 -- a parameter on this line
 abbrev pub param_of : ℕ → ParamData → ParamData
-param_of n q = record { base = written_base n q.base; stars = q.stars; name = q.name; dims = written_dims n q.dims; section = false }
+param_of n q = record {
+  base = written_base n q.base;
+  stars = q.stars;
+  name = q.name;
+  dims = written_dims n q.dims;
+  section = false;
+}

@@ -16,7 +16,8 @@ varchar_of n tag (declarator stars name ds init) = varchar_decl n tag stars name
 
 -- a declaration of what is no VARCHAR
 abbrev pub plain_decl : ℕ → DeclData → DeclData
-plain_decl n (decl b ds section line) = decl (written_base n b) (written_declarators n ds) false (at_line n)
+plain_decl n (decl b ds section line) =
+    decl (written_base n b) (written_declarators n ds) false (at_line n)
 
 abbrev pub is_varchar_decl : DeclData → Bool
 is_varchar_decl (decl varchar ds section line) = true

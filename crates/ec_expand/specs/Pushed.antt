@@ -7,5 +7,7 @@ use Rattle.ec_arguments.specs.Arguments.{Arg}
 use Rattle.ec_expansion.specs.Calls.{argument_expr}
 
 -- With any arguments behind them, the new ones are the old ones with what `f` puts before these.
-pub record Pushes (old new : List Expr) (f : List (Arg ExprData) → List (Arg ExprData)) : Type 0 where
-  pub is : (rest : List (Arg ExprData)) → map expr_view new ++ map argument_expr rest ≡ map expr_view old ++ map argument_expr (f rest)
+pub record Pushes (old new : List Expr)
+    (f : List (Arg ExprData) → List (Arg ExprData)) : Type 0 where
+  pub is : (rest : List (Arg ExprData)) →
+      map expr_view new ++ map argument_expr rest ≡ map expr_view old ++ map argument_expr (f rest)

@@ -52,7 +52,8 @@ fn push_long(args: &mut List<Expr>, number: u64) -> Result<(), OutOfMemory>
 }
 
 fn push_pointer(alloc: Global, args: &mut List<Expr>, value: &Expr) -> Result<(), OutOfMemory>
-    ensures { OnOk result (Pushes args.old args.new (λ rest. pointer (expr_view value.now) ∷ rest)) }
+    ensures { OnOk result
+        (Pushes args.old args.new (λ rest. pointer (expr_view value.now) ∷ rest)) }
 {
     args.push(copy_expr(alloc, value)?)?;
     Ok(())
@@ -117,7 +118,8 @@ fn push_no_indicator(alloc: Global, args: &mut List<Expr>) -> Result<(), OutOfMe
 
 // A length, a count and a distance.
 fn push_numbers(args: &mut List<Expr>, size: u64, count: u64, step: u64) -> Result<(), OutOfMemory>
-    ensures { OnOk result (Pushes args.old args.new (λ rest. long_constant size ∷ long_constant count
+    ensures { OnOk result
+        (Pushes args.old args.new (λ rest. long_constant size ∷ long_constant count
         ∷ long_constant step ∷ rest)) }
 {
     push_long(args, size)?;

@@ -102,7 +102,8 @@ fn push_switch(alloc: Global, args: &mut List<Expr>, on: bool) -> Result<(), Out
 fn push_lists(alloc: Global, args: &mut List<Expr>, bound: &Bound) -> Result<(), OutOfMemory>
     ensures { OnOk result (Pushes args.old args.new (λ rest.
         members_arguments (map member_of (bound_view bound.now).ins) (symbol EndOfInputs
-        ∷ members_arguments (map member_of (bound_view bound.now).outs) (symbol EndOfOutputs ∷ rest)))) }
+        ∷ members_arguments (map member_of (bound_view bound.now).outs)
+        (symbol EndOfOutputs ∷ rest)))) }
 {
     push_members(alloc, args, &bound.ins)?;
     push_symbol(alloc, args, Sym::EndOfInputs)?;
@@ -199,7 +200,8 @@ fn control_call(alloc: Global, line: Line, text: &Bytes, bound: &Bound) -> Resul
 
 fn prepare_call(alloc: Global, line: Line, name: &Name, bound: &Bound) -> Result<Expr, OutOfMemory>
     ensures { IfOk result (λ e. expr_view e ≡ call_expr line.0 (library.prepare
-        (text_at 0 (bound_view bound.now).texts) name.now (text_at 1 (bound_view bound.now).texts))) }
+        (text_at 0 (bound_view bound.now).texts) name.now
+        (text_at 1 (bound_view bound.now).texts))) }
 {
     let mut args = begin_connected(alloc, line, bound)?;
     push_name(alloc, &mut args, name)?;

@@ -49,7 +49,8 @@ fn alone(alloc: Global, item: Declarator) -> Result<List<Declarator>, OutOfMemor
 
 // `int len; char arr[N];`
 fn members(alloc: Global, line: Line, length: List<Option<Expr>>) -> Result<List<Decl>, OutOfMemory>
-    ensures { IfOk result (λ ds. decls_view ds ≡ written.varchar_members line.0 (dims_view length)) }
+    ensures { IfOk result
+        (λ ds. decls_view ds ≡ written.varchar_members line.0 (dims_view length)) }
 {
     let mut members = List::new(alloc);
     let text = plain_member(alloc, line, b"char", b"arr", length)?;
@@ -64,7 +65,8 @@ fn take_last(
     alloc: Global,
     dims: &mut List<Option<Expr>>,
 ) -> Result<List<Option<Expr>>, OutOfMemory>
-    ensures outer { IfOk result (λ last. dims_view dims.new ≡ written.outer_dims (dims_view dims.old)) }
+    ensures outer { IfOk result
+        (λ last. dims_view dims.new ≡ written.outer_dims (dims_view dims.old)) }
     ensures last { IfOk result (λ last. dims_view last ≡ written.last_dim (dims_view dims.old)) }
 {
     let mut last = List::new(alloc);

@@ -49,14 +49,23 @@ abbrev pub int_place : String → PlaceData
 int_place x = record { sym = sym.Int; value = address x; size = 0; count = 1; step = 4; ind = None }
 
 abbrev pub told_place : String → String → PlaceData
-told_place x i = record { sym = sym.Int; value = address x; size = 0; count = 1; step = 4; ind = Some (sym.Short, address i, 1, 2) }
+told_place x i = record {
+  sym = sym.Int;
+  value = address x;
+  size = 0;
+  count = 1;
+  step = 4;
+  ind = Some (sym.Short, address i, 1, 2);
+}
 
 -- a constant, and a descriptor in a list
 abbrev pub constant_place : String → PlaceData
-constant_place text = record { sym = sym.Const; value = lit text; size = 0; count = 1; step = 0; ind = None }
+constant_place text =
+    record { sym = sym.Const; value = lit text; size = 0; count = 1; step = 0; ind = None }
 
 abbrev pub area_place : ExprData → PlaceData
-area_place name = record { sym = sym.Descriptor; value = name; size = 1; count = 1; step = 1; ind = None }
+area_place name =
+    record { sym = sym.Descriptor; value = name; size = 1; count = 1; step = 1; ind = None }
 
 -- ---- what is written
 
@@ -65,7 +74,8 @@ call_text_by None = None
 call_text_by (Some e) = Some (text_of (expr_chunks e))
 
 abbrev pub written_call : List EmbData → ℕ → EmbData → BoundData → Option ExprData
-written_call es n e b = elim (call_of es n e b) [ None ↦ None | Some c ↦ Some (call_expr e.line.0 c) ]
+written_call es n e b =
+    elim (call_of es n e b) [ None ↦ None | Some c ↦ Some (call_expr e.line.0 c) ]
 
 -- the call of a statement alone
 abbrev pub call_text : EmbKindData → BoundData → Option Text
@@ -81,11 +91,20 @@ writes text = Some (codes text)
 -- ---- programs
 
 abbrev pub typed : UnitData → List EmbData → List MarkData → TypedData
-typed u es handlers = record { unit = record { tops = u.tops; embs = es; last = u.last }; structs = []; names = []; hosts = []; handlers = handlers; denoted = [] }
+typed u es handlers = record {
+  unit = record { tops = u.tops; embs = es; last = u.last };
+  structs = [];
+  names = [];
+  hosts = [];
+  handlers = handlers;
+  denoted = [];
+}
 
-abbrev pub program_by : Result UnitData Stop → List EmbData → List MarkData → List BoundData → Result Text Stop
+abbrev pub program_by : Result UnitData Stop → List EmbData →
+    List MarkData → List BoundData → Result Text Stop
 program_by (Err stop) es handlers bounds = Err stop
-program_by (Ok u) es handlers bounds = Ok (written_text (written_program (typed u es handlers) bounds))
+program_by (Ok u) es handlers bounds =
+    Ok (written_text (written_program (typed u es handlers) bounds))
 
 -- what is written of a source with these statements, handlers and bound hosts
 abbrev pub program_text : String → List EmbData → List MarkData → List BoundData → Result Text Stop

@@ -32,7 +32,15 @@ abbrev pub indicator_of : IndicatorData → Indicator ExprData
 indicator_of i = record { sym = i.0; value = i.1; count = i.2; step = i.3 }
 
 abbrev pub host_of : PlaceData → Member ExprData
-host_of p = host (record { sym = p.sym; value = p.value; size = p.size; count = p.count; step = p.step; ind = option_map indicator_of p.ind })
+host_of p =
+    host (record {
+      sym = p.sym;
+      value = p.value;
+      size = p.size;
+      count = p.count;
+      step = p.step;
+      ind = option_map indicator_of p.ind;
+    })
 
 abbrev pub is_const : Sym → Bool
 is_const Const = true
@@ -44,7 +52,8 @@ is_descriptor _ = false
 
 -- a constant, a descriptor or a host, by its symbol
 abbrev pub member_of : PlaceData → Member ExprData
-member_of p = if is_const p.sym then constant (bytes_in p.value) else (if is_descriptor p.sym then descriptor (text_of p.value) else host_of p)
+member_of p = if is_const p.sym then constant (bytes_in p.value)
+    else (if is_descriptor p.sym then descriptor (text_of p.value) else host_of p)
 
 -- the text of this number among those of the call
 abbrev pub text_at : ℕ → List ExprData → TextArg ExprData
@@ -83,7 +92,8 @@ runs b statement = run (text_at 0 b.texts) statement (map member_of b.ins) (map 
 -- the call of a statement, with the prepared name of the cursor that it opens; a directive has none
 abbrev pub call_by : Option Text → EmbKindData → BoundData → Option (Call ExprData)
 call_by prepared_name kind b = elim kind [
-  | connect target name user password ↦ Some (library.connect (text_at 0 b.texts) (text_at 1 b.texts) (text_at 2 b.texts) (text_at 3 b.texts))
+  | connect target name user password ↦ Some (library.connect (text_at 0 b.texts)
+      (text_at 1 b.texts) (text_at 2 b.texts) (text_at 3 b.texts))
   | set_connection name ↦ Some (library.set_connection (text_at 0 b.texts))
   | disconnect name ↦ Some (library.disconnect (text_at 0 b.texts))
   | autocommit on ↦ Some (library.set_autocommit on (text_at 0 b.texts))
@@ -98,9 +108,11 @@ call_by prepared_name kind b = elim kind [
   | allocate_area area ↦ Some (library.allocate_descriptor (text_at 0 b.texts))
   | free_area area ↦ Some (library.deallocate_descriptor (text_at 0 b.texts))
   | get_count area target ↦ Some (library.get_count (text_at 0 b.texts) (member_at 0 b.outs))
-  | get_items area index items ↦ Some (library.get_items (text_at 0 b.texts) (member_at 0 b.ins) (items_from 0 (kinds_of items) b.outs))
+  | get_items area index items ↦ Some (library.get_items (text_at 0 b.texts)
+      (member_at 0 b.ins) (items_from 0 (kinds_of items) b.outs))
   | set_count area value ↦ Some (library.set_count (text_at 0 b.texts) (member_at 0 b.ins))
-  | set_items area index items ↦ Some (library.set_items (text_at 0 b.texts) (member_at 0 b.ins) (items_from 1 (kinds_of items) b.ins))
+  | set_items area index items ↦ Some (library.set_items (text_at 0 b.texts)
+      (member_at 0 b.ins) (items_from 1 (kinds_of items) b.ins))
   | whenever condition action ↦ None
   | include_sqlca ↦ None
 ]
@@ -126,4 +138,5 @@ argument_exprs [] = no_exprs
 argument_exprs (a ∷ more) = exprs (argument_expr a) (argument_exprs more)
 
 abbrev pub call_expr : ℕ → Call ExprData → ExprData
-call_expr line c = call (library_text (name_of c)) (argument_exprs (arguments (record { line = line; call = c })))
+call_expr line c =
+    call (library_text (name_of c)) (argument_exprs (arguments (record { line = line; call = c })))

@@ -34,11 +34,13 @@ last_dim (dims d no_dims) = dims d no_dims
 last_dim (dims d (dims e es)) = last_dim (dims e es)
 
 abbrev pub plain_member : ℕ → Text → Text → DimList → DeclData
-plain_member n type name ds = decl (words (type ∷ [])) (one_declarator (declarator 0 name ds no_init)) false (at_line n)
+plain_member n type name ds =
+    decl (words (type ∷ [])) (one_declarator (declarator 0 name ds no_init)) false (at_line n)
 
 -- `int len; char arr[N];`
 abbrev pub varchar_members : ℕ → DimList → DeclList
-varchar_members n length = decls (plain_member n (codes "int") (codes "len") no_dims) (decls (plain_member n (codes "char") (codes "arr") length) no_decls)
+varchar_members n length = decls (plain_member n (codes "int") (codes "len") no_dims)
+    (decls (plain_member n (codes "char") (codes "arr") length) no_decls)
 
 -- `struct tag { int len; char arr[N]; }`
 abbrev pub varchar_struct : ℕ → Option Text → DimList → BaseData
@@ -46,7 +48,8 @@ varchar_struct n tag length = struct_base tag (varchar_members n length)
 
 -- the declaration of a VARCHAR with these array lengths, as a member or not
 abbrev pub varchar_decl : ℕ → Option Text → ℕ → Text → DimList → InitOption → DeclData
-varchar_decl n tag stars name ds init = decl (varchar_struct n tag (last_dim ds)) (one_declarator (declarator stars name (outer_dims ds) init)) false (at_line n)
+varchar_decl n tag stars name ds init = decl (varchar_struct n tag (last_dim ds))
+    (one_declarator (declarator stars name (outer_dims ds) init)) false (at_line n)
 
 -- ---- what stands on this line
 
@@ -87,14 +90,16 @@ module _ (n : ℕ) where
 
     pub written_member : DeclData → DeclList
     written_member (decl varchar ds section line) = varchar_members_of ds
-    written_member (decl b ds section line) = decls (decl (written_base b) (written_declarators ds) false (at_line n)) no_decls
+    written_member (decl b ds section line) =
+        decls (decl (written_base b) (written_declarators ds) false (at_line n)) no_decls
 
     pub varchar_members_of : DeclaratorList → DeclList
     varchar_members_of no_declarators = no_decls
     varchar_members_of (declarators d ds) = decls (varchar_member d) (varchar_members_of ds)
 
     pub varchar_member : DeclaratorData → DeclData
-    varchar_member (declarator stars name ds init) = varchar_decl n None stars name (written_dims ds) (written_initializer init)
+    varchar_member (declarator stars name ds init) =
+        varchar_decl n None stars name (written_dims ds) (written_initializer init)
 
     pub written_dim : DimData → DimData
     written_dim open_dim = open_dim
@@ -117,16 +122,20 @@ module _ (n : ℕ) where
     written_initializer (some_init i) = some_init (written_init i)
 
     pub written_declarator : DeclaratorData → DeclaratorData
-    written_declarator (declarator stars name ds init) = declarator stars name (written_dims ds) (written_initializer init)
+    written_declarator (declarator stars name ds init) =
+        declarator stars name (written_dims ds) (written_initializer init)
 
     pub written_declarators : DeclaratorList → DeclaratorList
     written_declarators no_declarators = no_declarators
-    written_declarators (declarators d ds) = declarators (written_declarator d) (written_declarators ds)
+    written_declarators (declarators d ds) =
+        declarators (written_declarator d) (written_declarators ds)
 
   -- ---- declarations
 
   abbrev pub varchar_object : DeclaratorData → DeclData
-  varchar_object (declarator stars name ds init) = varchar_decl n (Some (varchar_tag name)) stars name (written_dims ds) (written_initializer init)
+  varchar_object (declarator stars name ds init) =
+      varchar_decl n (Some (varchar_tag name)) stars name
+      (written_dims ds) (written_initializer init)
 
   abbrev pub varchar_objects : DeclaratorList → List DeclData
   varchar_objects no_declarators = []
@@ -135,7 +144,8 @@ module _ (n : ℕ) where
   -- A declaration is written as itself, and one of VARCHARs as one for each.
   abbrev pub written_decl : DeclData → List DeclData
   written_decl (decl varchar ds section line) = varchar_objects ds
-  written_decl (decl b ds section line) = decl (written_base b) (written_declarators ds) false (at_line n) ∷ []
+  written_decl (decl b ds section line) =
+      decl (written_base b) (written_declarators ds) false (at_line n) ∷ []
 
   abbrev pub written_option : Option ExprData → Option ExprData
   written_option None = None

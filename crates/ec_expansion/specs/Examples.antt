@@ -20,7 +20,9 @@ use Rattle.ec_expansion.specs.Statements.{listed_stmts, written_tops}
 -- a block with a call, in the place of each embedded statement; the first one is a directive
 abbrev pub example_block : ℕ → Option StmtKindData
 example_block zero = None
-example_block (suc k) = Some (block_stmt (listed_stmts (stmt (at_line 9) (called "call" (exprs (int_constant (suc k)) no_exprs)) ∷ [])))
+example_block (suc k) =
+    Some (block_stmt
+    (listed_stmts (stmt (at_line 9) (called "call" (exprs (int_constant (suc k)) no_exprs)) ∷ [])))
 
 abbrev pub text_behind : Result UnitData Stop → Result Text Stop
 text_behind (Err stop) = Err stop

@@ -48,4 +48,5 @@ test_for line c (Some a) = test_of line c (action_statement a)
 
 -- The tests in their order, by the action that holds for each condition.
 abbrev pub tests : Line → (Cond → Option ActionData) → List StmtData
-tests line action = test_for line NotFound (action NotFound) ++ (test_for line Warning (action Warning) ++ test_for line Error (action Error))
+tests line action = test_for line NotFound (action NotFound)
+    ++ (test_for line Warning (action Warning) ++ test_for line Error (action Error))

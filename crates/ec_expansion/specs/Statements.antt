@@ -41,11 +41,14 @@ module _ (embedded : ℕ → Option StmtKindData) where
     written_kind n empty_stmt = empty_stmt
     written_kind n (expr_stmt e) = expr_stmt (written_expr n e)
     written_kind n (block_stmt ss) = block_stmt (written_items ss)
-    written_kind n (if_stmt e s other) = if_stmt (written_expr n e) (written_stmt s) (written_else other)
+    written_kind n (if_stmt e s other) =
+        if_stmt (written_expr n e) (written_stmt s) (written_else other)
     written_kind n (while_stmt e s) = while_stmt (written_expr n e) (written_stmt s)
     -- the condition stands behind the body
-    written_kind n (do_stmt s e) = do_stmt (written_stmt s) (written_expr (line_after (written_stmt s)) e)
-    written_kind n (for_stmt a b c s) = for_stmt (written_option n a) (written_option n b) (written_option n c) (written_stmt s)
+    written_kind n (do_stmt s e) =
+        do_stmt (written_stmt s) (written_expr (line_after (written_stmt s)) e)
+    written_kind n (for_stmt a b c s) =
+        for_stmt (written_option n a) (written_option n b) (written_option n c) (written_stmt s)
     written_kind n break_stmt = break_stmt
     written_kind n continue_stmt = continue_stmt
     written_kind n (return_stmt e) = return_stmt (written_option n e)
@@ -75,7 +78,13 @@ module _ (embedded : ℕ → Option StmtKindData) where
   written_body (Some ss) = Some (written_items ss)
 
   abbrev pub written_param : ℕ → ParamData → ParamData
-  written_param n q = record { base = written_base n q.base; stars = q.stars; name = q.name; dims = written_dims n q.dims; section = false }
+  written_param n q = record {
+    base = written_base n q.base;
+    stars = q.stars;
+    name = q.name;
+    dims = written_dims n q.dims;
+    section = false;
+  }
 
   abbrev pub written_func : FuncData → FuncData
   written_func f = record {

@@ -60,7 +60,8 @@ pub fn prepared_examples()
         "ECPGdo(3, NULL, ECPGst_execute, \"p\", ECPGt_const, \"42\", 0L, 1L, 0L, ECPGt_NO_INDICATOR, NULL, 0L, 0L, 0L, ECPGt_EOIT, ECPGt_EORT)" }
     ensures declares { call_text (declare_cursor (codes "c") [] None)
         (bound "DECLARE c CURSOR FOR SELECT 1" [] [] []) ≡ None }
-    ensures opens { call_behind (declare_cursor (codes "c") [] None) (open_cursor (codes "C") (listed_ins []))
+    ensures opens { call_behind (declare_cursor (codes "c") [] None)
+        (open_cursor (codes "C") (listed_ins []))
         (bound "DECLARE c CURSOR FOR SELECT 1" (null ∷ []) [] []) ≡ writes
         "ECPGdo(3, NULL, ECPGst_normal, \"DECLARE c CURSOR FOR SELECT 1\", ECPGt_EOIT, ECPGt_EORT)" }
     ensures opens_prepared { call_behind (declare_cursor (codes "c") [] (Some (codes "p")))
@@ -82,7 +83,8 @@ pub fn descriptor_examples()
         (bound "" (lit "d" ∷ []) (constant_place "2" ∷ []) []) ≡ writes
         "ECPGset_desc_header(3, \"d\", ECPGt_const, \"2\", 0L, 1L, 0L, ECPGt_NO_INDICATOR, NULL, 0L, 0L, 0L)" }
     ensures gets_items { call_text
-        (get_items (w "d") (const_input (codes "1")) ((Indicator, plain "i") ∷ (Label, plain "x") ∷ []))
+        (get_items (w "d") (const_input (codes "1"))
+        ((Indicator, plain "i") ∷ (Label, plain "x") ∷ []))
         (bound "" (lit "d" ∷ []) (constant_place "1" ∷ []) (int_place "i" ∷ int_place "x" ∷ []))
         ≡ writes
         "ECPGget_desc(3, \"d\", ECPGt_const, \"1\", 0L, 1L, 0L, ECPGt_NO_INDICATOR, NULL, 0L, 0L, 0L, ECPGd_indicator, ECPGt_int, &i, 0L, 1L, 4L, ECPGt_NO_INDICATOR, NULL, 0L, 0L, 0L, ECPGd_name, ECPGt_int, &x, 0L, 1L, 4L, ECPGt_NO_INDICATOR, NULL, 0L, 0L, 0L, ECPGd_EODT)" }
@@ -98,12 +100,14 @@ pub fn descriptor_examples()
 pub fn program_examples()
     ensures query { program_text
         "EXEC SQL int x;\nint main(void) {\nEXEC SQL SELECT a FROM t INTO :x;\nprintf(\"%d\\n\", x);\nreturn 0;\n}\n"
-        (emb (server_text (bytes_part (codes "SELECT a FROM t") ∷ []) (listed_outs (plain "x" ∷ []))) ∷ [])
+        (emb (server_text (bytes_part (codes "SELECT a FROM t") ∷ [])
+        (listed_outs (plain "x" ∷ []))) ∷ [])
         [] (bound "SELECT a FROM t" (null ∷ []) [] (int_place "x" ∷ []) ∷ []) ≡ is
         "#include <ecpglib.h>\n#include <sqlca.h>\n#line 1\nint x;\n#line 2\nint main(void)\n{\n#line 3\n{\n#line 3\nECPGdo(3, NULL, ECPGst_normal, \"SELECT a FROM t\", ECPGt_EOIT, ECPGt_int, &x, 0L, 1L, 4L, ECPGt_NO_INDICATOR, NULL, 0L, 0L, 0L, ECPGt_EORT);\n}\n#line 4\nprintf(\"%d\\012\", x);\n#line 5\nreturn 0;\n}\n" }
     ensures handlers { program_text "int main(void) {\n\nif (a) EXEC SQL DELETE FROM t; done: ; }"
         (emb (server_text [] no_outs) ∷ [])
-        ((1, NotFound, stop_action) ∷ (2, NotFound, goto_action (codes "done")) ∷ (9, NotFound, stop_action) ∷ (3, Error, stop_action) ∷ [])
+        ((1, NotFound, stop_action) ∷ (2, NotFound, goto_action (codes "done"))
+        ∷ (9, NotFound, stop_action) ∷ (3, Error, stop_action) ∷ [])
         (bound "DELETE FROM t" (null ∷ []) [] [] ∷ []) ≡ is
         "#include <ecpglib.h>\n#include <sqlca.h>\n#line 1\nint main(void)\n{\n#line 3\nif (a)\n#line 3\n{\n#line 3\nECPGdo(3, NULL, ECPGst_normal, \"DELETE FROM t\", ECPGt_EOIT, ECPGt_EORT);\n#line 3\nif (sqlca.sqlcode == 100)\n#line 3\ngoto done;\n#line 3\nif (sqlca.sqlcode < 0)\n#line 3\nexit(1);\n}\n#line 3\ndone:\n#line 3\n;\n}\n" }
 {}

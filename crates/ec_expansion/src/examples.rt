@@ -54,13 +54,16 @@ pub fn member_line_examples()
     ensures declaration { written_of "struct p {\nchar c;\nint n; } a;"
         ≡ is "#line 1\nstruct p { char c; int n; } a;\n" }
     ensures members_over_lines { is_read_back "struct p {\nchar c;\nint n; } a;" ≡ Ok true }
-    ensures varchar_as_a_member { is_read_back "EXEC SQL struct p {\nVARCHAR v[5];\nint n; } a;" ≡ Ok true }
+    ensures varchar_as_a_member { is_read_back "EXEC SQL struct p {\nVARCHAR v[5];\nint n; } a;"
+        ≡ Ok true }
     ensures statement { is_read_back
         "int main(void) {\n\na = sizeof(struct {\nint m; }); }" ≡ Ok true }
     ensures condition_of_do { is_read_back
-        "int main(void) { do { a = 1;\n\n\nb = 2; }\nwhile (a < sizeof(struct {\nint m; })); }" ≡ Ok true }
+        "int main(void) { do { a = 1;\n\n\nb = 2; }\nwhile (a < sizeof(struct {\nint m; })); }"
+        ≡ Ok true }
     ensures parameter { is_read_back "int f(int x,\nstruct {\nint m; } *p) { }" ≡ Ok true }
-    ensures embedded { is_read_back "EXEC SQL INCLUDE sqlca;\nint main(void) { do\nEXEC SQL COMMIT; while (1); }" ≡ Ok true }
+    ensures embedded { is_read_back
+        "EXEC SQL INCLUDE sqlca;\nint main(void) { do\nEXEC SQL COMMIT; while (1); }" ≡ Ok true }
 {}
 
 /// One `if` for each condition with an action, in the order of NOT FOUND, SQLWARNING and SQLERROR, and each reads the

@@ -74,7 +74,8 @@ selected slot words x (answer ∷ answers) r = on (record {
 -- a statement. Without a connection nothing is sent, and nothing changes
 abbrev pub step : Option ℕ → Statement → Running → Outcome
 step ready (Assign x n) r = on (record r { globals = with_value x (pos n) r.globals })
-step ready (Print x) r = on (record r { output = r.output ++ signed_decimal (value_of x r.globals) ++ 10 ∷ [] })
+step ready (Print x) r =
+    on (record r { output = r.output ++ signed_decimal (value_of x r.globals) ++ 10 ∷ [] })
 step None (Select words x) r = on r
 step (Some slot) (Select words x) r = selected slot words x r.answers r
 
@@ -90,8 +91,20 @@ steps ready (s ∷ ss) r = followed (steps ready ss) (step ready s r)
 
 -- what is seen of a run that went through all statements, or that waits. The status is the low 8 bits of the number
 abbrev pub seen : ℕ → Outcome → Observed
-seen status (on r) = record { conversation = r.conversation; output = r.output; errors = []; memory = map (λ g. g.1) r.globals; ending = exits (status % 256) }
-seen status (waiting slot request r) = record { conversation = r.conversation; output = r.output; errors = []; memory = map (λ g. g.1) r.globals; ending = waits (Some slot) request }
+seen status (on r) = record {
+  conversation = r.conversation;
+  output = r.output;
+  errors = [];
+  memory = map (λ g. g.1) r.globals;
+  ending = exits (status % 256);
+}
+seen status (waiting slot request r) = record {
+  conversation = r.conversation;
+  output = r.output;
+  errors = [];
+  memory = map (λ g. g.1) r.globals;
+  ending = waits (Some slot) request;
+}
 
 -- the globals at the start
 abbrev pub at_first : List Letter → List (Letter × ℤ)
@@ -99,7 +112,8 @@ at_first letters = map (λ x. (x, pos 0)) letters
 
 -- the program at the start
 abbrev pub starting : Source → List Answer → Running
-starting p answers = record { globals = at_first p.letters; output = []; conversation = []; answers = answers }
+starting p answers =
+    record { globals = at_first p.letters; output = []; conversation = []; answers = answers }
 
 -- the meaning of a source, with the slot of its connection, if it has one, and the answers that the server gives
 abbrev pub direct_meaning : Source → Option ℕ → List Answer → Observed

@@ -33,7 +33,8 @@ source_items p = map (λ l. line (line_text l)) (source_lines p) ++ end ∷ []
 
 -- some source begins with these items
 abbrev pub BeginsSource : List Item → Type 0
-BeginsSource items = (p : Source) × IsValid p × ((more : List Item) × (source_items p ≡ items ++ more))
+BeginsSource items = (p : Source) × IsValid p
+    × ((more : List Item) × (source_items p ≡ items ++ more))
 
 -- the fault stands at line n: some source has the items before it, and none has these and the item there
 pub record FaultAt (text : List ℕ) (n : ℕ) : Type 0 where

@@ -9,4 +9,5 @@ use Rattle.ec_firstpath.specs.WrittenMeaning.{written_meaning}
 -- for every source, every slot of a connection or none, and every list of answers, the written program means what the
 -- source means
 abbrev pub WrittenMeansTheSame : Type 0
-WrittenMeansTheSame = (p : Source) (ready : Option ℕ) (answers : List Answer) → written_meaning (written p) ready answers ≡ direct_meaning p ready answers
+WrittenMeansTheSame = (p : Source) (ready : Option ℕ) (answers : List Answer) →
+    written_meaning (written p) ready answers ≡ direct_meaning p ready answers

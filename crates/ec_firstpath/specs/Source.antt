@@ -20,7 +20,8 @@ pub data SourceLine : Type 0 where
 -- the text of a statement, without its newline
 abbrev pub statement_text : Statement → List ℕ
 statement_text (Assign x n) = x.0 ∷ codes " = " ++ decimal n ++ codes ";"
-statement_text (Select words x) = codes "EXEC SQL SELECT " ++ words ++ codes " INTO :" ++ (x.0 ∷ codes ";")
+statement_text (Select words x) =
+    codes "EXEC SQL SELECT " ++ words ++ codes " INTO :" ++ (x.0 ∷ codes ";")
 statement_text (Print x) = codes "printf(\"%d\\n\", " ++ (x.0 ∷ codes ");")
 
 -- the text of a line, without its newline
@@ -33,7 +34,9 @@ line_text closing = codes "}"
 
 -- the lines of a source, in order
 abbrev pub source_lines : Source → List SourceLine
-source_lines p = map declaration p.letters ++ (opening ∷ map statement p.body ++ (leaving p.status ∷ closing ∷ []))
+source_lines p =
+    map declaration p.letters
+    ++ (opening ∷ map statement p.body ++ (leaving p.status ∷ closing ∷ []))
 
 -- the text of a source
 abbrev pub source_text : Source → List ℕ

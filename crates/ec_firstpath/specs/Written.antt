@@ -26,12 +26,22 @@ written_globals n (x ∷ xs) = record { line = at_line n; letter = x } ∷ writt
 abbrev pub written_action : ℕ → Statement → Action
 written_action n (Assign x k) = action.Store x k
 written_action n (Print x) = action.Print x
-written_action n (Select words x) = action.Call (record { line = at_line n; text = codes "SELECT " ++ words; symbol = Int; pointer = x; length = 0; count = 1; distance = 4 })
+written_action n (Select words x) =
+    action.Call (record {
+      line = at_line n;
+      text = codes "SELECT " ++ words;
+      symbol = Int;
+      pointer = x;
+      length = 0;
+      count = 1;
+      distance = 4;
+    })
 
 -- the statements, from line n on
 abbrev pub written_body : ℕ → List Statement → List WrittenStatement
 written_body n [] = []
-written_body n (s ∷ ss) = record { line = at_line n; action = written_action n s } ∷ written_body (n + 1) ss
+written_body n (s ∷ ss) =
+    record { line = at_line n; action = written_action n s } ∷ written_body (n + 1) ss
 
 -- the written program. Each part has the line that it has in the source
 abbrev pub written : Source → Written

@@ -10,7 +10,8 @@ x = record { 0 = 120 }
 
 -- a source that selects a field and prints it
 abbrev pub example_source : Source
-example_source = record { letters = x ∷ []; body = Select (codes "a FROM t") x ∷ Print x ∷ []; status = 0 }
+example_source =
+    record { letters = x ∷ []; body = Select (codes "a FROM t") x ∷ Print x ∷ []; status = 0 }
 
 -- what is written for it
 abbrev pub example_text : List ℕ

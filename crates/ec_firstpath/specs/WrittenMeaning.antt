@@ -24,7 +24,8 @@ use Rattle.ec_observed.specs.Observed.{Answer, exits, waits, Observed}
 -- the address of a global, where the first of these is object n
 abbrev pub address_from : ℕ → Letter → List Global → Option Pointer
 address_from n x [] = None
-address_from n x (g ∷ gs) = if g.letter.0 == x.0 then Some (record { object = n; offset = 0 }) else address_from (n + 1) x gs
+address_from n x (g ∷ gs) = if g.letter.0 == x.0 then Some (record { object = n; offset = 0 })
+    else address_from (n + 1) x gs
 
 -- the address of a global. Object 1 is `sqlca`, and the globals follow in the order of their declarations
 abbrev pub address : Letter → List Global → Option Pointer
@@ -57,7 +58,8 @@ store_rows c p index (row ∷ rows) memory = elim (element_value c.symbol row) [
 
 -- an answer of one column, with at least one row and no more than the output has elements, is stored
 abbrev pub store_table : Call → Pointer → List Col → List (List (Option (List ℕ))) → List ℤ → List ℤ
-store_table c p (col ∷ []) rows memory = if nat_lt c.count (length rows) then memory else store_rows c p 0 rows memory
+store_table c p (col ∷ []) rows memory = if nat_lt c.count (length rows) then memory
+    else store_rows c p 0 rows memory
 store_table c p _ rows memory = memory
 
 abbrev pub store_reply : Call → Option Pointer → Reply → List ℤ → List ℤ
@@ -85,7 +87,9 @@ called slot c p [] m = waiting slot (call_request c) m
 called slot c p (answer ∷ answers) m = on (record {
   memory = store_reply c p answer.1 m.memory;
   output = m.output;
-  conversation = m.conversation ++ record { slot = Some slot; request = call_request c; reply = answer.1 } ∷ [];
+  conversation =
+      m.conversation
+      ++ record { slot = Some slot; request = call_request c; reply = answer.1 } ∷ [];
   answers = answers;
 })
 
@@ -97,7 +101,11 @@ assigned (Some p) n m = record m { memory = store p (pos n) m.memory }
 -- an action. A call without a connection does nothing
 abbrev pub act : List Global → Option ℕ → Action → Machine → Outcome
 act globals ready (Store x n) m = on (assigned (address x globals) n m)
-act globals ready (Print x) m = on (record m { output = m.output ++ signed_decimal (load (address x globals) m.memory) ++ 10 ∷ [] })
+act globals ready (Print x) m = on
+    (record m {
+      output = m.output
+          ++ signed_decimal (load (address x globals) m.memory) ++ 10 ∷ [];
+    })
 act globals None (action.Call c) m = on m
 act globals (Some slot) (action.Call c) m = called slot c (address c.pointer globals) m.answers m
 
@@ -112,12 +120,30 @@ acts globals ready [] m = on m
 acts globals ready (s ∷ ss) m = followed (acts globals ready ss) (act globals ready s.action m)
 
 abbrev pub seen : ℕ → Outcome → Observed
-seen status (on m) = record { conversation = m.conversation; output = m.output; errors = []; memory = m.memory; ending = exits (status % 256) }
-seen status (waiting slot request m) = record { conversation = m.conversation; output = m.output; errors = []; memory = m.memory; ending = waits (Some slot) request }
+seen status (on m) = record {
+  conversation = m.conversation;
+  output = m.output;
+  errors = [];
+  memory = m.memory;
+  ending = exits (status % 256);
+}
+seen status (waiting slot request m) = record {
+  conversation = m.conversation;
+  output = m.output;
+  errors = [];
+  memory = m.memory;
+  ending = waits (Some slot) request;
+}
 
 -- the machine at the start: each global is 0
 abbrev pub starting : Written → List Answer → Machine
-starting q answers = record { memory = map (λ g. pos 0) q.globals; output = []; conversation = []; answers = answers }
+starting q answers =
+    record {
+      memory = map (λ g. pos 0) q.globals;
+      output = [];
+      conversation = [];
+      answers = answers;
+    }
 
 -- the meaning of a written program, with the slot of its connection, if it has one, and the answers that the server gives
 abbrev pub written_meaning : Written → Option ℕ → List Answer → Observed

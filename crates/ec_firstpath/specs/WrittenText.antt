@@ -28,8 +28,10 @@ long_text n = decimal n ++ codes "L"
 
 -- a call of the library, without inputs and with one output that has no indicator
 abbrev pub call_text : Call → List ℕ
-call_text c = codes "ECPGdo(" ++ decimal c.line.0 ++ codes ", NULL, ECPGst_normal, \"" ++ c.text ++ codes "\", ECPGt_EOIT, "
-    ++ symbol_text c.symbol ++ codes ", &" ++ (c.pointer.0 ∷ codes ", ") ++ long_text c.length ++ codes ", " ++ long_text c.count ++ codes ", " ++ long_text c.distance
+call_text c = codes "ECPGdo(" ++ decimal c.line.0
+    ++ codes ", NULL, ECPGst_normal, \"" ++ c.text ++ codes "\", ECPGt_EOIT, "
+    ++ symbol_text c.symbol ++ codes ", &" ++ (c.pointer.0 ∷ codes ", ") ++ long_text c.length
+    ++ codes ", " ++ long_text c.count ++ codes ", " ++ long_text c.distance
     ++ codes ", ECPGt_NO_INDICATOR, NULL, 0L, 0L, 0L, ECPGt_EORT);"
 
 -- the lines of a statement, behind its mark
@@ -50,7 +52,8 @@ written_lines q = (codes "#include <ecpglib.h>" ∷ codes "#include <sqlca.h>" �
     ++ flat_map global_lines q.globals
     ++ (line_mark q.main_line ∷ codes "int main(void)" ∷ codes "{" ∷ [])
     ++ flat_map statement_lines q.body
-    ++ (line_mark q.status_line ∷ (codes "return " ++ decimal q.status ++ codes ";") ∷ codes "}" ∷ [])
+    ++ (line_mark q.status_line
+    ∷ (codes "return " ++ decimal q.status ++ codes ";") ∷ codes "}" ∷ [])
 
 -- the text of a written program
 abbrev pub written_text : Written → List ℕ

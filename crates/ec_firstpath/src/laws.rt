@@ -22,6 +22,7 @@ pub fn written_example()
 /// A worked example: what one SELECT into a global and a `printf` of it mean, with a reply of one row with the number 7,
 /// and without a connection.
 pub fn direct_example()
-    ensures connected { direct_meaning example_source (Some 0) ((Some 0, seven) ∷ []) ≡ seen_with_seven }
+    ensures connected { direct_meaning example_source (Some 0) ((Some 0, seven) ∷ [])
+        ≡ seen_with_seven }
     ensures alone { direct_meaning example_source None [] ≡ seen_alone }
 {}

@@ -25,8 +25,10 @@ TellsReading written text = Tells (Reads written text)
 
 -- what pieces are read as: why they have no tokens, or the tree of their tokens, or why these have none
 pub data ReadsPieces (written : Bool) (pieces : List Piece) : Result UnitData Stop → Type 0 where
-  no_tokens : (stop : Stop) → TokensOrStop written pieces (Err stop) → ReadsPieces written pieces (Err stop)
-  tree : (ts : List TokenData) (answer : Result UnitData Stop) → Tokens written pieces ts → TreeOrStop ts answer
+  no_tokens : (stop : Stop) → TokensOrStop written pieces (Err stop) →
+      ReadsPieces written pieces (Err stop)
+  tree : (ts : List TokenData) (answer : Result UnitData Stop) →
+      Tokens written pieces ts → TreeOrStop ts answer
       → ReadsPieces written pieces answer
 
 abbrev pub TellsRest : Bool → List Piece → Result Program Stop → Type 0

@@ -72,7 +72,8 @@ fn no_storage(alloc: Global, unit: &Unit) -> Result<Storage, OutOfMemory>
 
 /// What is known before a program is resolved.
 fn start(alloc: Global, written: bool, unit: &Unit) -> Result<Resolver, OutOfMemory>
-    ensures storage { IfOk result (λ r. storage_of r.storage ≡ rule.no_storage (unit_view unit.now)) }
+    ensures storage { IfOk result
+        (λ r. storage_of r.storage ≡ rule.no_storage (unit_view unit.now)) }
     ensures world { IfOk result (λ r. world_of r.checker
         ≡ checked.start written (unit_view unit.now)) }
 {

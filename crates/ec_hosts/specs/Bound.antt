@@ -31,7 +31,8 @@ made a ds = record { made = a; left = ds }
 abbrev pub then : {A B C : Type 0} → (A → B → C) → Made A → (Denoted → Made B) → Made C
 then f m g = made (f m.made (g m.left).made) (g m.left).left
 
-abbrev pub each_of : {A B : Type 0} → (A → Denoted → Made (List B)) → List A → Denoted → Made (List B)
+abbrev pub each_of : {A B : Type 0} →
+    (A → Denoted → Made (List B)) → List A → Denoted → Made (List B)
 each_of f [] ds = made [] ds
 each_of f (x ∷ xs) ds = then (λ a b. a ++ b) (f x ds) (each_of f xs)
 
@@ -58,11 +59,13 @@ cursor_parts (Some d) = elim d.kind [ declare_cursor cursor parts prepared ↦ p
 module _ (p : ProgramData) where
   -- the leaves of a host
   abbrev pub pairs_of : HostData → Denoted → List Pair
-  pairs_of h ds = hosted p.structs (reference_type p h.value (value_part h ds)) (option_and_then (λ i. reference_type p i (indicator_part h ds)) h.indicator)
+  pairs_of h ds = hosted p.structs (reference_type p h.value (value_part h ds))
+      (option_and_then (λ i. reference_type p i (indicator_part h ds)) h.indicator)
 
   -- a host as its places
   abbrev pub host_places : HostData → Denoted → Made (List PlaceData)
-  host_places h ds = made (map (leaf_place p.structs h.value h.indicator) (pairs_of h ds)) (drop (host_count h) ds)
+  host_places h ds =
+      made (map (leaf_place p.structs h.value h.indicator) (pairs_of h ds)) (drop (host_count h) ds)
 
   abbrev pub input_places : InputData → Denoted → Made (List PlaceData)
   input_places (host_input h) ds = host_places h ds
@@ -75,8 +78,11 @@ module _ (p : ProgramData) where
   -- a name or a text as the pointer to it
   abbrev pub text_expr : TextArgData → Denoted → Made ExprData
   text_expr (word_arg bytes) ds = made (string bytes) ds
-  text_expr (host_arg e) ds = made (text_pointer (reference_type p e (take (names_count e) ds)) e) (drop (names_count e) ds)
-  text_expr (host_with_indicator e i) ds = made (text_pointer (reference_type p e (take (names_count e) ds)) e) (drop (names_count e + names_count i) ds)
+  text_expr (host_arg e) ds =
+      made (text_pointer (reference_type p e (take (names_count e) ds)) e) (drop (names_count e) ds)
+  text_expr (host_with_indicator e i) ds =
+      made (text_pointer (reference_type p e (take (names_count e) ds)) e)
+      (drop (names_count e + names_count i) ds)
 
   abbrev pub text_option_expr : Option TextArgData → Denoted → Made ExprData
   text_option_expr None ds = made no_text ds
@@ -104,11 +110,13 @@ module _ (p : ProgramData) where
   abbrev pub sent_from : ℕ → List PartData → Denoted → Text
   sent_from n [] ds = []
   sent_from n (bytes_part bytes ∷ ps) ds = bytes ++ sent_from n ps ds
-  sent_from n (host_part h ∷ ps) ds = parameters n (length (pairs_of h ds)) ++ sent_from (n + length (pairs_of h ds)) ps (drop (host_count h) ds)
+  sent_from n (host_part h ∷ ps) ds = parameters n (length (pairs_of h ds))
+      ++ sent_from (n + length (pairs_of h ds)) ps (drop (host_count h) ds)
 
   -- ---- statements
 
-  abbrev pub connect_bound : TextArgData → Option TextArgData → Option TextArgData → Option TextArgData → Denoted → BoundData
+  abbrev pub connect_bound : TextArgData → Option TextArgData →
+      Option TextArgData → Option TextArgData → Denoted → BoundData
   connect_bound target name user password ds =
       let t = text_expr target ds in
       let n = text_option_expr name t.left in
@@ -117,7 +125,9 @@ module _ (p : ProgramData) where
       texts_bound (t.made ∷ u.made ∷ w.made ∷ n.made ∷ [])
 
   abbrev pub open_bound : ExprData → Option EmbData → InsData → Denoted → Denoted → BoundData
-  open_bound connection d is own cursors = lists_bound (sent_from 1 (cursor_parts d) cursors) connection ((each_of part_places (cursor_parts d) cursors).made ++ (ins_places is own).made) []
+  open_bound connection d is own cursors =
+      lists_bound (sent_from 1 (cursor_parts d) cursors) connection
+      ((each_of part_places (cursor_parts d) cursors).made ++ (ins_places is own).made) []
 
   -- a statement behind its connection; `d` is the DECLARE of the cursor that it opens, and `cursors` what the variables of this denote
   abbrev pub kind_bound : EmbData → Option EmbData → ExprData → Denoted → Denoted → BoundData
@@ -127,20 +137,25 @@ module _ (p : ProgramData) where
     | disconnect name ↦ texts_bound ((text_expr name ds).made ∷ [])
     | autocommit on ↦ texts_bound (at ∷ [])
     | trans text ↦ texts_bound (at ∷ [])
-    | server_text parts os ↦ lists_bound (sent_from 1 parts ds) at (each_of part_places parts ds).made (outs_places os (each_of part_places parts ds).left).made
+    | server_text parts os ↦
+        lists_bound (sent_from 1 parts ds) at (each_of part_places parts ds).made
+        (outs_places os (each_of part_places parts ds).left).made
     | declare_cursor cursor parts prepared ↦ texts_bound []
     | open_cursor cursor is ↦ open_bound at d is ds cursors
     | execute_immediate text ↦ texts_bound (at ∷ (text_expr text ds).made ∷ [])
     | prepare name text ↦ texts_bound (at ∷ (text_expr text ds).made ∷ [])
-    | execute name is os ↦ lists_bound [] at (ins_places is ds).made (outs_places os (ins_places is ds).left).made
+    | execute name is os ↦
+        lists_bound [] at (ins_places is ds).made (outs_places os (ins_places is ds).left).made
     | deallocate name ↦ texts_bound (at ∷ [])
     | allocate_area area ↦ texts_bound ((text_expr area ds).made ∷ [])
     | free_area area ↦ texts_bound ((text_expr area ds).made ∷ [])
-    | get_count area host ↦ area_bound (text_expr area ds) [] (host_places host (text_expr area ds).left).made
+    | get_count area host ↦
+        area_bound (text_expr area ds) [] (host_places host (text_expr area ds).left).made
     | get_items area index items ↦
         let i = input_places index (text_expr area ds).left in
         area_bound (text_expr area ds) i.made (each_of get_places items i.left).made
-    | set_count area value ↦ area_bound (text_expr area ds) (input_places value (text_expr area ds).left).made []
+    | set_count area value ↦
+        area_bound (text_expr area ds) (input_places value (text_expr area ds).left).made []
     | set_items area index items ↦
         let i = input_places index (text_expr area ds).left in
         area_bound (text_expr area ds) (i.made ++ (each_of set_places items i.left).made) []
@@ -149,16 +164,24 @@ module _ (p : ProgramData) where
   ]
 
   abbrev pub statement_bound : EmbData → Option EmbData → Denoted → BoundData
-  statement_bound e d ds = kind_bound e d (text_option_expr e.at ds).made (text_option_expr e.at ds).left (cursor_part e ds)
+  statement_bound e d ds = kind_bound e d (text_option_expr e.at ds).made
+      (text_option_expr e.at ds).left (cursor_part e ds)
 
 -- ---- the answer
 
 abbrev pub program_of : TypedData → ProgramData
-program_of t = record { structs = t.structs; names = t.names; hosts = t.hosts; functions = functions_of t.unit }
+program_of t =
+    record {
+      structs = t.structs;
+      names = t.names;
+      hosts = t.hosts;
+      functions = functions_of t.unit;
+    }
 
 -- all faults of the statement of this number
 abbrev pub faults_of : TypedData → ℕ → EmbData → List FaultKind
-faults_of t n e = uses_faults (program_of t) (uses_of e) (row_at t.denoted n) ++ (opening_faults t.unit.embs t.denoted n e ++ declaring_faults t.unit.embs n e)
+faults_of t n e = uses_faults (program_of t) (uses_of e) (row_at t.denoted n)
+    ++ (opening_faults t.unit.embs t.denoted n e ++ declaring_faults t.unit.embs n e)
 
 -- They stand at one place, that of the statement.
 abbrev pub violation_at : ℕ → EmbData → FaultKind → Violation
@@ -173,4 +196,7 @@ answer_by b (Some stop) = Err stop
 
 -- the statement of this number with its places, or the fault of the lowest number
 abbrev pub bound_answer : TypedData → ℕ → EmbData → Result BoundData Stop
-bound_answer t n e = answer_by (statement_bound (program_of t) e (declare_opened t.unit.embs n e) (row_at t.denoted n)) (stop_at (first_of (violations_at t n e)))
+bound_answer t n e =
+    answer_by
+    (statement_bound (program_of t) e (declare_opened t.unit.embs n e) (row_at t.denoted n))
+    (stop_at (first_of (violations_at t n e)))

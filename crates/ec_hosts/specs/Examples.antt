@@ -53,7 +53,8 @@ by_tokens p place (Err stop) = Err stop
 abbrev pub statement_of : Piece → ℕ → Result EmbData Stop
 statement_of p place = by_tokens p place (sql_answer p.line.0 (statement_units p.bytes))
 
-abbrev pub with_statement : Result EmbData Stop → Result (List EmbData) Stop → Result (List EmbData) Stop
+abbrev pub with_statement : Result EmbData Stop →
+    Result (List EmbData) Stop → Result (List EmbData) Stop
 with_statement (Ok e) (Ok es) = Ok (e ∷ es)
 with_statement (Ok e) (Err stop) = Err stop
 with_statement (Err stop) es = Err stop
@@ -61,13 +62,18 @@ with_statement (Err stop) es = Err stop
 abbrev pub statements_of : List Piece → List ℕ → Result (List EmbData) Stop
 statements_of [] ns = Ok []
 statements_of (p ∷ ps) [] = Ok []
-statements_of (p ∷ ps) (n ∷ ns) = elim (is_statement p.kind) [ true ↦ with_statement (statement_of p n) (statements_of ps ns) | false ↦ statements_of ps (n ∷ ns) ]
+statements_of (p ∷ ps) (n ∷ ns) =
+    elim (is_statement p.kind) [
+      | true ↦ with_statement (statement_of p n) (statements_of ps ns)
+      | false ↦ statements_of ps (n ∷ ns)
+    ]
 
 abbrev pub with_statements : UnitData → Result (List EmbData) Stop → Result UnitData Stop
 with_statements u (Ok es) = Ok (record u { embs = es })
 with_statements u (Err stop) = Err stop
 
-abbrev pub source_by_tree : List Piece → List TokenData → Result UnitData Stop → Result UnitData Stop
+abbrev pub source_by_tree : List Piece → List TokenData →
+    Result UnitData Stop → Result UnitData Stop
 source_by_tree ps ts (Ok u) = with_statements u (statements_of ps (statement_places ts))
 source_by_tree ps ts (Err stop) = Err stop
 
@@ -129,14 +135,16 @@ bound_in n text = bound_by n (checked_text text)
 -- ---- programs
 
 abbrev pub with_main : String → Text → Text
-with_main declarations statements = codes declarations ++ codes " int main(void) { " ++ statements ++ codes " }"
+with_main declarations statements =
+    codes declarations ++ codes " int main(void) { " ++ statements ++ codes " }"
 
 abbrev pub checked_codes : Text → Result TypedData Stop
 checked_codes text = checked_source (source_by_pieces (read_pieces text))
 
 -- a statement in main behind these declarations
 abbrev pub verdict_of : String → String → Option Stop
-verdict_of declarations statement = stop_by (checked_codes (with_main declarations (codes statement)))
+verdict_of declarations statement =
+    stop_by (checked_codes (with_main declarations (codes statement)))
 
 abbrev pub refusal : Result TypedData Stop → Option Stop
 refusal (Ok t) = None
@@ -144,20 +152,29 @@ refusal (Err stop) = Some stop
 
 -- what the phases before the hosts say of it
 abbrev pub checks_of : String → String → Option Stop
-checks_of declarations statement = refusal (checked_codes (with_main declarations (codes statement)))
+checks_of declarations statement =
+    refusal (checked_codes (with_main declarations (codes statement)))
 
 -- where the variables of these declarations are hosts
 abbrev pub outputs_of : String → String → Option (List PlaceData)
-outputs_of declarations hosts = option_map (λ b. b.outs) (bound_by 0 (checked_codes (with_main declarations (codes "EXEC SQL SELECT a INTO " ++ codes hosts ++ codes ";"))))
+outputs_of declarations hosts =
+    option_map (λ b. b.outs)
+    (bound_by 0 (checked_codes
+    (with_main declarations (codes "EXEC SQL SELECT a INTO " ++ codes hosts ++ codes ";"))))
 
 abbrev pub inputs_of : String → String → Option (List PlaceData)
-inputs_of declarations hosts = option_map (λ b. b.ins) (bound_by 0 (checked_codes (with_main declarations (codes "EXEC SQL SELECT " ++ codes hosts ++ codes ";"))))
+inputs_of declarations hosts =
+    option_map (λ b. b.ins) (bound_by 0
+    (checked_codes (with_main declarations (codes "EXEC SQL SELECT " ++ codes hosts ++ codes ";"))))
 
 abbrev pub texts_of : String → String → Option (List ExprData)
-texts_of declarations statement = option_map (λ b. b.texts) (bound_by 0 (checked_codes (with_main declarations (codes statement))))
+texts_of declarations statement =
+    option_map (λ b. b.texts)
+    (bound_by 0 (checked_codes (with_main declarations (codes statement))))
 
 abbrev pub text_of : String → String → Option Text
-text_of declarations statement = option_map (λ b. b.text) (bound_by 0 (checked_codes (with_main declarations (codes statement))))
+text_of declarations statement =
+    option_map (λ b. b.text) (bound_by 0 (checked_codes (with_main declarations (codes statement))))
 
 abbrev pub refused : FaultKind → ℕ → Option Stop
 refused kind line = Some (Refused kind (record { 0 = line }))
@@ -181,7 +198,8 @@ dot e m = member e (codes m)
 
 -- symbol, pointer, length, number of elements, distance, and the indicator
 abbrev pub place : Sym → ExprData → ℕ → ℕ → ℕ → Option IndicatorData → PlaceData
-place s e size count step ind = record { sym = s; value = e; size = size; count = count; step = step; ind = ind }
+place s e size count step ind =
+    record { sym = s; value = e; size = size; count = count; step = step; ind = ind }
 
 -- an int without an indicator
 abbrev pub one_int : ExprData → PlaceData

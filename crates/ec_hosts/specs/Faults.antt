@@ -39,7 +39,8 @@ is_array_input structs _ t = false
 
 abbrev pub value_faults : List StructData → RoleData → Option TyData → List FaultKind
 value_faults structs role None = F22 ∷ []
-value_faults structs role (Some t) = fault_unless (suits_role structs role t) F22 ++ fault_unless (not (is_array_input structs role t)) F24
+value_faults structs role (Some t) = fault_unless (suits_role structs role t) F22
+    ++ fault_unless (not (is_array_input structs role t)) F24
 
 -- ---- indicators
 
@@ -64,19 +65,26 @@ is_indicator_array n _ = false
 
 -- Of a struct or an array of structs: the same of as many members. F25 where their numbers or those of the elements differ, F23 for another type.
 abbrev pub struct_faults : List StructData → TyData → TyData → Bool → List FaultKind
-struct_faults structs t i same = fault_unless (are_indicators (leaves structs i)) F23 ++ fault_unless (same && same_count (leaf_count (leaves structs t)) (leaf_count (leaves structs i))) F25
+struct_faults structs t i same = fault_unless (are_indicators (leaves structs i)) F23
+    ++ fault_unless
+    (same && same_count (leaf_count (leaves structs t)) (leaf_count (leaves structs i))) F25
 
 -- by the shapes of the host and of its indicator
-abbrev pub shape_faults : List StructData → TyData → TyData → ShapeData → Option ShapeData → List FaultKind
+abbrev pub shape_faults : List StructData → TyData →
+    TyData → ShapeData → Option ShapeData → List FaultKind
 shape_faults structs t i one_element s = fault_unless (is_indicator i) F23
 shape_faults structs t i (elements u n) s = fault_unless (is_indicator_array n i) F23
 shape_faults structs t i (one_struct k) (Some (one_struct j)) = struct_faults structs t i true
 shape_faults structs t i (one_struct k) _ = F23 ∷ []
-shape_faults structs t i (many_structs k n) (Some (many_structs j m)) = struct_faults structs t i (n == m)
+shape_faults structs t i (many_structs k n) (Some (many_structs j m)) =
+    struct_faults structs t i (n == m)
 shape_faults structs t i (many_structs k n) _ = F23 ∷ []
 
 abbrev pub typed_faults : List StructData → TyData → TyData → List FaultKind
-typed_faults structs t i = elim (shape_of_host structs t) [ None ↦ [] | Some s ↦ shape_faults structs t i s (shape_of_host structs i) ]
+typed_faults structs t i = elim (shape_of_host structs t) [
+  | None ↦ []
+  | Some s ↦ shape_faults structs t i s (shape_of_host structs i)
+]
 
 -- A name, a text or an item has none.
 abbrev pub may_have_indicator : RoleData → Bool
@@ -95,15 +103,21 @@ indicator_type_faults structs (Some t) (Some i) = typed_faults structs t i
 
 -- the variable of a reference stands in a section (F21), and its indexes are variables (F22)
 abbrev pub reference_faults : ProgramData → Denoted → List FaultKind
-reference_faults p ds = fault_unless (is_host p (variable_of ds)) F21 ++ fault_unless (has_variable_indexes ds) F22
+reference_faults p ds =
+    fault_unless (is_host p (variable_of ds)) F21 ++ fault_unless (has_variable_indexes ds) F22
 
-abbrev pub indicator_faults : ProgramData → RoleData → Option TyData → Option ExprData → Denoted → List FaultKind
+abbrev pub indicator_faults : ProgramData → RoleData →
+    Option TyData → Option ExprData → Denoted → List FaultKind
 indicator_faults p role t None ds = []
-indicator_faults p role t (Some e) ds = reference_faults p ds ++ (fault_unless (may_have_indicator role) F23 ++ indicator_type_faults p.structs t (reference_type p e ds))
+indicator_faults p role t (Some e) ds =
+    reference_faults p ds ++ (fault_unless (may_have_indicator role) F23
+    ++ indicator_type_faults p.structs t (reference_type p e ds))
 
 -- of a host, by what the variables of its value and of its indicator denote
 abbrev pub host_faults : ProgramData → RoleData → HostData → Denoted → Denoted → List FaultKind
-host_faults p role h ds is = reference_faults p ds ++ (value_faults p.structs role (reference_type p h.value ds) ++ indicator_faults p role (reference_type p h.value ds) h.indicator is)
+host_faults p role h ds is =
+    reference_faults p ds ++ (value_faults p.structs role (reference_type p h.value ds)
+    ++ indicator_faults p role (reference_type p h.value ds) h.indicator is)
 
 abbrev pub host_count : HostData → ℕ
 host_count h = names_count h.value + option_count h.indicator
@@ -116,7 +130,8 @@ indicator_part h ds = take (option_count h.indicator) (drop (names_count h.value
 
 abbrev pub uses_faults : ProgramData → Uses → Denoted → List FaultKind
 uses_faults p [] ds = []
-uses_faults p (u ∷ us) ds = host_faults p u.0 u.1 (value_part u.1 ds) (indicator_part u.1 ds) ++ uses_faults p us (drop (host_count u.1) ds)
+uses_faults p (u ∷ us) ds = host_faults p u.0 u.1 (value_part u.1 ds) (indicator_part u.1 ds)
+    ++ uses_faults p us (drop (host_count u.1) ds)
 
 -- ---- cursors
 
@@ -139,8 +154,14 @@ open_faults rows None e ds = F26 ∷ []
 open_faults rows (Some k) e ds = fault_unless (same_denoted (row_at rows k) (cursor_part e ds)) F28
 
 abbrev pub opening_faults : List EmbData → List Denoted → ℕ → EmbData → List FaultKind
-opening_faults es rows n e = elim (opened_cursor e) [ None ↦ [] | Some c ↦ open_faults rows (declared_above es n c) e (row_at rows n) ]
+opening_faults es rows n e = elim (opened_cursor e) [
+  | None ↦ []
+  | Some c ↦ open_faults rows (declared_above es n c) e (row_at rows n)
+]
 
 -- a second DECLARE of a cursor (F27)
 abbrev pub declaring_faults : List EmbData → ℕ → EmbData → List FaultKind
-declaring_faults es n e = elim (declared_cursor e) [ None ↦ [] | Some c ↦ fault_unless (not (is_some (declared_above es n c))) F27 ]
+declaring_faults es n e = elim (declared_cursor e) [
+  | None ↦ []
+  | Some c ↦ fault_unless (not (is_some (declared_above es n c))) F27
+]

@@ -30,24 +30,30 @@ abbrev pub with_step : ℕ × Text → Way → Way
 with_step step w = (step ∷ w.0, w.1)
 
 -- the ways through a member: it is an element, or a struct, for whose members it stands. There are none through any other, as an array of numbers
-abbrev pub member_ways : List StructData → (ℕ → Option (List Way)) → ℕ → MemberData → Option (List Way)
+abbrev pub member_ways : List StructData →
+    (ℕ → Option (List Way)) → ℕ → MemberData → Option (List Way)
 member_ways structs inside k m = elim (is_element structs m.1) [
   | true ↦ Some (((k, m.0) ∷ [], m.1) ∷ [])
-  | false ↦ option_map (map (with_step (k, m.0))) (option_and_then inside (plain_struct structs m.1))
+  | false ↦
+      option_map (map (with_step (k, m.0))) (option_and_then inside (plain_struct structs m.1))
 ]
 
-abbrev pub members_ways : List StructData → (ℕ → Option (List Way)) → ℕ → List MemberData → Option (List Way)
+abbrev pub members_ways : List StructData →
+    (ℕ → Option (List Way)) → ℕ → List MemberData → Option (List Way)
 members_ways structs inside k [] = Some []
-members_ways structs inside k (m ∷ ms) = both (member_ways structs inside k m) (members_ways structs inside k ms)
+members_ways structs inside k (m ∷ ms) =
+    both (member_ways structs inside k m) (members_ways structs inside k ms)
 
 -- the ways to the leaves of the struct of this number. Structs lie at most so deep in one another
 abbrev pub ways_within : ℕ → List StructData → ℕ → Option (List Way)
 ways_within zero structs k = None
-ways_within (suc depth) structs k = option_and_then (λ d. members_ways structs (ways_within depth structs) k d.members) (slice_get structs k)
+ways_within (suc depth) structs k = option_and_then
+    (λ d. members_ways structs (ways_within depth structs) k d.members) (slice_get structs k)
 
 -- those of the struct of this number, which is this one if there is one
 abbrev pub known_ways : ℕ → List StructData → ℕ → Option StructData → Option (List Way)
-known_ways depth structs k found = option_and_then (λ d. members_ways structs (ways_within depth structs) k d.members) found
+known_ways depth structs k found =
+    option_and_then (λ d. members_ways structs (ways_within depth structs) k d.members) found
 
 abbrev pub ways : List StructData → ℕ → Option (List Way)
 ways structs k = ways_within (length structs) structs k
@@ -77,18 +83,29 @@ other_shape structs (array t n) = array_shape structs t n
 other_shape structs (structure k) = option_map one_struct (plain_struct structs (structure k))
 
 abbrev pub shape_of_host : List StructData → TyData → Option ShapeData
-shape_of_host structs t = elim (is_element structs t) [ true ↦ Some one_element | false ↦ other_shape structs t ]
+shape_of_host structs t =
+    elim (is_element structs t) [ true ↦ Some one_element | false ↦ other_shape structs t ]
 
 abbrev pub leaf_of_struct : Way → LeafData
-leaf_of_struct w = record { in_first = false; path = w.0; whole = w.1; element = w.1; count = 1; apart = w.1 }
+leaf_of_struct w =
+    record { in_first = false; path = w.0; whole = w.1; element = w.1; count = 1; apart = w.1 }
 
 -- in an array of structs, the distance is that of the structs
 abbrev pub leaf_of_structs : ℕ → ℕ → Way → LeafData
-leaf_of_structs k n w = record { in_first = true; path = w.0; whole = w.1; element = w.1; count = n; apart = structure k }
+leaf_of_structs k n w =
+    record {
+      in_first = true;
+      path = w.0;
+      whole = w.1;
+      element = w.1;
+      count = n;
+      apart = structure k;
+    }
 
 -- a host that is one leaf: elements of this type, so many
 abbrev pub own_leaf : TyData → TyData → ℕ → LeafData
-own_leaf t u n = record { in_first = false; path = []; whole = t; element = u; count = n; apart = u }
+own_leaf t u n =
+    record { in_first = false; path = []; whole = t; element = u; count = n; apart = u }
 
 abbrev pub leaves_by : List StructData → TyData → ShapeData → Option (List LeafData)
 leaves_by structs t one_element = Some (own_leaf t t 1 ∷ [])

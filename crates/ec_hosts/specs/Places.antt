@@ -50,10 +50,12 @@ symbol_or_none (Some s) = s
 abbrev pub symbol_in : List StructData → LeafData → Symbol
 symbol_in structs l = symbol_or_none (symbol_of structs l.element)
 
-abbrev pub indicator_place : List StructData → Option ExprData → Option LeafData → Option IndicatorData
+abbrev pub indicator_place : List StructData →
+    Option ExprData → Option LeafData → Option IndicatorData
 indicator_place structs None l = None
 indicator_place structs (Some e) None = None
-indicator_place structs (Some e) (Some l) = Some ((symbol_in structs l).0, leaf_pointer e l, l.count, size_of structs l.apart)
+indicator_place structs (Some e) (Some l) =
+    Some ((symbol_in structs l).0, leaf_pointer e l, l.count, size_of structs l.apart)
 
 -- a leaf of this host, and that of this indicator
 abbrev pub leaf_place : List StructData → ExprData → Option ExprData → Pair → PlaceData
@@ -69,10 +71,12 @@ leaf_place structs e i p = record {
 -- ---- what is no host
 
 abbrev pub constant_place : Text → PlaceData
-constant_place bytes = record { sym = Const; value = string bytes; size = 0; count = 1; step = 0; ind = None }
+constant_place bytes =
+    record { sym = Const; value = string bytes; size = 0; count = 1; step = 0; ind = None }
 
 abbrev pub descriptor_place : ExprData → PlaceData
-descriptor_place name = record { sym = Descriptor; value = name; size = 1; count = 1; step = 1; ind = None }
+descriptor_place name =
+    record { sym = Descriptor; value = name; size = 1; count = 1; step = 1; ind = None }
 
 -- the pointer to a text: of a VARCHAR that to its characters
 abbrev pub text_pointer : Option TyData → ExprData → ExprData

@@ -29,10 +29,12 @@ element_of _ = None
 
 abbrev pub member_among : Text → List MemberData → Option TyData
 member_among name [] = None
-member_among name (m ∷ ms) = elim (same_text name m.0) [ true ↦ Some m.1 | false ↦ member_among name ms ]
+member_among name (m ∷ ms) =
+    elim (same_text name m.0) [ true ↦ Some m.1 | false ↦ member_among name ms ]
 
 abbrev pub member_type : List StructData → Text → TyData → Option TyData
-member_type structs name (structure k) = option_and_then (λ d. member_among name d.members) (slice_get structs k)
+member_type structs name (structure k) =
+    option_and_then (λ d. member_among name d.members) (slice_get structs k)
 member_type structs name _ = None
 
 -- the type of a reference, by that of its variable (ISO/IEC 9899:1999, 6.5.2.1 and 6.5.2.3)
@@ -40,7 +42,8 @@ abbrev pub type_along : List StructData → TyData → ExprData → Option TyDat
 type_along structs t (identifier x) = Some t
 type_along structs t (index a b) = option_and_then element_of (type_along structs t a)
 type_along structs t (member e m) = option_and_then (member_type structs m) (type_along structs t e)
-type_along structs t (arrow e m) = option_and_then (λ s. option_and_then (member_type structs m) (element_of s)) (type_along structs t e)
+type_along structs t (arrow e m) = option_and_then
+    (λ s. option_and_then (member_type structs m) (element_of s)) (type_along structs t e)
 type_along structs t _ = None
 
 abbrev pub declared_type : ProgramData → ℕ → Option TyData
@@ -57,7 +60,8 @@ variable_of (d ∷ ds) = d
 
 -- the type of a reference whose variable and indexes denote these
 abbrev pub reference_type : ProgramData → ExprData → Denoted → Option TyData
-reference_type p e ds = option_and_then (λ t. type_along p.structs t e) (variable_type p (variable_of ds))
+reference_type p e ds =
+    option_and_then (λ t. type_along p.structs t e) (variable_type p (variable_of ds))
 
 -- ---- sections and indexes
 

@@ -62,7 +62,8 @@ outs_uses (area_outs a) = text_uses a
 
 abbrev pub kind_uses : EmbData → Uses
 kind_uses e = elim e.kind [
-  | connect target name user password ↦ text_uses target ++ (text_option_uses name ++ (text_option_uses user ++ text_option_uses password))
+  | connect target name user password ↦ text_uses target
+      ++ (text_option_uses name ++ (text_option_uses user ++ text_option_uses password))
   | set_connection name ↦ text_uses name
   | disconnect name ↦ text_uses name
   | autocommit on ↦ []
@@ -77,9 +78,11 @@ kind_uses e = elim e.kind [
   | allocate_area area ↦ text_uses area
   | free_area area ↦ text_uses area
   | get_count area host ↦ text_uses area ++ (number_role, host) ∷ []
-  | get_items area at items ↦ text_uses area ++ (input_uses number_role at ++ each_uses get_uses items)
+  | get_items area at items ↦ text_uses area
+      ++ (input_uses number_role at ++ each_uses get_uses items)
   | set_count area value ↦ text_uses area ++ input_uses number_role value
-  | set_items area at items ↦ text_uses area ++ (input_uses number_role at ++ each_uses set_uses items)
+  | set_items area at items ↦ text_uses area
+      ++ (input_uses number_role at ++ each_uses set_uses items)
   | whenever cond act ↦ []
   | include_sqlca ↦ []
 ]

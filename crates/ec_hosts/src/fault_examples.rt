@@ -53,14 +53,17 @@ pub fn section_examples()
     ensures input { verdict_of "int y;" "\nEXEC SQL SELECT :y;" ≡ refused F21 2 }
     ensures indicator { verdict_of "EXEC SQL int x; short i;" "\nEXEC SQL SELECT a INTO :x :i;"
         ≡ refused F21 2 }
-    ensures index { verdict_of "EXEC SQL int x[2]; int i;" "\nEXEC SQL SELECT a INTO :x[i];" ≡ None }
+    ensures index { verdict_of "EXEC SQL int x[2]; int i;" "\nEXEC SQL SELECT a INTO :x[i];"
+        ≡ None }
     ensures text { verdict_of "char s[9];" "\nEXEC SQL EXECUTE IMMEDIATE :s;" ≡ refused F21 2 }
     ensures in_a_section_of_the_function { verdict_of ""
         "EXEC SQL BEGIN DECLARE SECTION; int y; EXEC SQL END DECLARE SECTION; EXEC SQL SELECT a INTO :y;"
         ≡ None }
-    ensures in_place_in_a_block { verdict_of "int y;" "{ EXEC SQL int y; EXEC SQL SELECT a INTO :y; }"
+    ensures in_place_in_a_block { verdict_of "int y;"
+        "{ EXEC SQL int y; EXEC SQL SELECT a INTO :y; }"
         ≡ None }
-    ensures hidden_by_another { verdict_of "EXEC SQL int y;" "{ int y;\nEXEC SQL SELECT a INTO :y; }"
+    ensures hidden_by_another { verdict_of "EXEC SQL int y;"
+        "{ int y;\nEXEC SQL SELECT a INTO :y; }"
         ≡ refused F21 2 }
     ensures parameter { verdict
         "EXEC SQL BEGIN DECLARE SECTION; int f(int y) { EXEC SQL END DECLARE SECTION; EXEC SQL SELECT a INTO :y; return 0; } int main(void) { }"
@@ -101,7 +104,8 @@ pub fn type_examples()
         "EXEC SQL char x[2];" "EXEC SQL GET DESCRIPTOR d VALUE 1 :x = DATA;"
         ≡ None }
     ensures struct_as_index { verdict_of
-        "EXEC SQL struct { int n; } x; EXEC SQL int y;" "\nEXEC SQL GET DESCRIPTOR d VALUE :x :y = DATA;"
+        "EXEC SQL struct { int n; } x; EXEC SQL int y;"
+        "\nEXEC SQL GET DESCRIPTOR d VALUE :x :y = DATA;"
         ≡ refused F22 2 }
     ensures array_as_count { verdict_of
         "EXEC SQL int x[2];" "\nEXEC SQL GET DESCRIPTOR d :x = COUNT;"
@@ -111,49 +115,67 @@ pub fn type_examples()
 /// F23: an indicator of another type, with too few elements, or where there is none. F25: an indicator struct of another
 /// number of members or elements.
 pub fn indicator_faults()
-    ensures unsigned { verdict_of "EXEC SQL int x; EXEC SQL unsigned short i;" "\nEXEC SQL SELECT a INTO :x :i;"
+    ensures unsigned { verdict_of "EXEC SQL int x; EXEC SQL unsigned short i;"
+        "\nEXEC SQL SELECT a INTO :x :i;"
         ≡ refused F23 2 }
-    ensures character { verdict_of "EXEC SQL int x; EXEC SQL char i;" "\nEXEC SQL SELECT a INTO :x :i;"
+    ensures character { verdict_of "EXEC SQL int x; EXEC SQL char i;"
+        "\nEXEC SQL SELECT a INTO :x :i;"
         ≡ refused F23 2 }
     ensures truth { verdict_of "EXEC SQL int x; EXEC SQL bool i;" "\nEXEC SQL SELECT a INTO :x :i;"
         ≡ refused F23 2 }
-    ensures array_of_one { verdict_of "EXEC SQL int x; EXEC SQL short i[2];" "\nEXEC SQL SELECT a INTO :x :i;"
+    ensures array_of_one { verdict_of "EXEC SQL int x; EXEC SQL short i[2];"
+        "\nEXEC SQL SELECT a INTO :x :i;"
         ≡ refused F23 2 }
-    ensures one_of_an_array { verdict_of "EXEC SQL int x[2]; EXEC SQL short i;" "\nEXEC SQL SELECT a INTO :x :i;"
+    ensures one_of_an_array { verdict_of "EXEC SQL int x[2]; EXEC SQL short i;"
+        "\nEXEC SQL SELECT a INTO :x :i;"
         ≡ refused F23 2 }
-    ensures too_few { verdict_of "EXEC SQL int x[3]; EXEC SQL short i[2];" "\nEXEC SQL SELECT a INTO :x :i;"
+    ensures too_few { verdict_of "EXEC SQL int x[3]; EXEC SQL short i[2];"
+        "\nEXEC SQL SELECT a INTO :x :i;"
         ≡ refused F23 2 }
-    ensures as_many { verdict_of "EXEC SQL int x[3]; EXEC SQL short i[3];" "EXEC SQL SELECT a INTO :x :i;"
+    ensures as_many { verdict_of "EXEC SQL int x[3]; EXEC SQL short i[3];"
+        "EXEC SQL SELECT a INTO :x :i;"
         ≡ None }
-    ensures struct_of_one { verdict_of "EXEC SQL int x; EXEC SQL struct { short a; } i;" "\nEXEC SQL SELECT a INTO :x :i;"
+    ensures struct_of_one { verdict_of "EXEC SQL int x; EXEC SQL struct { short a; } i;"
+        "\nEXEC SQL SELECT a INTO :x :i;"
         ≡ refused F23 2 }
-    ensures one_of_a_struct { verdict_of "EXEC SQL struct { int n; } x; EXEC SQL short i;" "\nEXEC SQL SELECT a INTO :x :i;"
+    ensures one_of_a_struct { verdict_of "EXEC SQL struct { int n; } x; EXEC SQL short i;"
+        "\nEXEC SQL SELECT a INTO :x :i;"
         ≡ refused F23 2 }
-    ensures of_a_name { verdict_of "EXEC SQL char s[9]; EXEC SQL short i;" "\nEXEC SQL EXECUTE IMMEDIATE :s :i;"
+    ensures of_a_name { verdict_of "EXEC SQL char s[9]; EXEC SQL short i;"
+        "\nEXEC SQL EXECUTE IMMEDIATE :s :i;"
         ≡ refused F23 2 }
-    ensures of_an_item { verdict_of "EXEC SQL int x, i;" "\nEXEC SQL GET DESCRIPTOR d VALUE 1 :x :i = DATA;"
+    ensures of_an_item { verdict_of "EXEC SQL int x, i;"
+        "\nEXEC SQL GET DESCRIPTOR d VALUE 1 :x :i = DATA;"
         ≡ refused F23 2 }
-    ensures of_an_index { verdict_of "EXEC SQL int x, k, i;" "EXEC SQL GET DESCRIPTOR d VALUE :k INDICATOR :i :x = DATA;"
+    ensures of_an_index { verdict_of "EXEC SQL int x, k, i;"
+        "EXEC SQL GET DESCRIPTOR d VALUE :k INDICATOR :i :x = DATA;"
         ≡ None }
-    ensures of_a_count { verdict_of "EXEC SQL int x, i;" "EXEC SQL GET DESCRIPTOR d :x INDICATOR :i = COUNT;"
+    ensures of_a_count { verdict_of "EXEC SQL int x, i;"
+        "EXEC SQL GET DESCRIPTOR d :x INDICATOR :i = COUNT;"
         ≡ None }
     ensures fewer_members { verdict_of
-        "EXEC SQL struct { int a, b; } x; EXEC SQL struct { short a; } i;" "\nEXEC SQL SELECT a INTO :x :i;"
+        "EXEC SQL struct { int a, b; } x; EXEC SQL struct { short a; } i;"
+        "\nEXEC SQL SELECT a INTO :x :i;"
         ≡ refused F25 2 }
     ensures more_members { verdict_of
-        "EXEC SQL struct { int a, b; } x; EXEC SQL struct { short a, b, c; } i;" "\nEXEC SQL SELECT a INTO :x :i;"
+        "EXEC SQL struct { int a, b; } x; EXEC SQL struct { short a, b, c; } i;"
+        "\nEXEC SQL SELECT a INTO :x :i;"
         ≡ refused F25 2 }
     ensures inner_members_count { verdict_of
-        "EXEC SQL struct { int a; struct { int b, c; } y; } x; EXEC SQL struct { short a, b; } i;" "\nEXEC SQL SELECT a INTO :x :i;"
+        "EXEC SQL struct { int a; struct { int b, c; } y; } x; EXEC SQL struct { short a, b; } i;"
+        "\nEXEC SQL SELECT a INTO :x :i;"
         ≡ refused F25 2 }
     ensures other_elements { verdict_of
-        "EXEC SQL struct { int a; } x[2]; EXEC SQL struct { short a; } i[3];" "\nEXEC SQL SELECT a INTO :x :i;"
+        "EXEC SQL struct { int a; } x[2]; EXEC SQL struct { short a; } i[3];"
+        "\nEXEC SQL SELECT a INTO :x :i;"
         ≡ refused F25 2 }
     ensures one_struct_of_many { verdict_of
-        "EXEC SQL struct { int a; } x[2]; EXEC SQL struct { short a; } i;" "\nEXEC SQL SELECT a INTO :x :i;"
+        "EXEC SQL struct { int a; } x[2]; EXEC SQL struct { short a; } i;"
+        "\nEXEC SQL SELECT a INTO :x :i;"
         ≡ refused F23 2 }
     ensures type_before_number { verdict_of
-        "EXEC SQL struct { int a, b; } x; EXEC SQL struct { char a; } i;" "\nEXEC SQL SELECT a INTO :x :i;"
+        "EXEC SQL struct { int a, b; } x; EXEC SQL struct { char a; } i;"
+        "\nEXEC SQL SELECT a INTO :x :i;"
         ≡ refused F23 2 }
 {}
 
@@ -163,9 +185,11 @@ pub fn order_examples()
         ≡ refused F21 2 }
     ensures array_and_pointer { verdict_of "EXEC SQL int x[2], *p;" "\nEXEC SQL SELECT :x, :p;"
         ≡ refused F22 2 }
-    ensures array_and_indicator { verdict_of "EXEC SQL int x[2], y; EXEC SQL char i;" "\nEXEC SQL SELECT :x, :y :i;"
+    ensures array_and_indicator { verdict_of
+        "EXEC SQL int x[2], y; EXEC SQL char i;" "\nEXEC SQL SELECT :x, :y :i;"
         ≡ refused F23 2 }
-    ensures two_statements { verdict_of "EXEC SQL int x[2]; int y;" "EXEC SQL SELECT :x;\nEXEC SQL SELECT :y;"
+    ensures two_statements { verdict_of "EXEC SQL int x[2]; int y;"
+        "EXEC SQL SELECT :x;\nEXEC SQL SELECT :y;"
         ≡ refused F24 1 }
     ensures checks_first { verdict_of "int y;" "EXEC SQL SELECT :y;\nz;" ≡ refused F11 2 }
     ensures declarations_first { verdict_of "" "z;\nVARCHAR v[5];" ≡ refused F9 2 }
@@ -192,14 +216,18 @@ pub fn cursor_faults()
         "EXEC SQL int k, j; int main(void) { EXEC SQL DECLARE c CURSOR FOR SELECT :k; { EXEC SQL int j; EXEC SQL OPEN c USING :j; } }"
         ≡ None }
     ensures unknown { verdict_of "" "\nEXEC SQL OPEN c;" ≡ refused F26 2 }
-    ensures declared_below { verdict_of "" "\nEXEC SQL OPEN c; EXEC SQL DECLARE c CURSOR FOR SELECT 1;"
+    ensures declared_below { verdict_of ""
+        "\nEXEC SQL OPEN c; EXEC SQL DECLARE c CURSOR FOR SELECT 1;"
         ≡ refused F26 2 }
-    ensures any_case { verdict_of "" "EXEC SQL DECLARE Cur CURSOR FOR SELECT 1; EXEC SQL OPEN cUR;" ≡ None }
-    ensures twice { verdict_of "" "EXEC SQL DECLARE c CURSOR FOR SELECT 1;\nEXEC SQL DECLARE C CURSOR FOR s;"
+    ensures any_case { verdict_of "" "EXEC SQL DECLARE Cur CURSOR FOR SELECT 1; EXEC SQL OPEN cUR;"
+        ≡ None }
+    ensures twice { verdict_of ""
+        "EXEC SQL DECLARE c CURSOR FOR SELECT 1;\nEXEC SQL DECLARE C CURSOR FOR s;"
         ≡ refused F27 2 }
     ensures at_file_level { verdict
         "EXEC SQL int k; EXEC SQL DECLARE c CURSOR FOR SELECT :k; int main(void) { EXEC SQL OPEN c; }"
         ≡ None }
-    ensures faults_of_declare { verdict_of "EXEC SQL int k[2];" "\nEXEC SQL DECLARE c CURSOR FOR SELECT :k;"
+    ensures faults_of_declare { verdict_of "EXEC SQL int k[2];"
+        "\nEXEC SQL DECLARE c CURSOR FOR SELECT :k;"
         ≡ refused F24 2 }
 {}

@@ -14,7 +14,8 @@ ghost use Rattle.ec_hosts.specs.Places.{constant_place, descriptor_place, no_tex
 pub fn text_examples()
     ensures plain { text_of "EXEC SQL int x;" "EXEC SQL INSERT INTO t VALUES (:x, :x);"
         ≡ Some (codes "INSERT INTO t VALUES ($1, $2)") }
-    ensures of_a_struct { text_of "EXEC SQL struct { int a, b; } x; EXEC SQL int y;" "EXEC SQL INSERT INTO t VALUES (:x, :y);"
+    ensures of_a_struct { text_of "EXEC SQL struct { int a, b; } x; EXEC SQL int y;"
+        "EXEC SQL INSERT INTO t VALUES (:x, :y);"
         ≡ Some (codes "INSERT INTO t VALUES ($1, $2, $3)") }
     ensures indicators { text_of "EXEC SQL int x, i;" "EXEC SQL SELECT :x :i, :x;"
         ≡ Some (codes "SELECT $1, $2") }
@@ -136,7 +137,8 @@ pub fn directive_examples()
     ensures of_if { verdict_of "" "if (1)\nEXEC SQL WHENEVER SQLERROR STOP;" ≡ refused F29 2 }
     ensures of_else { verdict_of "" "if (1) ; else\nEXEC SQL INCLUDE sqlca;" ≡ refused F29 2 }
     ensures of_while { verdict_of "" "while (1)\nEXEC SQL WHENEVER SQLERROR STOP;" ≡ refused F29 2 }
-    ensures of_do { verdict_of "" "do\nEXEC SQL WHENEVER SQLERROR STOP; while (1);" ≡ refused F29 2 }
+    ensures of_do { verdict_of "" "do\nEXEC SQL WHENEVER SQLERROR STOP; while (1);"
+        ≡ refused F29 2 }
     ensures of_for { verdict_of "" "for (;;)\nEXEC SQL DECLARE c CURSOR FOR s;" ≡ refused F29 2 }
     ensures of_a_label { verdict_of "" "l:\nEXEC SQL WHENEVER SQLERROR STOP;" ≡ refused F29 2 }
     ensures in_a_block { verdict_of "" "if (1) { EXEC SQL WHENEVER SQLERROR STOP; }" ≡ None }
@@ -146,7 +148,8 @@ pub fn directive_examples()
 /// The variables of hosts are in scope and have the types that their suffixes need (F11, F14), and a VARCHAR is its struct.
 pub fn check_examples()
     ensures undeclared { verdict_of "" "\nEXEC SQL SELECT :x;" ≡ refused F11 2 }
-    ensures undeclared_index { verdict_of "EXEC SQL int x[2];" "\nEXEC SQL SELECT :x[i];" ≡ refused F11 2 }
+    ensures undeclared_index { verdict_of "EXEC SQL int x[2];" "\nEXEC SQL SELECT :x[i];"
+        ≡ refused F11 2 }
     ensures undeclared_indicator { verdict_of "EXEC SQL int x;" "\nEXEC SQL SELECT a INTO :x :i;"
         ≡ refused F11 2 }
     ensures no_member { verdict_of "EXEC SQL struct { int a; } x;" "\nEXEC SQL SELECT :x.b;"
@@ -158,20 +161,26 @@ pub fn check_examples()
     ensures at_file_level { verdict "\nEXEC SQL DECLARE c CURSOR FOR SELECT :x; int main(void) { }"
         ≡ refused F11 2 }
     ensures no_main { verdict "EXEC SQL VARCHAR v[5];\n" ≡ refused F20 2 }
-    ensures members_of_a_varchar { verdict_of "EXEC SQL VARCHAR v[5];" "v.len = 4; v.arr[0] = 'a';" ≡ None }
+    ensures members_of_a_varchar { verdict_of "EXEC SQL VARCHAR v[5];" "v.len = 4; v.arr[0] = 'a';"
+        ≡ None }
     ensures length_of_a_varchar { verdict_of "EXEC SQL VARCHAR v[5];"
         "int a[sizeof v.arr == 5 && sizeof v == 12];" ≡ None }
-    ensures its_tag { verdict_of "EXEC SQL VARCHAR v[5];" "struct varchar_v *p = &v; p->len = 1;" ≡ None }
+    ensures its_tag { verdict_of "EXEC SQL VARCHAR v[5];" "struct varchar_v *p = &v; p->len = 1;"
+        ≡ None }
     ensures its_tag_in_its_scope { verdict_of "EXEC SQL VARCHAR v[5];"
         "{ EXEC SQL VARCHAR v[9]; struct varchar_v *p = &v; int a[sizeof p->arr == 9]; } { struct varchar_v *p = &v; int a[sizeof p->arr == 5]; }"
         ≡ None }
-    ensures structs_of_their_own { verdict_of "EXEC SQL VARCHAR v[5], w[5];" "\nv = w;" ≡ refused F14 2 }
-    ensures no_tag_of_a_member { verdict_of "EXEC SQL struct { VARCHAR v[5]; } x;" "\nstruct varchar_v *p;"
+    ensures structs_of_their_own { verdict_of "EXEC SQL VARCHAR v[5], w[5];" "\nv = w;"
+        ≡ refused F14 2 }
+    ensures no_tag_of_a_member { verdict_of
+        "EXEC SQL struct { VARCHAR v[5]; } x;" "\nstruct varchar_v *p;"
         ≡ refused F11 2 }
-    ensures twice { verdict "EXEC SQL VARCHAR v[5];\nEXEC SQL VARCHAR v[6]; int main(void) { }" ≡ refused F10 2 }
+    ensures twice { verdict "EXEC SQL VARCHAR v[5];\nEXEC SQL VARCHAR v[6]; int main(void) { }"
+        ≡ refused F10 2 }
     ensures too_large { verdict "EXEC SQL VARCHAR v[16777216]; int main(void) { }" ≡ limited L1 }
     ensures largest { verdict "EXEC SQL VARCHAR v[16777212]; int main(void) { }" ≡ None }
-    ensures one_byte_too_many { verdict "EXEC SQL VARCHAR v[16777213]; int main(void) { }" ≡ limited L1 }
+    ensures one_byte_too_many { verdict "EXEC SQL VARCHAR v[16777213]; int main(void) { }"
+        ≡ limited L1 }
     ensures brackets { verdict_of "EXEC SQL VARCHAR v[3][5];" "v[2].len = sizeof v == 36;" ≡ None }
     ensures initializer { verdict "EXEC SQL VARCHAR v[5] = {2, \"ab\"}; int main(void) { }" ≡ None }
 {}
@@ -194,5 +203,6 @@ pub fn member_examples()
         "struct ten { int a, b, c, d, e, f, g, h, i, j; }; struct hundred { struct ten a, b, c, d, e, f, g, h, i, j; }; EXEC SQL struct { struct hundred a, b, c, d, e, f, g, h, i, j; int k; } x;"
         "\nEXEC SQL SELECT a INTO :x, :y;"
         ≡ refused F11 2 }
-    ensures elements_do_not_count { verdict_of "EXEC SQL int x[2000];" "EXEC SQL SELECT a INTO :x;" ≡ None }
+    ensures elements_do_not_count { verdict_of "EXEC SQL int x[2000];" "EXEC SQL SELECT a INTO :x;"
+        ≡ None }
 {}

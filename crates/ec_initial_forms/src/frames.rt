@@ -36,7 +36,8 @@ pub struct Taken {
 
 /// The next of so many elements.
 fn next_element(alloc: Global, ty: Ty, left: u64) -> Result<Option<Taken>, OutOfMemory>
-    ensures { IfOk result (λ taken. taken_view taken ≡ frame_taken (rule.elements_left (ty_view ty) left)) }
+    ensures { IfOk result
+        (λ taken. taken_view taken ≡ frame_taken (rule.elements_left (ty_view ty) left)) }
 {
     if left == 0 {
         return Ok(None);
@@ -50,7 +51,8 @@ fn next_element(alloc: Global, ty: Ty, left: u64) -> Result<Option<Taken>, OutOf
 
 /// The next of any number of elements.
 fn any_element(alloc: Global, ty: Ty, begun: u64) -> Result<Option<Taken>, OutOfMemory>
-    ensures { IfOk result (λ taken. taken_view taken ≡ frame_taken (rule.any_elements (ty_view ty) begun)) }
+    ensures { IfOk result
+        (λ taken. taken_view taken ≡ frame_taken (rule.any_elements (ty_view ty) begun)) }
 {
     if begun == u64::MAX {
         return Err(OutOfMemory);

@@ -33,7 +33,8 @@ fn scalar_store(
     value: Expression,
 ) -> Result<Expression, OutOfMemory>
     ensures { IfOk result (λ e. expression_view e
-        ≡ part_stored (object_at slot) (scalar_part offset (kind_type kind) (expression_view value))) }
+        ≡ part_stored (object_at slot)
+        (scalar_part offset (kind_type kind) (expression_view value))) }
 {
     let (value, place) = beside(value, place_at(alloc, slot, offset))?;
     Expression::binary(alloc, Binary::Store(kind), place, value)

@@ -61,12 +61,16 @@ gone_to (Some t) fs = Some (ty_view t, fs)
 
 -- The first part of an object is gone into: its type, and what is left behind it.
 abbrev pub Opens : World → TyData → Frames → Option Ty → Frames → Type 0
-Opens w t before first after = (type_view first ≡ first_part w t) × IfSome first (λ _. after ≡ behind_first (parts_of w t) ++ before)
+Opens w t before first after = (type_view first ≡ first_part w t)
+    × IfSome first (λ _. after ≡ behind_first (parts_of w t) ++ before)
 
 -- the same of a struct with these members
 abbrev pub OpensMembers : Named (Option Ty) → Frames → Option Ty → Frames → Type 0
-OpensMembers ms before first after = (type_view first ≡ first_type (map (λ m. m.1) (named_view type_view ms))) × IfSome first (λ _. after ≡ behind_first (shared_members ms 0 ∷ []) ++ before)
+OpensMembers ms before first after =
+    (type_view first ≡ first_type (map (λ m. m.1) (named_view type_view ms)))
+    × IfSome first (λ _. after ≡ behind_first (shared_members ms 0 ∷ []) ++ before)
 
 -- how many elements a list gives an array of these
 abbrev pub listed_count : TyData → InitList → Frames → ℕ
-listed_count t is fs = if is_char_array (array t 0) && is_text_alone is then literal_length is else elements_begun fs
+listed_count t is fs = if is_char_array (array t 0) && is_text_alone is then literal_length is
+    else elements_begun fs

@@ -35,7 +35,8 @@ pub struct Taken {
 }
 
 fn next_element(alloc: Global, ty: Ty, left: u64) -> Result<Option<Taken>, OutOfMemory>
-    ensures { IfOk result (λ taken. taken_view taken ≡ frame_taken (rule.elements_left (ty_view ty) left)) }
+    ensures { IfOk result
+        (λ taken. taken_view taken ≡ frame_taken (rule.elements_left (ty_view ty) left)) }
 {
     if left == 0 {
         return Ok(None);
@@ -48,7 +49,8 @@ fn next_element(alloc: Global, ty: Ty, left: u64) -> Result<Option<Taken>, OutOf
 }
 
 fn any_element(alloc: Global, ty: Ty, begun: u64) -> Result<Option<Taken>, OutOfMemory>
-    ensures { IfOk result (λ taken. taken_view taken ≡ frame_taken (rule.any_elements (ty_view ty) begun)) }
+    ensures { IfOk result
+        (λ taken. taken_view taken ≡ frame_taken (rule.any_elements (ty_view ty) begun)) }
 {
     if begun == u64::MAX {
         return Err(OutOfMemory);

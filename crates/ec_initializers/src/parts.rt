@@ -39,7 +39,8 @@ fn members_frame(checker: &Checker, k: u32) -> Result<Frame, OutOfMemory>
 
 /// All parts of an object of this type.
 pub fn parts_of(checker: &Checker, ty: &Ty) -> Result<Frames, OutOfMemory>
-    ensures { IfOk result (λ frames. frames_view frames ≡ rule.parts_of (world_of checker.now) (ty_view ty.now)) }
+    ensures { IfOk result
+        (λ frames. frames_view frames ≡ rule.parts_of (world_of checker.now) (ty_view ty.now)) }
 {
     let alloc = checker.alloc();
     let mut frames = List::new(alloc);
@@ -154,7 +155,8 @@ fn go_to(
     o: &Operand,
 ) -> Result<Option<Frames>, OutOfMemory>
     ensures { Does known_frames (rule.go_to (place_view at) (operand_view o.now)
-        (rule.next_part (frames_view frames)) (world_of checker.old)) checker.old result checker.new }
+        (rule.next_part (frames_view frames))
+        (world_of checker.old)) checker.old result checker.new }
 {
     let mut rest = frames;
     match next_part(checker.alloc(), &mut rest)? {

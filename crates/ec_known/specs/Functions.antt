@@ -21,7 +21,8 @@ simple_type Letters = text_type
 simple_type Memory = memory_type
 
 abbrev pub signature_view : Signature → KnownData
-signature_view (signature.Plain result parameters) = plain (simple_type result) (map simple_type parameters.now)
+signature_view (signature.Plain result parameters) =
+    plain (simple_type result) (map simple_type parameters.now)
 signature_view (signature.Formatted n) = formatted n
 
 abbrev pub known_view : Known → KnownData

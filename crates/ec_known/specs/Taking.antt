@@ -34,7 +34,8 @@ met_by ts (Some ns) = meet_all ns ts
 
 -- the needs of what stands behind a `%`, of at most so many bytes behind its conversion
 abbrev pub conversion_needs : ℕ → Text → Option Needs
-conversion_needs n bs = option_and_then (λ p. option_map (λ more. p.0 ++ more) (needs_within n p.1)) (conversion bs)
+conversion_needs n bs =
+    option_and_then (λ p. option_map (λ more. p.0 ++ more) (needs_within n p.1)) (conversion bs)
 
 -- whether the rest of a format, of at most so many bytes, needs the types that are left
 abbrev pub is_met : ℕ → Reading → Bool

@@ -117,7 +117,8 @@ pub enum Step<'a> {
 
 // A conversion, behind its `%`.
 fn convert<'a>(format: &'a [u8], types: &'a [Option<Ty>]) -> Step<'a>
-    ensures { (n : ℕ) → met_by (types_view types.now) (conversion_needs n format.now) ≡ stepped (is_met n) result }
+    ensures { (n : ℕ) →
+        met_by (types_view types.now) (conversion_needs n format.now) ≡ stepped (is_met n) result }
 {
     match read_conversion(format) {
         None => Step::Done(false),

@@ -56,7 +56,8 @@ pub fn text_examples()
         (piece_of Emb (codes "EXEC SQL a -- ;\n /* ; /* ; */ ; */;") 1 ∷ piece_of C (codes "x") 2
         ∷ []) }
     ensures braces { Pieces (codes "EXEC SQL struct { int a; } s;x")
-        (piece_of InPlace (codes "EXEC SQL struct { int a; } s;") 1 ∷ piece_of C (codes "x") 1 ∷ []) }
+        (piece_of InPlace (codes "EXEC SQL struct { int a; } s;") 1
+        ∷ piece_of C (codes "x") 1 ∷ []) }
     ensures lone_brace { Pieces (codes "EXEC SQL int } x; y;")
         (piece_of InPlace (codes "EXEC SQL int } x;") 1 ∷ piece_of C (codes " y;") 1 ∷ []) }
     ensures c_inside { Pieces

@@ -117,7 +117,8 @@ pub fn written_examples()
         (tokens_are (on_line 3 (name "x" ∷ end_token ∷ []))) }
     ensures half_head { Gives true (c_text "#include <ecpglib.h>\nx")
         (tokens_are
-        (on_line 1 (included "#include <ecpglib.h>" ∷ []) ++ on_line 2 (name "x" ∷ end_token ∷ []))) }
+        (on_line 1 (included "#include <ecpglib.h>" ∷ [])
+        ++ on_line 2 (name "x" ∷ end_token ∷ []))) }
     ensures late_head { Gives true (c_text ";\n#include <ecpglib.h>\n#include <sqlca.h>")
         (tokens_are
         (on_line 1 (sign mark.Semicolon ∷ []) ++ on_line 2 (included "#include <ecpglib.h>" ∷ [])

@@ -23,7 +23,8 @@ members_of structs k = elim (slice_get structs k) [ None ↦ [] | Some d ↦ d.m
 module _ (structs : List StructData) (frame : Frame) where
   -- the leaves so far, and those of these members of the struct of this number, which lies behind such members
   abbrev pub rest : ℕ → Path → ℕ → List MemberData → List LeafData → Option (List LeafData)
-  rest depth front k ms ls = behind frame front ls (members_ways structs (ways_within depth structs) k ms)
+  rest depth front k ms ls =
+      behind frame front ls (members_ways structs (ways_within depth structs) k ms)
 
   -- those of the members that a struct has left
   abbrev pub left_in : ℕ → Path → Step → List LeafData → Option (List LeafData)
@@ -32,11 +33,14 @@ module _ (structs : List StructData) (frame : Frame) where
   -- then those that the structs have left that hold it, the innermost first
   abbrev pub onto : ℕ → Path → List Step → Option (List LeafData) → Option (List LeafData)
   onto depth front [] found = found
-  onto depth front (s ∷ inner) found = option_and_then (left_in depth front s) (onto (depth - 1) (front ++ step_view s ∷ []) inner found)
+  onto depth front (s ∷ inner) found = option_and_then (left_in depth front s)
+      (onto (depth - 1) (front ++ step_view s ∷ []) inner found)
 
   -- all leaves, once the walk is at its end
   abbrev pub whole : Walk → Option (List LeafData)
-  whole w = onto (length structs - 1) [] w.outer (rest (length structs - 1 - length w.outer) (path_of w.outer) w.id (drop w.next (members_of structs w.id)) (map leaf_view w.leaves))
+  whole w =
+      onto (length structs - 1) [] w.outer (rest (length structs - 1 - length w.outer)
+      (path_of w.outer) w.id (drop w.next (members_of structs w.id)) (map leaf_view w.leaves))
 
   -- a turn of the walk
   abbrev pub Turned : Turn → Walk → Walk → Type 0

@@ -6,7 +6,14 @@ use Rattle.ec_leaves.specs.declared.parts.Frame.TheVariants.{Single, Many}
 use Rattle.ec_hosts.specs.Leaves.{LeafData, Way, leaf_of_struct, leaf_of_structs}
 
 abbrev pub leaf_view : Leaf → LeafData
-leaf_view l = record { in_first = l.in_first; path = l.path; whole = ty_view l.whole; element = ty_view l.element; count = l.count; apart = ty_view l.apart }
+leaf_view l = record {
+  in_first = l.in_first;
+  path = l.path;
+  whole = ty_view l.whole;
+  element = ty_view l.element;
+  count = l.count;
+  apart = ty_view l.apart;
+}
 
 -- the leaf at the end of a way, of one struct or of an array of structs
 abbrev pub leaf_at : Frame → Way → LeafData

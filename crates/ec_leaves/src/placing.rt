@@ -40,7 +40,8 @@ fn first_of_array(
     in_first: bool,
     host: Boxed<Expr>,
 ) -> Result<Boxed<Expr>, OutOfMemory>
-    ensures { IfOk result (λ place. expr_view place ≡ spec.first_of_array in_first (expr_view host)) }
+    ensures { IfOk result
+        (λ place. expr_view place ≡ spec.first_of_array in_first (expr_view host)) }
 {
     if !in_first {
         return Ok(host);

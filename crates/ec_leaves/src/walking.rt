@@ -16,7 +16,8 @@ use std::alloc::Global;
 
 /// One leaf, which is the host itself: elements of this type, so many.
 fn one_leaf(alloc: Global, whole: &Ty, element: &Ty, count: u64) -> Result<List<Leaf>, OutOfMemory>
-    ensures { IfOk result (λ leaves. map leaf_view leaves ≡ spec.own_leaf (ty_view whole.now) (ty_view element.now) count ∷ []) }
+    ensures { IfOk result (λ leaves. map leaf_view leaves
+        ≡ spec.own_leaf (ty_view whole.now) (ty_view element.now) count ∷ []) }
 {
     let leaf = Leaf {
         in_first: false,
@@ -38,7 +39,8 @@ fn plain_leaves(
     ty: &Ty,
 ) -> Result<Option<List<Leaf>>, OutOfMemory>
     ensures { IfOk result (λ found. option_map (map leaf_view) found
-        ≡ one_leaves (structs_view structs.now) (plain_struct (structs_view structs.now) (ty_view ty.now))) }
+        ≡ one_leaves (structs_view structs.now)
+        (plain_struct (structs_view structs.now) (ty_view ty.now))) }
 {
     match plain_struct(structs, ty) {
         Some(id) => struct_leaves(alloc, structs, Frame::Single, id),
@@ -54,7 +56,8 @@ fn many_leaves(
     count: u64,
 ) -> Result<Option<List<Leaf>>, OutOfMemory>
     ensures { IfOk result (λ found. option_map (map leaf_view) found
-        ≡ many_leaves (structs_view structs.now) count (plain_struct (structs_view structs.now) (ty_view of.now))) }
+        ≡ many_leaves (structs_view structs.now) count
+        (plain_struct (structs_view structs.now) (ty_view of.now))) }
 {
     match plain_struct(structs, of) {
         Some(id) => struct_leaves(alloc, structs, Frame::Many(id, count), id),
@@ -93,7 +96,8 @@ fn elements_leaves(
     count: u64,
 ) -> Result<Option<List<Leaf>>, OutOfMemory>
     ensures { IfOk result (λ found. option_map (map leaf_view) found
-        ≡ elements_by (spec.is_pointer (ty_view of.now)) (ty_view whole.now) (ty_view of.now) count) }
+        ≡ elements_by (spec.is_pointer (ty_view of.now))
+        (ty_view whole.now) (ty_view of.now) count) }
 {
     if is_pointer(of) {
         return Ok(None);
@@ -110,7 +114,8 @@ fn array_leaves(
     count: u64,
 ) -> Result<Option<List<Leaf>>, OutOfMemory>
     ensures { IfOk result (λ found. option_map (map leaf_view) found
-        ≡ array_by (is_element (structs_view structs.now) (ty_view of.now)) (structs_view structs.now) (ty_view whole.now) (ty_view of.now) count) }
+        ≡ array_by (is_element (structs_view structs.now) (ty_view of.now))
+        (structs_view structs.now) (ty_view whole.now) (ty_view of.now) count) }
 {
     if is_element(structs, of) {
         elements_leaves(alloc, whole, of, count)
@@ -150,7 +155,8 @@ fn other_leaves(
 /// The leaves of an element, or of what is none.
 fn leaves_by(alloc: Global, structs: &Structs, ty: &Ty) -> Result<Option<List<Leaf>>, OutOfMemory>
     ensures { IfOk result (λ found. option_map (map leaf_view) found
-        ≡ leaves_by (is_element (structs_view structs.now) (ty_view ty.now)) (structs_view structs.now) (ty_view ty.now)) }
+        ≡ leaves_by (is_element (structs_view structs.now) (ty_view ty.now))
+        (structs_view structs.now) (ty_view ty.now)) }
 {
     if is_element(structs, ty) {
         Ok(Some(one_leaf(alloc, ty, ty, 1)?))

@@ -34,26 +34,31 @@ module _ {X : Type 0} {F : X → Type 0} where
 
   module _ (talk : DynBox X Global F → Option Talk) (faults : DynBox X Global F → ℕ) where
     -- the connection's link answered the request, and the log and the link's talk grew by that exchange
-    pub record AsksOnce (request : Request) (old : List Logged) (was : Conn X F) (new : List Logged) (now : Conn X F) : Type 0 where
+    pub record AsksOnce (request : Request) (old : List Logged)
+        (was : Conn X F) (new : List Logged) (now : Conn X F) : Type 0 where
       pub reply : Reply
-      pub logged : new ≡ old ++ record { slot = Some (slot_of was); request = request; reply = reply } ∷ []
+      pub logged : new
+          ≡ old ++ record { slot = Some (slot_of was); request = request; reply = reply } ∷ []
       pub told : talk (link_of now) ≡ talk_after (talk (link_of was)) request reply
       pub broken : reply ≡ Broken → Rose (faults (link_of was)) (faults (link_of now))
 
     -- Any number of asks of one connection, one after another: the log and the link's talk grew by the same exchanges,
     -- and where one was broken, the link's count of faults rose.
-    pub record Asks (old : Rack X F) (was : Conn X F) (new : Rack X F) (now : Conn X F) (growth : List Logged) : Type 0 where
+    pub record Asks (old : Rack X F) (was : Conn X F) (new : Rack X F)
+        (now : Conn X F) (growth : List Logged) : Type 0 where
       pub slots : slots_of new ≡ slots_of old
       pub slot : slot_of now ≡ slot_of was
       pub logged : log_of new ≡ log_of old ++ growth
       pub asked : All (λ x. (x.slot ≡ Some (slot_of was)) × IsAsk x.request) growth
       pub told : talk (link_of now) ≡ told_more (talk (link_of was)) (talk_of (slot_of was) growth)
       pub later : faults (link_of was) ≤ faults (link_of now)
-      pub broken : Contains (replies_of growth) Broken → Rose (faults (link_of was)) (faults (link_of now))
+      pub broken : Contains (replies_of growth) Broken →
+          Rose (faults (link_of was)) (faults (link_of now))
 
 -- What a program's run over its first connection does to the slots: the first ready one is taken, the log grows as the
 -- slots allow, and at the end the slot, which is still taken, is free again. Every other slot is as it was, with its link.
-pub record Ran {X : Type 0} {F : X → Type 0} (before : List (Slot X F)) (growth : List Logged) (after : List (Slot X F)) : Type 0 where
+pub record Ran {X : Type 0} {F : X → Type 0} (before : List (Slot X F))
+    (growth : List Logged) (after : List (Slot X F)) : Type 0 where
   pub slot : ℕ
   pub name : List ℕ
   pub first : ready_slot (states before) ≡ Some (slot, name)

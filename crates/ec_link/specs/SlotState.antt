@@ -48,13 +48,16 @@ Exchanged before None (Connect target _ _) reply after =
     (free_slot target before ≡ None) × (reply ≡ NoTarget) × (after ≡ before)
 Exchanged before None _ _ _ = ⊥
 Exchanged before (Some i) (Connect target _ _) reply after =
-    (free_slot target before ≡ Some i) × (after ≡ (if is_connected reply then slice_set before i (taken target) else before))
+    (free_slot target before ≡ Some i)
+    × (after ≡ (if is_connected reply then slice_set before i (taken target) else before))
 Exchanged before (Some i) Close _ after =
-    (name : List ℕ) × (slice_get before i ≡ Some (taken name)) × (after ≡ slice_set before i (dropped name))
+    (name : List ℕ) × (slice_get before i ≡ Some (taken name))
+    × (after ≡ slice_set before i (dropped name))
 Exchanged before (Some i) _ _ after = TakenAt before i × (after ≡ before)
 
 -- what a log needs of the slots, and what it makes of them, exchange by exchange
 abbrev pub Slots : List SlotState → List Logged → List SlotState → Type 0
 Slots before [] after = after ≡ before
 Slots before (x ∷ log) after =
-    (between : List SlotState) × Exchanged before x.slot x.request x.reply between × Slots between log after
+    (between : List SlotState) × Exchanged before x.slot x.request x.reply between
+    × Slots between log after

@@ -11,9 +11,11 @@ use Rattle.ec_link.specs.Slot.{talk_at}
 use Rattle.ec_link.specs.SlotState.{SlotState, dropped}
 
 -- the talk of the link of slot i, which is in one of the connections or in its slot
-abbrev pub told_at : {X : Type 0} {F : X → Type 0} → (DynBox X Global F → Option Talk) → List (Slot X F) → List (Conn X F) → ℕ → Option Talk
+abbrev pub told_at : {X : Type 0} {F : X → Type 0} → (DynBox X Global F → Option Talk) →
+    List (Slot X F) → List (Conn X F) → ℕ → Option Talk
 told_at talk slots [] i = talk_at talk slots i
-told_at talk slots (conn ∷ conns) i = if slot_of conn == i then talk (link_of conn) else told_at talk slots conns i
+told_at talk slots (conn ∷ conns) i = if slot_of conn == i then talk (link_of conn)
+    else told_at talk slots conns i
 
 -- Given what the link of each slot told before and tells after: each link that is there after and tells its talk told
 -- it before, and the talk grew by what the log grew by for its slot.
@@ -24,4 +26,5 @@ KeepsTalks before after growth =
 -- each slot that was dropped before is dropped after, and the log grew by no exchange of it
 abbrev pub SparesDropped : List SlotState → List SlotState → List Logged → Type 0
 SparesDropped before after growth =
-    (i : ℕ) (name : List ℕ) → slice_get before i ≡ Some (dropped name) → (slice_get after i ≡ Some (dropped name)) × (talk_of i growth ≡ [])
+    (i : ℕ) (name : List ℕ) → slice_get before i ≡ Some (dropped name) →
+    (slice_get after i ≡ Some (dropped name)) × (talk_of i growth ≡ [])

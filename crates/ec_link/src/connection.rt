@@ -20,11 +20,14 @@ impl Conn {
     // Asks the link, and gives the exchange.
     pub(crate) fn exchange(&mut self, request: Request) -> Result<Logged, OutOfMemory>
         ensures slot { slot_of self.new ≡ slot_of self.old }
-        ensures stands { IfOk result (λ x. (x.slot ≡ Some (slot_of self.old)) × (x.request ≡ request)) }
-        ensures told { IfOk result (λ x. talk (link_of self.new) ≡ talk_after (talk (link_of self.old)) request x.reply) }
+        ensures stands { IfOk result
+            (λ x. (x.slot ≡ Some (slot_of self.old)) × (x.request ≡ request)) }
+        ensures told { IfOk result
+            (λ x. talk (link_of self.new) ≡ talk_after (talk (link_of self.old)) request x.reply) }
         ensures err { OnErr result (talk (link_of self.new) ≡ talk (link_of self.old)) }
         ensures later { faults (link_of self.old) ≤ faults (link_of self.new) }
-        ensures broken { IfOk result (λ x. x.reply ≡ Broken → Rose (faults (link_of self.old)) (faults (link_of self.new))) }
+        ensures broken { IfOk result
+            (λ x. x.reply ≡ Broken → Rose (faults (link_of self.old)) (faults (link_of self.new))) }
     {
         let reply = self.link.ask(&request)?;
         let slot = Some(self.slot);

@@ -22,8 +22,10 @@ pub trait Link: Drop {
     ///
     /// After want of memory nothing was said.
     fn ask(&mut self, req: &Request) -> Result<Reply, OutOfMemory>
-        ensures told { IfOk result (λ reply. talk self.new ≡ talk_after (talk self.old) req.now reply) }
+        ensures told { IfOk result
+            (λ reply. talk self.new ≡ talk_after (talk self.old) req.now reply) }
         ensures err { OnErr result (talk self.new ≡ talk self.old) }
         ensures later { faults self.old ≤ faults self.new }
-        ensures broken { IfOk result (λ reply. reply ≡ Reply.Broken → Rose (faults self.old) (faults self.new)) };
+        ensures broken { IfOk result
+            (λ reply. reply ≡ Reply.Broken → Rose (faults self.old) (faults self.new)) };
 }

@@ -30,13 +30,20 @@ impl Model for MemLink {
 
     ghost Value = { Script };
 
-    ghost view = { λ it. record { replies = drop it.given it.replies; breaks = it.breaks; asks = it.asks; said = it.said; broke = it.broke } };
+    ghost view = { λ it. record {
+      replies = drop it.given it.replies;
+      breaks = it.breaks;
+      asks = it.asks;
+      said = it.said;
+      broke = it.broke;
+    } };
 }
 
 impl MemLink {
     /// A link that gives these replies, and breaks at the asks with these numbers.
     pub fn new(alloc: Global, replies: List<Reply>, breaks: &[u64]) -> Result<MemLink, OutOfMemory>
-        ensures { IfOk result (λ link. link ≡ record { replies = replies; breaks = breaks.now; asks = 0; said = []; broke = 0 }) }
+        ensures { IfOk result (λ link. link
+            ≡ record { replies = replies; breaks = breaks.now; asks = 0; said = []; broke = 0 }) }
     {
         Ok(MemLink {
             replies,
@@ -115,10 +122,12 @@ impl Link for MemLink {
     ghost faults = { λ it. it.broke };
 
     fn ask(&mut self, req: &Request) -> Result<Reply, OutOfMemory>
-        ensures told { IfOk result (λ reply. Some self.new.said ≡ talk_after (Some self.old.said) req.now reply) }
+        ensures told { IfOk result
+            (λ reply. Some self.new.said ≡ talk_after (Some self.old.said) req.now reply) }
         ensures err { OnErr result (Some self.new.said ≡ Some self.old.said) }
         ensures later { self.old.broke ≤ self.new.broke }
-        ensures broken { IfOk result (λ reply. reply ≡ Reply.Broken → Rose self.old.broke self.new.broke) }
+        ensures broken { IfOk result
+            (λ reply. reply ≡ Reply.Broken → Rose self.old.broke self.new.broke) }
         ensures reply { IfOk result (λ reply. reply ≡ next_reply self.old) }
         ensures after { OnOk result (self.new ≡ after_ask self.old req.now) }
         ensures unchanged { OnErr result (self.new ≡ self.old) }

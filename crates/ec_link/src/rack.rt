@@ -63,7 +63,8 @@ impl Rack {
 
     /// Whether a slot is ready.
     pub fn has_ready(&self) -> bool
-        ensures { MatchBool result (IsSome (ready_slot (states (slots_of self.now)))) (ready_slot (states (slots_of self.now)) ≡ None) }
+        ensures { MatchBool result (IsSome (ready_slot (states (slots_of self.now))))
+            (ready_slot (states (slots_of self.now)) ≡ None) }
     {
         first_ready(self.slots.as_slice()).is_some()
     }
@@ -77,7 +78,8 @@ impl Rack {
     ) -> Result<(), (Name, Box<dyn Link>)>
         requires first { ready_slot (states (slots_of self.old)) ≡ None }
         requires room { length (slots_of self.old) < 2 ^ 32 - 1 }
-        ensures ok { OnOk result (slots_of self.new ≡ slots_of self.old ++ Slot.Ready target link ∷ []) }
+        ensures ok { OnOk result
+            (slots_of self.new ≡ slots_of self.old ++ Slot.Ready target link ∷ []) }
         ensures err { OnErr result (slots_of self.new ≡ slots_of self.old) }
         ensures handed_back { IfErr result (λ back. back ≡ (target, link)) }
         ensures log { log_of self.new ≡ log_of self.old }
@@ -93,7 +95,8 @@ impl Rack {
     #[tactic(auto, using(std::proofs::lemmas::List::set_at))]
     pub fn add(&mut self, target: Name, link: Box<dyn Link>) -> Result<(), (Name, Box<dyn Link>)>
         requires { length (slots_of self.old) < 2 ^ 32 - 1 }
-        ensures ok { OnOk result (slots_of self.new ≡ slots_of self.old ++ Slot.Free target link ∷ []) }
+        ensures ok { OnOk result
+            (slots_of self.new ≡ slots_of self.old ++ Slot.Free target link ∷ []) }
         ensures err { OnErr result (slots_of self.new ≡ slots_of self.old) }
         ensures handed_back { IfErr result (λ back. back ≡ (target, link)) }
         ensures log { log_of self.new ≡ log_of self.old }
@@ -108,7 +111,9 @@ impl Rack {
     // Adds a slot to be overwritten, and gives its number, or `None` for want of memory.
     fn add_empty(&mut self) -> Option<usize>
         requires { length (slots_of self.old) < 2 ^ 32 - 1 }
-        ensures added { MatchOption result (slots_of self.new ≡ slots_of self.old) (λ at. (at ≡ length (slots_of self.old)) × (slots_of self.new ≡ slots_of self.old ++ Slot.Taken [] ∷ [])) }
+        ensures added { MatchOption result (slots_of self.new ≡ slots_of self.old)
+            (λ at. (at ≡ length (slots_of self.old))
+            × (slots_of self.new ≡ slots_of self.old ++ Slot.Taken [] ∷ [])) }
         ensures log { log_of self.new ≡ log_of self.old }
     {
         let at = self.slots.len();
@@ -122,13 +127,17 @@ impl Rack {
     /// Takes the link out of the first ready slot, or gives `None` where there is none. It takes no memory.
     pub fn take_ready(&mut self) -> Option<Conn>
         ensures taken { MatchOption result
-            ((ready_slot (states (slots_of self.old)) ≡ None) × (slots_of self.new ≡ slots_of self.old))
+            ((ready_slot (states (slots_of self.old)) ≡ None)
+            × (slots_of self.new ≡ slots_of self.old))
             (TakesReady (slots_of self.old) (slots_of self.new)) }
-        ensures now_taken { IfSome result (λ conn. TakenAt (states (slots_of self.new)) (slot_of conn)) }
+        ensures now_taken { IfSome result
+            (λ conn. TakenAt (states (slots_of self.new)) (slot_of conn)) }
         ensures log { log_of self.new ≡ log_of self.old }
         ensures talks { IfSome result (λ conn.
-            KeepsTalks (told_at talk (slots_of self.old) []) (told_at talk (slots_of self.new) (conn ∷ [])) []) }
-        ensures dropped { SparesDropped (states (slots_of self.old)) (states (slots_of self.new)) [] }
+            KeepsTalks (told_at talk (slots_of self.old) [])
+            (told_at talk (slots_of self.new) (conn ∷ [])) []) }
+        ensures dropped { SparesDropped (states (slots_of self.old))
+            (states (slots_of self.new)) [] }
     {
         let at = first_ready(self.slots.as_slice())?;
         let empty = Slot::Taken(Name::new());
@@ -154,18 +163,23 @@ impl Rack {
         ensures slots { slots_of self.new ≡ slots_of self.old }
         ensures slot { slot_of conn.new ≡ slot_of conn.old }
         ensures still_taken { TakenAt (states (slots_of self.new)) (slot_of conn.new) }
-        ensures ok { OnOk result (AsksOnce talk faults request (log_of self.old) conn.old (log_of self.new) conn.new) }
+        ensures ok { OnOk result
+            (AsksOnce talk faults request (log_of self.old) conn.old (log_of self.new) conn.new) }
         ensures err { OnErr result (log_of self.new ≡ log_of self.old) }
         ensures unasked { OnErr result (talk (link_of conn.new) ≡ talk (link_of conn.old)) }
         ensures later { faults (link_of conn.old) ≤ faults (link_of conn.new) }
 
         // The same as one of many asks, and what follows of the talks and of the slots.
-        ensures as_asks { Asks talk faults self.old conn.old self.new conn.new (growth_of (log_of self.old) (log_of self.new)) }
-        ensures talks { KeepsTalks
-            (told_at talk (slots_of self.old) (conn.old ∷ [])) (told_at talk (slots_of self.new) (conn.new ∷ []))
+        ensures as_asks { Asks talk faults self.old conn.old self.new conn.new
             (growth_of (log_of self.old) (log_of self.new)) }
-        ensures dropped { SparesDropped (states (slots_of self.old)) (states (slots_of self.new)) (growth_of (log_of self.old) (log_of self.new)) }
-        ensures exchanged { Slots (states (slots_of self.old)) (growth_of (log_of self.old) (log_of self.new)) (states (slots_of self.new)) }
+        ensures talks { KeepsTalks
+            (told_at talk (slots_of self.old) (conn.old ∷ []))
+            (told_at talk (slots_of self.new) (conn.new ∷ []))
+            (growth_of (log_of self.old) (log_of self.new)) }
+        ensures dropped { SparesDropped (states (slots_of self.old))
+            (states (slots_of self.new)) (growth_of (log_of self.old) (log_of self.new)) }
+        ensures exchanged { Slots (states (slots_of self.old))
+            (growth_of (log_of self.old) (log_of self.new)) (states (slots_of self.new)) }
     {
         push_blank(&mut self.log)?;
         match conn.exchange(request) {
@@ -185,8 +199,10 @@ impl Rack {
         requires { TakenAt (states (slots_of self.old)) (slot_of conn) }
         ensures given { GivesBack (slots_of self.old) (slots_of self.new) conn }
         ensures log { log_of self.new ≡ log_of self.old }
-        ensures talks { KeepsTalks (told_at talk (slots_of self.old) (conn ∷ [])) (told_at talk (slots_of self.new) []) [] }
-        ensures dropped { SparesDropped (states (slots_of self.old)) (states (slots_of self.new)) [] }
+        ensures talks { KeepsTalks (told_at talk (slots_of self.old) (conn ∷ []))
+            (told_at talk (slots_of self.new) []) [] }
+        ensures dropped { SparesDropped (states (slots_of self.old))
+            (states (slots_of self.new)) [] }
     {
         let Conn { slot, link } = conn;
         let at = slot as usize;

@@ -87,7 +87,8 @@ impl Table {
 
 // Whether each row has as many fields as there are columns.
 fn is_rectangular(cols: &List<Col>, rows: &List<Row>) -> bool
-    ensures { MatchBool result (IsRectangular cols.now rows.now) (Any (λ row. length row ≢ length cols.now) rows.now) }
+    ensures { MatchBool result (IsRectangular cols.now rows.now)
+        (Any (λ row. length row ≢ length cols.now) rows.now) }
 {
     let width = cols.len();
     rows.as_slice().iter().all(|row| row.len() == width)

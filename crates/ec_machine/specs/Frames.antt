@@ -76,7 +76,8 @@ body_of x = statement_view (out-Loop x).body
 -- what becomes of the values that were collected
 abbrev pub received : World → Line → Callee → List ValueData → State → Res
 received w line (callee.Function f used) vs t = answered line.0 used (w (calls line.0 f vs) t)
-received w line (callee.Known f) vs t = done_there line.0 (effect_of (known_view f.now) t.memory vs) t
+received w line (callee.Known f) vs t =
+    done_there line.0 (effect_of (known_view f.now) t.memory vs) t
 received w line callee.Object vs t = on t
 
 -- where the frames below stand
@@ -88,12 +89,15 @@ below e f = e
 
 -- what a frame makes of the answer that it waits for
 abbrev pub plug : Knowing → World → Env → Frame → Res → Res
-plug knowing w e (frame.Steps line xs) o = followed knowing w (here e line) (map full_step_view xs.now) o
+plug knowing w e (frame.Steps line xs) o =
+    followed knowing w (here e line) (map full_step_view xs.now) o
 plug knowing w e (frame.Right line step v old xs) o =
-    followed knowing w (here e line) (map full_step_view xs.now) (on_value o (both_on line.0 step (word_view v) (word_view old)))
+    followed knowing w (here e line) (map full_step_view xs.now)
+    (on_value o (both_on line.0 step (word_view v) (word_view old)))
 plug knowing w e (frame.Arguments line callee n es xs) o =
     followed knowing w (here e line) (map full_step_view xs.now) (on_value o (λ v t.
-    collect knowing w (here e line) (waiting n e ++ v ∷ []) (expressions_view es.now) t (received w line callee)))
+    collect knowing w (here e line) (waiting n e ++ v ∷ [])
+    (expressions_view es.now) t (received w line callee)))
 plug knowing w e (frame.Call line used otherwise xs first) o =
     followed knowing w (here (record e { first = first }) line) (map full_step_view xs.now)
     (answered line.0 used (function_end (option_map word_view otherwise) o))
@@ -110,10 +114,13 @@ plug knowing w e (frame.Test line x) o =
       | false ↦ on t
     ])
 plug knowing w e (frame.Behind line x) o =
-    on_value o (λ v t. tested knowing w (here e line) (test_of x.now) (behind_of x.now) (body_of x.now) t)
+    on_value o
+    (λ v t. tested knowing w (here e line) (test_of x.now) (behind_of x.now) (body_of x.now) t)
 plug knowing w e (frame.Body line x) o =
-    after_body o (λ t. again knowing w (here e line) (test_of x.now) (behind_of x.now) (body_of x.now) t)
-plug knowing w e (frame.Rest line xs) o = on_done o (λ t. run_all knowing w (here e line) (statements_view xs.now) t)
+    after_body o
+    (λ t. again knowing w (here e line) (test_of x.now) (behind_of x.now) (body_of x.now) t)
+plug knowing w e (frame.Rest line xs) o =
+    on_done o (λ t. run_all knowing w (here e line) (statements_view xs.now) t)
 plug knowing w e (frame.Settle line xs) o = settle w (here e line) (statements_view xs.now) o
 plug knowing w e (frame.Close mark height count) o = closing mark o
 
@@ -134,9 +141,13 @@ led (flow.Back v) s = back (option_map word_view v) s
 
 abbrev pub denote : Knowing → World → Env → Line → List ℕ → Focus → State → Res
 denote knowing w e line text (focus.Runs x) s = run knowing w (here e line) (statement_view x.now) s
-denote knowing w e line text (focus.Looks l x) s = look knowing w l (here e line) (statement_view x.now) s
-denote knowing w e line text (focus.Evaluates x) s = eval knowing w (here e line) (expression_view x.now) s
+denote knowing w e line text (focus.Looks l x) s =
+    look knowing w l (here e line) (statement_view x.now) s
+denote knowing w e line text (focus.Evaluates x) s =
+    eval knowing w (here e line) (expression_view x.now) s
 denote knowing w e line text (focus.Value v) s = value (word_view v) s
-denote knowing w e line text (focus.Puts channel v) s = done_there line.0 (puts_bytes (channel_view channel) (option_map word_view v) s.memory text) s
-denote knowing w e line text (focus.Calls n) s = without_answer (knowing w (here e line) (library n) s)
+denote knowing w e line text (focus.Puts channel v) s =
+    done_there line.0 (puts_bytes (channel_view channel) (option_map word_view v) s.memory text) s
+denote knowing w e line text (focus.Calls n) s =
+    without_answer (knowing w (here e line) (library n) s)
 denote knowing w e line text (focus.Leads f) s = led f s

@@ -35,7 +35,8 @@ world fs k = tasks without_atoms fs k
 -- A step that the machine runs with: what it does is the same however many turns the tasks may take beyond those that are left, and it knows calls of the library, but no embedded statement
 pub record Fits (knowing : Knowing) : Type 0 where
   pub counts : CountsTurns knowing
-  pub embeds : (w : World) (c : Context) (n : ℕ) (s : State) → knowing w c (embedded n) s ≡ over stuck s
+  pub embeds : (w : World) (c : Context) (n : ℕ) (s : State) →
+      knowing w c (embedded n) s ≡ over stuck s
 
 abbrev pub ending_view : End → Ending
 ending_view (ends.Exited n) = exited n
@@ -62,14 +63,17 @@ Stops stop.OutOfMemory s o = Unit {0}
 -- from an answer on, the machine stands at a focus with that answer
 abbrev pub Stands : Knowing → World → State → Machine → Result Focus Stop → Res → Type 0
 Stands knowing w s m (Ok f) o =
-    o ≡ resume knowing w (env_of m) (reverse m.frames) (denote knowing w (env_of m) m.line m.text f (at s m))
+    o ≡ resume knowing w (env_of m) (reverse m.frames)
+    (denote knowing w (env_of m) m.line m.text f (at s m))
 Stands knowing w s m (Err x) o = Stops x (at s m) o
 
 -- what a part of the run leads to, from where the machine stood, is what it stands at now
-abbrev pub Goes : List Function → Machine → Env → (Knowing → World → State → Res) → Result Focus Stop → Machine → Type 0
+abbrev pub Goes : List Function → Machine → Env →
+    (Knowing → World → State → Res) → Result Focus Stop → Machine → Type 0
 Goes fs old e part result new =
     (knowing : Knowing) → Fits knowing → (k : ℕ) (s : State) → old.turns < k
-    → Stands knowing (tasks knowing fs k) s new result (resume knowing (tasks knowing fs k) e (reverse old.frames) (part knowing (tasks knowing fs k) (at s old)))
+    → Stands knowing (tasks knowing fs k) s new result (resume knowing (tasks knowing fs k) e
+    (reverse old.frames) (part knowing (tasks knowing fs k) (at s old)))
 
 -- how the run ends, where there is an ending
 abbrev pub IsOver : Stop → Ending → Type 0
@@ -108,7 +112,9 @@ abbrev pub Ends : End → (State → Res) → Type 0
 Ends e o = (s : State) → o s ≡ over (ending_view e) s
 
 -- from one computation on, the machine stands before another; or what stopped it is what the first leads to
-abbrev pub Enters : Knowing → World → State → Machine → Result (Unit {0}) Stop → Machine → Res → Res → Type 0
+abbrev pub Enters : Knowing → World → State → Machine →
+    Result (Unit {0}) Stop → Machine → Res → Res → Type 0
 Enters knowing w s old (Ok v) new o next =
-    resume knowing w (env_of old) (reverse old.frames) o ≡ resume knowing w (env_of new) (reverse new.frames) next
+    resume knowing w (env_of old) (reverse old.frames) o
+    ≡ resume knowing w (env_of new) (reverse new.frames) next
 Enters knowing w s old (Err x) new o next = Stops x (at s new) o

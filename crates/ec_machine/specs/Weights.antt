@@ -110,7 +110,8 @@ again_weight x = 1 + test_weight x + optional_weight (out-Loop x).behind
 abbrev pub frame_weight : Frame → ℕ
 frame_weight (frame.Steps line xs) = steps_weight xs.now
 frame_weight (frame.Right line step v old xs) = 1 + steps_weight xs.now
-frame_weight (frame.Arguments line callee n es xs) = 2 + expressions_weight es.now + steps_weight xs.now
+frame_weight (frame.Arguments line callee n es xs) =
+    2 + expressions_weight es.now + steps_weight xs.now
 frame_weight (frame.Call line used otherwise xs first) = 1 + steps_weight xs.now
 frame_weight frame.Do = 1
 frame_weight frame.Give = 1

@@ -24,4 +24,5 @@ module _ {T : Type 0} {g : Ghosts T} where
 
   -- the same elements of the same memory
   abbrev pub IsSameElements : Elements T g → Elements T g → Type 0
-  IsSameElements e f = (f.store.ghost_name ≡ e.store.ghost_name) × (f.ptr.0 ≡ e.ptr.0) × (f.count ≡ e.count) × (f.step ≡ e.step)
+  IsSameElements e f = (f.store.ghost_name ≡ e.store.ghost_name)
+      × (f.ptr.0 ≡ e.ptr.0) × (f.count ≡ e.count) × (f.step ≡ e.step)

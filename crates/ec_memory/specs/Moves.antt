@@ -22,4 +22,5 @@ offset_behind p by size = pos (offset_of p) +ℤ (by *ℤ pos size)
 abbrev pub moved_within : ℕ → ℕ → ℤ → ℕ → Result ℕ Trap
 moved_within len p by size =
     let offset = offset_behind p by size in
-    if is_within len offset then Ok (pointer_to (object_of p) (unsigned_abs offset)) else Err Outside
+    if is_within len offset then Ok (pointer_to (object_of p) (unsigned_abs offset))
+    else Err Outside

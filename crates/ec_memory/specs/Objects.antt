@@ -9,7 +9,9 @@ use Rattle.ec_objects.specs.Memory.{alive, ended, Memory, object_of, offset_of, 
 abbrev pub objects_of : ℕ → ℕ → List Cell → List Place → Memory
 objects_of zero number cells places = []
 objects_of (suc left) number cells [] = ended ∷ objects_of left (suc number) cells []
-objects_of (suc left) number cells (p ∷ places) = if p.number == number then alive (take p.size cells) ∷ objects_of left (suc number) (drop p.size cells) places else ended ∷ objects_of left (suc number) cells (p ∷ places)
+objects_of (suc left) number cells (p ∷ places) = if p.number == number
+    then alive (take p.size cells) ∷ objects_of left (suc number) (drop p.size cells) places
+    else ended ∷ objects_of left (suc number) cells (p ∷ places)
 
 -- all objects that were made
 abbrev pub memory_of : ℕ → List Cell → List Place → Memory
@@ -29,7 +31,8 @@ pub record Ends (number start made end : ℕ) : Type 0 where
 -- the places lie one behind the other, by rising numbers from a number on
 abbrev pub InLine : ℕ → ℕ → List Place → ℕ → ℕ → Type 0
 InLine number start [] made end = Ends number start made end
-InLine number start (p ∷ places) made end = Follows number start p (InLine (suc p.number) (start + p.size) places made end)
+InLine number start (p ∷ places) made end =
+    Follows number start p (InLine (suc p.number) (start + p.size) places made end)
 
 -- the places fill the region, and neither bytes nor objects are too many
 pub record Kept (made : ℕ) (cells : List Cell) (places : List Place) : Type 0 where
@@ -68,7 +71,8 @@ pub record Placed (places : List Place) (p n at : ℕ) : Type 0 where
 
 -- with these places an access traps so, whatever the cells
 abbrev pub Traps : {A : Type 0} → List Place → (Memory → Result A Trap) → Trap → Type 0
-Traps places access t = (made : ℕ) (cells : List Cell) → Kept made cells places → access (memory_of made cells places) ≡ Err t
+Traps places access t = (made : ℕ) (cells : List Cell) →
+    Kept made cells places → access (memory_of made cells places) ≡ Err t
 
 -- the objects behind a mark begin at this index
 pub record Behind (places : List Place) (mark k : ℕ) : Type 0 where

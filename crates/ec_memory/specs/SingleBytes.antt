@@ -13,7 +13,8 @@ cell_read (Some (Some b)) = Ok b
 
 -- the byte `behind` places behind a pointer, in the pointer's object
 abbrev pub byte_behind : Memory → ℕ → ℕ → Result ℕ Trap
-byte_behind m p behind = and_then (object_cells m (object_of p)) (λ cells. cell_read (slice_get cells (offset_of p + behind)))
+byte_behind m p behind = and_then (object_cells m (object_of p))
+    (λ cells. cell_read (slice_get cells (offset_of p + behind)))
 
 -- how many cells of a pointer's object stand from the pointer on
 abbrev pub cells_left : Memory → ℕ → Result ℕ Trap

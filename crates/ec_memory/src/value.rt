@@ -22,7 +22,8 @@ pub(crate) trait Held: Scalar {
 
     /// The value that the scalar stands for.
     fn value(self) -> Value
-        ensures { (bytes : List ℕ) → length bytes ≡ Self.SIZE → ((i : ℕ) → slice_index bytes i < 256)
+        ensures { (bytes : List ℕ) → length bytes ≡ Self.SIZE →
+            ((i : ℕ) → slice_index bytes i < 256)
             → self ≡ Self.decode bytes → value_view result ≡ decoded kind bytes };
 
     /// The scalar that stands for a value of the type.

@@ -82,7 +82,8 @@ fn task_named(name: &str) -> Option<Task> {
 
 // The integer type of a kind, or `None` of a pointer.
 fn arith_of(kind: Kind) -> Option<Arith>
-    ensures { MatchOption result (kind_type kind ≡ pointer_type) (λ t. kind_type kind ≡ integer_type t) }
+    ensures { MatchOption result (kind_type kind ≡ pointer_type)
+        (λ t. kind_type kind ≡ integer_type t) }
 {
     match kind {
         Kind::Bool => Some(Arith::Bool),
@@ -237,7 +238,8 @@ fn set_answer(store: &mut Store, ptr: Ptr, words: &mut Words<'_>) -> Result<Answ
 // elements have ended.
 fn set_two(store: &mut Store, ptr: Ptr) -> Result<(), Trap>
     ensures { MatchResult result
-        (λ _. and_then (put store.old ptr.0 (255 ∷ 255 ∷ [])) (λ m. put m (ptr.0 + 8) (2 ∷ 0 ∷ [])) ≡ Ok store.new)
+        (λ _. and_then (put store.old ptr.0 (255 ∷ 255 ∷ [])) (λ m. put m (ptr.0 + 8) (2 ∷ 0 ∷ []))
+        ≡ Ok store.new)
         (λ _. store.new ≡ store.old) }
 {
     let mut elements = store.elements::<I16>(ptr, 3, 4)?;

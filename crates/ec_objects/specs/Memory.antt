@@ -49,7 +49,8 @@ object_cells m (suc n) = cells_found (slice_get m n)
 -- the cells of an access to n bytes, which lie in the object
 abbrev pub cells_at : Memory → ℕ → ℕ → Result (List Cell) Trap
 cells_at m p n = and_then (object_cells m (object_of p)) (λ cells.
-    if nat_le (offset_of p + n) (length cells) then Ok (part_of cells (offset_of p) n) else Err Outside)
+    if nat_le (offset_of p + n) (length cells) then Ok (part_of cells (offset_of p) n)
+    else Err Outside)
 
 -- what was read, or that a cell of it is unset
 abbrev pub or_unset : {A : Type 0} → Option A → Result A Trap
@@ -81,12 +82,14 @@ front_of (suc n) (Some (suc b) ∷ cells) = and_then (front_of n cells) (λ bs. 
 -- the same at a pointer, each byte read as an access of its own: so nothing is tested where none is read
 abbrev pub text_up_to : Memory → ℕ → ℕ → Result (List ℕ) Trap
 text_up_to m p zero = Ok []
-text_up_to m p (suc n) = and_then (object_cells m (object_of p)) (λ cells. front_of (suc n) (drop (offset_of p) cells))
+text_up_to m p (suc n) =
+    and_then (object_cells m (object_of p)) (λ cells. front_of (suc n) (drop (offset_of p) cells))
 
 -- the memory with these cells from the pointer on, written as one access
 abbrev pub with_cells : Memory → ℕ → List Cell → Result Memory Trap
 with_cells m p piece = and_then (object_cells m (object_of p)) (λ cells.
-    if nat_le (offset_of p + length piece) (length cells) then Ok (slice_set m (object_of p - 1) (alive (written cells (offset_of p) piece))) else Err Outside)
+    if nat_le (offset_of p + length piece) (length cells) then Ok
+    (slice_set m (object_of p - 1) (alive (written cells (offset_of p) piece))) else Err Outside)
 
 -- bytes are put
 abbrev pub put : Memory → ℕ → List ℕ → Result Memory Trap
@@ -108,11 +111,13 @@ copy m to from n = and_then (cells_at m from n) (λ cells. with_cells m to cells
 abbrev pub moved : Memory → ℕ → ℤ → ℕ → Result ℕ Trap
 moved m p by size = and_then (object_cells m (object_of p)) (λ cells.
     let offset = pos (offset_of p) +ℤ (by *ℤ pos size) in
-    if int_le (pos 0) offset && int_le offset (pos (length cells)) then Ok (pointer_to (object_of p) (unsigned_abs offset)) else Err Outside)
+    if int_le (pos 0) offset && int_le offset (pos (length cells))
+    then Ok (pointer_to (object_of p) (unsigned_abs offset)) else Err Outside)
 
 -- how many elements of this size lie between two pointers, cut towards zero (6.5.6). They are pointers into one object, and no more is tested
 abbrev pub difference : ℕ → ℕ → ℕ → Result ℤ Trap
-difference p from size = if object_of p == object_of from then Ok (int_div (pos (offset_of p) -ℤ pos (offset_of from)) (pos size)) else Err Outside
+difference p from size = if object_of p == object_of from
+    then Ok (int_div (pos (offset_of p) -ℤ pos (offset_of from)) (pos size)) else Err Outside
 
 -- the order of two pointers is that of their numbers, whatever they lead to (6.5.8)
 abbrev pub order : ℕ → ℕ → Ordering
@@ -197,7 +202,8 @@ number_of (address a) = pos a
 
 -- the bytes of a value
 abbrev pub encoded : ScalarType → ValueData → List ℕ
-encoded s v = little_endian_bytes (scalar_size s) (unsigned_abs (int_rem_euclid (number_of v) (pos (2 ^ (8 * scalar_size s)))))
+encoded s v = little_endian_bytes (scalar_size s)
+    (unsigned_abs (int_rem_euclid (number_of v) (pos (2 ^ (8 * scalar_size s)))))
 
 -- a value is loaded, or stored, as one access
 abbrev pub load : Memory → ℕ → ScalarType → Result ValueData Trap

@@ -3,7 +3,8 @@ use Rattle.std.specs.Prelude.{ℕ, [], ◌∷◌, Some, None}
 use Rattle.ec_objects.specs.Memory.{Memory, alive, ended, pointer_to}
 
 abbrev pub three_objects : Memory
-three_objects = alive (Some 1 ∷ Some 2 ∷ None ∷ Some 4 ∷ []) ∷ ended ∷ alive (Some 104 ∷ Some 0 ∷ []) ∷ []
+three_objects =
+    alive (Some 1 ∷ Some 2 ∷ None ∷ Some 4 ∷ []) ∷ ended ∷ alive (Some 104 ∷ Some 0 ∷ []) ∷ []
 
 -- pointers to their first bytes
 abbrev pub first : ℕ

@@ -12,9 +12,12 @@ pub fn access_examples()
     ensures null { load three_objects 0 (integer_type arith.Int) ≡ Err trap.Null }
     ensures null_before_outside { load three_objects 100 (integer_type arith.Int) ≡ Err trap.Null }
     ensures dead { load three_objects second (integer_type arith.Char) ≡ Err trap.Dead }
-    ensures never_made { load three_objects (pointer_to 4 0) (integer_type arith.Char) ≡ Err trap.Dead }
-    ensures dead_before_outside { load three_objects (second + 100) (integer_type arith.Char) ≡ Err trap.Dead }
-    ensures outside_before_unset { load three_objects (first + 2) (integer_type arith.Int) ≡ Err trap.Outside }
+    ensures never_made { load three_objects (pointer_to 4 0) (integer_type arith.Char)
+        ≡ Err trap.Dead }
+    ensures dead_before_outside { load three_objects (second + 100) (integer_type arith.Char)
+        ≡ Err trap.Dead }
+    ensures outside_before_unset { load three_objects (first + 2) (integer_type arith.Int)
+        ≡ Err trap.Outside }
     ensures unset { load three_objects first (integer_type arith.Int) ≡ Err trap.Unset }
     ensures within { load three_objects first (integer_type arith.Short) ≡ Ok (number (pos 513)) }
     ensures nothing_at_the_end { span three_objects (first + 4) 0 ≡ Ok [] }
@@ -81,26 +84,48 @@ pub fn pointer_examples()
 
 /// What loaded bytes are worth, and which bytes are stored.
 pub fn value_examples()
-    ensures char_is_signed { load (alive (Some 200 ∷ []) ∷ []) first (integer_type arith.Char) ≡ Ok (number (negsuc 55)) }
-    ensures unsigned { load (alive (Some 200 ∷ []) ∷ []) first (integer_type arith.UChar) ≡ Ok (number (pos 200)) }
-    ensures any_byte_is_true { load (alive (Some 2 ∷ []) ∷ []) first (integer_type arith.Bool) ≡ Ok (number (pos 1)) }
-    ensures zero_is_false { load (alive (Some 0 ∷ []) ∷ []) first (integer_type arith.Bool) ≡ Ok (number (pos 0)) }
-    ensures stored { store three_objects first (integer_type arith.Short) (number (negsuc 1)) ≡ Ok (alive (Some 254 ∷ Some 255 ∷ None ∷ Some 4 ∷ []) ∷ ended ∷ alive (Some 104 ∷ Some 0 ∷ []) ∷ []) }
+    ensures char_is_signed { load (alive (Some 200 ∷ []) ∷ []) first (integer_type arith.Char)
+        ≡ Ok (number (negsuc 55)) }
+    ensures unsigned { load (alive (Some 200 ∷ []) ∷ []) first (integer_type arith.UChar)
+        ≡ Ok (number (pos 200)) }
+    ensures any_byte_is_true { load (alive (Some 2 ∷ []) ∷ []) first (integer_type arith.Bool)
+        ≡ Ok (number (pos 1)) }
+    ensures zero_is_false { load (alive (Some 0 ∷ []) ∷ []) first (integer_type arith.Bool)
+        ≡ Ok (number (pos 0)) }
+    ensures stored { store three_objects first (integer_type arith.Short) (number (negsuc 1))
+        ≡ Ok (alive (Some 254 ∷ Some 255 ∷ None ∷ Some 4 ∷ [])
+        ∷ ended ∷ alive (Some 104 ∷ Some 0 ∷ []) ∷ []) }
     ensures pointers { little_endian_bytes 8 third ≡ 0 ∷ 0 ∷ 0 ∷ 0 ∷ 3 ∷ 0 ∷ 0 ∷ 0 ∷ [] }
-    ensures filled { fill three_objects (first + 1) 2 9 ≡ Ok (alive (Some 1 ∷ Some 9 ∷ Some 9 ∷ Some 4 ∷ []) ∷ ended ∷ alive (Some 104 ∷ Some 0 ∷ []) ∷ []) }
-    ensures made_unset { unset three_objects third 1 ≡ Ok (alive (Some 1 ∷ Some 2 ∷ None ∷ Some 4 ∷ []) ∷ ended ∷ alive (None ∷ Some 0 ∷ []) ∷ []) }
-    ensures copied { copy three_objects third (first + 1) 2 ≡ Ok (alive (Some 1 ∷ Some 2 ∷ None ∷ Some 4 ∷ []) ∷ ended ∷ alive (Some 2 ∷ None ∷ []) ∷ []) }
-    ensures overlapping { copy three_objects (first + 1) first 3 ≡ Ok (alive (Some 1 ∷ Some 1 ∷ Some 2 ∷ None ∷ []) ∷ ended ∷ alive (Some 104 ∷ Some 0 ∷ []) ∷ []) }
+    ensures filled { fill three_objects (first + 1) 2 9
+        ≡ Ok (alive (Some 1 ∷ Some 9 ∷ Some 9 ∷ Some 4 ∷ [])
+        ∷ ended ∷ alive (Some 104 ∷ Some 0 ∷ []) ∷ []) }
+    ensures made_unset { unset three_objects third 1 ≡ Ok
+        (alive (Some 1 ∷ Some 2 ∷ None ∷ Some 4 ∷ []) ∷ ended ∷ alive (None ∷ Some 0 ∷ []) ∷ []) }
+    ensures copied { copy three_objects third (first + 1) 2 ≡ Ok
+        (alive (Some 1 ∷ Some 2 ∷ None ∷ Some 4 ∷ []) ∷ ended ∷ alive (Some 2 ∷ None ∷ []) ∷ []) }
+    ensures overlapping { copy three_objects (first + 1) first 3
+        ≡ Ok (alive (Some 1 ∷ Some 1 ∷ Some 2 ∷ None ∷ [])
+        ∷ ended ∷ alive (Some 104 ∷ Some 0 ∷ []) ∷ []) }
     ensures source_first { copy three_objects 0 second 1 ≡ Err trap.Dead }
 {}
 
 /// Objects are made and end, and no number is used again.
 pub fn object_examples()
-    ensures numbered { make three_objects 2 ≡ Ok (pointer_to 4 0, alive (Some 1 ∷ Some 2 ∷ None ∷ Some 4 ∷ []) ∷ ended ∷ alive (Some 104 ∷ Some 0 ∷ []) ∷ alive (None ∷ None ∷ []) ∷ []) }
-    ensures zeroed { make_zeroed (ended ∷ []) 2 ≡ Ok (second, ended ∷ alive (Some 0 ∷ Some 0 ∷ []) ∷ []) }
+    ensures numbered { make three_objects 2
+        ≡ Ok (
+          pointer_to 4 0,
+          alive (Some 1 ∷ Some 2 ∷ None ∷ Some 4 ∷ []) ∷ ended
+              ∷ alive (Some 104 ∷ Some 0 ∷ []) ∷ alive (None ∷ None ∷ []) ∷ [],
+        ) }
+    ensures zeroed { make_zeroed (ended ∷ []) 2
+        ≡ Ok (second, ended ∷ alive (Some 0 ∷ Some 0 ∷ []) ∷ []) }
     ensures last { last_number three_objects ≡ 3 }
-    ensures ended_behind { end_to three_objects 1 ≡ alive (Some 1 ∷ Some 2 ∷ None ∷ Some 4 ∷ []) ∷ ended ∷ ended ∷ [] }
-    ensures not_again { make (end_to three_objects 0) 1 ≡ Ok (pointer_to 4 0, ended ∷ ended ∷ ended ∷ alive (None ∷ []) ∷ []) }
-    ensures too_many_bytes { (m : Memory) (size : ℕ) → 2 ^ 28 < live_bytes m + size → make m size ≡ Err trap.Spent }
-    ensures too_many_objects { (m : Memory) (size : ℕ) → 2 ^ 32 ≤ length m + 1 → make m size ≡ Err trap.Spent }
+    ensures ended_behind { end_to three_objects 1
+        ≡ alive (Some 1 ∷ Some 2 ∷ None ∷ Some 4 ∷ []) ∷ ended ∷ ended ∷ [] }
+    ensures not_again { make (end_to three_objects 0) 1
+        ≡ Ok (pointer_to 4 0, ended ∷ ended ∷ ended ∷ alive (None ∷ []) ∷ []) }
+    ensures too_many_bytes { (m : Memory) (size : ℕ) →
+        2 ^ 28 < live_bytes m + size → make m size ≡ Err trap.Spent }
+    ensures too_many_objects { (m : Memory) (size : ℕ) →
+        2 ^ 32 ≤ length m + 1 → make m size ≡ Err trap.Spent }
 {}

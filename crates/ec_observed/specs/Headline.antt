@@ -33,26 +33,32 @@ pub record IsTooLong (before after : Option (List ℕ)) : Type 0 where
   pub bounded : length bytes ≤ 2 ^ 24 + block
 
 -- the input was read to its end, and has its fault at this line
-pub record RefusesAt (IsFault : List ℕ → FaultKind → ℕ → Type 0) (input input' : Option (List ℕ)) (kind : FaultKind) (line : ℕ) : Type 0 where
+pub record RefusesAt (IsFault : List ℕ → FaultKind → ℕ → Type 0)
+    (input input' : Option (List ℕ)) (kind : FaultKind) (line : ℕ) : Type 0 where
   pub text : List ℕ
   pub read : IsRead input input' text
   pub fault : IsFault text kind line
 
-module _ {P : Type 0} (IsSource : List ℕ → P → Type 0) (meaning : P → Option ℕ → List Answer → Observed) where
+module _ {P : Type 0} (IsSource : List ℕ → P → Type 0)
+    (meaning : P → Option ℕ → List Answer → Observed) where
   -- The input was read to its end and is a source, and the run was the whole of what the source means over the answers
   -- that the log got.
-  pub record RunsWhole (input input' output output' : Option (List ℕ)) (slots : List SlotState) (growth : List Logged) (status : ℕ) : Type 0 where
+  pub record RunsWhole (input input' output output' : Option (List ℕ))
+      (slots : List SlotState) (growth : List Logged) (status : ℕ) : Type 0 where
     pub text : List ℕ
     pub read : IsRead input input' text
     pub program : P
     pub source : IsSource text program
-    pub whole : IsWhole (meaning program (connection_slot slots) (answers_in growth)) growth output output' status
+    pub whole : IsWhole
+        (meaning program (connection_slot slots) (answers_in growth)) growth output output' status
 
   -- The input was read to its end and is a source, and the run was a part of what the source means over the answers that
   -- the log got.
-  pub record RunsPart (input input' output output' : Option (List ℕ)) (slots : List SlotState) (growth : List Logged) : Type 0 where
+  pub record RunsPart (input input' output output' : Option (List ℕ))
+      (slots : List SlotState) (growth : List Logged) : Type 0 where
     pub text : List ℕ
     pub read : IsRead input input' text
     pub program : P
     pub source : IsSource text program
-    pub part : IsPart (meaning program (connection_slot slots) (answers_in growth)) growth output output'
+    pub part : IsPart
+        (meaning program (connection_slot slots) (answers_in growth)) growth output output'

@@ -11,12 +11,14 @@ use Rattle.ec_params.specs.declared.places.Leaves.{Leaves}
 use Rattle.ec_leaves.specs.Seen.{leaf_view}
 
 -- these places are put behind the others, and these names are left
-pub record Adds (ds : Denoted) (at next : ℕ) (old new : List Place) (f : Denoted → Made (List PlaceData)) : Type 0 where
+pub record Adds (ds : Denoted) (at next : ℕ) (old new : List Place)
+    (f : Denoted → Made (List PlaceData)) : Type 0 where
   pub places : map place_view new ≡ map place_view old ++ (f (drop at ds)).made
   pub left : drop next ds ≡ (f (drop at ds)).left
 
 -- this is made, and these names are left
-pub record MakesText (ds : Denoted) (at next : ℕ) (e : ExprData) (f : Denoted → Made ExprData) : Type 0 where
+pub record MakesText (ds : Denoted) (at next : ℕ)
+    (e : ExprData) (f : Denoted → Made ExprData) : Type 0 where
   pub text : e ≡ (f (drop at ds)).made
   pub left : drop next ds ≡ (f (drop at ds)).left
 

@@ -38,23 +38,29 @@ opened_faults rows None part = F26 ∷ []
 opened_faults rows (Some k) part = fault_unless (same_denoted (row_at rows k) part) F28
 
 abbrev pub opening_by : List Denoted → EmbData → Option ℕ → Denoted → List FaultKind
-opening_by rows e above ds = elim (opened_cursor e) [ None ↦ [] | Some c ↦ open_faults rows above e ds ]
+opening_by rows e above ds =
+    elim (opened_cursor e) [ None ↦ [] | Some c ↦ open_faults rows above e ds ]
 
 abbrev pub declaring_by : EmbData → Option ℕ → List FaultKind
-declaring_by e above = elim (declared_cursor e) [ None ↦ [] | Some c ↦ fault_unless (not (is_some above)) F27 ]
+declaring_by e above =
+    elim (declared_cursor e) [ None ↦ [] | Some c ↦ fault_unless (not (is_some above)) F27 ]
 
 -- the DECLARE of the cursor that a statement opens
 abbrev pub opened_by : List EmbData → EmbData → Option ℕ → Option EmbData
-opened_by es e above = elim (opened_cursor e) [ None ↦ None | Some c ↦ option_and_then (λ k. slice_get es k) above ]
+opened_by es e above =
+    elim (opened_cursor e) [ None ↦ None | Some c ↦ option_and_then (λ k. slice_get es k) above ]
 
 abbrev pub faults_by : ProgramData → List Denoted → EmbData → Option ℕ → Denoted → List FaultKind
-faults_by p rows e above ds = uses_faults p (uses_of e) ds ++ (opening_by rows e above ds ++ declaring_by e above)
+faults_by p rows e above ds =
+    uses_faults p (uses_of e) ds ++ (opening_by rows e above ds ++ declaring_by e above)
 
 abbrev pub stop_for : EmbData → Option FaultKind → Option Stop
 stop_for e fault = option_map (λ k. Refused k e.line) fault
 
-abbrev pub answer_with : ProgramData → List Denoted → List EmbData → EmbData → Option ℕ → Denoted → Result BoundData Stop
-answer_with p rows es e above ds = answer_by (statement_bound p e (opened_by es e above) ds) (stop_for e (least (faults_by p rows e above ds)))
+abbrev pub answer_with : ProgramData → List Denoted → List EmbData →
+    EmbData → Option ℕ → Denoted → Result BoundData Stop
+answer_with p rows es e above ds = answer_by (statement_bound p e (opened_by es e above) ds)
+    (stop_for e (least (faults_by p rows e above ds)))
 
 abbrev pub above_of : Option (Option ℕ) → Option ℕ
 above_of None = None
@@ -66,4 +72,6 @@ above_at es n = above_of (slice_get (aboves 0 [] es) n)
 -- ---- what is made once
 
 abbrev pub IsMade : Typed → List StructDef → List ℕ → List ℕ → List (Option ℕ) → Type 0
-IsMade t structs hosts functions above = (structs ≡ t.structs) × (hosts ≡ t.hosts.hosts) × (functions ≡ functions_of (unit_view t.unit)) × (above ≡ aboves 0 [] (map emb_view t.unit.embs))
+IsMade t structs hosts functions above = (structs ≡ t.structs) × (hosts ≡ t.hosts.hosts)
+    × (functions ≡ functions_of (unit_view t.unit))
+    × (above ≡ aboves 0 [] (map emb_view t.unit.embs))

@@ -8,4 +8,5 @@ use Rattle.ec_params.specs.Listed.{places_of}
 use Rattle.ec_params.specs.Tallies.{tallies_of}
 
 abbrev pub IsKept : List StructDef → List (Named ℕ) → List (Option Tally) → Type 0
-IsKept structs tables tallies = (tables ≡ map places_of (structs_view structs)) × (tallies ≡ tallies_of (structs_view structs))
+IsKept structs tables tallies = (tables ≡ map places_of (structs_view structs))
+    × (tallies ≡ tallies_of (structs_view structs))

@@ -6,7 +6,12 @@ use Rattle.ec_hosts.specs.Programs.{ProgramData, Denoted}
 use Rattle.ec_params.specs.declared.scene.Scene.{Scene}
 
 abbrev pub program_of : Scene → ProgramData
-program_of s = record { structs = structs_view s.structs.now; names = map name_view s.names.now; hosts = s.hosts.now; functions = s.functions.now }
+program_of s = record {
+  structs = structs_view s.structs.now;
+  names = map name_view s.names.now;
+  hosts = s.hosts.now;
+  functions = s.functions.now;
+}
 
 -- what the variables of the statement denote
 abbrev pub denoted_of : Scene → Denoted

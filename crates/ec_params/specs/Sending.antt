@@ -10,12 +10,14 @@ use Rattle.ec_params.specs.declared.sending.Sending.{Sending as SendingText}
 -- so many more behind that of this number
 abbrev pub more_parameters : ℕ → ℕ → Text
 more_parameters n zero = []
-more_parameters n (suc count) = codes ", " ++ (dollar ∷ (decimal (n + 1) ++ more_parameters (n + 1) count))
+more_parameters n (suc count) =
+    codes ", " ++ (dollar ∷ (decimal (n + 1) ++ more_parameters (n + 1) count))
 
 -- what is written, and what the parts behind make of it
 abbrev pub whole : ProgramData → Denoted → List PartData → SendingText → Text
 whole p ds ps s = s.text ++ sent_from p s.number ps (drop s.at ds)
 
 -- These parts are put at the end: whatever stands behind them, the whole is the same.
-pub record Sends (p : ProgramData) (ds : Denoted) (ps : List PartData) (old new : SendingText) : Type 0 where
+pub record Sends (p : ProgramData) (ds : Denoted)
+    (ps : List PartData) (old new : SendingText) : Type 0 where
   pub is : (qs : List PartData) → whole p ds qs new ≡ whole p ds (ps ++ qs) old

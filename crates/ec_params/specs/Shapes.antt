@@ -35,6 +35,7 @@ faults_by structs t i (shape.Many n) (Some (shape.Many m)) = struct_faults struc
 faults_by structs t i (shape.Many n) _ = F23 ∷ []
 
 -- those of what has leaves or none
-abbrev pub faults_of_shape : List StructData → TyData → TyData → Option Shape → Option Shape → List FaultKind
+abbrev pub faults_of_shape : List StructData → TyData →
+    TyData → Option Shape → Option Shape → List FaultKind
 faults_of_shape structs t i None s = []
 faults_of_shape structs t i (Some h) s = faults_by structs t i h s

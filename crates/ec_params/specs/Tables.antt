@@ -7,7 +7,8 @@ use Rattle.ec_statement_parts.specs.Cursors.{declared_cursor}
 
 -- the cursor that a statement declares or opens
 abbrev pub named_cursor : EmbData → Option Text
-named_cursor e = elim e.kind [ declare_cursor c ps p ↦ Some c | open_cursor c is ↦ Some c | _ ↦ None ]
+named_cursor e =
+    elim e.kind [ declare_cursor c ps p ↦ Some c | open_cursor c is ↦ Some c | _ ↦ None ]
 
 abbrev pub found_in : Named ℕ → Option Text → Option ℕ
 found_in table None = None
@@ -16,8 +17,10 @@ found_in table (Some c) = find (map lower c) table
 -- with the cursor that the statement of this number declares, if it is the first
 abbrev pub with_declared : ℕ → Named ℕ → Option Text → Named ℕ
 with_declared n table None = table
-with_declared n table (Some c) = elim (find (map lower c) table) [ None ↦ put (map lower c) n table | Some k ↦ table ]
+with_declared n table (Some c) =
+    elim (find (map lower c) table) [ None ↦ put (map lower c) n table | Some k ↦ table ]
 
 abbrev pub aboves : ℕ → Named ℕ → List EmbData → List (Option ℕ)
 aboves n table [] = []
-aboves n table (e ∷ es) = found_in table (named_cursor e) ∷ aboves (n + 1) (with_declared n table (declared_cursor e)) es
+aboves n table (e ∷ es) =
+    found_in table (named_cursor e) ∷ aboves (n + 1) (with_declared n table (declared_cursor e)) es

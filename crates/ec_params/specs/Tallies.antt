@@ -18,11 +18,13 @@ counted n = if nat_le n most then n else most
 
 abbrev pub leaves_tally : Option (List LeafData) → Option Tally
 leaves_tally None = None
-leaves_tally (Some ls) = Some (record { count = counted (length ls); indicators = list_all (λ l. is_indicator l.element) ls })
+leaves_tally (Some ls) = Some
+    (record { count = counted (length ls); indicators = list_all (λ l. is_indicator l.element) ls })
 
 abbrev pub ways_tally : Option (List Way) → Option Tally
 ways_tally None = None
-ways_tally (Some ws) = Some (record { count = counted (length ws); indicators = list_all (λ w. is_indicator w.1) ws })
+ways_tally (Some ws) =
+    Some (record { count = counted (length ws); indicators = list_all (λ w. is_indicator w.1) ws })
 
 -- ---- of types, without such lists
 
@@ -34,7 +36,8 @@ element_tally t = record { count = 1; indicators = is_indicator t }
 
 -- those of both, one behind the other
 abbrev pub joined : Tally → Tally → Tally
-joined a b = record { count = counted (a.count + b.count); indicators = a.indicators && b.indicators }
+joined a b =
+    record { count = counted (a.count + b.count); indicators = a.indicators && b.indicators }
 
 abbrev pub both_tallies : Option Tally → Option Tally → Option Tally
 both_tallies None b = None
@@ -47,17 +50,27 @@ struct_tally ts None = Some None
 struct_tally ts (Some k) = slice_get ts k
 
 abbrev pub member_tally : List StructData → List (Option Tally) → TyData → Option (Option Tally)
-member_tally structs ts t = elim (is_element structs t) [ true ↦ Some (Some (element_tally t)) | false ↦ struct_tally ts (plain_struct structs t) ]
+member_tally structs ts t = elim (is_element structs t) [
+  | true ↦ Some (Some (element_tally t))
+  | false ↦ struct_tally ts (plain_struct structs t)
+]
 
 -- of these members behind what is counted
-abbrev pub members_tally : List StructData → List (Option Tally) → Option Tally → List MemberData → Option (Option Tally)
+abbrev pub members_tally : List StructData → List (Option Tally) →
+    Option Tally → List MemberData → Option (Option Tally)
 members_tally structs ts all [] = Some all
-members_tally structs ts all (m ∷ ms) = option_and_then (λ t. members_tally structs ts (both_tallies all t) ms) (member_tally structs ts m.1)
+members_tally structs ts all (m ∷ ms) = option_and_then
+    (λ t. members_tally structs ts (both_tallies all t) ms) (member_tally structs ts m.1)
 
 -- with the tallies of these structs, up to the first that holds one that isn't among those so far
-abbrev pub with_tallies : List StructData → List (Option Tally) → List StructData → List (Option Tally)
+abbrev pub with_tallies : List StructData →
+    List (Option Tally) → List StructData → List (Option Tally)
 with_tallies structs ts [] = ts
-with_tallies structs ts (d ∷ ds) = elim (members_tally structs ts (Some no_leaves) d.members) [ None ↦ ts | Some t ↦ with_tallies structs (ts ++ t ∷ []) ds ]
+with_tallies structs ts (d ∷ ds) =
+    elim (members_tally structs ts (Some no_leaves) d.members) [
+      | None ↦ ts
+      | Some t ↦ with_tallies structs (ts ++ t ∷ []) ds
+    ]
 
 abbrev pub tallies_of : List StructData → List (Option Tally)
 tallies_of structs = with_tallies structs [] structs
@@ -67,7 +80,10 @@ elements_tally t = elim (is_pointer t) [ true ↦ None | false ↦ Some (element
 
 -- of an array of this type
 abbrev pub array_tally : List StructData → List (Option Tally) → TyData → Option (Option Tally)
-array_tally structs ts t = elim (is_element structs t) [ true ↦ Some (elements_tally t) | false ↦ struct_tally ts (plain_struct structs t) ]
+array_tally structs ts t = elim (is_element structs t) [
+  | true ↦ Some (elements_tally t)
+  | false ↦ struct_tally ts (plain_struct structs t)
+]
 
 -- of what is no element
 abbrev pub other_tally : List StructData → List (Option Tally) → TyData → Option (Option Tally)
@@ -79,7 +95,10 @@ other_tally structs ts (structure k) = struct_tally ts (plain_struct structs (st
 
 -- of a type, if it is known
 abbrev pub known_tally : List StructData → List (Option Tally) → TyData → Option (Option Tally)
-known_tally structs ts t = elim (is_element structs t) [ true ↦ Some (Some (element_tally t)) | false ↦ other_tally structs ts t ]
+known_tally structs ts t = elim (is_element structs t) [
+  | true ↦ Some (Some (element_tally t))
+  | false ↦ other_tally structs ts t
+]
 
 -- ---- comparing them
 

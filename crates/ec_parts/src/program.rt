@@ -106,7 +106,8 @@ impl<'a> Statements<'a> {
 
     /// The first DECLARE above the statement of this number of the cursor with this name in lower case.
     fn declared_above(&self, n: usize, key: &[u8]) -> Option<&Emb>
-        ensures { (name : Text) → key.now ≡ map lower name → option_map emb_view (option_copied result)
+        ensures { (name : Text) → key.now ≡ map lower name →
+            option_map emb_view (option_copied result)
             ≡ option_and_then (λ k. slice_get (map emb_view self.now) k)
             (cursor.declared_above (map emb_view self.now) n name) }
     {

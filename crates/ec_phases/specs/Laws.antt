@@ -14,14 +14,17 @@ use Rattle.ec_phases.specs.Sources.{ReadsTree, ReadsChecked, BoundProgram, Reads
 -- how many of the pieces are statements
 abbrev pub statement_count : List Piece → ℕ
 statement_count [] = 0
-statement_count (p ∷ ps) = elim (is_statement p.kind) [ true ↦ suc (statement_count ps) | false ↦ statement_count ps ]
+statement_count (p ∷ ps) =
+    elim (is_statement p.kind) [ true ↦ suc (statement_count ps) | false ↦ statement_count ps ]
 
 -- Each statement among the pieces has a token.
 abbrev pub HavePlaces : Type 0
-HavePlaces = (pieces : List Piece) (ts : List TokenData) → Tokens false pieces ts → length (statement_places ts) ≡ statement_count pieces
+HavePlaces = (pieces : List Piece) (ts : List TokenData) →
+    Tokens false pieces ts → length (statement_places ts) ≡ statement_count pieces
 
 abbrev pub HasOneTree : Type 0
-HasOneTree = (text : Text) (a b : Result UnitData Stop) → ReadsTree text a → ReadsTree text b → a ≡ b
+HasOneTree = (text : Text) (a b : Result UnitData Stop) →
+    ReadsTree text a → ReadsTree text b → a ≡ b
 
 abbrev pub HasTree : Type 0
 HasTree = (text : Text) → (answer : Result UnitData Stop) × ReadsTree text answer
@@ -31,10 +34,12 @@ abbrev pub StandInOrder : Type 0
 StandInOrder = (text : Text) (u : UnitData) → ReadsTree text (Ok u) → are_in_order u.embs ≡ true
 
 abbrev pub HasOneCheck : Type 0
-HasOneCheck = (text : Text) (a b : Result TypedData Stop) → ReadsChecked text a → ReadsChecked text b → a ≡ b
+HasOneCheck = (text : Text) (a b : Result TypedData Stop) →
+    ReadsChecked text a → ReadsChecked text b → a ≡ b
 
 abbrev pub HasOneReading : Type 0
-HasOneReading = (text : Text) (a b : Result BoundProgram Stop) → ReadsSource text a → ReadsSource text b → a ≡ b
+HasOneReading = (text : Text) (a b : Result BoundProgram Stop) →
+    ReadsSource text a → ReadsSource text b → a ≡ b
 
 abbrev pub IsRead : Type 0
 IsRead = (text : Text) → (answer : Result BoundProgram Stop) × ReadsSource text answer

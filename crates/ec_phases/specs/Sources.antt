@@ -58,11 +58,13 @@ checked_tree (Err stop) = Err stop
 
 -- A source that is checked, or why it is refused.
 abbrev pub ReadsChecked : Text → Result TypedData Stop → Type 0
-ReadsChecked text answer = (tree : Result UnitData Stop) × ReadsTree text tree × (answer ≡ checked_tree tree)
+ReadsChecked text answer = (tree : Result UnitData Stop)
+    × ReadsTree text tree × (answer ≡ checked_tree tree)
 
 -- ---- hosts
 
-abbrev pub with_bound : Result BoundData Stop → Result (List BoundData) Stop → Result (List BoundData) Stop
+abbrev pub with_bound : Result BoundData Stop →
+    Result (List BoundData) Stop → Result (List BoundData) Stop
 with_bound (Ok b) (Ok bs) = Ok (b ∷ bs)
 with_bound (Ok b) (Err stop) = Err stop
 with_bound (Err stop) bs = Err stop
@@ -87,4 +89,5 @@ bound_program (Err stop) = Err stop
 
 -- A source that is accepted, with what is bound for its statements, or what it is refused for.
 abbrev pub ReadsSource : Text → Result BoundProgram Stop → Type 0
-ReadsSource text answer = (checked : Result TypedData Stop) × ReadsChecked text checked × (answer ≡ bound_program checked)
+ReadsSource text answer = (checked : Result TypedData Stop)
+    × ReadsChecked text checked × (answer ≡ bound_program checked)

@@ -13,7 +13,9 @@ use Rattle.ec_plain.specs.Steps.{both_on}
 use Rattle.ec_plain.specs.declared.both.Ready.{Ready}
 use Rattle.ec_plain.specs.declared.both.Ready.TheVariants as ready
 
-abbrev pub readied : Knowing → World → Context → Binary → Exp → ValueData → Result Ready Stop → State → Res
+abbrev pub readied : Knowing → World → Context → Binary →
+    Exp → ValueData → Result Ready Stop → State → Res
 readied knowing w c b a v (Ok (ready.Done done)) t = value (word_view done) t
-readied knowing w c b a v (Ok (ready.Waits old)) t = on_value (eval knowing w c a t) (both_on c.line b v (word_view old))
+readied knowing w c b a v (Ok (ready.Waits old)) t =
+    on_value (eval knowing w c a t) (both_on c.line b v (word_view old))
 readied knowing w c b a v (Err why) t = over (ending_of c.line why) t

@@ -95,7 +95,8 @@ pub fn finish(
 /// To a place, of a value.
 fn assign(store: &mut Store, kind: Kind, left: Word, right: Word) -> Result<Word, Stop>
     ensures { (line : ℕ) (s : State)
-        → both_on line (of.Store kind) (word_view left) (word_view left) (word_view right) (at s store.old)
+        → both_on line (of.Store kind) (word_view left)
+        (word_view left) (word_view right) (at s store.old)
         ≡ answered line result (at s store.new) }
 {
     match left {
@@ -111,7 +112,8 @@ fn assign(store: &mut Store, kind: Kind, left: Word, right: Word) -> Result<Word
 /// To a place, of so many cells of another.
 fn copy(store: &mut Store, size: u64, left: Word, right: Word) -> Result<Word, Stop>
     ensures { (line : ℕ) (s : State)
-        → both_on line (of.Copy size) (word_view left) (word_view left) (word_view right) (at s store.old)
+        → both_on line (of.Copy size) (word_view left)
+        (word_view left) (word_view right) (at s store.old)
         ≡ answered line result (at s store.new) }
 {
     match left {
@@ -137,7 +139,8 @@ fn renew(
     right: Word,
 ) -> Result<Word, Stop>
     ensures { (line : ℕ) (s : State)
-        → both_on line (of.Update update) (word_view left) (word_view old) (word_view right) (at s store.old)
+        → both_on line (of.Update update) (word_view left)
+        (word_view old) (word_view right) (at s store.old)
         ≡ answered line result (at s store.new) }
 {
     match left {

@@ -32,7 +32,8 @@ pub fn unary(store: &mut Store, step: &Unary, value: Word) -> Result<Word, Stop>
 
 /// A member of a struct.
 fn member(store: &Store, offset: u64, value: Word) -> Result<Word, Stop>
-    ensures { (line : ℕ) (s : State) → one_on line (of.Member offset) (word_view value) (at s store.now)
+    ensures { (line : ℕ) (s : State) →
+        one_on line (of.Member offset) (word_view value) (at s store.now)
         ≡ answered line result (at s store.now) }
 {
     match value {
@@ -62,7 +63,8 @@ fn load(store: &Store, kind: Kind, value: Word) -> Result<Word, Stop>
 
 /// A struct as a value: an access to all of it.
 fn whole(store: &Store, size: u64, value: Word) -> Result<Word, Stop>
-    ensures { (line : ℕ) (s : State) → one_on line (of.Whole size) (word_view value) (at s store.now)
+    ensures { (line : ℕ) (s : State) →
+        one_on line (of.Whole size) (word_view value) (at s store.now)
         ≡ answered line result (at s store.now) }
 {
     match value {
@@ -77,7 +79,8 @@ fn whole(store: &Store, size: u64, value: Word) -> Result<Word, Stop>
 
 /// Bytes at a place.
 fn put(store: &mut Store, bytes: &Bytes, value: Word) -> Result<Word, Stop>
-    ensures { (line : ℕ) (s : State) → one_on line (of.Put bytes.now) (word_view value) (at s store.old)
+    ensures { (line : ℕ) (s : State) →
+        one_on line (of.Put bytes.now) (word_view value) (at s store.old)
         ≡ answered line result (at s store.new) }
 {
     match value {

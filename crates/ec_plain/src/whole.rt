@@ -41,7 +41,8 @@ pub fn evaluate(store: &mut Store, scope: &[Ptr], expression: &Plain) -> Result<
 /// Where an expression begins.
 fn begin(scope: &[Ptr], leaf: Leaf) -> Result<Word, Stop>
     ensures { (knowing : Knowing) (w : World) (line : ℕ) (first : Bool) (s : State)
-        → eval knowing w (context line scope.now first) (leaf_view leaf) s ≡ answered line result s }
+        → eval knowing w (context line scope.now first) (leaf_view leaf) s
+        ≡ answered line result s }
 {
     match leaf {
         Leaf::Object(number) => Ok(Word::Address(Ptr((number as u64) << 32))),
@@ -58,7 +59,8 @@ fn begin(scope: &[Ptr], leaf: Leaf) -> Result<Word, Stop>
 #[cycle(evaluation)]
 fn take_step(store: &mut Store, scope: &[Ptr], step: &PlainStep, value: Word) -> Result<Word, Stop>
     ensures { (knowing : Knowing) (w : World) (line : ℕ) (first : Bool) (s : State)
-        → step_on knowing w (context line scope.now first) (plain_step_view step.now) (word_view value) (at s store.old)
+        → step_on knowing w (context line scope.now first)
+        (plain_step_view step.now) (word_view value) (at s store.old)
         ≡ answered line result (at s store.new) }
 {
     match step {

@@ -37,13 +37,15 @@ declared = λ n w. and_then (form.cursor_head n w) (λ name m r. declaring_for n
 unfoldable pub formless : Reader EmbKindData
 formless = λ n w. elim (is_first (codes "DECLARE") w) [
   | true ↦ declared n w
-  | false ↦ elim (first_is_among transaction_words w) [ true ↦ controlling n w | false ↦ sending n w ]
+  | false ↦
+      elim (first_is_among transaction_words w) [ true ↦ controlling n w | false ↦ sending n w ]
 ]
 
 unfoldable pub formless_at : Reader EmbKindData
 formless_at = λ n w. elim (is_first (codes "DECLARE") w) [
   | true ↦ stuck w
-  | false ↦ elim (first_is_among transaction_words w) [ true ↦ controlling n w | false ↦ sending n w ]
+  | false ↦
+      elim (first_is_among transaction_words w) [ true ↦ controlling n w | false ↦ sending n w ]
 ]
 
 -- the forms, in the order of the table

@@ -9,4 +9,5 @@ use Rattle.ec_references.specs.Readers.{Reader}
 
 -- What is made of the trees of the form is what the reader reads, from any tokens and counts.
 abbrev pub IsReader : {A : Type 0} (form : Form) → (Of form → A) → Reader A → Type 0
-IsReader form make reader = (n : Counts) (w : Tokens) → made make (read alphabet form n w) ≡ reader n w
+IsReader form make reader = (n : Counts) (w : Tokens) →
+    made make (read alphabet form n w) ≡ reader n w

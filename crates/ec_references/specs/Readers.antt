@@ -46,7 +46,11 @@ if_next t p q = λ n w. elim (next_is t w) [ true ↦ p n w | false ↦ q n w ]
 -- turns that go on with what the ones before have made
 abbrev pub turns_from : {A : Type 0} → (Tokens → Bool) → (A → Reader A) → ℕ → A → Reader A
 turns_from goes f zero a n w = done a n w
-turns_from goes f (suc k) a n w = elim (goes w) [ true ↦ and_then (f a n w) (λ b m r. turns_from goes f k b m r) | false ↦ done a n w ]
+turns_from goes f (suc k) a n w =
+    elim (goes w) [
+      | true ↦ and_then (f a n w) (λ b m r. turns_from goes f k b m r)
+      | false ↦ done a n w
+    ]
 
 -- what code that reads ensures, unless memory fails
 abbrev pub Reads : {A B : Type 0} → (B → A) → Reading A → Result B Failure → State → Type 0
@@ -76,22 +80,28 @@ FitsLong digits = nat_lt (digits_value 10 digits) (2 ^ 63) ≡ true
 -- ---- references
 
 abbrev pub place : Reader ExprData
-place = if_next glued_word (taken glued_word >>= (λ t. returns (identifier t.bytes))) (taken glued_number >>= (λ t. returns (decimal_constant t.bytes)))
+place = if_next glued_word (taken glued_word >>= (λ t. returns (identifier t.bytes)))
+    (taken glued_number >>= (λ t. returns (decimal_constant t.bytes)))
 
 abbrev pub member_behind : ExprData → Reader ExprData
-member_behind e = taken (suffix_sign (codes ".")) >> (taken glued_word >>= (λ t. returns (member e t.bytes)))
+member_behind e =
+    taken (suffix_sign (codes ".")) >> (taken glued_word >>= (λ t. returns (member e t.bytes)))
 
 abbrev pub arrow_behind : ExprData → Reader ExprData
-arrow_behind e = taken (suffix_sign (codes "->")) >> (taken glued_word >>= (λ t. returns (arrow e t.bytes)))
+arrow_behind e =
+    taken (suffix_sign (codes "->")) >> (taken glued_word >>= (λ t. returns (arrow e t.bytes)))
 
 abbrev pub index_behind : ExprData → Reader ExprData
-index_behind e = taken (suffix_sign (codes "[")) >> (place >>= (λ i. taken (glued_sign (codes "]")) >> returns (index e i)))
+index_behind e = taken (suffix_sign (codes "[")) >>
+    (place >>= (λ i. taken (glued_sign (codes "]")) >> returns (index e i)))
 
 unfoldable pub suffix_behind : ExprData → Reader ExprData
-suffix_behind e = if_next (suffix_sign (codes ".")) (member_behind e) (if_next (suffix_sign (codes "->")) (arrow_behind e) (index_behind e))
+suffix_behind e = if_next (suffix_sign (codes ".")) (member_behind e)
+    (if_next (suffix_sign (codes "->")) (arrow_behind e) (index_behind e))
 
 abbrev pub begins_suffix : Tokens → Bool
-begins_suffix w = is_next_among alphabet (suffix_sign (codes ".") ∷ suffix_sign (codes "->") ∷ suffix_sign (codes "[") ∷ []) w
+begins_suffix w = is_next_among alphabet
+    (suffix_sign (codes ".") ∷ suffix_sign (codes "->") ∷ suffix_sign (codes "[") ∷ []) w
 
 unfoldable pub suffixes_behind : ExprData → Reader ExprData
 suffixes_behind e = λ n w. turns_from begins_suffix suffix_behind (length w) e n w
@@ -104,30 +114,40 @@ unfoldable pub referenced : Begins → Reader ExprData
 referenced b = taken (colon b) >> named_place
 
 unfoldable pub spelled_indicator : Reader (Option ExprData)
-spelled_indicator = if_next (keyword (codes "INDICATOR")) (taken (keyword (codes "INDICATOR")) >> (referenced reference >>= (λ i. returns (Some i)))) (returns None)
+spelled_indicator =
+    if_next (keyword (codes "INDICATOR")) (taken (keyword (codes "INDICATOR")) >>
+    (referenced reference >>= (λ i. returns (Some i)))) (returns None)
 
 unfoldable pub indicator : Reader (Option ExprData)
-indicator = if_next (colon reference) (referenced reference >>= (λ i. returns (Some i))) spelled_indicator
+indicator =
+    if_next (colon reference) (referenced reference >>= (λ i. returns (Some i))) spelled_indicator
 
 unfoldable pub hosted : Begins → Reader HostData
-hosted b = referenced b >>= (λ e. indicator >>= (λ i. returns (record { value = e; indicator = i })))
+hosted b =
+    referenced b >>= (λ e. indicator >>= (λ i. returns (record { value = e; indicator = i })))
 
 -- before a `:` that begins another host
 unfoldable pub spelled_host : Begins → Reader HostData
-spelled_host b = referenced b >>= (λ e. spelled_indicator >>= (λ i. returns (record { value = e; indicator = i })))
+spelled_host b =
+    referenced b >>=
+    (λ e. spelled_indicator >>= (λ i. returns (record { value = e; indicator = i })))
 
 -- ---- names and texts
 
 unfoldable pub quote_or_host : Reader TextArgData
-quote_or_host = if_next plain_quote (taken plain_quote >>= (λ t. returns (word_arg (unquoted t.bytes)))) (hosted reference >>= (λ h. returns (text_of_host h)))
+quote_or_host =
+    if_next plain_quote (taken plain_quote >>= (λ t. returns (word_arg (unquoted t.bytes))))
+    (hosted reference >>= (λ h. returns (text_of_host h)))
 
 unfoldable pub text_argument : Reader TextArgData
-text_argument = if_next any_word (taken any_word >>= (λ t. returns (word_arg t.bytes))) quote_or_host
+text_argument =
+    if_next any_word (taken any_word >>= (λ t. returns (word_arg t.bytes))) quote_or_host
 
 unfoldable pub spelled_text : Reader TextArgData
 spelled_text =
     if_next any_word (taken any_word >>= (λ t. returns (word_arg t.bytes)))
-    (if_next plain_quote (taken plain_quote >>= (λ t. returns (word_arg (unquoted t.bytes)))) (spelled_host reference >>= (λ h. returns (text_of_host h))))
+    (if_next plain_quote (taken plain_quote >>= (λ t. returns (word_arg (unquoted t.bytes))))
+    (spelled_host reference >>= (λ h. returns (text_of_host h))))
 
 abbrev pub begins_text : Tokens → Bool
 begins_text w = is_next_among alphabet (any_word ∷ plain_quote ∷ colon reference ∷ []) w
@@ -137,20 +157,25 @@ if_text p q = λ n w. elim (begins_text w) [ true ↦ p n w | false ↦ q n w ]
 
 -- a connection by its name, with these words in upper case
 unfoldable pub named_connection : (Text → Text) → Reader TextArgData
-named_connection upper = if_next any_word (taken any_word >>= (λ t. returns (word_arg (upper t.bytes)))) quote_or_host
+named_connection upper =
+    if_next any_word (taken any_word >>= (λ t. returns (word_arg (upper t.bytes)))) quote_or_host
 
 -- ---- values
 
 unfoldable pub constant : Reader InputData
 constant =
     if_next input_number (taken input_number >>= (λ t. returns (const_input t.bytes)))
-    (if_next input_minus (taken input_minus >> (taken whole_number >>= (λ t. returns (const_input (codes "-" ++ t.bytes))))) (taken input_quote >>= (λ t. returns (const_input (unquoted t.bytes)))))
+    (if_next input_minus
+    (taken input_minus >>
+    (taken whole_number >>= (λ t. returns (const_input (codes "-" ++ t.bytes)))))
+    (taken input_quote >>= (λ t. returns (const_input (unquoted t.bytes)))))
 
 unfoldable pub value : Reader InputData
 value = if_next (colon input) (hosted input >>= (λ h. returns (host_input h))) constant
 
 unfoldable pub spelled_value : Reader InputData
-spelled_value = if_next (colon input) (spelled_host input >>= (λ h. returns (host_input h))) constant
+spelled_value =
+    if_next (colon input) (spelled_host input >>= (λ h. returns (host_input h))) constant
 
 -- ---- lists
 
@@ -168,11 +193,14 @@ abbrev pub area : Reader TextArgData
 area = taken (keyword (codes "SQL")) >> (taken (keyword (codes "DESCRIPTOR")) >> text_argument)
 
 unfoldable pub inputs : Reader InsData
-inputs = if_next (keyword (codes "SQL")) (area >>= (λ a. returns (area_ins a))) (separated value >>= (λ vs. returns (listed_ins vs)))
+inputs = if_next (keyword (codes "SQL")) (area >>= (λ a. returns (area_ins a)))
+    (separated value >>= (λ vs. returns (listed_ins vs)))
 
 unfoldable pub outputs : Reader OutsData
-outputs = if_next (keyword (codes "SQL")) (area >>= (λ a. returns (area_outs a))) (separated (hosted reference) >>= (λ hs. returns (listed_outs hs)))
+outputs = if_next (keyword (codes "SQL")) (area >>= (λ a. returns (area_outs a)))
+    (separated (hosted reference) >>= (λ hs. returns (listed_outs hs)))
 
 -- USING with its list, or nothing
 unfoldable pub using_or_none : Reader InsData
-using_or_none = if_next (keyword (codes "USING")) (taken (keyword (codes "USING")) >> inputs) (returns (listed_ins []))
+using_or_none = if_next (keyword (codes "USING"))
+    (taken (keyword (codes "USING")) >> inputs) (returns (listed_ins []))

@@ -36,7 +36,8 @@ terminal_view class.NotTo = spec.word_but (codes "TO")
 terminal_view class.NotImmediate = spec.word_but (codes "IMMEDIATE")
 terminal_view class.NotPrepare = spec.word_but (codes "PREPARE")
 terminal_view class.NotBreakOrContinue = spec.other_word (codes "BREAK" ∷ codes "CONTINUE" ∷ [])
-terminal_view class.NotPrepareOrDescriptor = spec.other_word (codes "PREPARE" ∷ codes "DESCRIPTOR" ∷ [])
+terminal_view class.NotPrepareOrDescriptor =
+    spec.other_word (codes "PREPARE" ∷ codes "DESCRIPTOR" ∷ [])
 terminal_view class.GluedNumber = spec.glued_number
 terminal_view class.FittingNumber = spec.fitting_number
 terminal_view class.WholeNumber = spec.whole_number

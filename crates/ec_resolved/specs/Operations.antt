@@ -34,7 +34,8 @@ fits t z = int_le (least t) z && int_le z (greatest t)
 
 -- a result as a value of the type: a signed one that doesn't fit traps, an unsigned one wraps (6.2.5, 6.5)
 abbrev pub result_of : Arith → ℤ → Result ℤ Trap
-result_of t z = if is_signed t then (if fits t z then Ok z else Err Overflow) else Ok (converted t z)
+result_of t z = if is_signed t then (if fits t z then Ok z else Err Overflow)
+    else Ok (converted t z)
 
 -- operators whose operands and result have one type
 pub data IntegerOperator : Type 0 where
@@ -91,7 +92,8 @@ is_amount t n = int_le (pos 0) n && int_lt n (pos (width t))
 
 -- a left shift, of an amount that the type allows. A negative value, or a result that doesn't fit, traps where the type is signed (6.5.7)
 abbrev pub shifted : Arith → ℤ → ℤ → Result ℤ Trap
-shifted t a n = if is_signed t && int_lt a (pos 0) then Err Overflow else result_of t (a *ℤ pos (2 ^ unsigned_abs n))
+shifted t a n = if is_signed t && int_lt a (pos 0) then Err Overflow
+    else result_of t (a *ℤ pos (2 ^ unsigned_abs n))
 
 -- the amount is tested before all else
 abbrev pub shifted_left : Arith → ℤ → ℤ → Result ℤ Trap
@@ -99,7 +101,10 @@ shifted_left t a n = elim (is_amount t n) [ true ↦ shifted t a n | false ↦ E
 
 -- a right shift of a negative value keeps its sign
 abbrev pub shifted_right : Arith → ℤ → ℤ → Result ℤ Trap
-shifted_right t a n = elim (is_amount t n) [ true ↦ Ok (int_div_euclid a (pos (2 ^ unsigned_abs n))) | false ↦ Err Shift ]
+shifted_right t a n = elim (is_amount t n) [
+  | true ↦ Ok (int_div_euclid a (pos (2 ^ unsigned_abs n)))
+  | false ↦ Err Shift
+]
 
 -- `-a` and `~a`
 abbrev pub negated : Arith → ℤ → Result ℤ Trap
@@ -168,5 +173,6 @@ worked (shift_right t) m a b = on_numbers (λ x y. number_worked (shifted_right 
 worked (compare c) m a b = compared c a b
 worked (pointer_plus size) m a b = on_pointer (λ p n. address_worked (moved m p n size)) a b
 worked (plus_pointer size) m a b = on_pointer (λ p n. address_worked (moved m p n size)) b a
-worked (pointer_minus size) m a b = on_pointer (λ p n. address_worked (moved m p (neg_ℤ n) size)) a b
+worked (pointer_minus size) m a b =
+    on_pointer (λ p n. address_worked (moved m p (neg_ℤ n) size)) a b
 worked (pointers_apart size) m a b = pointers_worked size a b

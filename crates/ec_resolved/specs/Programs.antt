@@ -38,7 +38,8 @@ literal_bytes bytes = bytes ++ 0 ∷ []
 -- the bytes of `sqlca` when a program is opened (PostgreSQL manual, 36.8.2): sqlcaid, sqlabc, sqlcode, sqlerrml and sqlerrmc, two bytes of padding, sqlerrp, four bytes of padding, sqlerrd, sqlwarn, sqlstate, three bytes of padding
 abbrev pub sqlca_bytes : List ℕ
 sqlca_bytes =
-    codes "SQLCA   " ++ little_endian_bytes 8 256 ++ replicate 8 0 ++ replicate 154 0 ++ replicate 2 0 ++ codes "NOT SET " ++ replicate 4 0
+    codes "SQLCA   " ++ little_endian_bytes 8 256 ++ replicate 8 0
+    ++ replicate 154 0 ++ replicate 2 0 ++ codes "NOT SET " ++ replicate 4 0
     ++ replicate 48 0 ++ replicate 8 0 ++ codes "00000" ++ replicate 3 0
 
 -- the objects of a program when it is opened, in order: `sqlca`, the globals, the literals

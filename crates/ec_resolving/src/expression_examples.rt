@@ -157,23 +157,68 @@ pub fn assignment_forms()
     ensures place_of_an_expression { form "*p = a[0];"
         ≡ set (load pointer p) (get (operate (pointer_plus 4) a (lit 0))) }
     ensures add { form "i += c;"
-        ≡ update (record { kind = int; widened = int; operation = integers Int plus; gives_old = false }) i (read_as char c) }
+        ≡ update (record {
+          kind = int;
+          widened = int;
+          operation = integers Int plus;
+          gives_old = false;
+        }) i (read_as char c) }
     ensures char_and_int { form "c += i;"
-        ≡ update (record { kind = char; widened = int; operation = integers Int plus; gives_old = false }) c (get i) }
+        ≡ update (record {
+          kind = char;
+          widened = int;
+          operation = integers Int plus;
+          gives_old = false;
+        }) c (get i) }
     ensures int_and_unsigned_long { form "i *= n;"
-        ≡ update (record { kind = int; widened = ulong; operation = integers ULong times; gives_old = false }) i (load ulong n) }
+        ≡ update (record {
+          kind = int;
+          widened = ulong;
+          operation = integers ULong times;
+          gives_old = false;
+        }) i (load ulong n) }
     ensures unsigned_and_int { form "u -= i;"
-        ≡ update (record { kind = unsigned; widened = unsigned; operation = integers UInt minus; gives_old = false }) u (as_read int unsigned i) }
+        ≡ update (record {
+          kind = unsigned;
+          widened = unsigned;
+          operation = integers UInt minus;
+          gives_old = false;
+        }) u (as_read int unsigned i) }
     ensures shifted { form "c <<= l;"
-        ≡ update (record { kind = char; widened = int; operation = shift_left Int; gives_old = false }) c (load long l) }
+        ≡ update (record {
+          kind = char;
+          widened = int;
+          operation = shift_left Int;
+          gives_old = false;
+        }) c (load long l) }
     ensures shifted_by_a_char { form "n >>= c;"
-        ≡ update (record { kind = ulong; widened = ulong; operation = shift_right ULong; gives_old = false }) n (read_as char c) }
+        ≡ update (record {
+          kind = ulong;
+          widened = ulong;
+          operation = shift_right ULong;
+          gives_old = false;
+        }) n (read_as char c) }
     ensures bool_or { form "b |= i;"
-        ≡ update (record { kind = bool; widened = int; operation = integers Int bits_or; gives_old = false }) b (get i) }
+        ≡ update (record {
+          kind = bool;
+          widened = int;
+          operation = integers Int bits_or;
+          gives_old = false;
+        }) b (get i) }
     ensures pointer_moved { form "r += c;"
-        ≡ update (record { kind = pointer; widened = pointer; operation = pointer_plus 16; gives_old = false }) r (load char c) }
+        ≡ update (record {
+          kind = pointer;
+          widened = pointer;
+          operation = pointer_plus 16;
+          gives_old = false;
+        }) r (load char c) }
     ensures pointer_moved_back { form "q -= 2;"
-        ≡ update (record { kind = pointer; widened = pointer; operation = pointer_minus 1; gives_old = false }) q (lit 2) }
+        ≡ update (record {
+          kind = pointer;
+          widened = pointer;
+          operation = pointer_minus 1;
+          gives_old = false;
+        }) q (lit 2) }
     ensures before { form "++i;"
         ≡ bump int int (integers Int plus) false i }
     ensures behind { form "i--;"
@@ -183,7 +228,12 @@ pub fn assignment_forms()
     ensures bool_behind { form "b++;"
         ≡ bump bool int (integers Int plus) true b }
     ensures long_behind { form "l++;"
-        ≡ update (record { kind = long; widened = long; operation = integers Long plus; gives_old = true }) l (convert int long (lit 1)) }
+        ≡ update (record {
+          kind = long;
+          widened = long;
+          operation = integers Long plus;
+          gives_old = true;
+        }) l (convert int long (lit 1)) }
     ensures pointer_behind { form "p++;"
         ≡ bump pointer pointer (pointer_plus 4) true p }
     ensures pointer_before { form "--r;"
@@ -223,13 +273,16 @@ pub fn call_forms()
     ensures sqlprint { form "sqlprint();"
         ≡ known sqlprint (args []) }
     ensures format { form "printf(\"%d %s\\n\", c, q);"
-        ≡ known (print standard_output (integer field false signed_decimal ∷ plain (32 ∷ []) ∷ text field absent ∷ plain (10 ∷ []) ∷ [])) (args (read_as char c ∷ load pointer q ∷ [])) }
+        ≡ known (print standard_output (integer field false signed_decimal ∷ plain (32 ∷ [])
+        ∷ text field absent ∷ plain (10 ∷ []) ∷ [])) (args (read_as char c ∷ load pointer q ∷ [])) }
     ensures format_to_the_second_output { form "fprintf(stderr, \"%lu\", n);"
-        ≡ known (print standard_error (integer field true unsigned_decimal ∷ [])) (args (load ulong n ∷ [])) }
+        ≡ known (print standard_error (integer field true unsigned_decimal ∷ []))
+        (args (load ulong n ∷ [])) }
     ensures format_to_the_first_output { form "fprintf(stdout, \"a\");"
         ≡ known (print standard_output (plain (97 ∷ []) ∷ [])) (args []) }
     ensures format_is_an_object { forms "puts(\"a\"); printf(\"b\"); puts(\"c\");"
-        ≡ known puts (args (object 19 ∷ [])) ∷ known (print standard_output (plain (98 ∷ []) ∷ [])) (args []) ∷ known puts (args (object 21 ∷ [])) ∷ [] }
+        ≡ known puts (args (object 19 ∷ [])) ∷ known (print standard_output (plain (98 ∷ []) ∷ []))
+        (args []) ∷ known puts (args (object 21 ∷ [])) ∷ [] }
 {}
 
 /// Casts (6.5.4) and sizes (6.5.3.4).

@@ -8,25 +8,35 @@ ghost use Rattle.ec_resolving.specs.Examples.{shows};
 
 /// Operands and arguments from left to right, the left side's place first, `&&` and `||` (docs/RUNNING.md, "Order").
 pub fn order_runs()
-    ensures operands { shows 9 "int p(int n) { putchar(n); return n; } int g; int main(void) { return p('a') + p('b') * p('c') == 0; }"
+    ensures operands { shows 9
+        "int p(int n) { putchar(n); return n; } int g; int main(void) { return p('a') + p('b') * p('c') == 0; }"
         ≡ (codes "abc", exited 0) }
-    ensures arguments { shows 9 "int p(int n) { putchar(n); return n; } int g; int f(int a, int b) { return b; } int main(void) { return f(p('a'), p('b')) - f(p('c'), 'b'); }"
+    ensures arguments { shows 9
+        "int p(int n) { putchar(n); return n; } int g; int f(int a, int b) { return b; } int main(void) { return f(p('a'), p('b')) - f(p('c'), 'b'); }"
         ≡ (codes "abc", exited 0) }
-    ensures place_before_value { shows 9 "int p(int n) { putchar(n); return n; } int g; int main(void) { int a[2]; a[p('1') - '1'] = p('x'); return a[0]; }"
+    ensures place_before_value { shows 9
+        "int p(int n) { putchar(n); return n; } int g; int main(void) { int a[2]; a[p('1') - '1'] = p('x'); return a[0]; }"
         ≡ (codes "1x", exited 120) }
-    ensures old_value_before_the_right_side { shows 9 "int main(void) { int x = 3; x += x = 5; return x; }"
+    ensures old_value_before_the_right_side { shows 9
+        "int main(void) { int x = 3; x += x = 5; return x; }"
         ≡ ([], exited 8) }
-    ensures left_operand_is_read_first { shows 9 "int main(void) { int x = 3; x = x + (x = 10); return x; }"
+    ensures left_operand_is_read_first { shows 9
+        "int main(void) { int x = 3; x = x + (x = 10); return x; }"
         ≡ ([], exited 13) }
-    ensures index_of_an_update_once { shows 9 "int p(int n) { putchar(n); return n; } int g; int main(void) { int a[2] = {1, 2}; a[p('1') - '0'] *= p('3') - '0'; return a[1]; }"
+    ensures index_of_an_update_once { shows 9
+        "int p(int n) { putchar(n); return n; } int g; int main(void) { int a[2] = {1, 2}; a[p('1') - '0'] *= p('3') - '0'; return a[1]; }"
         ≡ (codes "13", exited 6) }
-    ensures and_stops { shows 9 "int p(int n) { putchar(n); return n; } int g; int main(void) { g = 0 && p('a'); return (1 && p('b')) + g; }"
+    ensures and_stops { shows 9
+        "int p(int n) { putchar(n); return n; } int g; int main(void) { g = 0 && p('a'); return (1 && p('b')) + g; }"
         ≡ (codes "b", exited 1) }
-    ensures or_stops { shows 9 "int p(int n) { putchar(n); return n; } int g; int main(void) { return 1 || p('a'); }"
+    ensures or_stops { shows 9
+        "int p(int n) { putchar(n); return n; } int g; int main(void) { return 1 || p('a'); }"
         ≡ ([], exited 1) }
-    ensures assignment_from_the_right { shows 9 "int main(void) { int a; char b; a = b = 300; return a; }"
+    ensures assignment_from_the_right { shows 9
+        "int main(void) { int a; char b; a = b = 300; return a; }"
         ≡ ([], exited 44) }
-    ensures format_reads_all_first { shows 9 "int main(void) { char *s; printf(\"%d%s\", putchar('a'), s); }"
+    ensures format_reads_all_first { shows 9
+        "int main(void) { char *s; printf(\"%d%s\", putchar('a'), s); }"
         ≡ (codes "a", trapped trap.Unset 1) }
 {}
 
@@ -44,25 +54,33 @@ pub fn type_runs()
         ≡ ([], exited 0) }
     ensures int_overflows { shows 9 "int main(void) { int i = 2147483647;\n i++; return 0; }"
         ≡ ([], trapped trap.Overflow 2) }
-    ensures unsigned_wraps { shows 9 "int main(void) { unsigned u = 0; u--; return u == 4294967295u; }"
+    ensures unsigned_wraps { shows 9
+        "int main(void) { unsigned u = 0; u--; return u == 4294967295u; }"
         ≡ ([], exited 1) }
-    ensures long_overflows { shows 9 "int main(void) { long l = 9223372036854775807;\n\n ++l; return 0; }"
+    ensures long_overflows { shows 9
+        "int main(void) { long l = 9223372036854775807;\n\n ++l; return 0; }"
         ≡ ([], trapped trap.Overflow 3) }
-    ensures unsigned_long_wraps { shows 9 "int main(void) { unsigned long l = 0; return --l == 18446744073709551615u; }"
+    ensures unsigned_long_wraps { shows 9
+        "int main(void) { unsigned long l = 0; return --l == 18446744073709551615u; }"
         ≡ ([], exited 1) }
-    ensures pointer_bumped { shows 9 "int main(void) { int a[2] = {1, 2}; int *p = a; return *p++ * 10 + *p; }"
+    ensures pointer_bumped { shows 9
+        "int main(void) { int a[2] = {1, 2}; int *p = a; return *p++ * 10 + *p; }"
         ≡ ([], exited 12) }
     ensures pointer_too_far { shows 9 "int main(void) { int a[2]; int *p = a + 2;\np++; }"
         ≡ ([], trapped trap.Outside 2) }
-    ensures value_before_and_behind { shows 9 "int main(void) { int i = 5; int j = i++ + ++i; return j * 10 + i - 100; }"
+    ensures value_before_and_behind { shows 9
+        "int main(void) { int i = 5; int j = i++ + ++i; return j * 10 + i - 100; }"
         ≡ ([], exited 27) }
-    ensures unsigned_comparison { shows 9 "int main(void) { int i = -1; unsigned u = 1; return i < u; }"
+    ensures unsigned_comparison { shows 9
+        "int main(void) { int i = -1; unsigned u = 1; return i < u; }"
         ≡ ([], exited 0) }
-    ensures smaller_types_are_ints { shows 9 "int main(void) { unsigned char a = 200, b = 100; return a + b > 255; }"
+    ensures smaller_types_are_ints { shows 9
+        "int main(void) { unsigned char a = 200, b = 100; return a + b > 255; }"
         ≡ ([], exited 1) }
     ensures char_is_signed { shows 9 "int main(void) { char c = 200; return c < 0; }"
         ≡ ([], exited 1) }
-    ensures narrowed { shows 9 "int main(void) { unsigned char c = 513; short s = 65537; return c * 10 + s; }"
+    ensures narrowed { shows 9
+        "int main(void) { unsigned char c = 513; short s = 65537; return c * 10 + s; }"
         ≡ ([], exited 11) }
     ensures bool_is_truth { shows 9 "int main(void) { bool b = 256; return b; }"
         ≡ ([], exited 1) }
@@ -70,13 +88,16 @@ pub fn type_runs()
         ≡ ([], exited 1) }
     ensures shift_keeps_the_sign { shows 9 "int main(void) { int i = -8; return (i >> 1) + 5; }"
         ≡ ([], exited 1) }
-    ensures unsigned_shift { shows 9 "int main(void) { unsigned u = 4294967295u; return (u << 31 >> 31) + (u >> 28); }"
+    ensures unsigned_shift { shows 9
+        "int main(void) { unsigned u = 4294967295u; return (u << 31 >> 31) + (u >> 28); }"
         ≡ ([], exited 16) }
     ensures difference { shows 9 "int main(void) { long a[5]; return &a[4] - &a[1]; }"
         ≡ ([], exited 3) }
-    ensures bytes_of_a_pointer { shows 9 "int x; int main(void) { char *s = \"hi\"; unsigned char *q = (unsigned char *)&s; return q[4] * 10 + q[0]; }"
+    ensures bytes_of_a_pointer { shows 9
+        "int x; int main(void) { char *s = \"hi\"; unsigned char *q = (unsigned char *)&s; return q[4] * 10 + q[0]; }"
         ≡ ([], exited 30) }
-    ensures pointer_and_number { shows 9 "int main(void) { int i; long n = (long)&i; return (int *)n == &i; }"
+    ensures pointer_and_number { shows 9
+        "int main(void) { int i; long n = (long)&i; return (int *)n == &i; }"
         ≡ ([], exited 1) }
 {}
 
@@ -84,7 +105,8 @@ pub fn type_runs()
 pub fn trap_runs()
     ensures zero { shows 9 "int main(void) { int i = 0;\nreturn 1 / i; }"
         ≡ ([], trapped trap.Zero 2) }
-    ensures remainder_overflows { shows 9 "int main(void) { int m = -2147483647 - 1; return m % -1; }"
+    ensures remainder_overflows { shows 9
+        "int main(void) { int m = -2147483647 - 1; return m % -1; }"
         ≡ ([], trapped trap.Overflow 1) }
     ensures shift_too_far { shows 9 "int main(void) { int i = 32;\n\nreturn 1 << i; }"
         ≡ ([], trapped trap.Shift 3) }
@@ -96,7 +118,8 @@ pub fn trap_runs()
         ≡ ([], trapped trap.Unset 2) }
     ensures null { shows 9 "int main(void) { int *p = NULL;\n*p = 1; }"
         ≡ ([], trapped trap.Null 2) }
-    ensures dead { shows 9 "int *p; void f(void) { int i = 1; p = &i; } int main(void) { f();\nreturn *p; }"
+    ensures dead { shows 9
+        "int *p; void f(void) { int i = 1; p = &i; } int main(void) { f();\nreturn *p; }"
         ≡ ([], trapped trap.Dead 2) }
     ensures outside { shows 9 "int main(void) { int a[2];\na[2] = 1; }"
         ≡ ([], trapped trap.Outside 2) }
@@ -106,15 +129,20 @@ pub fn trap_runs()
         ≡ ([], trapped trap.Outside 2) }
     ensures no_value { shows 9 "int f(void) { }\nint main(void) { int x;\nx = f();\n}"
         ≡ ([], trapped trap.NoValue 3) }
-    ensures no_value_unused { shows 9 "int f(void) { } int main(void) { f(); (void)f(); for (f(); 0; f()) ; return 4; }"
+    ensures no_value_unused { shows 9
+        "int f(void) { } int main(void) { f(); (void)f(); for (f(); 0; f()) ; return 4; }"
         ≡ ([], exited 4) }
-    ensures no_value_under_two_casts { shows 9 "int f(void) { } int main(void) { (void)(void)f(); return 4; }"
+    ensures no_value_under_two_casts { shows 9
+        "int f(void) { } int main(void) { (void)(void)f(); return 4; }"
         ≡ ([], trapped trap.NoValue 1) }
-    ensures void_under_two_casts { shows 9 "void f(void) { } int main(void) { (void)(void)f(); return 4; }"
+    ensures void_under_two_casts { shows 9
+        "void f(void) { } int main(void) { (void)(void)f(); return 4; }"
         ≡ ([], exited 4) }
-    ensures main_called_has_zero { shows 9 "int g; int main(void) { if (g++) ; else return main() + 5; }"
+    ensures main_called_has_zero { shows 9
+        "int g; int main(void) { if (g++) ; else return main() + 5; }"
         ≡ ([], exited 5) }
-    ensures trap_in_a_called_function { shows 9 "int f(int i) {\nreturn 1 / i;\n}\nint main(void) {\nreturn f(0); }"
+    ensures trap_in_a_called_function { shows 9
+        "int f(int i) {\nreturn 1 / i;\n}\nint main(void) {\nreturn f(0); }"
         ≡ ([], trapped trap.Zero 2) }
     ensures line_of_a_loop { shows 9 "int main(void) { int i = 1;\nwhile (1 / i)\n{\ni = 0;\n} }"
         ≡ ([], trapped trap.Zero 2) }
@@ -132,63 +160,87 @@ pub fn trap_runs()
 
 /// Objects of blocks and functions, initializers and copies.
 pub fn object_runs()
-    ensures struct_copied_with_unset_cells { shows 9 "int main(void) { struct s { int a; int b; } x, y; x.a = 7; y = x; return y.a; }"
+    ensures struct_copied_with_unset_cells { shows 9
+        "int main(void) { struct s { int a; int b; } x, y; x.a = 7; y = x; return y.a; }"
         ≡ ([], exited 7) }
-    ensures unset_cell_of_a_copy { shows 9 "int main(void) { struct s { int a; int b; } x, y; x.a = 7; y = x;\nreturn y.b; }"
+    ensures unset_cell_of_a_copy { shows 9
+        "int main(void) { struct s { int a; int b; } x, y; x.a = 7; y = x;\nreturn y.b; }"
         ≡ ([], trapped trap.Unset 2) }
-    ensures member_of_an_assignment { shows 9 "int main(void) { struct s { int a; } x, y = {6}; return (x = y).a + x.a; }"
+    ensures member_of_an_assignment { shows 9
+        "int main(void) { struct s { int a; } x, y = {6}; return (x = y).a + x.a; }"
         ≡ ([], exited 12) }
-    ensures initializer_fills_with_zeros { shows 9 "int main(void) { int a[3] = {1}; struct { char c; long l; } x = {'a'}; return a[2] + x.l; }"
+    ensures initializer_fills_with_zeros { shows 9
+        "int main(void) { int a[3] = {1}; struct { char c; long l; } x = {'a'}; return a[2] + x.l; }"
         ≡ ([], exited 0) }
     ensures its_own_initializer { shows 9 "int main(void) { int x = x + 1; return x; }"
         ≡ ([], exited 1) }
-    ensures text_array { shows 9 "int main(void) { char s[] = \"abc\"; s[1] = 'X'; puts(s); return sizeof s; }"
+    ensures text_array { shows 9
+        "int main(void) { char s[] = \"abc\"; s[1] = 'X'; puts(s); return sizeof s; }"
         ≡ (codes "aXc\n", exited 4) }
-    ensures call_by_value { shows 9 "void f(int a) { a = 9; } int main(void) { int a = 1; f(a); return a; }"
+    ensures call_by_value { shows 9
+        "void f(int a) { a = 9; } int main(void) { int a = 1; f(a); return a; }"
         ≡ ([], exited 1) }
-    ensures parameter_narrowed { shows 9 "int f(char c) { return c; } int main(void) { return f(256 + 5); }"
+    ensures parameter_narrowed { shows 9
+        "int f(char c) { return c; } int main(void) { return f(256 + 5); }"
         ≡ ([], exited 5) }
-    ensures array_parameter { shows 9 "void f(int a[3]) { a[1] = 4; } int main(void) { int b[3]; f(b); return b[1]; }"
+    ensures array_parameter { shows 9
+        "void f(int a[3]) { a[1] = 4; } int main(void) { int b[3]; f(b); return b[1]; }"
         ≡ ([], exited 4) }
-    ensures recursion { shows 20 "int f(int n) { if (n < 2) return 1; return n * f(n - 1); } int main(void) { return f(5); }"
+    ensures recursion { shows 20
+        "int f(int n) { if (n < 2) return 1; return n * f(n - 1); } int main(void) { return f(5); }"
         ≡ ([], exited 120) }
-    ensures globals_are_zero { shows 9 "int g; struct { char c; int *p; } s; int main(void) { return g + (s.p == NULL); }"
+    ensures globals_are_zero { shows 9
+        "int g; struct { char c; int *p; } s; int main(void) { return g + (s.p == NULL); }"
         ≡ ([], exited 1) }
-    ensures global_values { shows 9 "int g = 5, *p = &g; char *t[2] = {\"a\", \"bc\"}; int main(void) { printf(\"%d%s\", *p, t[1]); }"
+    ensures global_values { shows 9
+        "int g = 5, *p = &g; char *t[2] = {\"a\", \"bc\"}; int main(void) { printf(\"%d%s\", *p, t[1]); }"
         ≡ (codes "5bc", exited 0) }
-    ensures unset_again { shows 9 "int main(void) { int n = 0; again: ; int x; if (n == 0) { n = 1; x = 5; goto again; }\nreturn x; }"
+    ensures unset_again { shows 9
+        "int main(void) { int n = 0; again: ; int x; if (n == 0) { n = 1; x = 5; goto again; }\nreturn x; }"
         ≡ ([], trapped trap.Unset 2) }
-    ensures hidden_names { shows 9 "int main(void) { int i = 1; { int i = 2; { int i = 3; printf(\"%d\", i); } printf(\"%d\", i); } printf(\"%d\", i); }"
+    ensures hidden_names { shows 9
+        "int main(void) { int i = 1; { int i = 2; { int i = 3; printf(\"%d\", i); } printf(\"%d\", i); } printf(\"%d\", i); }"
         ≡ (codes "321", exited 0) }
-    ensures blocks_side_by_side { shows 9 "int main(void) { int a = 1; { int b = 2; a += b; } { int c = 3; a += c; } int d = 4; return a + d; }"
+    ensures blocks_side_by_side { shows 9
+        "int main(void) { int a = 1; { int b = 2; a += b; } { int c = 3; a += c; } int d = 4; return a + d; }"
         ≡ ([], exited 10) }
 {}
 
 /// Loops and `goto`.
 pub fn jump_runs()
-    ensures into_a_loop { shows 9 "int main(void) { int n = 0; goto in; while (n < 3) { n = n + 10; in: n = n + 1; } return n; }"
+    ensures into_a_loop { shows 9
+        "int main(void) { int n = 0; goto in; while (n < 3) { n = n + 10; in: n = n + 1; } return n; }"
         ≡ ([], exited 12) }
-    ensures out_of_blocks { shows 9 "int main(void) { int n = 0; { int a; { int b; goto out; } n = 5; } n = 6; out: return n; }"
+    ensures out_of_blocks { shows 9
+        "int main(void) { int n = 0; { int a; { int b; goto out; } n = 5; } n = 6; out: return n; }"
         ≡ ([], exited 0) }
     ensures into_a_block { shows 9 "int main(void) { goto in; { int x = 5; in: x = 2; return x; } }"
         ≡ ([], exited 2) }
-    ensures into_a_block_unset { shows 9 "int main(void) { goto in; { int x = 5; in: ;\nreturn x; } }"
+    ensures into_a_block_unset { shows 9
+        "int main(void) { goto in; { int x = 5; in: ;\nreturn x; } }"
         ≡ ([], trapped trap.Unset 2) }
     ensures backwards { shows 9 "int main(void) { int n = 0; a: n++; if (n < 4) goto a; return n; }"
         ≡ ([], exited 4) }
-    ensures into_an_else { shows 9 "int main(void) { int n = 0; goto in; if (1) n = 1; else in: n = 2; return n; }"
+    ensures into_an_else { shows 9
+        "int main(void) { int n = 0; goto in; if (1) n = 1; else in: n = 2; return n; }"
         ≡ ([], exited 2) }
-    ensures into_a_for { shows 9 "int main(void) { int i = 1; goto in; for (i = 5; i < 3; i++) in: printf(\"%d\", i); }"
+    ensures into_a_for { shows 9
+        "int main(void) { int i = 1; goto in; for (i = 5; i < 3; i++) in: printf(\"%d\", i); }"
         ≡ (codes "12", exited 0) }
-    ensures break_and_continue { shows 9 "int main(void) { int i; for (i = 0; i < 9; i++) { if (i == 2) continue; if (i == 4) break; printf(\"%d\", i); } }"
+    ensures break_and_continue { shows 9
+        "int main(void) { int i; for (i = 0; i < 9; i++) { if (i == 2) continue; if (i == 4) break; printf(\"%d\", i); } }"
         ≡ (codes "013", exited 0) }
-    ensures do_before_its_test { shows 9 "int main(void) { int i = 5; do i++; while (i < 3); return i; }"
+    ensures do_before_its_test { shows 9
+        "int main(void) { int i = 5; do i++; while (i < 3); return i; }"
         ≡ ([], exited 6) }
-    ensures continue_in_do { shows 9 "int main(void) { int i = 0; do { i++; if (i < 3) continue; } while (i < 3); return i; }"
+    ensures continue_in_do { shows 9
+        "int main(void) { int i = 0; do { i++; if (i < 3) continue; } while (i < 3); return i; }"
         ≡ ([], exited 3) }
-    ensures for_with_a_declaration { shows 9 "int main(void) { int i = 9; for (int i = 0; i < 3; i++) printf(\"%d\", i); return i; }"
+    ensures for_with_a_declaration { shows 9
+        "int main(void) { int i = 9; for (int i = 0; i < 3; i++) printf(\"%d\", i); return i; }"
         ≡ (codes "012", exited 9) }
-    ensures nested_loops { shows 20 "int main(void) { int i, j; for (i = 0; i < 3; i++) for (j = 0; j < 3; j++) { if (j > i) break; printf(\"%d\", j); } }"
+    ensures nested_loops { shows 20
+        "int main(void) { int i, j; for (i = 0; i < 3; i++) for (j = 0; j < 3; j++) { if (j > i) break; printf(\"%d\", j); } }"
         ≡ (codes "001012", exited 0) }
 {}
 
@@ -204,7 +256,8 @@ pub fn turn_runs()
         ≡ (codes "a\n", exited 0) }
     ensures a_call_is_one { shows 0 "void f(void) { } int main(void) { f(); }"
         ≡ ([], turns_spent) }
-    ensures arguments_before_the_turn { shows 1 "int f(int n) { putchar(n); return n; } int main(void) { f(f('a')); }"
+    ensures arguments_before_the_turn { shows 1
+        "int f(int n) { putchar(n); return n; } int main(void) { f(f('a')); }"
         ≡ (codes "a", turns_spent) }
     ensures a_goto_is_one { shows 0 "int main(void) { putchar('a'); goto b; b: putchar('b'); }"
         ≡ (codes "a", turns_spent) }
@@ -218,22 +271,29 @@ pub fn turn_runs()
 
 /// Known functions.
 pub fn known_runs()
-    ensures widths { shows 9 "int main(void) { printf(\"[%5d|%-5d|%05d|%*d]\", 42, 42, -42, -4, 7); }"
+    ensures widths { shows 9
+        "int main(void) { printf(\"[%5d|%-5d|%05d|%*d]\", 42, 42, -42, -4, 7); }"
         ≡ (codes "[   42|42   |-0042|7   ]", exited 0) }
-    ensures styles { shows 9 "int main(void) { printf(\"%u %x %X %o %c%%\", -1, 255, 255, 8, 'A'); }"
+    ensures styles { shows 9
+        "int main(void) { printf(\"%u %x %X %o %c%%\", -1, 255, 255, 8, 'A'); }"
         ≡ (codes "4294967295 ff FF 10 A%", exited 0) }
     ensures long_ones { shows 9 "int main(void) { printf(\"%ld %lu %llx\", -5l, 5ul, 255ll); }"
         ≡ (codes "-5 5 ff", exited 0) }
     ensures texts { shows 9 "int main(void) { printf(\"%.2s|%5s|%-4s|\", \"abc\", \"d\", \"e\"); }"
         ≡ (codes "ab|    d|e   |", exited 0) }
-    ensures count { shows 9 "int main(void) { int n = printf(\"abc\"); return n * 10 + putchar('x') / 120; }"
+    ensures count { shows 9
+        "int main(void) { int n = printf(\"abc\"); return n * 10 + putchar('x') / 120; }"
         ≡ (codes "abcx", exited 31) }
-    ensures texts_compared { shows 9 "int main(void) { return strcmp(\"a\", \"b\") + strcmp(\"b\", \"a\") * 2 + strncmp(\"ab\", \"ac\", 1) + (memcmp(\"a\", \"a\", 1) == 0); }"
+    ensures texts_compared { shows 9
+        "int main(void) { return strcmp(\"a\", \"b\") + strcmp(\"b\", \"a\") * 2 + strncmp(\"ab\", \"ac\", 1) + (memcmp(\"a\", \"a\", 1) == 0); }"
         ≡ ([], exited 2) }
-    ensures texts_copied { shows 9 "int main(void) { char s[8]; strcpy(s, \"ab\"); strcat(s, \"cd\"); puts(s); return strlen(s); }"
+    ensures texts_copied { shows 9
+        "int main(void) { char s[8]; strcpy(s, \"ab\"); strcat(s, \"cd\"); puts(s); return strlen(s); }"
         ≡ (codes "abcd\n", exited 4) }
-    ensures memory_copied { shows 9 "int main(void) { int a[2] = {1, 2}, b[2]; memcpy(b, a, sizeof a); memset(a, 1, 4); return b[1] + (a[0] == 16843009); }"
+    ensures memory_copied { shows 9
+        "int main(void) { int a[2] = {1, 2}, b[2]; memcpy(b, a, sizeof a); memset(a, 1, 4); return b[1] + (a[0] == 16843009); }"
         ≡ ([], exited 3) }
-    ensures errors_apart { shows 9 "int main(void) { fprintf(stderr, \"e\"); fprintf(stdout, \"o\"); }"
+    ensures errors_apart { shows 9
+        "int main(void) { fprintf(stderr, \"e\"); fprintf(stdout, \"o\"); }"
         ≡ (codes "o", exited 0) }
 {}

@@ -7,7 +7,16 @@ use Rattle.ec_ctypes.specs.trees.Types.{TyData, void}
 use Rattle.ec_typing.specs.Operands.{OperandData, computed, unknown, all_fit}
 
 abbrev pub operand_view : Operand → OperandData
-operand_view o = record { type = type_view o.ty; is_place = o.is_place; is_target = o.is_target; constant = constant_view o.constant; is_global = o.is_global; is_fixed = o.is_fixed; literal = o.literal }
+operand_view o =
+    record {
+      type = type_view o.ty;
+      is_place = o.is_place;
+      is_target = o.is_target;
+      constant = constant_view o.constant;
+      is_global = o.is_global;
+      is_fixed = o.is_fixed;
+      literal = o.literal;
+    }
 
 abbrev pub operands_view : List Operand → List OperandData
 operands_view os = map operand_view os

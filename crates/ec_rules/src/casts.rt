@@ -109,7 +109,8 @@ fn size_operand(measure: Measure) -> Operand
 
 /// The size of a type that is larger than the limit.
 fn size_without_value() -> Operand
-    ensures { operand_view result ≡ record (rule.computed (Some size_type)) { constant = trapping } }
+    ensures { operand_view result
+        ≡ record (rule.computed (Some size_type)) { constant = trapping } }
 {
     let mut size = Operand::computed(Some(Ty::ULong));
     size.constant = Constant::Trapping;

@@ -20,9 +20,14 @@ use Rattle.ec_running.specs.Sessions.{Said, Session, placed}
 -- a state, with what was printed on both outputs and said since
 abbrev pub grown : List ℕ → List ℕ → List Logged → State → State
 grown printed complained growth s =
-    record s { output = s.output ++ printed; errors = s.errors ++ complained; conversation = s.conversation ++ growth }
+    record s {
+      output = s.output ++ printed;
+      errors = s.errors ++ complained;
+      conversation = s.conversation ++ growth;
+    }
 
-module _ (turns : ℕ) (run : Run) (x y : Option Session) (printed complained : List ℕ) (growth : List Logged) where
+module _ (turns : ℕ) (run : Run) (x y : Option Session)
+    (printed complained : List ℕ) (growth : List Logged) where
   -- a run of so many turns comes to a focus, over the answers that came and then any others, and leaves exactly the others
   abbrev pub LeadsWith : Knowing → List Function → Machine → Focus → Type 0
   LeadsWith knowing fs new g =
@@ -41,9 +46,12 @@ module _ (turns : ℕ) (run : Run) (x y : Option Session) (printed complained : 
   abbrev pub BeginsWith : Type 0
   BeginsWith =
       (k : ℕ) (s : State) (rest : List Answer) → turns < k
-      → Grows (grown printed complained growth s) (state_of (run k (placed x (answers_in growth ++ rest) s)))
+      → Grows (grown printed complained growth s)
+      (state_of (run k (placed x (answers_in growth ++ rest) s)))
 
-module _ {O E : Type 0} (held : O → Option (List ℕ)) (faults : O → ℕ) (held' : E → Option (List ℕ)) (faults' : E → ℕ) (turns : ℕ) (run : Run) (x y : Option Session) (out out' : O) (err err' : E) (new : Machine) where
+module _ {O E : Type 0} (held : O → Option (List ℕ)) (faults : O → ℕ) (held' : E → Option (List ℕ))
+    (faults' : E → ℕ) (turns : ℕ) (run : Run) (x y : Option Session)
+    (out out' : O) (err err' : E) (new : Machine) where
   -- a run comes to a focus, and the outputs took what it printed
   pub record ComesWith (knowing : Knowing) (fs : List Function) (g : Focus) : Type 0 where
     pub printed : List ℕ

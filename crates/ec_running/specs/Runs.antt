@@ -46,7 +46,8 @@ Begins turns run printed complained =
     (k : ℕ) (s : State) → turns < k
     → Grows (added printed complained s) (state_of (run k s))
 
-module _ {O E : Type 0} (held : O → Option (List ℕ)) (faults : O → ℕ) (held' : E → Option (List ℕ)) (faults' : E → ℕ) (turns : ℕ) (run : Run) (out out' : O) (err err' : E) (new : Machine) where
+module _ {O E : Type 0} (held : O → Option (List ℕ)) (faults : O → ℕ) (held' : E → Option (List ℕ))
+    (faults' : E → ℕ) (turns : ℕ) (run : Run) (out out' : O) (err err' : E) (new : Machine) where
   -- it is over, and the outputs took what it printed
   pub record IsOver (e : End) : Type 0 where
     pub printed : List ℕ

@@ -39,7 +39,12 @@ pub record Session : Type 0 where
 abbrev pub placed : Option Session → List Answer → State → State
 placed None answers s = s
 placed (Some x) answers s =
-    record s { connections = x.connections; current = x.current; descriptors = x.descriptors; answers = answers }
+    record s {
+      connections = x.connections;
+      current = x.current;
+      descriptors = x.descriptors;
+      answers = answers;
+    }
 
 -- what was said from one to the other
 abbrev pub Said : Option Session → Option Session → List Logged → Type 0
@@ -62,7 +67,8 @@ holding m turns s = record s { memory = m; turns = turns }
 abbrev pub Answers : Result (Unit {0}) Stop → Res → State → Type 0
 Answers (Ok v) o s = o ≡ on s
 Answers (Err (stop.Over e)) o s = o ≡ over (ending_view e) s
-Answers (Err stop.OutOfMemory) o s = (more : List Logged) × ((state_of o).conversation ≡ s.conversation ++ more)
+Answers (Err stop.OutOfMemory) o s = (more : List Logged)
+    × ((state_of o).conversation ≡ s.conversation ++ more)
 
 -- a call was made: over the answers that came, and then any others, it leads where it says, and leaves exactly the others
 pub record Called (knowing : Knowing) (number line : ℕ) (scope : List Ptr)
@@ -72,5 +78,6 @@ pub record Called (knowing : Knowing) (number line : ℕ) (scope : List Ptr)
   pub said : Said x y growth
   pub does : (w : World) (first : Bool) (s : State) (rest : List Answer)
       → Answers result
-      (knowing w (context line scope first) (library number) (holding m turns (placed x (answers_in growth ++ rest) s)))
+      (knowing w (context line scope first) (library number)
+      (holding m turns (placed x (answers_in growth ++ rest) s)))
       (holding m' turns' (placed y rest (saying growth s)))

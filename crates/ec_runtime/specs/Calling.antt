@@ -39,24 +39,30 @@ called_by (Err stops.OutOfMemory) = Err calls.OutOfMemory
 -- the program goes on or stops as the call says, on whatever line it stands
 abbrev pub Answers : Result (Unit {0}) CallStop → Outcome (Unit {0}) → State → Type 0
 Answers (Ok x) o s = (line : ℕ) → settled line o ≡ on s
-Answers (Err (calls.Trapped trap)) o s = (line : ℕ) → settled line o ≡ over (state.trapped trap line) s
+Answers (Err (calls.Trapped trap)) o s = (line : ℕ) →
+    settled line o ≡ over (state.trapped trap line) s
 Answers (Err calls.OutOfMemory) o s = Unit {0}
 
 -- after want of memory, what was said is a front of what is said
-abbrev pub Stopped : (State → Outcome (Unit {0})) → Seen → List Logged → Result (Unit {0}) CallStop → Type 0
+abbrev pub Stopped : (State → Outcome (Unit {0})) →
+    Seen → List Logged → Result (Unit {0}) CallStop → Type 0
 Stopped action x growth (Ok a) = Unit {0}
 Stopped action x growth (Err (calls.Trapped trap)) = Unit {0}
 Stopped action x growth (Err calls.OutOfMemory) =
-    (s : State) (rest : List Answer) → IsFront (s.conversation ++ growth) (state_of (action (placed x (answers_in growth ++ rest) s))).conversation
+    (s : State) (rest : List Answer) → IsFront (s.conversation ++ growth)
+    (state_of (action (placed x (answers_in growth ++ rest) s))).conversation
 
 -- over the answers that came, and then any others, the call leads where it says and leaves exactly the others
-pub record Carries (action : State → Outcome (Unit {0})) (x y : Seen) (growth : List Logged) (result : Result (Unit {0}) CallStop) : Type 0 where
-  pub says : (s : State) (rest : List Answer) → Answers result (action (placed x (answers_in growth ++ rest) s)) (placed y rest (saying growth s))
+pub record Carries (action : State → Outcome (Unit {0})) (x y : Seen)
+    (growth : List Logged) (result : Result (Unit {0}) CallStop) : Type 0 where
+  pub says : (s : State) (rest : List Answer) → Answers result
+      (action (placed x (answers_in growth ++ rest) s)) (placed y rest (saying growth s))
   pub left : Stopped action x growth result
 
 -- a connection that was ready
 abbrev pub ready_connection : ℕ × List ℕ → Connection
-ready_connection r = record { name = r.1; slot = r.0; autocommit = true; told = Idle; prepared = [] }
+ready_connection r =
+    record { name = r.1; slot = r.0; autocommit = true; told = Idle; prepared = [] }
 
 -- without a connection
 abbrev pub bare : Memory → Seen
@@ -90,7 +96,8 @@ module _ {X : Type 0} {F : X → Type 0} where
   TakesFirst before None after = after ≡ before
   TakesFirst before (Some conn) after = TakesReady before after conn
 
-  pub record Opens (before : List (Slot X F)) (it : Library X F) (after : List (Slot X F)) : Type 0 where
+  pub record Opens (before : List (Slot X F))
+      (it : Library X F) (after : List (Slot X F)) : Type 0 where
     pub connection : connection_of it ≡ option_map ready_connection (ready_slot (states before))
     pub taken : TakesFirst before (conn_of it) after
 
@@ -104,14 +111,18 @@ module _ {X : Type 0} {F : X → Type 0} where
 
   module _ (talk : DynBox X Global F → Option Talk) (faults : DynBox X Global F → ℕ) where
     -- what was said over the connection, if there is one: the log and the talk of its link grew by it
-    abbrev pub MayAsk : Rack X F → Option (Conn X F) → Rack X F → Option (Conn X F) → List Logged → Type 0
-    MayAsk old None new None growth = (growth ≡ []) × (slots_of new ≡ slots_of old) × (log_of new ≡ log_of old)
+    abbrev pub MayAsk : Rack X F → Option (Conn X F) →
+        Rack X F → Option (Conn X F) → List Logged → Type 0
+    MayAsk old None new None growth = (growth ≡ [])
+        × (slots_of new ≡ slots_of old) × (log_of new ≡ log_of old)
     MayAsk old (Some was) new (Some now) growth = Asks talk faults old was new now growth
     MayAsk old None new (Some now) growth = ⊥
     MayAsk old (Some was) new None growth = ⊥
 
     -- a call was carried out
-    pub record Called (action : State → Outcome (Unit {0})) (m : Memory) (old : Rack X F) (was : Library X F) (m' : Memory) (new : Rack X F) (now : Library X F) (result : Result (Unit {0}) CallStop) : Type 0 where
+    pub record Called (action : State → Outcome (Unit {0})) (m : Memory) (old : Rack X F)
+        (was : Library X F) (m' : Memory) (new : Rack X F) (now : Library X F)
+        (result : Result (Unit {0}) CallStop) : Type 0 where
       pub growth : List Logged
       pub asked : MayAsk old (conn_of was) new (conn_of now) growth
       pub carries : Carries action (seen_by m was) (seen_by m' now) growth result

@@ -32,7 +32,13 @@ current_of (Some c) = Some c.name
 
 -- a state with what is seen, and with these answers. The connection is the current one, and there is no descriptor
 abbrev pub placed : Seen → List Answer → State → State
-placed x answers s = record s { memory = x.memory; connections = connections_of x.connection; current = current_of x.connection; descriptors = []; answers = answers }
+placed x answers s = record s {
+  memory = x.memory;
+  connections = connections_of x.connection;
+  current = current_of x.connection;
+  descriptors = [];
+  answers = answers;
+}
 
 -- a state in which more was said
 abbrev pub saying : List Logged → State → State
@@ -44,10 +50,14 @@ Left action x growth (Ok a) = Unit {0}
 Left action x growth (Err stops.Finished) = Unit {0}
 Left action x growth (Err (stops.Trapped trap)) = Unit {0}
 Left action x growth (Err stops.OutOfMemory) =
-    (s : State) (rest : List Answer) → IsFront (s.conversation ++ growth) (state_of (action (placed x (answers_in growth ++ rest) s))).conversation
+    (s : State) (rest : List Answer) → IsFront (s.conversation ++ growth)
+    (state_of (action (placed x (answers_in growth ++ rest) s))).conversation
 
-pub record Does {A : Type 0} (action : State → Outcome A) (x y : Seen) (growth : List Logged) (result : Result A Stop) : Type 0 where
-  pub says : (s : State) (rest : List Answer) → Says result (action (placed x (answers_in growth ++ rest) s)) (placed y rest (saying growth s))
+pub record Does {A : Type 0} (action : State → Outcome A) (x y : Seen)
+    (growth : List Logged) (result : Result A Stop) : Type 0 where
+  pub says : (s : State) (rest : List Answer) →
+      Says result (action (placed x (answers_in growth ++ rest) s))
+      (placed y rest (saying growth s))
   pub left : Left action x growth result
 
 -- what is seen of a memory and a connection
@@ -55,8 +65,10 @@ abbrev pub seen : {X : Type 0} {F : X → Type 0} → Memory → Open X F → Se
 seen m o = record { memory = m; connection = Some (open_view o) }
 
 -- the same over a rack: the log and the talk of the connection's link grew by what was said
-pub record Over {X : Type 0} {F : X → Type 0} (talk : DynBox X Global F → Option Talk) (faults : DynBox X Global F → ℕ) {A : Type 0} (action : State → Outcome A)
-    (m : Memory) (old : Rack X F) (was : Open X F) (m' : Memory) (new : Rack X F) (now : Open X F) (result : Result A Stop) : Type 0 where
+pub record Over {X : Type 0} {F : X → Type 0} (talk : DynBox X Global F → Option Talk)
+    (faults : DynBox X Global F → ℕ) {A : Type 0} (action : State → Outcome A)
+    (m : Memory) (old : Rack X F) (was : Open X F) (m' : Memory)
+    (new : Rack X F) (now : Open X F) (result : Result A Stop) : Type 0 where
   pub growth : List Logged
   pub asks : Asks talk faults old was.conn new now.conn growth
   pub does : Does action (seen m was) (seen m' now) growth result

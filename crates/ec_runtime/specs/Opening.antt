@@ -31,12 +31,20 @@ told_after log told = told_behind (last_reply_of log) told
 module _ {X : Type 0} {F : X → Type 0} where
   -- a connection, on which nothing can be prepared yet
   abbrev pub open_view : Open X F → Connection
-  open_view o = record { name = o.name; slot = slot_of o.conn; autocommit = o.autocommit; told = o.told; prepared = [] }
+  open_view o = record {
+    name = o.name;
+    slot = slot_of o.conn;
+    autocommit = o.autocommit;
+    told = o.told;
+    prepared = [];
+  }
 
   module _ (talk : DynBox X Global F → Option Talk) (faults : DynBox X Global F → ℕ) where
     -- a request was answered: the log and the link's talk grew by the exchange, and the connection knows what the reply tells
-    pub record Asked (request : Request) (old : Rack X F) (was : Open X F) (new : Rack X F) (now : Open X F) : Type 0 where
+    pub record Asked (request : Request) (old : Rack X F)
+        (was : Open X F) (new : Rack X F) (now : Open X F) : Type 0 where
       pub reply : Reply
       pub last : last_reply_of (log_of new) ≡ Some reply
-      pub asks : Asks talk faults old was.conn new now.conn (exchange (Some (slot_of was.conn)) request reply ∷ [])
+      pub asks : Asks talk faults old was.conn new now.conn
+          (exchange (Some (slot_of was.conn)) request reply ∷ [])
       pub view : open_view now ≡ with_told (told_by reply) (open_view was)

@@ -9,4 +9,11 @@ abbrev pub indicator_view : Sym × Ptr × ℕ × ℕ → Indicator ℕ
 indicator_view i = record { sym = i.0; value = i.1.0; count = i.2; step = i.3 }
 
 abbrev pub place_view : HostPlace → Place ℕ
-place_view h = record { sym = h.sym; value = h.at.0; size = h.size; count = h.count; step = h.step; ind = option_map indicator_view h.ind }
+place_view h = record {
+  sym = h.sym;
+  value = h.at.0;
+  size = h.size;
+  count = h.count;
+  step = h.step;
+  ind = option_map indicator_view h.ind;
+}

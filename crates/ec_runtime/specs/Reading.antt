@@ -25,7 +25,9 @@ input_view (inputs.Constant bytes) = constant bytes
 -- values, in order
 abbrev pub values_read : List (Member ℕ) → State → Outcome (List Field)
 values_read [] s = gives [] s
-values_read (m ∷ ms) s = next (member_read m s) (λ field t. next (values_read ms t) (λ fields u. gives (field ∷ fields) u))
+values_read (m ∷ ms) s =
+    next (member_read m s)
+    (λ field t. next (values_read ms t) (λ fields u. gives (field ∷ fields) u))
 
 -- whether a name is the one that is asked for. Without one it is that of the current connection
 abbrev pub is_named : Text → Option Text → Bool
@@ -39,9 +41,12 @@ TextIs text m read = (s : State) → text_read text (with_memory m s) ≡ gives 
 -- a text was read, and it traps where it says
 abbrev pub Reads : Result (Unit {0}) Trap → TextData ℕ → Memory → Type 0
 Reads (Ok x) text m = (read : Option Text) × TextIs text m read
-Reads (Err trap) text m = (s : State) → text_read text (with_memory m s) ≡ over (trapped trap) (with_memory m s)
+Reads (Err trap) text m = (s : State) →
+    text_read text (with_memory m s) ≡ over (trapped trap) (with_memory m s)
 
 -- a text was read, and whether it names what is asked for
 abbrev pub Finds : Result Bool Trap → TextData ℕ → Text → Memory → Type 0
-Finds (Ok found) text name m = (read : Option Text) × TextIs text m read × (found ≡ is_named name read)
-Finds (Err trap) text name m = (s : State) → text_read text (with_memory m s) ≡ over (trapped trap) (with_memory m s)
+Finds (Ok found) text name m = (read : Option Text)
+    × TextIs text m read × (found ≡ is_named name read)
+Finds (Err trap) text name m = (s : State) →
+    text_read text (with_memory m s) ≡ over (trapped trap) (with_memory m s)

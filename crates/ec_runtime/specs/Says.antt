@@ -19,11 +19,14 @@ Says (Err stops.OutOfMemory) o s = Unit {0}
 
 -- a part of a call that asks nothing: from every state with the first memory it leads where it says, with the second memory
 abbrev pub Quiet : {A : Type 0} → Result A Stop → (State → Outcome A) → Memory → Memory → Type 0
-Quiet result action old new = (s : State) → Says result (action (with_memory old s)) (with_memory new s)
+Quiet result action old new = (s : State) →
+    Says result (action (with_memory old s)) (with_memory new s)
 
 -- what a conversion stops at: a trap, or a code that is told
 abbrev pub Stopped : ConvStop → ℕ → Stop → Memory → Memory → Type 0
 Stopped (conv.Trapped trap) line stop old new = (stop ≡ stops.Trapped trap) × (new ≡ old)
 Stopped (conv.Code code) line stop old new =
-    (stop ≡ stops.Finished) × (new ≡ told_area (code_of (found_by code)) (state_of (found_by code)) (text_of_finding (found_by code)) line old)
+    (stop ≡ stops.Finished)
+    × (new ≡ told_area (code_of (found_by code))
+    (state_of (found_by code)) (text_of_finding (found_by code)) line old)
 Stopped conv.OutOfMemory line stop old new = Unit {0}

@@ -66,7 +66,8 @@ pub(crate) fn refuse(store: &mut Store, line: Line, finding: Finding) -> Stop
     requires { IsArea store.old }
     ensures stop { result ≡ stops.Finished }
     ensures area { store.new
-        ≡ told_area (code_of finding) (state_of finding) (text_of_finding finding) line.0 store.old }
+        ≡ told_area (code_of finding) (state_of finding)
+        (text_of_finding finding) line.0 store.old }
     ensures kept { IsArea store.new }
 {
     tell(store, line, finding.code(), finding.state(), finding.text())

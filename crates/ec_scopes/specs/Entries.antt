@@ -24,7 +24,8 @@ found_view f = record { place = f.place; stop = f.stop }
 
 abbrev pub entry_view : Entry → EntryData
 entry_view (e.Object number global ty) = object number global (type_view ty)
-entry_view (e.Function number done ty params) = function number done (type_view ty) (option_map (map type_view) params)
+entry_view (e.Function number done ty params) =
+    function number done (type_view ty) (option_map (map type_view) params)
 
 abbrev pub named_view : {V W : Type 0} → (V → W) → Named V → Named W
 named_view f es = map (λ e. (e.0, f e.1)) es

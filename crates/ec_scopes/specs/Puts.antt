@@ -10,4 +10,5 @@ name_put name entry = λ w. out (is_some (find name w.here.names)) [] (with_name
 
 -- the label stands in this function now; whether it stood there before
 abbrev pub label_put : Text → Rule Bool
-label_put name = λ w. out (is_some (find name w.labels)) [] (record w { labels = put name tt w.labels })
+label_put name =
+    λ w. out (is_some (find name w.labels)) [] (record w { labels = put name tt w.labels })

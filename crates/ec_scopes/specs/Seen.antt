@@ -12,7 +12,19 @@ use Rattle.ec_scopes.specs.Structs.{infos}
 
 -- what is known
 unfoldable pub world_of : Checker → World
-world_of c = record { written = c.written; here = scope_view c.here; outer = outer_view c.outer; structs = infos c.structs.0 c.structs.1; closed = c.structs.1; types = map ty_view c.types; denoted = c.denoted; defined = c.defined; labels = c.labels; places = c.places }
+world_of c =
+    record {
+      written = c.written;
+      here = scope_view c.here;
+      outer = outer_view c.outer;
+      structs = infos c.structs.0 c.structs.1;
+      closed = c.structs.1;
+      types = map ty_view c.types;
+      denoted = c.denoted;
+      defined = c.defined;
+      labels = c.labels;
+      places = c.places;
+    }
 
 -- the first violation so far
 unfoldable pub notes_of : Checker → Option Violation
@@ -30,7 +42,8 @@ noted (v ∷ vs) n = noted vs (noted_one v n)
 
 -- this fault, where something was found
 abbrev pub noted_instead : Place → FaultKind → Bool → Option Violation → Option Violation
-noted_instead at kind true n = noted_one (record { place = at.number; stop = Refused kind at.line }) n
+noted_instead at kind true n =
+    noted_one (record { place = at.number; stop = Refused kind at.line }) n
 noted_instead at kind false n = n
 
 -- The code answered this and went from the one state to the other, as the rule says.
@@ -40,5 +53,6 @@ pub record IsDone {A : Type 0} (o : Out A) (old new : Checker) (answer : A) : Ty
   pub notes_is : notes_of new ≡ noted o.found (notes_of old)
 
 -- the same, with the answer as `view` shows it, unless memory ran out
-abbrev pub Does : {A B : Type 0} → (B → A) → Out A → Checker → Result B OutOfMemory → Checker → Type 0
+abbrev pub Does : {A B : Type 0} → (B → A) → Out A →
+    Checker → Result B OutOfMemory → Checker → Type 0
 Does view o old result new = IfOk result (λ b. IsDone o old new (view b))

@@ -10,7 +10,8 @@ use Rattle.ec_typing.specs.Programs.{known_structs}
 
 -- the members of sqlerrm
 abbrev pub message_members : Members
-message_members = (codes "sqlerrml", Some (arithmetic Int)) ∷ (codes "sqlerrmc", Some (array (arithmetic Char) 150)) ∷ []
+message_members = (codes "sqlerrml", Some (arithmetic Int))
+    ∷ (codes "sqlerrmc", Some (array (arithmetic Char) 150)) ∷ []
 
 -- those of sqlca
 abbrev pub area_members : Members

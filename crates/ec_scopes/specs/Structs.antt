@@ -51,11 +51,26 @@ stands_by false is ms = rule.stands_for_all is ms
 
 -- a struct whose members close over these structs
 abbrev pub closed_of : Option Text → Bool → rule.Members → List StructInfo → StructInfo
-closed_of tag varchar ms is = record { tag = tag; varchar = varchar; members = listed ms; shape = shape_by is ms; first = rule.first_of_members is ms; stands_for = stands_by varchar is ms }
+closed_of tag varchar ms is =
+    record {
+      tag = tag;
+      varchar = varchar;
+      members = listed ms;
+      shape = shape_by is ms;
+      first = rule.first_of_members is ms;
+      stands_for = stands_by varchar is ms;
+    }
 
 -- a struct before its members close
 abbrev pub opened : StructRow → StructInfo
-opened r = record { tag = r.tag; varchar = r.varchar; members = members_view r.members; shape = None; first = []; stands_for = 0 }
+opened r = record {
+  tag = r.tag;
+  varchar = r.varchar;
+  members = members_view r.members;
+  shape = None;
+  first = [];
+  stands_for = 0;
+}
 
 abbrev pub close_as : StructRow → ℕ → Option rule.Members → List StructInfo → List StructInfo
 close_as r k None is = is
@@ -109,7 +124,8 @@ members_at rows closed k = option_map (λ s. s.members) (slice_get (infos rows c
 
 abbrev pub is_begun : Option StructRow → Bool
 is_begun None = false
-is_begun (Some r) = elim (members_view r.members) [ unlisted ↦ false | begun ↦ true | listed ms ↦ false ]
+is_begun (Some r) =
+    elim (members_view r.members) [ unlisted ↦ false | begun ↦ true | listed ms ↦ false ]
 
 -- complete types among these structs
 abbrev pub complete_in : List StructInfo → TyData → Bool
@@ -122,7 +138,8 @@ complete_in is (structure k) = is_listed (option_map (λ s. s.members) (slice_ge
 
 -- no array type in this one is larger than the limit
 abbrev pub arrays_within_in : List StructInfo → TyData → Bool
-arrays_within_in is (array t n) = is_within (shape_among (shapes_of is) (array t n)) && arrays_within_in is t
+arrays_within_in is (array t n) =
+    is_within (shape_among (shapes_of is) (array t n)) && arrays_within_in is t
 arrays_within_in is void = true
 arrays_within_in is (arithmetic a) = true
 arrays_within_in is (pointer t) = true
@@ -130,11 +147,21 @@ arrays_within_in is (structure k) = true
 
 -- this struct closes with these members: what is known of its size
 abbrev pub struct_closed : ℕ → Option Text → Bool → rule.Members → World → World
-struct_closed k tag varchar ms w = record w { structs = slice_set w.structs k (closed_of tag varchar ms w.structs); closed = w.closed ++ k ∷ [] }
+struct_closed k tag varchar ms w =
+    record w {
+      structs = slice_set w.structs k (closed_of tag varchar ms w.structs);
+      closed = w.closed ++ k ∷ [];
+    }
 
 abbrev pub struct_closing : ℕ → Option Text → Bool → rule.Members → Rule Measure
-struct_closing k tag varchar ms = λ w. out (measured (shape_by w.structs ms)) [] (struct_closed k tag varchar ms w)
+struct_closing k tag varchar ms =
+    λ w. out (measured (shape_by w.structs ms)) [] (struct_closed k tag varchar ms w)
 
 -- a VARCHAR's struct that closes as soon as it is met: its number, and what is known of its size
 abbrev pub varchar_closing : Option Text → rule.Members → Rule (ℕ × Measure)
-varchar_closing tag ms = λ w. out (length w.structs, measured (shape_by w.structs ms)) [] (record w { structs = w.structs ++ closed_of tag true ms w.structs ∷ []; closed = w.closed ++ length w.structs ∷ [] })
+varchar_closing tag ms =
+    λ w. out (length w.structs, measured (shape_by w.structs ms)) []
+    (record w {
+      structs = w.structs ++ closed_of tag true ms w.structs ∷ [];
+      closed = w.closed ++ length w.structs ∷ [];
+    })

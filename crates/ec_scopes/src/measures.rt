@@ -64,7 +64,8 @@ pub(crate) fn scalar_measure(size: u64) -> Measure
 pub(crate) fn repeated_measure(count: u64, element: Measure) -> Measure
     requires positive { 0 < count }
     requires small { IsSmallMeasure element }
-    ensures measure { (o : Option ShapeData) → element ≡ measured o → result ≡ measured (option_map (repeated count) o) }
+    ensures measure { (o : Option ShapeData) → element ≡ measured o →
+        result ≡ measured (option_map (repeated count) o) }
     ensures small { IsSmallMeasure result }
 {
     match element {
@@ -81,7 +82,8 @@ pub(crate) fn repeated_measure(count: u64, element: Measure) -> Measure
 pub(crate) fn joined_measure(before: Measure, member: Measure) -> Measure
     requires before { IsSmallMeasure before }
     requires member { IsSmallMeasure member }
-    ensures measure { (o p : Option ShapeData) → before ≡ measured o → member ≡ measured p → result ≡ measured (joined_shape o p) }
+    ensures measure { (o p : Option ShapeData) → before ≡ measured o →
+        member ≡ measured p → result ≡ measured (joined_shape o p) }
     ensures small { IsSmallMeasure result }
 {
     match before {
@@ -105,7 +107,8 @@ pub(crate) fn joined_measure(before: Measure, member: Measure) -> Measure
 /// A struct whose members are so large: its size is rounded up to its alignment.
 pub(crate) fn rounded_measure(all: Measure) -> Measure
     requires small { IsSmallMeasure all }
-    ensures measure { (o : Option ShapeData) → all ≡ measured o → result ≡ measured (option_map rounded o) }
+    ensures measure { (o : Option ShapeData) → all ≡ measured o →
+        result ≡ measured (option_map rounded o) }
     ensures small { IsSmallMeasure result }
 {
     match all {

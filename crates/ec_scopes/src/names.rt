@@ -17,14 +17,16 @@ use ec_known::{is_reserved, is_reserved_tag};
 impl Checker {
     /// F12 for the name of an object, a parameter, a function, a member or a label that is reserved.
     pub fn free_name(&mut self, at: Place, name: &[u8])
-        ensures { IsDone (rule.free_name (place_view at) name.now (world_of self.old)) self.old self.new tt }
+        ensures { IsDone
+            (rule.free_name (place_view at) name.now (world_of self.old)) self.old self.new tt }
     {
         self.demand(at, FaultKind::F12, !is_reserved(name));
     }
 
     /// F12 for a tag that is reserved.
     pub fn free_tag(&mut self, at: Place, tag: &[u8])
-        ensures { IsDone (rule.free_tag (place_view at) tag.now (world_of self.old)) self.old self.new tt }
+        ensures { IsDone
+            (rule.free_tag (place_view at) tag.now (world_of self.old)) self.old self.new tt }
     {
         let reserved = is_reserved_tag(self.written(), tag);
         self.demand(at, FaultKind::F12, !reserved);
@@ -32,7 +34,8 @@ impl Checker {
 
     // Lets the name stand for this, and says whether it stood for something before.
     fn put_name(&mut self, name: &[u8], entry: Entry) -> Result<bool, OutOfMemory>
-        ensures { Does (λ b. b) (name_put name.now (entry_view entry) (world_of self.old)) self.old result self.new }
+        ensures { Does (λ b. b)
+            (name_put name.now (entry_view entry) (world_of self.old)) self.old result self.new }
     {
         let before = self.here.names.put(self.alloc, name, entry)?;
         Ok(before)
@@ -41,7 +44,8 @@ impl Checker {
     /// The name stands for this from here on; F10 where it stands for something in this scope already (ISO/IEC 9899:1999,
     /// 6.7), and F12 where it is reserved. The later declaration counts then.
     pub fn declare(&mut self, at: Place, name: &[u8], entry: Entry) -> Result<(), OutOfMemory>
-        ensures { Does (λ u. u) (rule.declare (place_view at) name.now (entry_view entry) (world_of self.old)) self.old result self.new }
+        ensures { Does (λ u. u) (rule.declare (place_view at) name.now
+            (entry_view entry) (world_of self.old)) self.old result self.new }
     {
         let before = self.put_name(name, entry)?;
         self.demand(at, FaultKind::F10, !before);
@@ -60,7 +64,8 @@ impl Checker {
     /// The label stands in this function; F10 where it stands there already (ISO/IEC 9899:1999, 6.8.1), and F12 where it is
     /// reserved.
     pub fn declare_label(&mut self, at: Place, name: &[u8]) -> Result<(), OutOfMemory>
-        ensures { Does (λ u. u) (rule.declare_label (place_view at) name.now (world_of self.old)) self.old result self.new }
+        ensures { Does (λ u. u) (rule.declare_label (place_view at) name.now
+            (world_of self.old)) self.old result self.new }
     {
         let before = self.put_label(name)?;
         self.demand(at, FaultKind::F10, !before);
@@ -70,7 +75,8 @@ impl Checker {
 
     /// The name stands for this in the scope round the innermost one.
     pub fn know_outside(&mut self, name: &[u8], entry: Entry) -> Result<(), OutOfMemory>
-        ensures { Does (λ u. u) (program.know_function name.now (entry_view entry) (world_of self.old)) self.old result self.new }
+        ensures { Does (λ u. u) (program.know_function name.now
+            (entry_view entry) (world_of self.old)) self.old result self.new }
     {
         match self.outer.pop() {
             Some(scope) => {

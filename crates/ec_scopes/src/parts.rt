@@ -72,7 +72,8 @@ impl Checker {
     /// Goes on with what was set aside. Whatever was found since then is this fault.
     pub fn put_back(&mut self, aside: Option<Found>, at: Place, fault: FaultKind)
         ensures world { world_of self.new ≡ world_of self.old }
-        ensures notes { notes_of self.new ≡ noted_instead (place_view at) fault (is_some (notes_of self.old)) (option_map found_view aside) }
+        ensures notes { notes_of self.new ≡ noted_instead (place_view at) fault
+            (is_some (notes_of self.old)) (option_map found_view aside) }
     {
         let found = self.first.is_some();
         self.first = aside;

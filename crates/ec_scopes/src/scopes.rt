@@ -9,7 +9,8 @@ use crate::entries::{Entry, Scope};
 
 /// What the name stands for in the scopes.
 pub(crate) fn name_in<'a>(scopes: &'a [Scope], name: &[u8]) -> Option<&'a Entry>
-    ensures { option_map entry_view (option_copied result) ≡ rule.look_up_in (outer_view scopes.now) name.now }
+    ensures { option_map entry_view (option_copied result)
+        ≡ rule.look_up_in (outer_view scopes.now) name.now }
 {
     let mut left = scopes.len();
     while left > 0 {

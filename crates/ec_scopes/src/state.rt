@@ -60,7 +60,8 @@ impl Checker {
     /// Keeps a violation, where it comes before what was kept.
     pub(crate) fn keep(&mut self, place: u64, stop: Stop)
         ensures world { world_of self.new ≡ world_of self.old }
-        ensures notes { notes_of self.new ≡ noted_one (record { place = place; stop = stop }) (notes_of self.old) }
+        ensures notes { notes_of self.new
+            ≡ noted_one (record { place = place; stop = stop }) (notes_of self.old) }
     {
         let found = Found { place, stop };
         match self.first {
@@ -71,14 +72,16 @@ impl Checker {
 
     /// Notes a fault.
     pub fn note(&mut self, at: Place, fault: FaultKind)
-        ensures { IsDone (rule.note (place_view at) fault (world_of self.old)) self.old self.new tt }
+        ensures { IsDone
+            (rule.note (place_view at) fault (world_of self.old)) self.old self.new tt }
     {
         self.keep(at.number, Stop::Refused(fault, at.line));
     }
 
     /// Notes a fault, unless the test holds.
     pub fn demand(&mut self, at: Place, fault: FaultKind, holds: bool)
-        ensures { IsDone (rule.demand (place_view at) fault holds (world_of self.old)) self.old self.new tt }
+        ensures { IsDone
+            (rule.demand (place_view at) fault holds (world_of self.old)) self.old self.new tt }
     {
         if !holds {
             self.keep(at.number, Stop::Refused(fault, at.line));
@@ -87,7 +90,8 @@ impl Checker {
 
     /// Notes a limit, unless the test holds.
     pub fn keep_within(&mut self, at: Place, limit: LimitKind, holds: bool)
-        ensures { IsDone (rule.keep_within (place_view at) limit holds (world_of self.old)) self.old self.new tt }
+        ensures { IsDone (rule.keep_within (place_view at) limit holds
+            (world_of self.old)) self.old self.new tt }
     {
         if !holds {
             self.keep(at.number, Stop::Limit(limit));
@@ -108,7 +112,8 @@ impl Checker {
 
     /// What the name stands for: the innermost scope that has it decides (ISO/IEC 9899:1999, 6.2.1).
     pub fn look_up(&self, name: &[u8]) -> Option<&Entry>
-        ensures { option_map entry_view (option_copied result) ≡ rule.look_up name.now (world_of self.now) }
+        ensures { option_map entry_view (option_copied result)
+            ≡ rule.look_up name.now (world_of self.now) }
     {
         match self.here.names.get(name) {
             Some(entry) => Some(entry),
@@ -118,7 +123,8 @@ impl Checker {
 
     /// What the name stands for in the innermost scope.
     pub fn entry_here(&self, name: &[u8]) -> Option<&Entry>
-        ensures { option_map entry_view (option_copied result) ≡ find name.now (world_of self.now).here.names }
+        ensures { option_map entry_view (option_copied result)
+            ≡ find name.now (world_of self.now).here.names }
     {
         self.here.names.get(name)
     }
@@ -142,7 +148,8 @@ impl Checker {
 
     /// Lets the tag stand for the struct.
     pub fn put_tag(&mut self, tag: &[u8], k: u32) -> Result<(), OutOfMemory>
-        ensures { Does (λ u. u) (rule.change (rule.with_tag tag.now k) (world_of self.old)) self.old result self.new }
+        ensures { Does (λ u. u)
+            (rule.change (rule.with_tag tag.now k) (world_of self.old)) self.old result self.new }
     {
         let _before = self.here.tags.put(self.alloc, tag, k)?;
         Ok(())
@@ -150,7 +157,8 @@ impl Checker {
 
     /// What the name stands for in the innermost scope is known better now.
     pub fn know_better(&mut self, name: &[u8], entry: Entry) -> Result<(), OutOfMemory>
-        ensures { Does (λ u. u) (rule.know_better name.now (entry_view entry) (world_of self.old)) self.old result self.new }
+        ensures { Does (λ u. u) (rule.know_better name.now (entry_view entry)
+            (world_of self.old)) self.old result self.new }
     {
         let _before = self.here.names.put(self.alloc, name, entry)?;
         Ok(())
@@ -158,7 +166,8 @@ impl Checker {
 
     /// No label stands in this function so far.
     pub fn no_labels(&mut self)
-        ensures { IsDone (rule.change (λ w. record w { labels = [] }) (world_of self.old)) self.old self.new tt }
+        ensures { IsDone
+            (rule.change (λ w. record w { labels = [] }) (world_of self.old)) self.old self.new tt }
     {
         self.labels = Table::new(self.alloc);
     }
@@ -195,7 +204,8 @@ impl Checker {
 
     /// One declaration more.
     pub fn number_as(&mut self, ty: Ty) -> Result<(), OutOfMemory>
-        ensures { Does (λ u. u) (rule.number_as (ty_view ty) (world_of self.old)) self.old result self.new }
+        ensures { Does (λ u. u)
+            (rule.number_as (ty_view ty) (world_of self.old)) self.old result self.new }
     {
         self.types.push(ty)?;
         Ok(())

@@ -133,7 +133,8 @@ impl StructTable {
 
     /// The members of the struct of this number.
     pub fn members_of(&self, k: u32) -> Option<&Members>
-        ensures { option_map members_view (option_copied result) ≡ members_at self.now.0 self.now.1 k }
+        ensures { option_map members_view (option_copied result)
+            ≡ members_at self.now.0 self.now.1 k }
     {
         match self.rows.get(k as usize) {
             Some(row) => Some(&row.members),
@@ -172,9 +173,11 @@ impl StructTable {
         members: Table<Option<Ty>>,
     ) -> Result<Measure, OutOfMemory>
         ensures infos { OnOk result (infos self.new.0 self.new.1
-            ≡ slice_set (infos self.old.0 self.old.1) k (closed_of tag varchar (named_view type_view members) (infos self.old.0 self.old.1))) }
+            ≡ slice_set (infos self.old.0 self.old.1) k
+            (closed_of tag varchar (named_view type_view members) (infos self.old.0 self.old.1))) }
         ensures closed { OnOk result (self.new.1 ≡ self.old.1 ++ k ∷ []) }
-        ensures measure { IfOk result (λ m. m ≡ measured (shape_by (infos self.old.0 self.old.1) (named_view type_view members))) }
+        ensures measure { IfOk result (λ m. m
+            ≡ measured (shape_by (infos self.old.0 self.old.1) (named_view type_view members))) }
     {
         if !self.is_begun(k) {
             return Err(OutOfMemory);
@@ -206,9 +209,12 @@ impl StructTable {
     ) -> Result<(u32, Measure), OutOfMemory>
         ensures number { IfOk result (λ r. r.0 ≡ length (infos self.old.0 self.old.1)) }
         ensures infos { OnOk result (infos self.new.0 self.new.1
-            ≡ infos self.old.0 self.old.1 ++ closed_of tag varchar (named_view type_view members) (infos self.old.0 self.old.1) ∷ []) }
-        ensures closed { OnOk result (self.new.1 ≡ self.old.1 ++ length (infos self.old.0 self.old.1) ∷ []) }
-        ensures measure { IfOk result (λ r. r.1 ≡ measured (shape_by (infos self.old.0 self.old.1) (named_view type_view members))) }
+            ≡ infos self.old.0 self.old.1 ++ closed_of tag varchar
+            (named_view type_view members) (infos self.old.0 self.old.1) ∷ []) }
+        ensures closed { OnOk result
+            (self.new.1 ≡ self.old.1 ++ length (infos self.old.0 self.old.1) ∷ []) }
+        ensures measure { IfOk result (λ r. r.1
+            ≡ measured (shape_by (infos self.old.0 self.old.1) (named_view type_view members))) }
     {
         let k = self.push(None, true)?;
         let measure = self.close(k, tag, varchar, members)?;
@@ -249,7 +255,8 @@ impl StructTable {
 
     /// What is known of the size of a struct with these members.
     fn struct_measure(&self, members: &Table<Option<Ty>>) -> Measure
-        ensures measure { result ≡ measured (shape_by (infos self.now.0 self.now.1) (named_view type_view members.now)) }
+        ensures measure { result
+            ≡ measured (shape_by (infos self.now.0 self.now.1) (named_view type_view members.now)) }
         ensures small { IsSmallMeasure result }
     {
         if members.len() == 0 {
@@ -266,7 +273,9 @@ impl StructTable {
 
     /// What is known of the size of the member of this number.
     fn member_measure(&self, members: &Table<Option<Ty>>, i: usize) -> Measure
-        ensures measure { result ≡ measured (member_shape (infos self.now.0 self.now.1) (option_map (λ e. e.1) (slice_get members.now i))) }
+        ensures measure { result
+            ≡ measured (member_shape (infos self.now.0 self.now.1)
+            (option_map (λ e. e.1) (slice_get members.now i))) }
         ensures small { IsSmallMeasure result }
     {
         match members.value_at(i) {

@@ -23,7 +23,8 @@ use std::alloc::Global;
 impl Checker {
     /// The members of the struct of this number.
     pub fn members_of(&self, k: u32) -> Option<&Members>
-        ensures { option_map members_view (option_copied result) ≡ world.members_of k (world_of self.now) }
+        ensures { option_map members_view (option_copied result)
+            ≡ world.members_of k (world_of self.now) }
     {
         self.structs.members_of(k)
     }
@@ -51,7 +52,8 @@ impl Checker {
 
     /// The type of the struct that the tag stands for; F11 where there is none.
     pub fn tag_rule(&mut self, at: Place, tag: &[u8]) -> Option<Ty>
-        ensures { IsDone (rule.tag_rule (place_view at) tag.now (world_of self.old)) self.old self.new (type_view result) }
+        ensures { IsDone (rule.tag_rule (place_view at) tag.now
+            (world_of self.old)) self.old self.new (type_view result) }
     {
         match self.tag_up(tag) {
             Some(k) => Some(Ty::Struct(k)),
@@ -64,7 +66,8 @@ impl Checker {
 
     // One struct more, whose members are begun or not listed so far.
     fn new_struct(&mut self, tag: Option<Name>, is_begun: bool) -> Result<u32, OutOfMemory>
-        ensures { Does (λ k. k) (world.new_struct (world.struct_named tag (begun_at is_begun)) (world_of self.old)) self.old result self.new }
+        ensures { Does (λ k. k) (world.new_struct (world.struct_named tag (begun_at is_begun))
+            (world_of self.old)) self.old result self.new }
     {
         let k = self.structs.push(tag, is_begun)?;
         Ok(k)
@@ -72,7 +75,8 @@ impl Checker {
 
     /// A new struct, which the tag stands for from here on.
     pub fn tagged_struct(&mut self, tag: &[u8], is_begun: bool) -> Result<u32, OutOfMemory>
-        ensures { Does (λ k. k) (rule.tagged_struct tag.now (begun_at is_begun) (world_of self.old)) self.old result self.new }
+        ensures { Does (λ k. k) (rule.tagged_struct tag.now
+            (begun_at is_begun) (world_of self.old)) self.old result self.new }
     {
         let name = Name::from_slice(self.alloc, tag)?;
         let k = self.new_struct(Some(name), is_begun)?;
@@ -83,14 +87,16 @@ impl Checker {
     // The members of this struct, which were not listed so far, begin.
     fn begin_listing(&mut self, k: u32, tag: Name)
         requires { world.members_of k (world_of self.old) ≡ Some world.unlisted }
-        ensures { IsDone (world.set_struct k (world.struct_named (Some tag) world.begun) (world_of self.old)) self.old self.new tt }
+        ensures { IsDone (world.set_struct k (world.struct_named (Some tag) world.begun)
+            (world_of self.old)) self.old self.new tt }
     {
         self.structs.begin(k, tag);
     }
 
     // The members of the struct of this tag and number begin; F10 where they were listed before.
     fn begin_again(&mut self, at: Place, tag: &[u8], k: u32) -> Result<u32, OutOfMemory>
-        ensures { Does (λ k. k) (rule.begin_again (place_view at) tag.now k (world.members_of k (world_of self.old)) (world_of self.old)) self.old result self.new }
+        ensures { Does (λ k. k) (rule.begin_again (place_view at) tag.now k
+            (world.members_of k (world_of self.old)) (world_of self.old)) self.old result self.new }
     {
         let unlisted = match self.members_of(k) {
             Some(members) => members.are_unlisted(),
@@ -108,7 +114,8 @@ impl Checker {
 
     // The members of a struct of this tag begin.
     fn begin_tagged(&mut self, at: Place, tag: &[u8]) -> Result<u32, OutOfMemory>
-        ensures { Does (λ k. k) (rule.begin_struct (place_view at) (Some tag.now) (world_of self.old)) self.old result self.new }
+        ensures { Does (λ k. k) (rule.begin_struct (place_view at)
+            (Some tag.now) (world_of self.old)) self.old result self.new }
     {
         self.free_tag(at, tag);
         match self.tag_here(tag) {
@@ -126,7 +133,8 @@ impl Checker {
     /// The members of a struct begin: its number. F12 where its tag is reserved, and F10 where this scope has listed its
     /// members already.
     pub fn begin_struct(&mut self, at: Place, tag: &Option<Boxed<Name>>) -> Result<u32, OutOfMemory>
-        ensures { Does (λ k. k) (rule.begin_struct (place_view at) tag.now (world_of self.old)) self.old result self.new }
+        ensures { Does (λ k. k) (rule.begin_struct (place_view at) tag.now
+            (world_of self.old)) self.old result self.new }
     {
         match tag {
             None => {
@@ -148,7 +156,8 @@ impl Checker {
         varchar: bool,
         members: Table<Option<Ty>>,
     ) -> Result<Measure, OutOfMemory>
-        ensures { Does (λ m. m) (struct_closing k tag varchar (named_view type_view members) (world_of self.old)) self.old result self.new }
+        ensures { Does (λ m. m) (struct_closing k tag varchar
+            (named_view type_view members) (world_of self.old)) self.old result self.new }
     {
         let measure = self.structs.close(k, tag, varchar, members)?;
         Ok(measure)
@@ -162,7 +171,8 @@ impl Checker {
         k: u32,
         members: Table<Option<Ty>>,
     ) -> Result<Option<Ty>, OutOfMemory>
-        ensures { Does type_view (rule.end_struct (place_view at) tag.now k (named_view type_view members) (world_of self.old)) self.old result self.new }
+        ensures { Does type_view (rule.end_struct (place_view at) tag.now k
+            (named_view type_view members) (world_of self.old)) self.old result self.new }
     {
         let tag = copy_tag(self.alloc, tag)?;
         let measure = self.close_struct(k, tag, false, members)?;

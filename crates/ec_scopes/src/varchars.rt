@@ -26,7 +26,8 @@ pub(crate) fn put_member(
     name: &[u8],
     ty: Option<Ty>,
 ) -> Result<(), OutOfMemory>
-    ensures { OnOk result (named_view type_view members.new ≡ put name.now (type_view ty) (named_view type_view members.old)) }
+    ensures { OnOk result (named_view type_view members.new
+        ≡ put name.now (type_view ty) (named_view type_view members.old)) }
 {
     let _before = members.put(alloc, name, ty)?;
     Ok(())
@@ -87,7 +88,8 @@ impl Checker {
         tag: Option<Name>,
         members: Table<Option<Ty>>,
     ) -> Result<(u32, Measure), OutOfMemory>
-        ensures { Does (λ r. r) (varchar_closing tag (named_view type_view members) (world_of self.old)) self.old result self.new }
+        ensures { Does (λ r. r) (varchar_closing tag (named_view type_view members)
+            (world_of self.old)) self.old result self.new }
     {
         let made = self.structs.push_closed(tag, true, members)?;
         Ok(made)
@@ -100,7 +102,8 @@ impl Checker {
         tag: Option<Name>,
         length: Option<u64>,
     ) -> Result<u32, OutOfMemory>
-        ensures { Does (λ k. k) (rule.varchar_struct (place_view at) tag length (world_of self.old)) self.old result self.new }
+        ensures { Does (λ k. k) (rule.varchar_struct (place_view at) tag length
+            (world_of self.old)) self.old result self.new }
     {
         let members = varchar_members(self.alloc, capacity(length))?;
         let (k, measure) = self.closed_varchar(tag, members)?;
@@ -115,7 +118,8 @@ impl Checker {
         name: &[u8],
         length: Option<u64>,
     ) -> Result<Option<Ty>, OutOfMemory>
-        ensures { Does type_view (rule.varchar_object (place_view at) name.now length (world_of self.old)) self.old result self.new }
+        ensures { Does type_view (rule.varchar_object (place_view at) name.now length
+            (world_of self.old)) self.old result self.new }
     {
         let tag = varchar_tag(self.alloc, name)?;
         let own = Name::from_slice(self.alloc, tag.as_slice())?;
@@ -132,7 +136,8 @@ impl Checker {
         at: Place,
         length: Option<u64>,
     ) -> Result<Option<Ty>, OutOfMemory>
-        ensures { Does type_view (rule.varchar_member (place_view at) length (world_of self.old)) self.old result self.new }
+        ensures { Does type_view (rule.varchar_member (place_view at) length
+            (world_of self.old)) self.old result self.new }
     {
         let k = self.varchar_struct(at, None, length)?;
         Ok(Some(Ty::Struct(k)))

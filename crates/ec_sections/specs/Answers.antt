@@ -17,7 +17,8 @@ fault_unless false kind = kind ∷ []
 
 -- Outside of a section VARCHAR is left out, and a pointer to one and a parameter everywhere (F9); in a section one without a length is a fault (F13).
 abbrev pub faults_of : Bool → UsesData → List FaultKind
-faults_of section uses = fault_unless (not uses.left_out && (section || not uses.any)) F9 ++ fault_unless (not (section && uses.lacks_length)) F13
+faults_of section uses = fault_unless (not uses.left_out && (section || not uses.any)) F9
+    ++ fault_unless (not (section && uses.lacks_length)) F13
 
 -- Whether a mark that opens a section has its partner in what follows, where so many sections were opened in between. Marks pair like brackets.
 abbrev pub is_closed : ℕ → Places → Bool
@@ -59,7 +60,8 @@ violations_at n p kinds = map (λ kind. record { place = n; stop = Refused kind 
 -- the violations of these places, the first of which has this number
 abbrev pub violations_from : ℕ → ℕ → Bool → Places → List Violation
 violations_from n depth section [] = []
-violations_from n depth section (p ∷ ps) = violations_at n p (faults_at depth section p ps) ++ violations_from (n + 1) (depth_behind depth p) (section_behind section p) ps
+violations_from n depth section (p ∷ ps) = violations_at n p (faults_at depth section p ps)
+    ++ violations_from (n + 1) (depth_behind depth p) (section_behind section p) ps
 
 -- all violations of the marks and VARCHARs of a program
 abbrev pub violations : UnitData → List Violation

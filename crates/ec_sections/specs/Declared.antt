@@ -60,7 +60,8 @@ declared_in_body None = []
 declared_in_body (Some ss) = declared_in_all ss
 
 abbrev pub declared_function : FuncData → Declared
-declared_function f = record { section = f.section; is_function = true } ∷ (declared_params f.params ++ declared_in_body f.body)
+declared_function f = record { section = f.section; is_function = true }
+    ∷ (declared_params f.params ++ declared_in_body f.body)
 
 abbrev pub declared_in_top : TopData → Declared
 declared_in_top (include_top bytes) = []
@@ -76,7 +77,8 @@ declared_in_tops (t ∷ ts) = declared_in_top t ++ declared_in_tops ts
 -- the numbers of those that pass the test, where the first has this number
 abbrev pub numbers_from : ℕ → (DeclaredData → Bool) → Declared → List ℕ
 numbers_from n test [] = []
-numbers_from n test (d ∷ ds) = if test d then n ∷ numbers_from (n + 1) test ds else numbers_from (n + 1) test ds
+numbers_from n test (d ∷ ds) = if test d then n ∷ numbers_from (n + 1) test ds
+    else numbers_from (n + 1) test ds
 
 -- the numbers of the declarations that stand in a section
 abbrev pub hosts_of : UnitData → List ℕ

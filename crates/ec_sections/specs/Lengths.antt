@@ -31,7 +31,8 @@ plain_unary Flip (Some p) = Some (promoted p.0, unary_constant Flip p.0 p.1)
 abbrev pub plain_binary : BinOp → Option Plain → Option Plain → Option Plain
 plain_binary op None q = None
 plain_binary op (Some p) None = None
-plain_binary op (Some p) (Some q) = Some (integer_operation op p.0 q.0, binary_constant op p.0 q.0 p.1 q.1)
+plain_binary op (Some p) (Some q) =
+    Some (integer_operation op p.0 q.0, binary_constant op p.0 q.0 p.1 q.1)
 
 -- an expression of these parts alone
 abbrev pub plain : ExprData → Option Plain

@@ -49,7 +49,8 @@ abbrev mutual
   of_decls (decls d ds) = of_decl d ++ of_decls ds
 
   pub of_decl : DeclData → Places
-  of_decl (decl b items section line) = holds line (in_base b & in_declarators b items) ∷ (of_base b ++ of_declarators items)
+  of_decl (decl b items section line) =
+      holds line (in_base b & in_declarators b items) ∷ (of_base b ++ of_declarators items)
 
   pub of_declarators : DeclaratorList → Places
   of_declarators no_declarators = []
@@ -90,10 +91,12 @@ abbrev mutual
   of_kind line empty_stmt = holds line (in_kind empty_stmt) ∷ []
   of_kind line (expr_stmt e) = holds line (in_kind (expr_stmt e)) ∷ of_expr e
   of_kind line (block_stmt ss) = holds line (in_kind (block_stmt ss)) ∷ of_stmts ss
-  of_kind line (if_stmt e s other) = holds line (in_kind (if_stmt e s other)) ∷ (of_expr e ++ (of_stmt s ++ of_stmt_option other))
+  of_kind line (if_stmt e s other) =
+      holds line (in_kind (if_stmt e s other)) ∷ (of_expr e ++ (of_stmt s ++ of_stmt_option other))
   of_kind line (while_stmt e s) = holds line (in_kind (while_stmt e s)) ∷ (of_expr e ++ of_stmt s)
   of_kind line (do_stmt s e) = holds line (in_kind (do_stmt s e)) ∷ (of_stmt s ++ of_expr e)
-  of_kind line (for_stmt x y z s) = holds line (in_kind (for_stmt x y z s)) ∷ (of_option x ++ (of_option y ++ (of_option z ++ of_stmt s)))
+  of_kind line (for_stmt x y z s) = holds line (in_kind (for_stmt x y z s))
+      ∷ (of_option x ++ (of_option y ++ (of_option z ++ of_stmt s)))
   of_kind line break_stmt = holds line (in_kind break_stmt) ∷ []
   of_kind line continue_stmt = holds line (in_kind continue_stmt) ∷ []
   of_kind line (return_stmt e) = holds line (in_kind (return_stmt e)) ∷ of_option e
@@ -120,7 +123,8 @@ of_body None = []
 of_body (Some ss) = of_stmts ss
 
 abbrev pub of_function : FuncData → Places
-of_function f = holds f.line (in_function f) ∷ (of_base f.base ++ (of_params f.params ++ of_body f.body))
+of_function f =
+    holds f.line (in_function f) ∷ (of_base f.base ++ (of_params f.params ++ of_body f.body))
 
 abbrev pub of_top : TopData → Places
 of_top (include_top bytes) = []

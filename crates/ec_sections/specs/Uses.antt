@@ -16,7 +16,11 @@ nowhere = record { any = false; left_out = false; lacks_length = false }
 
 infixr 5 ◌&◌
 abbrev pub ◌&◌ : UsesData → UsesData → UsesData
-a & b = record { any = a.any || b.any; left_out = a.left_out || b.left_out; lacks_length = a.lacks_length || b.lacks_length }
+a & b = record {
+  any = a.any || b.any;
+  left_out = a.left_out || b.left_out;
+  lacks_length = a.lacks_length || b.lacks_length;
+}
 
 -- a pointer to a VARCHAR, or a parameter
 abbrev pub never : UsesData
@@ -87,7 +91,8 @@ in_init_option no_init = nowhere
 in_init_option (some_init i) = in_init i
 
 abbrev pub in_declarator : BaseData → DeclaratorData → UsesData
-in_declarator b (declarator stars name ds init) = in_declared b stars ds & (in_dims ds & in_init_option init)
+in_declarator b (declarator stars name ds init) =
+    in_declared b stars ds & (in_dims ds & in_init_option init)
 
 abbrev pub in_declarators : BaseData → DeclaratorList → UsesData
 in_declarators b no_declarators = nowhere

@@ -59,7 +59,8 @@ pub fn varchar_examples()
     ensures without_length { hosts_in "int x;\nEXEC SQL VARCHAR v;" ≡ refused F13 2 }
     ensures open_length { hosts_in "EXEC SQL VARCHAR v[];" ≡ refused F13 1 }
     ensures last_length_counts { hosts_in "EXEC SQL VARCHAR v[5][0];" ≡ refused F13 1 }
-    ensures outer_length_is_left_to_the_checks { hosts_in "EXEC SQL VARCHAR v[0][5];" ≡ Ok (0 ∷ []) }
+    ensures outer_length_is_left_to_the_checks { hosts_in "EXEC SQL VARCHAR v[0][5];"
+        ≡ Ok (0 ∷ []) }
     ensures second_declarator { hosts_in "EXEC SQL VARCHAR v[5], w;" ≡ refused F13 1 }
     ensures pointer { hosts_in "EXEC SQL VARCHAR *v[5];" ≡ refused F9 1 }
     ensures parameter { hosts_in

@@ -38,7 +38,8 @@ unfoldable pub long_indicator : Reader (Option ExprData)
 long_indicator =
     if_host (long_reference reference >>= (λ i. returns (Some i)))
     (λ n w. elim (begins_indicator w) [
-      | true ↦ (taken (keyword (codes "INDICATOR")) >> (long_reference reference >>= (λ i. returns (Some i)))) n w
+      | true ↦ (taken (keyword (codes "INDICATOR")) >>
+          (long_reference reference >>= (λ i. returns (Some i)))) n w
       | false ↦ done None n w
     ])
 
@@ -68,7 +69,8 @@ long_area = taken (keyword (codes "SQL")) >> (taken (keyword (codes "DESCRIPTOR"
 unfoldable pub outputs : Reader OutsData
 outputs = λ n w. elim (begins_area w) [
   | true ↦ (long_area >>= (λ a. returns (area_outs a))) n w
-  | false ↦ (long_host reference >>= (λ h. further_hosts (h ∷ []) >>= (λ hs. returns (listed_outs hs)))) n w
+  | false ↦ (long_host reference >>=
+      (λ h. further_hosts (h ∷ []) >>= (λ hs. returns (listed_outs hs)))) n w
 ]
 
 -- ---- what is written so far
@@ -161,7 +163,10 @@ unfoldable pub one_cut : Cutting → Reader Cutting
 one_cut s n [] = done s n []
 one_cut s n (t ∷ w) = elim (is_into s.depth (t ∷ w)) [
   | true ↦ elim s.free [ true ↦ into_cut s n (t ∷ w) | false ↦ stuck (t ∷ w) ]
-  | false ↦ elim (begins_host (t ∷ w)) [ true ↦ host_cut s t.gap n (t ∷ w) | false ↦ done (token_cut s t) n w ]
+  | false ↦ elim (begins_host (t ∷ w)) [
+    | true ↦ host_cut s t.gap n (t ∷ w)
+    | false ↦ done (token_cut s t) n w
+  ]
 ]
 
 abbrev pub goes_on : Tokens → Bool

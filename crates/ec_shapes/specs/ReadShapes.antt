@@ -18,7 +18,8 @@ stuck w = stopped (Dead (length w))
 abbrev pub over_limit : {A K S : Type 0} → List K → Outcome A K S
 over_limit w = stopped (OverLimit (length w))
 
-abbrev pub and_then : {A B K S : Type 0} → Outcome A K S → (A → S → List K → Outcome B K S) → Outcome B K S
+abbrev pub and_then : {A B K S : Type 0} → Outcome A K S →
+    (A → S → List K → Outcome B K S) → Outcome B K S
 and_then (done v n w) f = f v n w
 and_then (stopped e) f = stopped e
 
@@ -34,7 +35,8 @@ is_nullable (many a) = true
 abbrev pub first_set : {T : Type 0} → Shape T → List T
 first_set nothing = []
 first_set (one t) = t ∷ []
-first_set (both a b) = elim (is_nullable a) [ true ↦ first_set a ++ first_set b | false ↦ first_set a ]
+first_set (both a b) =
+    elim (is_nullable a) [ true ↦ first_set a ++ first_set b | false ↦ first_set a ]
 first_set (either a b) = first_set a ++ first_set b
 first_set (many a) = first_set a
 
@@ -42,8 +44,12 @@ first_set (many a) = first_set a
 abbrev pub next_set : {T : Type 0} → Shape T → List T
 next_set nothing = []
 next_set (one t) = []
-next_set (both a b) = elim (is_nullable b) [ true ↦ next_set b ++ (first_set b ++ next_set a) | false ↦ next_set b ]
-next_set (either a b) = elim (is_nullable b) [ true ↦ first_set a ++ (next_set a ++ next_set b) | false ↦ next_set a ++ next_set b ]
+next_set (both a b) =
+    elim (is_nullable b) [ true ↦ next_set b ++ (first_set b ++ next_set a) | false ↦ next_set b ]
+next_set (either a b) = elim (is_nullable b) [
+  | true ↦ first_set a ++ (next_set a ++ next_set b)
+  | false ↦ next_set a ++ next_set b
+]
 next_set (many a) = first_set a ++ next_set a
 
 module _ {T K S : Type 0} (l : Alphabet T K S) where
@@ -63,9 +69,35 @@ module _ {T K S : Type 0} (l : Alphabet T K S) where
   abbrev pub is_deterministic : Shape T → Bool
   is_deterministic nothing = true
   is_deterministic (one t) = l.is t (l.example t)
-  is_deterministic (both a b) = elim (is_deterministic a) [ true ↦ elim (is_deterministic b) [ true ↦ all_apart (next_set a) (first_set b) | false ↦ false ] | false ↦ false ]
-  is_deterministic (either a b) = elim (is_deterministic a) [ true ↦ elim (is_deterministic b) [ true ↦ elim (is_nullable a) [ true ↦ false | false ↦ all_apart (first_set a) (first_set b) ] | false ↦ false ] | false ↦ false ]
-  is_deterministic (many a) = elim (is_deterministic a) [ true ↦ elim (is_nullable a) [ true ↦ false | false ↦ all_apart (next_set a) (first_set a) ] | false ↦ false ]
+  is_deterministic (both a b) =
+      elim (is_deterministic a) [
+        | true ↦ elim (is_deterministic b) [
+          | true ↦
+              all_apart (next_set a) (first_set b)
+          | false ↦ false
+        ]
+        | false ↦ false
+      ]
+  is_deterministic (either a b) =
+      elim (is_deterministic a) [
+        | true ↦
+            elim (is_deterministic b) [
+              | true ↦ elim (is_nullable a) [
+                | true ↦ false
+                | false ↦ all_apart (first_set a) (first_set b)
+              ]
+              | false ↦ false
+            ]
+        | false ↦ false
+      ]
+  is_deterministic (many a) =
+      elim (is_deterministic a) [
+        | true ↦ elim (is_nullable a) [
+          | true ↦ false
+          | false ↦ all_apart (next_set a) (first_set a)
+        ]
+        | false ↦ false
+      ]
 
   -- whether the next token is one of these
   abbrev pub is_next_among : List T → List K → Bool
@@ -85,7 +117,8 @@ module _ {T K S : Type 0} (l : Alphabet T K S) where
   read_one t n (x ∷ w) = taking t n x w (l.is t x)
 
   -- so many turns at most
-  abbrev pub turns : {A : Type 0} → (List K → Bool) → (S → List K → Outcome A K S) → ℕ → S → List K → Outcome (List A) K S
+  abbrev pub turns : {A : Type 0} → (List K → Bool) →
+      (S → List K → Outcome A K S) → ℕ → S → List K → Outcome (List A) K S
   turns goes f zero n w = done [] n w
   turns goes f (suc k) n w = elim (goes w) [
     | true ↦ and_then (f n w) (λ v m r. and_then (turns goes f k m r) (λ vs i q. done (v ∷ vs) i q))
@@ -95,7 +128,8 @@ module _ {T K S : Type 0} (l : Alphabet T K S) where
   abbrev pub read : (s : Shape T) → S → List K → Outcome (Tree K s) K S
   read nothing n w = done tt n w
   read (one t) n w = read_one t n w
-  read (both a b) n w = and_then (read a n w) (λ v m r. and_then (read b m r) (λ u i q. done (v, u) i q))
+  read (both a b) n w =
+      and_then (read a n w) (λ v m r. and_then (read b m r) (λ u i q. done (v, u) i q))
   read (either a b) n w = elim (is_next_among (first_set a) w) [
     | true ↦ and_then (read a n w) (λ v m r. done (inl v) m r)
     | false ↦ and_then (read b n w) (λ v m r. done (inr v) m r)

@@ -90,7 +90,8 @@ module _ {T K S : Type 0} (l : Alphabet T K S) where
     pub front : Front s before
     pub count : S
     pub within : counted n before ≡ Some count
-    pub dead : (labelled : Labelled T K) → tokens_of labelled ≡ tokens_of before ++ x ∷ [] → Front s labelled → ⊥
+    pub dead : (labelled : Labelled T K) →
+        tokens_of labelled ≡ tokens_of before ++ x ∷ [] → Front s labelled → ⊥
 
   -- The list is a front of the shape and no list of it.
   pub record IsShort (s : Shape T) (n : S) (w : List K) : Type 0 where
@@ -118,7 +119,8 @@ pub data Judged (A K : Type 0) : Type 0 where
   short : Judged A K
   over : K → List K → Judged A K
 
-abbrev pub Judges : {T K S : Type 0} (l : Alphabet T K S) (s : Shape T) → S → List K → Judged (Tree K s) K → Type 0
+abbrev pub Judges : {T K S : Type 0} (l : Alphabet T K S) (s : Shape T) →
+    S → List K → Judged (Tree K s) K → Type 0
 Judges l s n w (tree v) = IsTree l s n w v
 Judges l s n w (dead x after) = IsDead l s n w x after
 Judges l s n w short = IsShort l s n w

@@ -43,7 +43,8 @@ pub record IsNext (p : Piece) (place : ℕ) (old new : List Emb) : Type 0 where
 -- it is behind the others, or the piece is none for this reason
 abbrev pub AddsStatement : Piece → ℕ → List Emb → List Emb → Result (Unit {0}) Stop → Type 0
 AddsStatement p place old new (Ok done) = IsNext p place old new
-AddsStatement p place old new (Err (Refused kind line)) = StatementOrStop p place (Err (Refused kind line))
+AddsStatement p place old new (Err (Refused kind line)) =
+    StatementOrStop p place (Err (Refused kind line))
 AddsStatement p place old new (Err (Limit limit)) = StatementOrStop p place (Err (Limit limit))
 AddsStatement p place old new (Err OutOfMemory) = ⊤
 
@@ -60,9 +61,12 @@ seen view (Err stop) = Err stop
 -- The tree of the tokens of pieces, with its statements, or why it has none.
 pub data TreeOfPieces (pieces : List Piece) : Result UnitData Stop → Type 0 where
   no_tokens : (stop : Stop) → TokensOrStop false pieces (Err stop) → TreeOfPieces pieces (Err stop)
-  no_tree : (ts : List TokenData) (stop : Stop) → Tokens false pieces ts → TreeOrStop ts (Err stop) → TreeOfPieces pieces (Err stop)
-  tree : (ts : List TokenData) (u : UnitData) (es : Result (List EmbData) Stop) (answer : Result UnitData Stop)
-      → Tokens false pieces ts → TreeOrStop ts (Ok u) → ReadsStatements pieces (statement_places ts) es
+  no_tree : (ts : List TokenData) (stop : Stop) → Tokens false pieces ts →
+      TreeOrStop ts (Err stop) → TreeOfPieces pieces (Err stop)
+  tree : (ts : List TokenData) (u : UnitData)
+      (es : Result (List EmbData) Stop) (answer : Result UnitData Stop)
+      → Tokens false pieces ts → TreeOrStop ts (Ok u) →
+      ReadsStatements pieces (statement_places ts) es
       → answer ≡ with_statements u es → TreeOfPieces pieces answer
 
 abbrev pub TellsPieces : List Piece → Result Program Stop → Type 0
@@ -72,7 +76,8 @@ abbrev pub TellsTree : Text → Result Program Stop → Type 0
 TellsTree text = Tells unit_view (ReadsTree text)
 
 abbrev pub IsOnlyTree : Text → Result Program Stop → Type 0
-IsOnlyTree text answer = (wanted : Result UnitData Stop) → ReadsTree text wanted → Tells unit_view (λ told. told ≡ wanted) answer
+IsOnlyTree text answer = (wanted : Result UnitData Stop) →
+    ReadsTree text wanted → Tells unit_view (λ told. told ≡ wanted) answer
 
 -- ---- checks
 
@@ -80,4 +85,5 @@ abbrev pub TellsChecked : Text → Result Typed Stop → Type 0
 TellsChecked text = Tells typed_view (ReadsChecked text)
 
 abbrev pub IsOnlyChecked : Text → Result Typed Stop → Type 0
-IsOnlyChecked text answer = (wanted : Result TypedData Stop) → ReadsChecked text wanted → Tells typed_view (λ told. told ≡ wanted) answer
+IsOnlyChecked text answer = (wanted : Result TypedData Stop) →
+    ReadsChecked text wanted → Tells typed_view (λ told. told ≡ wanted) answer

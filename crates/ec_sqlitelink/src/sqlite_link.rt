@@ -96,7 +96,8 @@ impl Link for SqliteLink {
         ensures err { OnErr result (untold ≡ untold) }
         ensures later { self.old ≤ self.new }
         ensures broken { IfOk result (λ reply. reply ≡ Reply.Broken → Rose self.old self.new) }
-        ensures counted { IfOk result (λ reply. self.new ≡ (if is_broken reply then one_more self.old else self.old)) }
+        ensures counted { IfOk result
+            (λ reply. self.new ≡ (if is_broken reply then one_more self.old else self.old)) }
         ensures uncounted { OnErr result (self.new ≡ self.old) }
     {
         match self.session.answer(req) {

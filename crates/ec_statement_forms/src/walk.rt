@@ -271,7 +271,8 @@ fn while_parts(
     levels: u32,
 ) -> Result<Boxed<Statement>, OutOfMemory>
     ensures { Reaches statement_view
-        (from (while_parts (around_view a.entry) (place_view at) (expr_view e.now) (stmt_view s.now))
+        (from (while_parts (around_view a.entry)
+        (place_view at) (expr_view e.now) (stmt_view s.now))
         resolver.old)
         result resolver.new }
 {

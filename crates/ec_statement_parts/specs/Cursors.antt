@@ -25,4 +25,5 @@ declared_above es n cursor = declare_from 0 cursor (take n es)
 
 -- the DECLARE of the cursor that the statement of this number opens
 abbrev pub declare_opened : List EmbData → ℕ → EmbData → Option EmbData
-declare_opened es n e = option_and_then (λ cursor. option_and_then (λ k. slice_get es k) (declared_above es n cursor)) (opened_cursor e)
+declare_opened es n e = option_and_then
+    (λ cursor. option_and_then (λ k. slice_get es k) (declared_above es n cursor)) (opened_cursor e)

@@ -14,7 +14,12 @@ same_cond _ _ = false
 
 -- a directive: it is not executed
 abbrev pub is_directive : EmbData → Bool
-is_directive e = elim e.kind [ whenever c a ↦ true | include_sqlca ↦ true | declare_cursor c ps p ↦ true | _ ↦ false ]
+is_directive e = elim e.kind [
+  | whenever c a ↦ true
+  | include_sqlca ↦ true
+  | declare_cursor c ps p ↦ true
+  | _ ↦ false
+]
 
 -- a WHENEVER, with its place
 abbrev pub mark_of : EmbData → Option MarkData

@@ -65,7 +65,8 @@ of_outs (area_outs a) = of_text a
 
 abbrev pub of_kind : EmbData → References
 of_kind e = elim e.kind [
-  | connect target name user password ↦ of_text target ++ (of_text_option name ++ (of_text_option user ++ of_text_option password))
+  | connect target name user password ↦ of_text target
+      ++ (of_text_option name ++ (of_text_option user ++ of_text_option password))
   | set_connection name ↦ of_text name
   | disconnect name ↦ of_text name
   | autocommit on ↦ []

@@ -35,7 +35,8 @@ Prints (Err refusal.OutOfMemory) new all = Unit {0}
 
 -- the call did this: it answers with this memory and these bytes to be put, or it does not
 abbrev pub Does : Result Answer Refusal → Memory → List ℕ → Effect → Type 0
-Does (Ok a) m bytes effect = effect ≡ puts_bytes (channel_view a.channel) (option_map word_view a.value) m bytes
+Does (Ok a) m bytes effect =
+    effect ≡ puts_bytes (channel_view a.channel) (option_map word_view a.value) m bytes
 Does (Err (refusal.Trap t)) m bytes effect = effect ≡ traps t
 Does (Err (refusal.Exit n)) m bytes effect = effect ≡ ends n
 Does (Err refusal.Misfit) m bytes effect = effect ≡ misfit

@@ -5,4 +5,5 @@ use Rattle.ec_objects.specs.Memory.{Memory, span}
 
 -- what `sqlprint` does once it knows the length
 abbrev pub message_told : Memory → ℕ → Effect
-message_told m size = tried (span m message_bytes size) (λ bytes. answers None m [] (codes "SQL error: " ++ bytes ++ 10 ∷ []))
+message_told m size = tried (span m message_bytes size)
+    (λ bytes. answers None m [] (codes "SQL error: " ++ bytes ++ 10 ∷ []))

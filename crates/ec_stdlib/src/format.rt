@@ -73,7 +73,8 @@ fn put_integer<'a>(
     text: &mut Bytes,
 ) -> Result<&'a [Word], Refusal>
     ensures { (m : Memory) → PutsPart result text.old text.new
-        (part_put m (integer (field_view field) wide (style_view style)) (map word_view arguments.now)) }
+        (part_put m (integer (field_view field) wide (style_view style))
+        (map word_view arguments.now)) }
 {
     match take_amount(field.width, 0, arguments) {
         Some(width) => match take_number(width.rest) {

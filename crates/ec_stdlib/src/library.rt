@@ -268,7 +268,8 @@ fn append_behind(
     requires empty { buffer.old ≡ [] }
     requires inside { moved store.old to.0 (pos count) 1 ≡ Ok (to.0 + count) }
     ensures does { Does result store.new buffer.new (of.writing to.0
-        (and_then (text_at store.old from.0) (λ bytes. put store.old (to.0 + count) (bytes ++ 0 ∷ [])))) }
+        (and_then (text_at store.old from.0)
+        (λ bytes. put store.old (to.0 + count) (bytes ++ 0 ∷ [])))) }
     ensures unchanged { OnErr result (store.new ≡ store.old) }
 {
     match store.text(from) {

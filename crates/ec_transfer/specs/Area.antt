@@ -24,7 +24,8 @@ at offset bytes = record { offset = offset; bytes = bytes }
 abbrev pub with_member : Memory → Member → Memory
 with_member [] member = []
 with_member (ended ∷ m) member = ended ∷ m
-with_member (alive cells ∷ m) member = alive (written cells member.offset (set_cells member.bytes)) ∷ m
+with_member (alive cells ∷ m) member =
+    alive (written cells member.offset (set_cells member.bytes)) ∷ m
 
 -- one member after the other
 abbrev pub with_members : Memory → List Member → Memory
@@ -101,7 +102,8 @@ text_length (suc b ∷ bytes) = suc (text_length bytes)
 abbrev pub area_raised : Memory → ℤ → List ℕ → List ℕ → ℕ → Memory
 area_raised m code state message line =
     let text = in_sqlerrmc (message_on message line) in
-    with_members m (sqlcode code ∷ sqlerrml (text_length text) ∷ sqlerrmc text ∷ sqlstate state ∷ [])
+    with_members m
+    (sqlcode code ∷ sqlerrml (text_length text) ∷ sqlerrmc text ∷ sqlstate state ∷ [])
 
 -- behind a value that was cut: sqlwarn[0] and sqlwarn[1] are W
 abbrev pub area_warned : Memory → Memory

@@ -25,7 +25,8 @@ truth_text (negsuc n) = 116 ∷ []
 -- the text of a VARCHAR of n bytes at this pointer, whose length is this number: at most so many bytes of the array, which stands behind the length, and those before a zero byte. No byte behind these is read
 abbrev pub counted_text : Memory → ℕ → ℕ → ℤ → Result (List ℕ) Trap
 counted_text m p n len =
-    if int_le (pos 0) len && int_le len (pos n) then and_then (moved m p (pos 4) 1) (λ q. text_up_to m q (unsigned_abs len)) else Err BadLen
+    if int_le (pos 0) len && int_le len (pos n)
+    then and_then (moved m p (pos 4) 1) (λ q. text_up_to m q (unsigned_abs len)) else Err BadLen
 
 -- the number of an integer type at a pointer
 abbrev pub number_at : Memory → ℕ → Arith → Result ℤ Trap
@@ -50,7 +51,8 @@ is_null m (Some i) = and_then (number_at m i.place i.kind) (λ z. Ok (int_lt z (
 
 -- the parameter that a host of one element gives: none for NULL. The indicator is read first, and no value where it says NULL
 abbrev pub parameter : Memory → HostData → Result (Option (List ℕ)) Trap
-parameter m h = and_then (is_null m h.indicator) (λ null. if null then Ok None else and_then (element_text m h.place h.holds) (λ text. Ok (Some text)))
+parameter m h = and_then (is_null m h.indicator) (λ null. if null then Ok None
+    else and_then (element_text m h.place h.holds) (λ text. Ok (Some text)))
 
 -- From a field to a host.
 
@@ -61,7 +63,8 @@ are_digits (b ∷ bs) = all_ascii_digits (b ∷ bs)
 
 -- the number that a field is: one optional sign and one or more digits
 abbrev pub field_number : List ℕ → Option ℤ
-field_number field = if are_digits (without_leading_sign field) then Some (signed_digits_value 10 field) else None
+field_number field = if are_digits (without_leading_sign field)
+    then Some (signed_digits_value 10 field) else None
 
 -- whether a number is a value of an integer type
 abbrev pub fits : Arith → ℤ → Bool
@@ -82,16 +85,20 @@ number_bytes t (Some z) = if fits t z then Ok (integer_bytes t z) else Err (not_
 -- a truth value is the one letter t or f
 abbrev pub truth_bytes : List ℕ → Result (List ℕ) Finding
 truth_bytes [] = Err found.NotABool
-truth_bytes (b ∷ []) = if b == 116 then Ok (1 ∷ []) else (if b == 102 then Ok (0 ∷ []) else Err found.NotABool)
+truth_bytes (b ∷ []) = if b == 116 then Ok (1 ∷ [])
+    else (if b == 102 then Ok (0 ∷ []) else Err found.NotABool)
 truth_bytes (b ∷ c ∷ bs) = Err found.NotABool
 
 -- the bytes that a field stores, as one access. A char array takes a zero byte behind a field that leaves room for it, and else the front of the field. A VARCHAR takes the number of bytes that it took, these bytes, and zero bytes to its end. What a char pointer leads to takes all bytes and a zero byte
 abbrev pub field_bytes : Holding → List ℕ → Result (List ℕ) Finding
 field_bytes (integer t) field = number_bytes t (field_number field)
 field_bytes truth field = truth_bytes field
-field_bytes (characters n) field = Ok (if nat_lt (length field) n then field ++ 0 ∷ [] else take n field)
+field_bytes (characters n) field =
+    Ok (if nat_lt (length field) n then field ++ 0 ∷ [] else take n field)
 field_bytes pointed field = Ok (field ++ 0 ∷ [])
-field_bytes (counted n) field = Ok (integer_bytes Int (pos (min (length field) n)) ++ take n field ++ replicate (n - length field) 0)
+field_bytes (counted n) field = Ok
+    (integer_bytes Int (pos (min (length field) n))
+    ++ take n field ++ replicate (n - length field) 0)
 
 -- whether a field loses bytes
 abbrev pub is_cut : Holding → List ℕ → Bool
@@ -106,11 +113,13 @@ bytes_place m p _ = Ok p
 
 -- the memory with these bytes in the element of a row, the first being 0
 abbrev pub with_bytes : Memory → HostData → ℕ → List ℕ → Result Memory Trap
-with_bytes m h row bytes = and_then (moved m h.place (pos row) h.step) (λ p. and_then (bytes_place m p h.holds) (λ q. put m q bytes))
+with_bytes m h row bytes = and_then (moved m h.place (pos row) h.step)
+    (λ p. and_then (bytes_place m p h.holds) (λ q. put m q bytes))
 
 -- the memory with this number in the indicator of a row
 abbrev pub with_indicator : Memory → IndicatorData → ℕ → ℤ → Result Memory Trap
-with_indicator m i row z = and_then (moved m i.place (pos row) i.step) (λ p. store m p (integer_type i.kind) (number z))
+with_indicator m i row z =
+    and_then (moved m i.place (pos row) i.step) (λ p. store m p (integer_type i.kind) (number z))
 
 -- what the indicator says of a field: the whole length where the value is cut, at most the greatest number of its type, and else 0
 abbrev pub told_length : Arith → Bool → ℕ → ℤ
@@ -148,7 +157,8 @@ value_told m h row cut n (Ok after) = told after h.indicator row cut n
 -- a field whose bytes are these, or which is refused: then nothing is tested and nothing changes
 abbrev pub bytes_stored : Memory → HostData → ℕ → List ℕ → Result (List ℕ) Finding → Stored
 bytes_stored m h row field (Err finding) = (Err (refused (code_of finding)), m)
-bytes_stored m h row field (Ok bytes) = value_told m h row (is_cut h.holds field) (length field) (with_bytes m h row bytes)
+bytes_stored m h row field (Ok bytes) =
+    value_told m h row (is_cut h.holds field) (length field) (with_bytes m h row bytes)
 
 -- a field that is stored in the element of a row: the value first, then the indicator
 abbrev pub field_stored : Memory → HostData → ℕ → Option (List ℕ) → Stored

@@ -47,7 +47,8 @@ beside kind holds = record {
 
 -- values of type short from a pointer on, so many bytes apart, without an indicator
 abbrev pub shorts_at : ℕ → ℕ → HostData
-shorts_at place step = record { holds = integer Short; place = place; step = step; indicator = None }
+shorts_at place step =
+    record { holds = integer Short; place = place; step = step; indicator = None }
 
 -- a host that is nowhere, whose indicators are the first object, two bytes apart
 abbrev pub told_by_shorts : HostData

@@ -21,7 +21,8 @@ TellsTranslation text = UnlessNoMemory (IsTranslation text)
 
 -- Whatever the text is translated to, or refused for, the answer is this.
 abbrev pub IsOnlyTranslation : Text → Result Text Stop → Type 0
-IsOnlyTranslation text answer = (wanted : Result Text Stop) → IsTranslation text wanted → UnlessNoMemory (λ told. told ≡ wanted) answer
+IsOnlyTranslation text answer = (wanted : Result Text Stop) →
+    IsTranslation text wanted → UnlessNoMemory (λ told. told ≡ wanted) answer
 
 -- unless there was no memory left, this is the answer
 abbrev pub Is : Result Text Stop → Result Text Stop → Type 0

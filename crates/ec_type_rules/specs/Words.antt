@@ -19,4 +19,5 @@ named_view (Integer a) = arithmetic a
 -- the first row with these counts
 abbrev pub type_by_counts : List (List ℕ × Named) → List ℕ → Option TyData
 type_by_counts [] counts = None
-type_by_counts (r ∷ rs) counts = if pointwise nat_eq r.0 counts then Some (named_view r.1) else type_by_counts rs counts
+type_by_counts (r ∷ rs) counts = if pointwise nat_eq r.0 counts then Some (named_view r.1)
+    else type_by_counts rs counts

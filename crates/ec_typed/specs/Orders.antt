@@ -33,7 +33,8 @@ with_open numbers k = elim (place_in k numbers) [ None ↦ numbers ++ k ∷ [] |
 -- of so many numbers from k on, those that are not closed
 abbrev pub open_from : List ℕ → ℕ → ℕ → List ℕ
 open_from closed k zero = []
-open_from closed k (suc n) = if is_member k closed then open_from closed (k + 1) n else k ∷ open_from closed (k + 1) n
+open_from closed k (suc n) = if is_member k closed then open_from closed (k + 1) n
+    else k ∷ open_from closed (k + 1) n
 
 -- those that are closed, and then the others below the count
 abbrev pub order_of : List ℕ → ℕ → List ℕ
@@ -44,7 +45,8 @@ renumbered_member order m = (m.0, renumbered order m.1)
 
 abbrev pub renumbered_struct : List ℕ → Option StructData → StructData
 renumbered_struct order None = record { tag = None; varchar = false; members = [] }
-renumbered_struct order (Some d) = record { tag = d.tag; varchar = d.varchar; members = map (renumbered_member order) d.members }
+renumbered_struct order (Some d) =
+    record { tag = d.tag; varchar = d.varchar; members = map (renumbered_member order) d.members }
 
 abbrev pub renumbered_at : List ℕ → List StructData → ℕ → StructData
 renumbered_at order structs k = renumbered_struct order (slice_get structs k)
@@ -67,7 +69,8 @@ abbrev pub plain_struct : StructInfo → StructData
 plain_struct s = record { tag = s.tag; varchar = s.varchar; members = members_in s.members }
 
 -- these are the structs of the world, its closed structs, and the types of its declarations
-pub record Stands (structs : List StructDef) (closed : List ℕ) (types : List Ty) (w : World) : Type 0 where
+pub record Stands (structs : List StructDef) (closed : List ℕ)
+    (types : List Ty) (w : World) : Type 0 where
   pub structs_are : structs_view structs ≡ map plain_struct w.structs
   pub closed_are : closed ≡ w.closed
   pub types_are : map ty_view types ≡ w.types

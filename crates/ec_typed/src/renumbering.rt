@@ -70,7 +70,8 @@ fn renumbered_definition(
 ) -> Result<StructDef, OutOfMemory>
     requires { IsOrder order.now.numbers order.now.places }
     ensures { IfOk result (λ new. struct_view new
-        ≡ renumbered_struct order.now.numbers (option_map struct_view (option_copied definition.entry))) }
+        ≡ renumbered_struct order.now.numbers
+        (option_map struct_view (option_copied definition.entry))) }
 {
     match definition {
         Some(definition) => {

@@ -32,7 +32,8 @@ is_member k (j ∷ js) = if j == k then true else is_member k js
 -- the structs from number k on, one for each of the list, that are not closed
 abbrev pub unclosed : List ℕ → ℕ → List StructInfo → List ℕ
 unclosed closed k [] = []
-unclosed closed k (s ∷ ss) = if is_member k closed then unclosed closed (k + 1) ss else k ∷ unclosed closed (k + 1) ss
+unclosed closed k (s ∷ ss) = if is_member k closed then unclosed closed (k + 1) ss
+    else k ∷ unclosed closed (k + 1) ss
 
 -- the structs in the order of the places where their members close, and then those whose members never do, in the order of the text
 abbrev pub struct_order : World → List ℕ
@@ -61,7 +62,8 @@ listed_members order (listed ms) = struct_members order ms
 
 abbrev pub struct_data : List ℕ → Option StructInfo → StructData
 struct_data order None = record { tag = None; varchar = false; members = [] }
-struct_data order (Some s) = record { tag = s.tag; varchar = s.varchar; members = listed_members order s.members }
+struct_data order (Some s) =
+    record { tag = s.tag; varchar = s.varchar; members = listed_members order s.members }
 
 abbrev pub structs_of : World → List StructData
 structs_of w = map (λ k. struct_data (struct_order w) (slice_get w.structs k)) (struct_order w)
@@ -76,12 +78,21 @@ names_of w = numbered_from 0 (struct_order w) w.types
 
 -- what was found out about a program that has no violation
 abbrev pub typed_of : UnitData → List ℕ → List MarkData → World → TypedData
-typed_of u hosts handlers w = record { unit = u; structs = structs_of w; names = names_of w; hosts = hosts; handlers = handlers; denoted = w.denoted }
+typed_of u hosts handlers w = record {
+  unit = u;
+  structs = structs_of w;
+  names = names_of w;
+  hosts = hosts;
+  handlers = handlers;
+  denoted = w.denoted;
+}
 
 -- the answer of the checks: the first violation, or the program with its types
-abbrev pub answer_by : UnitData → List ℕ → List MarkData → World → Option Stop → Result TypedData Stop
+abbrev pub answer_by : UnitData → List ℕ → List MarkData →
+    World → Option Stop → Result TypedData Stop
 answer_by u hosts handlers w None = Ok (typed_of u hosts handlers w)
 answer_by u hosts handlers w (Some stop) = Err stop
 
 abbrev pub check_answer : Bool → UnitData → List ℕ → List MarkData → Result TypedData Stop
-check_answer written u hosts handlers = answer_by u hosts handlers (checked written u).world (stop_of_unit written u)
+check_answer written u hosts handlers =
+    answer_by u hosts handlers (checked written u).world (stop_of_unit written u)

@@ -28,7 +28,8 @@ truth false = pos 0
 
 -- The exact result of an operation in this type: it is reduced to an unsigned type, and has to fit a signed one (6.2.5, 9; 6.5, 5).
 abbrev pub result_in : Arith → ℤ → Option ℤ
-result_in t z = if is_signed t then (if int_le (least t) z && int_le z (greatest t) then Some z else None) else Some (converted t z)
+result_in t z = if is_signed t then
+    (if int_le (least t) z && int_le z (greatest t) then Some z else None) else Some (converted t z)
 
 -- the bits of a value, as a number that is not negative
 abbrev pub bits_of : Arith → ℤ → ℕ

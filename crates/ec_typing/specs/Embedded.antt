@@ -68,7 +68,8 @@ action_rule in_loop labels at (Some print_action) = pure tt
 action_rule in_loop labels at (Some stop_action) = pure tt
 action_rule in_loop labels at (Some break_action) = demand at F30 in_loop
 action_rule in_loop labels at (Some next_action) = demand at F30 in_loop
-action_rule in_loop labels at (Some (call_action f es)) = instead at F30 (expr at (call f es) >> pure tt)
+action_rule in_loop labels at (Some (call_action f es)) =
+    instead at F30 (expr at (call f es) >> pure tt)
 
 -- the actions that hold at a statement; a directive is not executed
 abbrev pub actions_rule : List EmbData → Bool → Named (Unit {0}) → Place → EmbData → Rule (Unit {0})
@@ -77,8 +78,10 @@ actions_rule es in_loop labels at e =
     >> (action_rule in_loop labels at (handler es e.place Warning)
     >> action_rule in_loop labels at (handler es e.place Error))
 
-abbrev pub handlers_rule : List EmbData → Bool → Named (Unit {0}) → Place → EmbData → Rule (Unit {0})
-handlers_rule es in_loop labels at e = elim (is_directive e) [ true ↦ pure tt | false ↦ actions_rule es in_loop labels at e ]
+abbrev pub handlers_rule : List EmbData → Bool →
+    Named (Unit {0}) → Place → EmbData → Rule (Unit {0})
+handlers_rule es in_loop labels at e =
+    elim (is_directive e) [ true ↦ pure tt | false ↦ actions_rule es in_loop labels at e ]
 
 -- ---- what the variables denote
 
@@ -101,7 +104,8 @@ variables_of es n e = names_of e ++ names_of_option (declare_opened es n e)
 -- ---- statements
 
 -- An embedded statement of this number. F29: a directive is no body of `if`, `else`, a loop or a label.
-abbrev pub embedded_rule : List EmbData → Bool → Bool → Named (Unit {0}) → Place → ℕ → EmbData → Rule (Unit {0})
+abbrev pub embedded_rule : List EmbData → Bool → Bool →
+    Named (Unit {0}) → Place → ℕ → EmbData → Rule (Unit {0})
 embedded_rule es is_body in_loop labels at n e = do
   demand at F29 (not (is_body && is_directive e))
   references_rule at (references e)

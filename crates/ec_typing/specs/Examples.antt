@@ -29,19 +29,25 @@ with_main text = verdict_by false (read_text false (codes text ++ codes " int ma
 
 -- of statements, as the body of main
 abbrev pub in_main : String → Verdict
-in_main text = verdict_by false (read_text false (codes "int main(void) { " ++ codes text ++ codes " }"))
+in_main text =
+    verdict_by false (read_text false (codes "int main(void) { " ++ codes text ++ codes " }"))
 
 -- of statements behind these declarations
 abbrev pub verdict_behind : String → String → Verdict
-verdict_behind declarations text = verdict_by false (read_text false (codes declarations ++ codes text ++ codes " }"))
+verdict_behind declarations text =
+    verdict_by false (read_text false (codes declarations ++ codes text ++ codes " }"))
 
 -- of statements among objects of the types of C
 abbrev pub among_declarations : String → Verdict
-among_declarations text = verdict_behind "int main(void) { int i; int *p; char *c; void *v; int a[3]; struct s { int m; struct s *n; } x, *q; struct u; struct u *w; " text
+among_declarations text =
+    verdict_behind
+    "int main(void) { int i; int *p; char *c; void *v; int a[3]; struct s { int m; struct s *n; } x, *q; struct u; struct u *w; " text
 
 -- of statements where functions are declared and defined
 abbrev pub among_functions : String → Verdict
-among_functions text = verdict_behind "int f(int a, char *b) { return a; } void g(void) { } int h(long); int main(void) { int i; long l; char *c; unsigned char *u; void *v; struct s { int m; } x; " text
+among_functions text =
+    verdict_behind
+    "int f(int a, char *b) { return a; } void g(void) { } int h(long); int main(void) { int i; long l; char *c; unsigned char *u; void *v; struct s { int m; } x; " text
 
 -- what they say of a text of written C
 abbrev pub written_verdict : String → Verdict
@@ -49,7 +55,10 @@ written_verdict text = verdict_by true (read_text true (codes text))
 
 -- of a text of written C behind these declarations
 abbrev pub written_behind : Text → Verdict
-written_behind text = verdict_by true (read_text true (codes "int main(void) { int i; char *c; unsigned char *u; char a[3]; struct varchar_v { int len; char arr[5]; } v; " ++ text ++ codes " }"))
+written_behind text =
+    verdict_by true
+    (read_text true
+    (codes "int main(void) { int i; char *c; unsigned char *u; char a[3]; struct varchar_v { int len; char arr[5]; } v; " ++ text ++ codes " }"))
 
 -- of statements of written C
 abbrev pub among_written : String → Verdict
@@ -57,7 +66,8 @@ among_written text = written_behind (codes text)
 
 -- of a statement that stores one column in a host of these five values, without an indicator
 abbrev pub storing_in : String → Verdict
-storing_in host = written_behind (codes "ECPGdo(1, NULL, ECPGst_normal, \"x\", ECPGt_EOIT, " ++ codes host ++ codes ", ECPGt_NO_INDICATOR, NULL, 0L, 0L, 0L, ECPGt_EORT);")
+storing_in host = written_behind (codes "ECPGdo(1, NULL, ECPGst_normal, \"x\", ECPGt_EOIT, "
+    ++ codes host ++ codes ", ECPGt_NO_INDICATOR, NULL, 0L, 0L, 0L, ECPGt_EORT);")
 
 abbrev pub refused : FaultKind → ℕ → Verdict
 refused kind line = Ok (Some (Refused kind (record { 0 = line })))

@@ -65,7 +65,10 @@ begin_struct at (Some tag) = do
 -- the members with their types, where all have one
 abbrev pub typed_members : Members → Option (List MemberData)
 typed_members [] = Some []
-typed_members (m ∷ ms) = elim m.1 [ None ↦ None | Some t ↦ option_and_then (λ more. Some ((m.0, t) ∷ more)) (typed_members ms) ]
+typed_members (m ∷ ms) = elim m.1 [
+  | None ↦ None
+  | Some t ↦ option_and_then (λ more. Some ((m.0, t) ∷ more)) (typed_members ms)
+]
 
 -- the types that begin where a type begins, outermost first
 abbrev pub first_types : List StructInfo → TyData → List TyData
@@ -98,7 +101,14 @@ stands_for_all structs [] = 0
 stands_for_all structs (m ∷ ms) = stands_for_member structs m.1 + stands_for_all structs ms
 
 abbrev pub closed_struct : Option Text → Members → Option Shape → World → StructInfo
-closed_struct tag ms shape w = record { tag = tag; varchar = false; members = listed ms; shape = shape; first = first_of_members w.structs ms; stands_for = stands_for_all w.structs ms }
+closed_struct tag ms shape w = record {
+  tag = tag;
+  varchar = false;
+  members = listed ms;
+  shape = shape;
+  first = first_of_members w.structs ms;
+  stands_for = stands_for_all w.structs ms;
+}
 
 -- Its members are these: the struct is complete (6.7.2.1, 7). L1 where it is larger than the limit.
 unfoldable pub end_struct : Place → Option Text → ℕ → Members → Rule (Option TyData)
@@ -234,7 +244,10 @@ abbrev mutual
   pub args : Place → ArgumentsData → ExprList → Rule (List OperandData)
   args at forms no_exprs = pure []
   args at forms (exprs e es) = do
-    o ← elim (is_no_expression forms e) [ true ↦ pure unknown | false ↦ expr at e >>= value_rule at ]
+    o ← elim (is_no_expression forms e) [
+      | true ↦ pure unknown
+      | false ↦ expr at e >>= value_rule at
+    ]
     os ← args at (behind_first_argument forms) es
     pure (o ∷ os)
 

@@ -104,7 +104,10 @@ plain_letter bs = elim (behind letter_c bs) [
 
 -- behind an `l`: perhaps another one, and a letter of an integer
 abbrev pub long_letter : Text → Part
-long_letter bs = elim (behind letter_l bs) [ Some rest ↦ integer_part long_integer rest | None ↦ integer_part long_integer bs ]
+long_letter bs = elim (behind letter_l bs) [
+  | Some rest ↦ integer_part long_integer rest
+  | None ↦ integer_part long_integer bs
+]
 
 abbrev pub letter_part : Text → Part
 letter_part bs = elim (behind letter_l bs) [ Some rest ↦ long_letter rest | None ↦ plain_letter bs ]
@@ -122,7 +125,8 @@ behind_width bs = elim (behind point bs) [ Some rest ↦ precise_part rest | Non
 
 -- flags, a width, a precision and a letter
 abbrev pub full_conversion : Text → Part
-full_conversion bs = option_and_then (λ p. after p.0 (behind_width p.1)) (width_part (behind_by is_flag bs))
+full_conversion bs =
+    option_and_then (λ p. after p.0 (behind_width p.1)) (width_part (behind_by is_flag bs))
 
 -- a conversion, behind its `%`
 abbrev pub conversion : Text → Part
@@ -134,7 +138,8 @@ needs_within zero bs = Some []
 needs_within (suc n) [] = Some []
 needs_within (suc n) (b ∷ bs) =
     if b == 0 then Some []
-    else (if b == percent then option_and_then (λ p. option_map (λ more. p.0 ++ more) (needs_within n p.1)) (conversion bs)
+    else (if b == percent then option_and_then
+    (λ p. option_map (λ more. p.0 ++ more) (needs_within n p.1)) (conversion bs)
     else needs_within n bs)
 
 -- what the arguments of a format have to be, where it is one

@@ -83,7 +83,10 @@ abbrev pub going_in : ℕ → World → OperandData → TyData → Frames → Op
 going_in zero w o t fs = None
 going_in (suc n) w o t fs = elim (is_whole o t) [
   | true ↦ Some (t, fs)
-  | false ↦ elim (first_part w t) [ None ↦ None | Some inner ↦ going_in n w o inner (behind_first (parts_of w t) ++ fs) ]
+  | false ↦ elim (first_part w t) [
+    | None ↦ None
+    | Some inner ↦ going_in n w o inner (behind_first (parts_of w t) ++ fs)
+  ]
 ]
 
 -- More parts than stand one in another in any program: a text has at most 2^24 bytes.
@@ -107,7 +110,8 @@ abbrev pub is_fixed_value : OperandData → Bool
 is_fixed_value o = is_known o.constant || o.is_fixed
 
 unfoldable pub fixed_rule : Place → Bool → OperandData → Rule (Unit {0})
-fixed_rule at global o = elim o.type [ None ↦ pure tt | Some t ↦ demand at F19 (not global || is_fixed_value o) ]
+fixed_rule at global o =
+    elim o.type [ None ↦ pure tt | Some t ↦ demand at F19 (not global || is_fixed_value o) ]
 
 -- the expression as a value, which is known where it has to be
 abbrev pub init_value : Place → Bool → ExprData → Rule OperandData
@@ -168,7 +172,8 @@ has_inner_braces _ = false
 
 -- what a list in braces initializes: the parts of the object, or it as a whole where this is a literal alone
 abbrev pub braced_parts : World → TyData → InitList → Frames
-braced_parts w t is = if is_char_array t && is_text_alone is then elements_left t 1 ∷ [] else parts_of w t
+braced_parts w t is = if is_char_array t && is_text_alone is then elements_left t 1 ∷ []
+    else parts_of w t
 
 -- ---- the type of an array whose length its initializer tells (6.7.8, 22)
 
@@ -184,7 +189,10 @@ elements_begun (f ∷ fs) = elements_begun fs
 
 abbrev pub with_length : TyData → InitList → Option Frames → Option TyData
 with_length t is None = None
-with_length t is (Some fs) = Some (array t (if is_char_array (array t 0) && is_text_alone is then literal_length is else elements_begun fs))
+with_length t is (Some fs) =
+    Some (array t
+    (if is_char_array (array t 0) && is_text_alone is then literal_length is
+    else elements_begun fs))
 
 abbrev pub completed : TyData → InitList → Option Frames → Option TyData
 completed (array t zero) is fs = with_length t is fs
@@ -195,7 +203,8 @@ literal_array t None = None
 literal_array t (Some n) = Some (array t (n + 1))
 
 abbrev pub completed_by : TyData → OperandData → Option TyData
-completed_by (array t zero) o = if is_char_array (array t zero) then literal_array t o.literal else None
+completed_by (array t zero) o = if is_char_array (array t zero) then literal_array t o.literal
+    else None
 completed_by t o = Some t
 
 -- ---- initializers in their order

@@ -51,14 +51,16 @@ names_in es = map (λ e. e.0) es
 -- ---- reserved names
 
 abbrev pub reserved_words : List Text
-reserved_words = codes "sqlca" ∷ codes "SQLCODE" ∷ codes "SQLSTATE" ∷ codes "NULL" ∷ codes "true" ∷ codes "false" ∷ codes "stdout" ∷ codes "stderr" ∷ []
+reserved_words = codes "sqlca" ∷ codes "SQLCODE" ∷ codes "SQLSTATE" ∷ codes "NULL"
+    ∷ codes "true" ∷ codes "false" ∷ codes "stdout" ∷ codes "stderr" ∷ []
 
 abbrev pub begins_with : Text → Text → Bool
 begins_with front t = same_text front (take (length front) t)
 
 -- an object, a parameter, a function, a member or a label may not have this name
 abbrev pub is_reserved : Text → Bool
-is_reserved t = is_one_of reserved_words t || is_one_of (names_in known_functions) t || begins_with (codes "ECPG") t || begins_with (codes "varchar_") t
+is_reserved t = is_one_of reserved_words t || is_one_of (names_in known_functions) t
+    || begins_with (codes "ECPG") t || begins_with (codes "varchar_") t
 
 -- a letter in upper case
 abbrev pub raised : ℕ → ℕ
@@ -87,14 +89,24 @@ is_stream _ = false
 
 -- the calls of the library
 abbrev pub calls : List LibName
-calls = library.Do ∷ library.Connect ∷ library.Disconnect ∷ library.SetConn ∷ library.SetCommit ∷ library.Trans ∷ library.Prepare ∷ library.Deallocate ∷ library.AllocateDesc ∷ library.DeallocateDesc ∷ library.GetDescHeader ∷ library.SetDescHeader ∷ library.GetDesc ∷ library.SetDesc ∷ []
+calls = library.Do ∷ library.Connect ∷ library.Disconnect ∷ library.SetConn ∷ library.SetCommit
+    ∷ library.Trans ∷ library.Prepare ∷ library.Deallocate ∷ library.AllocateDesc
+    ∷ library.DeallocateDesc ∷ library.GetDescHeader
+    ∷ library.SetDescHeader ∷ library.GetDesc ∷ library.SetDesc ∷ []
 
 abbrev pub library_calls : List Text
 library_calls = map library_text calls
 
 -- the symbols of the library
 abbrev pub symbols : List Sym
-symbols = symbol.Char ∷ symbol.UnsignedChar ∷ symbol.Short ∷ symbol.UnsignedShort ∷ symbol.Int ∷ symbol.UnsignedInt ∷ symbol.Long ∷ symbol.UnsignedLong ∷ symbol.LongLong ∷ symbol.UnsignedLongLong ∷ symbol.Bool ∷ symbol.Varchar ∷ symbol.Const ∷ symbol.Descriptor ∷ symbol.NoIndicator ∷ symbol.EndOfInputs ∷ symbol.EndOfOutputs ∷ symbol.StatementNormal ∷ symbol.StatementExecute ∷ symbol.StatementExecImmediate ∷ symbol.StatementOpen ∷ symbol.ItemData ∷ symbol.ItemIndicator ∷ symbol.ItemName ∷ symbol.ItemType ∷ symbol.ItemOctets ∷ symbol.EndOfItems ∷ []
+symbols = symbol.Char ∷ symbol.UnsignedChar ∷ symbol.Short ∷ symbol.UnsignedShort ∷ symbol.Int
+    ∷ symbol.UnsignedInt ∷ symbol.Long ∷ symbol.UnsignedLong ∷ symbol.LongLong
+    ∷ symbol.UnsignedLongLong ∷ symbol.Bool ∷ symbol.Varchar ∷ symbol.Const ∷ symbol.Descriptor
+    ∷ symbol.NoIndicator ∷ symbol.EndOfInputs ∷ symbol.EndOfOutputs ∷ symbol.StatementNormal
+    ∷ symbol.StatementExecute ∷ symbol.StatementExecImmediate
+    ∷ symbol.StatementOpen ∷ symbol.ItemData
+    ∷ symbol.ItemIndicator ∷ symbol.ItemName ∷ symbol.ItemType
+    ∷ symbol.ItemOctets ∷ symbol.EndOfItems ∷ []
 
 abbrev pub library_symbols : List Text
 library_symbols = map symbol_text symbols
@@ -126,7 +138,8 @@ takes_stream name = same_text name (codes "fprintf")
 
 -- The symbols of the library are known in written C alone, as arguments of its calls.
 abbrev pub arguments_of : Bool → Text → ArgumentsData
-arguments_of written name = if takes_stream name then stream_first else (if written && is_one_of library_calls name then with_symbols else all_expressions)
+arguments_of written name = if takes_stream name then stream_first
+    else (if written && is_one_of library_calls name then with_symbols else all_expressions)
 
 abbrev pub has_stream : ExprList → Bool
 has_stream no_exprs = false

@@ -16,7 +16,8 @@ use Rattle.ec_typing.specs.Types.{is_character}
 -- the first of these whose text is this name
 abbrev pub named_among : {A : Type 0} → (A → Text) → Text → List A → Option A
 named_among text name [] = None
-named_among text name (x ∷ xs) = if same_text name (text x) then Some x else named_among text name xs
+named_among text name (x ∷ xs) = if same_text name (text x) then Some x
+    else named_among text name xs
 
 -- the call of the library that a name is. The library is known in written C alone
 abbrev pub library_call : Bool → Text → Option LibName

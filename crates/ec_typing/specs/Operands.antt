@@ -36,7 +36,15 @@ pub record OperandData : Type 0 where
   pub literal : Option ℕ
 
 abbrev pub computed : Option TyData → OperandData
-computed t = record { type = t; is_place = false; is_target = false; constant = variable; is_global = false; is_fixed = false; literal = None }
+computed t = record {
+  type = t;
+  is_place = false;
+  is_target = false;
+  constant = variable;
+  is_global = false;
+  is_fixed = false;
+  literal = None;
+}
 
 -- an expression of which nothing is known, since a part has a fault
 abbrev pub unknown : OperandData
@@ -51,7 +59,12 @@ object_operand global t = record (computed t) { is_place = true; is_global = glo
 
 -- a string literal is an array of char with a zero byte at its end (6.4.5, 5; 6.5.1, 4)
 abbrev pub literal_operand : ℕ → OperandData
-literal_operand n = record (computed (Some (array char_type (n + 1)))) { is_place = true; is_fixed = true; literal = Some n }
+literal_operand n = record
+    (computed (Some (array char_type (n + 1)))) {
+      is_place = true;
+      is_fixed = true;
+      literal = Some n;
+    }
 
 -- NULL is a null pointer (7.17), here of type `void *`, and no integer
 abbrev pub null_operand : OperandData
@@ -100,13 +113,22 @@ name_rule at name = do
 -- ---- values (6.3.2.1)
 
 abbrev pub valued : OperandData → TyData → OperandData
-valued o t = record o { type = Some (decayed t); is_place = false; is_target = false; is_global = false; is_fixed = o.is_fixed || (o.is_global && is_array t) }
+valued o t = record o {
+  type = Some (decayed t);
+  is_place = false;
+  is_target = false;
+  is_global = false;
+  is_fixed = o.is_fixed || (o.is_global && is_array t);
+}
 
 -- An expression as a value: an array is a pointer to its first element, and a struct has to be complete.
 unfoldable pub value_rule : Place → OperandData → Rule OperandData
 value_rule at o = given o.type (λ t. do
   complete ← ask (λ w. is_complete w t)
-  elim (is_structure t && not complete) [ true ↦ note at F14 >> pure unknown | false ↦ pure (valued o t) ])
+  elim (is_structure t && not complete) [
+    | true ↦ note at F14 >> pure unknown
+    | false ↦ pure (valued o t)
+  ])
 
 -- ---- unary operators
 
@@ -115,7 +137,11 @@ address o t = record (computed (Some (pointer t))) { is_fixed = o.is_global }
 
 -- `&` (6.5.3.2): F15 where the operand is no place. `&*p` is p, also where p points to void
 unfoldable pub address_rule : Place → OperandData → Rule OperandData
-address_rule at o = given o.type (λ t. elim (o.is_place || o.is_target) [ true ↦ pure (address o t) | false ↦ note at F15 >> pure unknown ])
+address_rule at o =
+    given o.type (λ t. elim (o.is_place || o.is_target) [
+      | true ↦ pure (address o t)
+      | false ↦ note at F15 >> pure unknown
+    ])
 
 abbrev pub target : TyData → OperandData
 target t = record (computed (Some t)) { is_place = not (is_void t); is_target = true }
@@ -183,7 +209,8 @@ abbrev pub may_be_set : OperandData → TyData → Bool
 may_be_set o t = o.is_place && not (is_array t)
 
 abbrev pub assigned : Place → Bool → TyData → Rule OperandData
-assigned at allows s = elim (is_array s) [ true ↦ pure unknown | false ↦ typed at (allowed allows s) ]
+assigned at allows s =
+    elim (is_array s) [ true ↦ pure unknown | false ↦ typed at (allowed allows s) ]
 
 -- `=`: F15 speaks of the place alone, F14 of the types alone
 unfoldable pub assign_rule : Place → OperandData → OperandData → Rule OperandData
@@ -219,9 +246,11 @@ all_fit (p ∷ ps) [] = true
 all_fit (p ∷ ps) (o ∷ os) = fits p o && all_fit ps os
 
 -- F16 for another number of arguments, F14 for one of another type. Nothing is said where the parameters are not known.
-abbrev pub arguments_rule : Place → Option (List (Option TyData)) → List OperandData → Rule (Unit {0})
+abbrev pub arguments_rule : Place → Option (List (Option TyData)) →
+    List OperandData → Rule (Unit {0})
 arguments_rule at None os = pure tt
-arguments_rule at (Some ps) os = demand at F16 (length os == length ps) >> demand at F14 (all_fit ps os)
+arguments_rule at (Some ps) os =
+    demand at F16 (length os == length ps) >> demand at F14 (all_fit ps os)
 
 abbrev pub types_of : List OperandData → List (Option TyData)
 types_of os = map (λ o. o.type) os
@@ -242,9 +271,11 @@ format_rule at n name es os = elim (nat_le (n + 1) (length os)) [
 ]
 
 -- a call of a known function; F16 where there is none of this name
-abbrev pub known_rule : Place → Text → ExprList → List OperandData → Option KnownData → Rule OperandData
+abbrev pub known_rule : Place → Text → ExprList →
+    List OperandData → Option KnownData → Rule OperandData
 known_rule at name es os None = note at F16 >> pure unknown
-known_rule at name es os (Some (plain r ps)) = arguments_rule at (Some (map Some ps)) os >> pure (computed (Some r))
+known_rule at name es os (Some (plain r ps)) =
+    arguments_rule at (Some (map Some ps)) os >> pure (computed (Some r))
 known_rule at name es os (Some (formatted n)) = format_rule at n name es os
 
 -- A call of the library gives no value; F16 where its arguments are none that it takes.
@@ -255,12 +286,14 @@ library_rule at call es os = elim (cuts call es (types_of os)) [
 ]
 
 -- a call of what the program doesn't declare: of the library, or of a known function
-abbrev pub undeclared_call : Place → Text → ExprList → List OperandData → Option LibName → Rule OperandData
+abbrev pub undeclared_call : Place → Text → ExprList →
+    List OperandData → Option LibName → Rule OperandData
 undeclared_call at name es os (Some call) = library_rule at call es os
 undeclared_call at name es os None = known_rule at name es os (known_function name)
 
 -- F16 for a call of what is no function, and of a function that the program doesn't define
-unfoldable pub call_by : Place → Text → ExprList → List OperandData → Option EntryData → Rule OperandData
+unfoldable pub call_by : Place → Text → ExprList →
+    List OperandData → Option EntryData → Rule OperandData
 call_by at name es os (Some (object k global t)) = note at F16 >> pure unknown
 call_by at name es os (Some (function k done r ps)) = do
   defined ← ask (λ w. is_some (find name w.defined))
@@ -302,7 +335,8 @@ member_rule at o m = given o.type (λ t. member_in at o.is_place m (struct_numbe
 
 -- `->` of a pointer to a struct
 unfoldable pub arrow_rule : Place → OperandData → Text → Rule OperandData
-arrow_rule at o m = given o.type (λ t. member_in at true m (option_and_then struct_number (pointed_to t)))
+arrow_rule at o m =
+    given o.type (λ t. member_in at true m (option_and_then struct_number (pointed_to t)))
 
 -- ---- casts (6.5.4) and sizes (6.5.3.4)
 
@@ -317,7 +351,10 @@ scalar_cast at s o = given o.type (λ t. do
 
 -- A cast to void takes any expression and needs no value.
 abbrev pub cast_to : Place → OperandData → TyData → Rule OperandData
-cast_to at o s = elim (is_void s) [ true ↦ given o.type (λ t. pure (computed (Some void))) | false ↦ value_rule at o >>= scalar_cast at s ]
+cast_to at o s = elim (is_void s) [
+  | true ↦ given o.type (λ t. pure (computed (Some void)))
+  | false ↦ value_rule at o >>= scalar_cast at s
+]
 
 unfoldable pub cast_rule : Place → Option TyData → OperandData → Rule OperandData
 cast_rule at to o = given to (cast_to at o)
@@ -325,7 +362,11 @@ cast_rule at to o = given to (cast_to at o)
 -- A type that is larger than the limit has no size. Where a member has no type, nothing is known.
 abbrev pub size_operand : Option Shape → OperandData
 size_operand None = unknown
-size_operand (Some shape) = record (computed (Some size_type)) { constant = if is_within (Some shape) then known (pos shape.size) else trapping }
+size_operand (Some shape) =
+    record (computed (Some size_type)) {
+      constant = if is_within (Some shape)
+          then known (pos shape.size) else trapping;
+    }
 
 unfoldable pub size_rule : Place → Option TyData → Rule OperandData
 size_rule at ty = given ty (λ t. do

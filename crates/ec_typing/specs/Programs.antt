@@ -95,17 +95,20 @@ are_known [] = true
 are_known (t ∷ ts) = is_some t && are_known ts
 
 -- one type, or as many parameters where a type is missing
-abbrev pub is_same_function : Option TyData → List (Option TyData) → Option TyData → List (Option TyData) → Bool
+abbrev pub is_same_function : Option TyData →
+    List (Option TyData) → Option TyData → List (Option TyData) → Bool
 is_same_function r ps s qs =
     length ps == length qs
-    && (not (is_some r && is_some s && are_known ps && are_known qs) || (agrees r s && all_agree ps qs))
+    && (not (is_some r && is_some s && are_known ps && are_known qs)
+    || (agrees r s && all_agree ps qs))
 
 -- A function may be declared again with the same type (6.7, 4), and is defined once (6.9, 5).
 abbrev pub may_follow : Bool → Option TyData → List (Option TyData) → Option EntryData → Bool
 may_follow defines r ps None = true
 may_follow defines r ps (Some (object k global t)) = false
 may_follow defines r ps (Some (function k done s None)) = not (done && defines)
-may_follow defines r ps (Some (function k done s (Some qs))) = not (done && defines) && is_same_function r ps s qs
+may_follow defines r ps (Some (function k done s (Some qs))) =
+    not (done && defines) && is_same_function r ps s qs
 
 -- a definition stands so far
 abbrev pub is_done : Option EntryData → Bool
@@ -119,14 +122,22 @@ put_outside name entry (s ∷ ss) = record { names = put name entry s.names; tag
 
 -- The function's name stands for it in the scope round that of its parameters, before their names; the parameters are known behind their list.
 unfoldable pub begin_function : Text → EntryData → Rule (Unit {0})
-begin_function name entry = change (λ w. record w { here = record { names = put name entry w.here.names; tags = w.here.tags } })
+begin_function name entry = change
+    (λ w. record w { here = record { names = put name entry w.here.names; tags = w.here.tags } })
 
 unfoldable pub know_function : Text → EntryData → Rule (Unit {0})
 know_function name entry = change (λ w. record w { outer = put_outside name entry w.outer })
 
 abbrev pub body_rule : List EmbData → Option TyData → Option StmtList → Rule (Unit {0})
 body_rule es r None = pure tt
-body_rule es r (Some ss) = change (λ w. record w { labels = [] }) >> statements (record { embs = es; is_body = false; in_loop = false; labels = labels_in_all ss []; result = r }) ss
+body_rule es r (Some ss) =
+    change (λ w. record w { labels = [] }) >> statements (record {
+      embs = es;
+      is_body = false;
+      in_loop = false;
+      labels = labels_in_all ss [];
+      result = r;
+    }) ss
 
 -- A function is a place. Its parameters and its body are one scope (6.2.1, 4).
 abbrev pub function_rule : List EmbData → FuncData → Rule (Unit {0})
@@ -183,7 +194,8 @@ has_no_params (p ∷ ps) = false
 
 -- the definition of an `int main` without parameters (5.1.2.2.1)
 abbrev pub is_main : FuncData → Bool
-is_main f = same_text f.name (codes "main") && is_some f.body && is_int f.base f.stars && has_no_params f.params
+is_main f = same_text f.name (codes "main") && is_some f.body
+    && is_int f.base f.stars && has_no_params f.params
 
 abbrev pub has_main : List TopData → Bool
 has_main [] = false

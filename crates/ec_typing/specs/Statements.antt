@@ -64,7 +64,8 @@ object_item at global is_varchar t (declarator stars name ns init) = do
 
 abbrev pub object_items : Place → Bool → Bool → Option TyData → DeclaratorList → Rule (Unit {0})
 object_items at global is_varchar t no_declarators = pure tt
-object_items at global is_varchar t (declarators d ds) = object_item at global is_varchar t d >> object_items at global is_varchar t ds
+object_items at global is_varchar t (declarators d ds) =
+    object_item at global is_varchar t d >> object_items at global is_varchar t ds
 
 -- a tag alone declares a struct, unless this scope has it (6.7.2.3, 7)
 abbrev pub declared_tag : Text → Option ℕ → Rule (Option TyData)
@@ -129,7 +130,8 @@ returns s t null = not (is_void s) && is_assignable s t null
 -- `return` with a value, which the result may take as by assignment (6.8.6.4, 1 and 3)
 unfoldable pub return_rule : Place → Option TyData → OperandData → Rule (Unit {0})
 return_rule at None o = pure tt
-return_rule at (Some s) o = elim o.type [ None ↦ pure tt | Some t ↦ demand at F14 (returns s t (is_null o)) ]
+return_rule at (Some s) o =
+    elim o.type [ None ↦ pure tt | Some t ↦ demand at F14 (returns s t (is_null o)) ]
 
 -- `return` alone stands in a function without a result (6.8.6.4, 1)
 unfoldable pub return_nothing : Place → Option TyData → Rule (Unit {0})
@@ -155,10 +157,13 @@ abbrev mutual
   statement_kind a at empty_stmt = pure tt
   statement_kind a at (expr_stmt e) = expr at e >> pure tt
   statement_kind a at (block_stmt ss) = scoped (statements (as_item a) ss)
-  statement_kind a at (if_stmt e s other) = scoped (condition at e >> (scoped (statement (as_body a) s) >> otherwise (as_body a) other))
+  statement_kind a at (if_stmt e s other) =
+      scoped (condition at e >> (scoped (statement (as_body a) s) >> otherwise (as_body a) other))
   statement_kind a at (while_stmt e s) = scoped (condition at e >> scoped (statement (looping a) s))
   statement_kind a at (do_stmt s e) = scoped (scoped (statement (looping a) s) >> condition at e)
-  statement_kind a at (for_stmt x y z s) = scoped (optional at x >> (optional_condition at y >> (optional at z >> scoped (statement (looping a) s))))
+  statement_kind a at (for_stmt x y z s) =
+      scoped (optional at x >>
+      (optional_condition at y >> (optional at z >> scoped (statement (looping a) s))))
   statement_kind a at break_stmt = demand at F18 a.in_loop
   statement_kind a at continue_stmt = demand at F18 a.in_loop
   statement_kind a at (return_stmt e) = return_by at a.result e

@@ -30,7 +30,8 @@ occurrences w [] = 0
 occurrences w (v ∷ vs) = (if same_text w v then 1 else 0) + occurrences w vs
 
 abbrev pub type_words : List Text
-type_words = codes "void" ∷ codes "bool" ∷ codes "char" ∷ codes "short" ∷ codes "int" ∷ codes "long" ∷ codes "signed" ∷ codes "unsigned" ∷ []
+type_words = codes "void" ∷ codes "bool" ∷ codes "char" ∷ codes "short"
+    ∷ codes "int" ∷ codes "long" ∷ codes "signed" ∷ codes "unsigned" ∷ []
 
 abbrev pub occur_alike : List Text → List Text → List Text → Bool
 occur_alike [] us vs = true
@@ -208,7 +209,8 @@ is_truth op = is_logical op || is_equality op || is_relation op
 
 -- Over integers: a truth is an int, a shift has the type of its promoted left operand (6.5.7, 3), all else the common type (6.3.1.8).
 abbrev pub integer_operation : BinOp → Arith → Arith → Arith
-integer_operation op a b = if is_truth op then Int else (if is_shift op then promoted a else usual_type a b)
+integer_operation op a b = if is_truth op then Int
+    else (if is_shift op then promoted a else usual_type a b)
 
 abbrev pub only_if : Bool → TyData → Option TyData
 only_if true t = Some t
@@ -242,16 +244,20 @@ reversed_operation complete op s_null t =
 
 -- the type of a binary operation over values of these types (6.5.5 to 6.5.14)
 abbrev pub binary_type : (TyData → Bool) → BinOp → TyData → Bool → TyData → Bool → Option TyData
-binary_type complete op (arithmetic a) s_null (arithmetic b) t_null = Some (arithmetic (integer_operation op a b))
+binary_type complete op (arithmetic a) s_null (arithmetic b) t_null =
+    Some (arithmetic (integer_operation op a b))
 binary_type complete op (pointer s) s_null (pointer t) t_null = pointers_operation complete op s t
-binary_type complete op (pointer s) s_null (arithmetic b) t_null = pointer_operation complete op s t_null
-binary_type complete op (arithmetic a) s_null (pointer t) t_null = reversed_operation complete op s_null t
+binary_type complete op (pointer s) s_null (arithmetic b) t_null =
+    pointer_operation complete op s t_null
+binary_type complete op (arithmetic a) s_null (pointer t) t_null =
+    reversed_operation complete op s_null t
 binary_type complete op _ s_null _ t_null = None
 
 -- Whether a compound assignment may be made to an object of the first type (6.5.16.2, 1 and 2).
 abbrev pub is_compound : (TyData → Bool) → BinOp → TyData → TyData → Bool
 is_compound complete op (arithmetic a) (arithmetic b) = true
-is_compound complete op (pointer s) (arithmetic b) = (is_addition op || is_subtraction op) && complete s
+is_compound complete op (pointer s) (arithmetic b) =
+    (is_addition op || is_subtraction op) && complete s
 is_compound complete op _ _ = false
 
 -- Whether `++` and `--` may be used on an object of this type (6.5.2.4, 1; 6.5.3.1, 1).

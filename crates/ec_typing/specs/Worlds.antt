@@ -81,7 +81,9 @@ abbrev pub out : {A : Type 0} → A → List Violation → World → Out A
 out a vs w = record { answer = a; found = vs; world = w }
 
 abbrev pub followed : {A B : Type 0} → Out A → (A → Rule B) → Out B
-followed o f = out (f o.answer o.world).answer (o.found ++ (f o.answer o.world).found) (f o.answer o.world).world
+followed o f =
+    out (f o.answer o.world).answer
+    (o.found ++ (f o.answer o.world).found) (f o.answer o.world).world
 
 -- one rule and then another, which may use the answer of the first
 unfoldable pub chain : {A B : Type 0} → Rule A → (A → Rule B) → Rule B
@@ -121,11 +123,13 @@ keep_within at kind false = λ w. out tt (record { place = at.number; stop = Lim
 
 -- Whatever is found is this fault.
 unfoldable pub instead : Place → FaultKind → Rule (Unit {0}) → Rule (Unit {0})
-instead at kind m = λ w. out tt (map (λ v. record { place = at.number; stop = Refused kind at.line }) (m w).found) (m w).world
+instead at kind m = λ w. out tt
+    (map (λ v. record { place = at.number; stop = Refused kind at.line }) (m w).found) (m w).world
 
 -- the next place, on this line
 unfoldable pub place : Line → Rule Place
-place line = λ w. out (record { number = w.places; line = line }) [] (record w { places = w.places + 1 })
+place line =
+    λ w. out (record { number = w.places; line = line }) [] (record w { places = w.places + 1 })
 
 -- ---- scopes (6.2.1)
 
@@ -173,7 +177,8 @@ abbrev pub scoped : Rule (Unit {0}) → Rule (Unit {0})
 scoped m = enter >> (m >> leave)
 
 abbrev pub with_name : Text → EntryData → World → World
-with_name name entry w = record w { here = record { names = put name entry w.here.names; tags = w.here.tags } }
+with_name name entry w =
+    record w { here = record { names = put name entry w.here.names; tags = w.here.tags } }
 
 abbrev pub with_tag : Text → ℕ → World → World
 with_tag tag k w = record w { here = record { names = w.here.names; tags = put tag k w.here.tags } }
@@ -220,7 +225,8 @@ number_as ty = change (λ w. record w { types = w.types ++ ty ∷ [] })
 
 -- a struct whose members are not known
 abbrev pub struct_named : Option Text → MembersData → StructInfo
-struct_named tag ms = record { tag = tag; varchar = false; members = ms; shape = None; first = []; stands_for = 0 }
+struct_named tag ms =
+    record { tag = tag; varchar = false; members = ms; shape = None; first = []; stands_for = 0 }
 
 -- one struct more
 unfoldable pub new_struct : StructInfo → Rule ℕ

@@ -16,7 +16,8 @@ pub fn answers_are_first()
         × IsFirst (IsAmong (violations written u)) v × (v.stop ≡ stop) }
     ensures typed { (written : Bool) (u : UnitData) (hosts : List ℕ) (handlers : List MarkData)
         (typed : TypedData) → check_answer written u hosts handlers ≡ Ok typed
-        → (violations written u ≡ []) × (typed ≡ typed_of u hosts handlers (checked written u).world) }
+        → (violations written u ≡ [])
+        × (typed ≡ typed_of u hosts handlers (checked written u).world) }
 {
     first_is_first();
 }

@@ -36,7 +36,8 @@ pub fn place_examples()
         ≡ fault_at 0 F10 1 ∷ fault_at 0 F14 1 ∷ [] }
     ensures blocks_loops_and_labels { violations_in
         "int main(void) { { x; } while (x) x; l: x; for (int i = x; ; ) ; x; }"
-        ≡ fault_at 2 F11 1 ∷ fault_at 3 F11 1 ∷ fault_at 4 F11 1 ∷ fault_at 6 F11 1 ∷ fault_at 9 F11 1 ∷ fault_at 12 F11 1 ∷ [] }
+        ≡ fault_at 2 F11 1 ∷ fault_at 3 F11 1 ∷ fault_at 4 F11 1
+        ∷ fault_at 6 F11 1 ∷ fault_at 9 F11 1 ∷ fault_at 12 F11 1 ∷ [] }
     ensures struct_and_member_too_large { violations_in
         "struct s {\nchar a[16777217]; }; int main(void) { }"
         ≡ limit_at 1 L1 ∷ limit_at 0 L1 ∷ [] }
@@ -104,14 +105,18 @@ pub fn typed_examples()
         "struct u; struct s { struct { char c; } x; struct s *p; struct u *w; } y, *z[2]; int f(struct s *a, char b[3], int); int f(struct s *a, char b[3], int c) { int i = 1, j[] = {1, 2}; { long i; } return 0; } int main(void) { }"
         ≡ (
           sqlca_structs ++ (struct ((codes "c", arithmetic Char) ∷ [])
-              ∷ tagged_struct "s" ((codes "x", structure 2) ∷ (codes "p", pointer (structure 3)) ∷ (codes "w", pointer (structure 4)) ∷ [])
+              ∷ tagged_struct "s" ((codes "x", structure 2)
+              ∷ (codes "p", pointer (structure 3)) ∷ (codes "w", pointer (structure 4)) ∷ [])
               ∷ tagged_struct "u" [] ∷ []),
           (0, structure 3) ∷ (1, array (pointer (structure 3)) 2) ∷ (2, int_type)
-              ∷ (3, pointer (structure 3)) ∷ (4, pointer (arithmetic Char)) ∷ (5, int_type) ∷ (6, int_type)
+              ∷ (3, pointer (structure 3)) ∷ (4, pointer (arithmetic Char))
+              ∷ (5, int_type) ∷ (6, int_type)
               ∷ (7, pointer (structure 3)) ∷ (8, pointer (arithmetic Char)) ∷ (9, int_type)
-              ∷ (10, int_type) ∷ (11, array int_type 2) ∷ (12, arithmetic Long) ∷ (13, int_type) ∷ [],
+              ∷ (10, int_type) ∷ (11, array int_type 2)
+              ∷ (12, arithmetic Long) ∷ (13, int_type) ∷ [],
         ) }
-    ensures inner_tags { typed_in "struct s { int m; }; int main(void) { struct s { long m; } a; { struct t *b; struct t { struct s *c; } d; } }"
+    ensures inner_tags { typed_in
+        "struct s { int m; }; int main(void) { struct s { long m; } a; { struct t *b; struct t { struct s *c; } d; } }"
         ≡ (
           sqlca_structs ++ (tagged_struct "s" ((codes "m", int_type) ∷ [])
               ∷ tagged_struct "s" ((codes "m", arithmetic Long) ∷ [])

@@ -157,10 +157,12 @@ pub fn declaration_examples()
     ensures void_member { with_main "struct s {\nint m; void a; };" ≡ refused F14 2 }
     ensures void_elements { with_main "void a[3];" ≡ refused F14 1 }
     ensures void_elements_without_number { with_main "void a[0];" ≡ refused F14 1 }
-    ensures incomplete_elements_without_number { with_main "struct s; struct s a[-1];" ≡ refused F14 1 }
+    ensures incomplete_elements_without_number { with_main "struct s; struct s a[-1];"
+        ≡ refused F14 1 }
     ensures open_elements_without_number { with_main "int a[0][];" ≡ refused F14 1 }
     ensures elements_of_elements_without_number { with_main "void a[2][0];" ≡ refused F14 1 }
-    ensures complete_elements_without_number { with_main "struct s; struct s *a[0];" ≡ refused F19 1 }
+    ensures complete_elements_without_number { with_main "struct s; struct s *a[0];"
+        ≡ refused F19 1 }
     ensures open_array_of_no_elements { with_main "int a[][0];" ≡ refused F19 1 }
     ensures void_members_without_number { with_main "struct s { void a[0]; };" ≡ refused F14 1 }
     ensures incomplete_object { with_main "struct s; struct s a;" ≡ refused F14 1 }

@@ -70,4 +70,5 @@ risen at (e ∷ es) o = behind at e o >>= risen at es
 
 -- an argument of a call
 abbrev pub argument : Place → ArgumentsData → ExprData → Rule OperandData
-argument at forms e = elim (is_no_expression forms e) [ true ↦ pure unknown | false ↦ expr at e >>= value_rule at ]
+argument at forms e =
+    elim (is_no_expression forms e) [ true ↦ pure unknown | false ↦ expr at e >>= value_rule at ]

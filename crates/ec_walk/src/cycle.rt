@@ -32,7 +32,8 @@ pub(crate) fn expr_within(
     e: &Expr,
     levels: u32,
 ) -> Result<Operand, OutOfMemory>
-    ensures { Does operand_view (rule.expr (place_view at) (expr_view e.now) (world_of checker.old)) checker.old result checker.new }
+    ensures { Does operand_view (rule.expr (place_view at) (expr_view e.now)
+        (world_of checker.old)) checker.old result checker.new }
 {
     if levels == 0 {
         return Err(OutOfMemory);
@@ -53,7 +54,8 @@ pub(crate) fn expr_within(
 /// An expression that leans to no side.
 #[cycle(walk)]
 fn leaf(checker: &mut Checker, at: Place, e: &Expr, levels: u32) -> Result<Operand, OutOfMemory>
-    ensures { Does operand_view (rule.expr (place_view at) (expr_view e.now) (world_of checker.old)) checker.old result checker.new }
+    ensures { Does operand_view (rule.expr (place_view at) (expr_view e.now)
+        (world_of checker.old)) checker.old result checker.new }
 {
     match e {
         Expr::Int(n, ty) => Ok(Operand::integer(copy_ty(checker.alloc(), ty)?, i128::from(*n))),
@@ -120,7 +122,8 @@ pub(crate) fn call_within(
     es: &[Expr],
     levels: u32,
 ) -> Result<Operand, OutOfMemory>
-    ensures { Does operand_view (rule.expr (place_view at) (call name.now (exprs_view es.now)) (world_of checker.old)) checker.old result checker.new }
+    ensures { Does operand_view (rule.expr (place_view at) (call name.now (exprs_view es.now))
+        (world_of checker.old)) checker.old result checker.new }
 {
     let forms = arguments_of(checker.written(), name);
     let os = args(checker, at, forms, es, levels)?;
@@ -137,7 +140,8 @@ fn behind(
     o: Operand,
     levels: u32,
 ) -> Result<Operand, OutOfMemory>
-    ensures { Does operand_view (behind (place_view at) (expr_view e.now) (operand_view o) (world_of checker.old)) checker.old result checker.new }
+    ensures { Does operand_view (behind (place_view at) (expr_view e.now)
+        (operand_view o) (world_of checker.old)) checker.old result checker.new }
 {
     match e {
         Expr::Unary(UnOp::Addr, _) => address_rule(checker, at, o),
@@ -195,7 +199,8 @@ fn args(
     es: &[Expr],
     levels: u32,
 ) -> Result<List<Operand>, OutOfMemory>
-    ensures { Does (map operand_view) (rule.args (place_view at) (arguments_view forms) (exprs_view es.now) (world_of checker.old)) checker.old result checker.new }
+    ensures { Does (map operand_view) (rule.args (place_view at) (arguments_view forms)
+        (exprs_view es.now) (world_of checker.old)) checker.old result checker.new }
 {
     let mut os = List::new(checker.alloc());
     let mut forms = forms;
@@ -216,7 +221,8 @@ fn argument(
     e: &Expr,
     levels: u32,
 ) -> Result<Operand, OutOfMemory>
-    ensures { Does operand_view (argument (place_view at) (arguments_view forms) (expr_view e.now) (world_of checker.old)) checker.old result checker.new }
+    ensures { Does operand_view (argument (place_view at) (arguments_view forms)
+        (expr_view e.now) (world_of checker.old)) checker.old result checker.new }
 {
     if forms.is_no_expression(e) {
         return Ok(Operand::unknown());
@@ -233,7 +239,8 @@ pub(crate) fn base_within(
     base: &Base,
     levels: u32,
 ) -> Result<Option<Ty>, OutOfMemory>
-    ensures { Does type_view (rule.base (place_view at) (base_view base.now) (world_of checker.old)) checker.old result checker.new }
+    ensures { Does type_view (rule.base (place_view at) (base_view base.now)
+        (world_of checker.old)) checker.old result checker.new }
 {
     if levels == 0 {
         return Err(OutOfMemory);
@@ -258,7 +265,8 @@ fn members(
     ds: &[Decl],
     levels: u32,
 ) -> Result<Table<Option<Ty>>, OutOfMemory>
-    ensures { Does (named_view type_view) (rule.members (decls_view ds.now) [] (world_of checker.old)) checker.old result checker.new }
+    ensures { Does (named_view type_view) (rule.members (decls_view ds.now) []
+        (world_of checker.old)) checker.old result checker.new }
 {
     let mut members = Table::new(checker.alloc());
     for d in ds {
@@ -275,7 +283,8 @@ fn member_decl(
     members: &mut Table<Option<Ty>>,
     levels: u32,
 ) -> Result<(), OutOfMemory>
-    ensures { Does (λ _. named_view type_view members.new) (rule.member_decl (decl_view d.now) (named_view type_view members.old) (world_of checker.old)) checker.old result checker.new }
+    ensures { Does (λ _. named_view type_view members.new) (rule.member_decl (decl_view d.now)
+        (named_view type_view members.old) (world_of checker.old)) checker.old result checker.new }
 {
     let at = checker.place(d.line)?;
     let ty = base_within(checker, at, &d.base, levels)?;
@@ -297,7 +306,9 @@ fn member_item(
     members: &mut Table<Option<Ty>>,
     levels: u32,
 ) -> Result<(), OutOfMemory>
-    ensures { Does (λ _. named_view type_view members.new) (rule.member_item (place_view at) varchar (type_view ty.now) (declarator_view item.now) (named_view type_view members.old) (world_of checker.old)) checker.old result checker.new }
+    ensures { Does (λ _. named_view type_view members.new)
+        (rule.member_item (place_view at) varchar (type_view ty.now) (declarator_view item.now)
+        (named_view type_view members.old) (world_of checker.old)) checker.old result checker.new }
 {
     if varchar {
         varchar_item(checker, at, ty, item, members, levels)?;
@@ -323,7 +334,9 @@ fn varchar_item(
     members: &mut Table<Option<Ty>>,
     levels: u32,
 ) -> Result<(), OutOfMemory>
-    ensures { Does (λ _. named_view type_view members.new) (rule.member_item (place_view at) true (type_view ty.now) (declarator_view item.now) (named_view type_view members.old) (world_of checker.old)) checker.old result checker.new }
+    ensures { Does (λ _. named_view type_view members.new)
+        (rule.member_item (place_view at) true (type_view ty.now) (declarator_view item.now)
+        (named_view type_view members.old) (world_of checker.old)) checker.old result checker.new }
 {
     let _other = ty;
     let n = last_length_within(checker, at, item.dims.as_slice(), levels)?;
@@ -345,7 +358,8 @@ pub(crate) fn last_length_within(
     dims: &[Option<Expr>],
     levels: u32,
 ) -> Result<Option<u64>, OutOfMemory>
-    ensures { Does (λ n. n) (rule.last_length (place_view at) (dims_view dims.now) (world_of checker.old)) checker.old result checker.new }
+    ensures { Does (λ n. n) (rule.last_length (place_view at) (dims_view dims.now)
+        (world_of checker.old)) checker.old result checker.new }
 {
     let (_outer, last) = last_apart(dims);
     let ns = lengths_within(checker, at, last, levels)?;
@@ -360,7 +374,8 @@ pub(crate) fn outer_lengths_within(
     dims: &[Option<Expr>],
     levels: u32,
 ) -> Result<List<Option<u64>>, OutOfMemory>
-    ensures { Does (λ ns. ns) (rule.outer_lengths (place_view at) (dims_view dims.now) (world_of checker.old)) checker.old result checker.new }
+    ensures { Does (λ ns. ns) (rule.outer_lengths (place_view at)
+        (dims_view dims.now) (world_of checker.old)) checker.old result checker.new }
 {
     let (outer, _last) = last_apart(dims);
     let ns = lengths_within(checker, at, outer, levels)?;
@@ -375,7 +390,8 @@ pub(crate) fn lengths_within(
     dims: &[Option<Expr>],
     levels: u32,
 ) -> Result<List<Option<u64>>, OutOfMemory>
-    ensures { Does (λ ns. ns) (rule.lengths (place_view at) (dims_view dims.now) (world_of checker.old)) checker.old result checker.new }
+    ensures { Does (λ ns. ns) (rule.lengths (place_view at) (dims_view dims.now)
+        (world_of checker.old)) checker.old result checker.new }
 {
     let mut lengths = List::new(checker.alloc());
     for dim in dims {
@@ -393,7 +409,8 @@ fn length_at(
     dim: &Option<Expr>,
     levels: u32,
 ) -> Result<Option<u64>, OutOfMemory>
-    ensures { Does (λ n. n) (rule.length_at (place_view at) (dim_of (expr_option_view dim.now)) (world_of checker.old)) checker.old result checker.new }
+    ensures { Does (λ n. n) (rule.length_at (place_view at) (dim_of (expr_option_view dim.now))
+        (world_of checker.old)) checker.old result checker.new }
 {
     match dim {
         None => Ok(Some(0)),
@@ -414,7 +431,8 @@ fn init_parts(
     init: &Option<Init>,
     levels: u32,
 ) -> Result<(), OutOfMemory>
-    ensures { Does (λ u. u) (rule.init_parts (place_view at) (init_option_view init.now) (world_of checker.old)) checker.old result checker.new }
+    ensures { Does (λ u. u) (rule.init_parts (place_view at) (init_option_view init.now)
+        (world_of checker.old)) checker.old result checker.new }
 {
     match init {
         None => Ok(()),
@@ -428,7 +446,8 @@ fn init_parts(
 /// The expressions of an initializer.
 #[cycle(walk)]
 fn init_exprs(checker: &mut Checker, at: Place, init: &Init, levels: u32) -> Result<(), OutOfMemory>
-    ensures { Does (λ u. u) (rule.init_exprs (place_view at) (init_view init.now) (world_of checker.old)) checker.old result checker.new }
+    ensures { Does (λ u. u) (rule.init_exprs (place_view at) (init_view init.now)
+        (world_of checker.old)) checker.old result checker.new }
 {
     match init {
         Init::One(e) => {
@@ -451,7 +470,8 @@ fn init_list(
     inits: &[Init],
     levels: u32,
 ) -> Result<(), OutOfMemory>
-    ensures { Does (λ u. u) (rule.all_init_exprs (place_view at) (inits_view inits.now) (world_of checker.old)) checker.old result checker.new }
+    ensures { Does (λ u. u) (rule.all_init_exprs (place_view at)
+        (inits_view inits.now) (world_of checker.old)) checker.old result checker.new }
 {
     if levels == 0 {
         return Err(OutOfMemory);

@@ -16,7 +16,8 @@ use ec_type_rules::words_type;
 /// The type of type words; F14 where they make none.
 #[tactic(auto, using(ec_scopes::proofs::Steps::noting), unfolding(ec_typing::specs::Worlds::chain, ec_typing::specs::Worlds::pure, ec_typing::specs::Worlds::note, ec_typing::specs::Expressions::type_or_fault))]
 pub(crate) fn words_rule(checker: &mut Checker, at: Place, words: &[Name]) -> Option<Ty>
-    ensures { IsDone (rule.type_or_fault (place_view at) (words_type words.now) (world_of checker.old)) checker.old checker.new (type_view result) }
+    ensures { IsDone (rule.type_or_fault (place_view at) (words_type words.now)
+        (world_of checker.old)) checker.old checker.new (type_view result) }
 {
     let ty = words_type(words);
     if ty.is_none() {
@@ -56,7 +57,11 @@ pub(crate) fn member_named(
     ty: Option<Ty>,
     members: &mut Table<Option<Ty>>,
 ) -> Result<(), OutOfMemory>
-    ensures { IfOk result (λ u. IsDone (rule.member_named (place_view at) name.now (type_view ty) (named_view type_view members.old) (world_of checker.old)) checker.old checker.new (named_view type_view members.new)) }
+    ensures { IfOk result
+        (λ u. IsDone
+        (rule.member_named (place_view at) name.now (type_view ty)
+        (named_view type_view members.old) (world_of checker.old)) checker.old checker.new
+        (named_view type_view members.new)) }
 {
     within_rule(checker, at, &ty);
     let complete = complete_rule(checker, at, ty);

@@ -22,7 +22,8 @@ const LEVELS: u32 = 2_000;
 
 /// What is found out about an expression (ISO/IEC 9899:1999, 6.5).
 pub fn expr(checker: &mut Checker, at: Place, e: &Expr) -> Result<Operand, OutOfMemory>
-    ensures { Does operand_view (rule.expr (place_view at) (expr_view e.now) (world_of checker.old)) checker.old result checker.new }
+    ensures { Does operand_view (rule.expr (place_view at) (expr_view e.now)
+        (world_of checker.old)) checker.old result checker.new }
 {
     expr_within(checker, at, e, LEVELS)
 }
@@ -42,7 +43,8 @@ pub fn call(
 
 /// The type that a declaration begins with (ISO/IEC 9899:1999, 6.7.2).
 pub fn base(checker: &mut Checker, at: Place, base: &Base) -> Result<Option<Ty>, OutOfMemory>
-    ensures { Does type_view (rule.base (place_view at) (base_view base.now) (world_of checker.old)) checker.old result checker.new }
+    ensures { Does type_view (rule.base (place_view at) (base_view base.now)
+        (world_of checker.old)) checker.old result checker.new }
 {
     base_within(checker, at, base, LEVELS)
 }
@@ -54,7 +56,8 @@ pub fn lengths(
     at: Place,
     dims: &[Option<Expr>],
 ) -> Result<List<Option<u64>>, OutOfMemory>
-    ensures { Does (λ ns. ns) (rule.lengths (place_view at) (dims_view dims.now) (world_of checker.old)) checker.old result checker.new }
+    ensures { Does (λ ns. ns) (rule.lengths (place_view at) (dims_view dims.now)
+        (world_of checker.old)) checker.old result checker.new }
 {
     lengths_within(checker, at, dims, LEVELS)
 }
@@ -65,7 +68,8 @@ pub fn last_length(
     at: Place,
     dims: &[Option<Expr>],
 ) -> Result<Option<u64>, OutOfMemory>
-    ensures { Does (λ n. n) (rule.last_length (place_view at) (dims_view dims.now) (world_of checker.old)) checker.old result checker.new }
+    ensures { Does (λ n. n) (rule.last_length (place_view at) (dims_view dims.now)
+        (world_of checker.old)) checker.old result checker.new }
 {
     last_length_within(checker, at, dims, LEVELS)
 }
@@ -76,7 +80,8 @@ pub fn outer_lengths(
     at: Place,
     dims: &[Option<Expr>],
 ) -> Result<List<Option<u64>>, OutOfMemory>
-    ensures { Does (λ ns. ns) (rule.outer_lengths (place_view at) (dims_view dims.now) (world_of checker.old)) checker.old result checker.new }
+    ensures { Does (λ ns. ns) (rule.outer_lengths (place_view at)
+        (dims_view dims.now) (world_of checker.old)) checker.old result checker.new }
 {
     outer_lengths_within(checker, at, dims, LEVELS)
 }

@@ -25,11 +25,13 @@ cond_rank Error = 2
 
 -- in a table this mark stands before the place among those for the condition, or before all these
 abbrev pub comes_before : ℕ → Cond → MarkData → Bool
-comes_before place cond m = nat_lt (cond_rank m.1) (cond_rank cond) || (cond_rank m.1 == cond_rank cond && nat_lt m.0 place)
+comes_before place cond m = nat_lt (cond_rank m.1) (cond_rank cond)
+    || (cond_rank m.1 == cond_rank cond && nat_lt m.0 place)
 
 -- of two marks the first comes no later in a table
 abbrev pub is_no_later : MarkData → MarkData → Bool
-is_no_later a b = nat_lt (cond_rank a.1) (cond_rank b.1) || (cond_rank a.1 == cond_rank b.1 && nat_le a.0 b.0)
+is_no_later a b = nat_lt (cond_rank a.1) (cond_rank b.1)
+    || (cond_rank a.1 == cond_rank b.1 && nat_le a.0 b.0)
 
 abbrev pub is_no_later_than : MarkData → List MarkData → Bool
 is_no_later_than m [] = true

@@ -33,7 +33,8 @@ usual_turns = 1000000
 abbrev pub number_from : ℕ → List ℕ → Option ℕ
 number_from n [] = Some n
 number_from n (d ∷ digits) =
-    if is_ascii_digit d && nat_le (10 * n + (d - 48)) most_turns then number_from (10 * n + (d - 48)) digits else None
+    if is_ascii_digit d && nat_le (10 * n + (d - 48)) most_turns
+    then number_from (10 * n + (d - 48)) digits else None
 
 -- the number of turns that a text gives: one or more decimal digits
 abbrev pub turns_of : List ℕ → Option ℕ
@@ -58,13 +59,15 @@ named_link ready (b ∷ name) place = place_of ready (b ∷ name) place
 
 -- the link of a word without its mark
 abbrev pub unmarked_link : Bool → Word → Option LinkSpec
-unmarked_link ready word = option_and_then (λ n. named_link ready (take n word) (drop (n + 1) word)) (position (λ b. b == 61) word)
+unmarked_link ready word = option_and_then
+    (λ n. named_link ready (take n word) (drop (n + 1) word)) (position (λ b. b == 61) word)
 
 -- The link that a word names: `NAME=memory` or `NAME=file:PATH`, with `+` before it for a connection that is ready at the
 -- start. No such word begins with `-`.
 abbrev pub link_of : Word → Option LinkSpec
 link_of [] = None
-link_of (b ∷ word) = if b == 45 then None else (if b == 43 then unmarked_link true word else unmarked_link false (b ∷ word))
+link_of (b ∷ word) = if b == 45 then None
+    else (if b == 43 then unmarked_link true word else unmarked_link false (b ∷ word))
 
 -- what a word says
 pub data Said : Type 0 where
@@ -151,7 +154,8 @@ run_with true (n ∷ m ∷ more) links = None
 
 -- what is asked of a run by the words behind the command's
 abbrev pub run_words : List Word → Option RunWords
-run_words words = run_with (is_right (sayings anything words)) (turns_in (sayings anything words)) (links_in (sayings anything words))
+run_words words = run_with (is_right (sayings anything words))
+    (turns_in (sayings anything words)) (links_in (sayings anything words))
 
 -- What the words ask of a run, or none where they name another command, or none.
 abbrev pub words_of : List Word → Option RunWords
@@ -167,7 +171,8 @@ execution_of (first ∷ words) = if is_word first (codes "exec") then run_words 
 -- what is asked of either of the two
 abbrev pub asked : List Word → Option RunWords
 asked [] = None
-asked (first ∷ words) = if is_word first (codes "run") || is_word first (codes "exec") then run_words words else None
+asked (first ∷ words) = if is_word first (codes "run") || is_word first (codes "exec")
+    then run_words words else None
 
 -- the links of a run, and none where the words name no command
 abbrev pub links_of : Option RunWords → List LinkSpec

@@ -15,12 +15,15 @@ pub fn word_examples()
     ensures too_many { words_of (codes "run" ∷ codes "--turns=1000000001" ∷ []) ≡ None }
     ensures twice { words_of (codes "run" ∷ codes "--turns=1" ∷ codes "--turns=1" ∷ []) ≡ None }
     ensures no_value { words_of (codes "run" ∷ codes "--turns" ∷ []) ≡ None }
-    ensures ready { words_of (codes "run" ∷ codes "+db=memory" ∷ codes "a=file:b=c" ∷ []) ≡ run_of 1000000 (Memory true (codes "db") ∷ File false (codes "a") (codes "b=c") ∷ []) }
-    ensures marks { words_of (codes "run" ∷ codes "++a=memory" ∷ []) ≡ run_of 1000000 (Memory true (codes "+a") ∷ []) }
+    ensures ready { words_of (codes "run" ∷ codes "+db=memory" ∷ codes "a=file:b=c" ∷ [])
+        ≡ run_of 1000000 (Memory true (codes "db") ∷ File false (codes "a") (codes "b=c") ∷ []) }
+    ensures marks { words_of (codes "run" ∷ codes "++a=memory" ∷ [])
+        ≡ run_of 1000000 (Memory true (codes "+a") ∷ []) }
     ensures no_name { words_of (codes "run" ∷ codes "+=memory" ∷ []) ≡ None }
     ensures no_path { words_of (codes "run" ∷ codes "a=file:" ∷ []) ≡ None }
     ensures dash { words_of (codes "run" ∷ codes "-x=memory" ∷ []) ≡ None }
-    ensures passed_over { words_of (codes "run" ∷ codes "--turns=2" ∷ codes "--" ∷ codes "a=memory" ∷ []) ≡ run_of 2 (Memory false (codes "a") ∷ []) }
+    ensures passed_over { words_of (codes "run" ∷ codes "--turns=2" ∷ codes "--"
+        ∷ codes "a=memory" ∷ []) ≡ run_of 2 (Memory false (codes "a") ∷ []) }
     ensures no_option { words_of (codes "run" ∷ codes "--" ∷ codes "--turns=2" ∷ []) ≡ None }
     ensures once { words_of (codes "run" ∷ codes "--" ∷ codes "--" ∷ []) ≡ None }
     ensures value { words_of (codes "run" ∷ codes "--turns" ∷ codes "--" ∷ []) ≡ None }
@@ -33,11 +36,15 @@ pub fn word_examples()
     ensures exec { execution_of (codes "exec" ∷ []) ≡ run_of 1000000 [] }
     ensures exec_none { execution_of [] ≡ None }
     ensures exec_other { execution_of (codes "executes" ∷ []) ≡ None }
-    ensures exec_turns { execution_of (codes "exec" ∷ codes "--turns" ∷ codes "0" ∷ []) ≡ run_of 0 [] }
-    ensures exec_link { execution_of (codes "exec" ∷ codes "--turns=9" ∷ codes "+a=memory" ∷ []) ≡ run_of 9 (Memory true (codes "a") ∷ []) }
+    ensures exec_turns { execution_of (codes "exec" ∷ codes "--turns" ∷ codes "0" ∷ [])
+        ≡ run_of 0 [] }
+    ensures exec_link { execution_of (codes "exec" ∷ codes "--turns=9" ∷ codes "+a=memory" ∷ [])
+        ≡ run_of 9 (Memory true (codes "a") ∷ []) }
     ensures exec_run { execution_of (codes "run" ∷ []) ≡ None }
     ensures run_exec { words_of (codes "exec" ∷ []) ≡ None }
-    ensures exec_links { links_of (asked (codes "exec" ∷ codes "a=memory" ∷ [])) ≡ Memory false (codes "a") ∷ [] }
-    ensures run_links { links_of (asked (codes "run" ∷ codes "a=memory" ∷ [])) ≡ Memory false (codes "a") ∷ [] }
+    ensures exec_links { links_of (asked (codes "exec" ∷ codes "a=memory" ∷ []))
+        ≡ Memory false (codes "a") ∷ [] }
+    ensures run_links { links_of (asked (codes "run" ∷ codes "a=memory" ∷ []))
+        ≡ Memory false (codes "a") ∷ [] }
     ensures no_links { links_of (asked (codes "translate" ∷ codes "a=memory" ∷ [])) ≡ [] }
 {}

@@ -45,7 +45,8 @@ fn add_said(
     links: &mut List<LinkSpec>,
     saying: Option<Saying<'_>>,
 ) -> Result<(), OutOfMemory>
-    ensures { OnOk result (links.new ≡ links.old ++ links_in (with_said (option_map said_of saying.entry) [])) }
+    ensures { OnOk result
+        (links.new ≡ links.old ++ links_in (with_said (option_map said_of saying.entry) [])) }
 {
     if let Some(Saying::Link(word)) = saying {
         links.push(owned(alloc, word)?)?;

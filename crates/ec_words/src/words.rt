@@ -96,7 +96,8 @@ fn turns_of(text: &[u8]) -> Option<u64>
 
 // The file behind the name and the `=` of a link.
 fn file_of<'a>(is_ready: bool, target: &'a [u8], path: Option<&'a [u8]>) -> Option<LinkWord<'a>>
-    ensures { option_map spec_of result ≡ file_of is_ready target.now (option_map (λ it. it.now) path.entry) }
+    ensures { option_map spec_of result
+        ≡ file_of is_ready target.now (option_map (λ it. it.now) path.entry) }
 {
     match path {
         None | Some([]) => None,

@@ -33,7 +33,8 @@ suffix _ = []
 
 -- whether a byte stands for itself between these quotes
 abbrev pub is_plain : ℕ → ℕ → Bool
-is_plain quote b = elim (b == quote || b == backslash) [ true ↦ false | false ↦ nat_le 32 b && nat_le b 126 ]
+is_plain quote b =
+    elim (b == quote || b == backslash) [ true ↦ false | false ↦ nat_le 32 b && nat_le b 126 ]
 
 -- an octal escape (6.4.4.4), always of three digits, so that a digit behind it is none of its own
 abbrev pub octal : ℕ → Text

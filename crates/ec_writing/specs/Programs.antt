@@ -22,7 +22,8 @@ return_chunks (Some e) = blank ∷ expr_chunks e
 
 -- an absent part of `for` is empty and the rest stays
 abbrev pub head_chunks : Option ExprData → Option ExprData → Option ExprData → Chunks
-head_chunks a b c = mark p.LeftParen ∷ (option_chunks a ++ mark p.Semicolon ∷ []) ++ (blank ∷ option_chunks b ++ (mark p.Semicolon ∷ blank ∷ option_chunks c ++ mark p.RightParen ∷ []))
+head_chunks a b c = mark p.LeftParen ∷ (option_chunks a ++ mark p.Semicolon ∷ []) ++ (blank
+    ∷ option_chunks b ++ (mark p.Semicolon ∷ blank ∷ option_chunks c ++ mark p.RightParen ∷ []))
 
 abbrev mutual
   pub stmt_chunks : StmtData → Chunks
@@ -31,15 +32,23 @@ abbrev mutual
   pub kind_chunks : StmtKindData → Chunks
   kind_chunks empty_stmt = mark p.Semicolon ∷ line_end ∷ []
   kind_chunks (expr_stmt e) = expr_chunks e ++ mark p.Semicolon ∷ line_end ∷ []
-  kind_chunks (block_stmt ss) = (mark p.LeftBrace ∷ line_end ∷ items_chunks ss ++ mark p.RightBrace ∷ []) ++ line_end ∷ []
-  kind_chunks (if_stmt e s other) = word (codes "if") ∷ blank ∷ in_parens (expr_chunks e) ++ (line_end ∷ stmt_chunks s ++ else_chunks other)
-  kind_chunks (while_stmt e s) = word (codes "while") ∷ blank ∷ in_parens (expr_chunks e) ++ (line_end ∷ stmt_chunks s)
-  kind_chunks (do_stmt s e) = word (codes "do") ∷ line_end ∷ stmt_chunks s ++ (word (codes "while") ∷ blank ∷ in_parens (expr_chunks e) ++ (mark p.Semicolon ∷ line_end ∷ []))
-  kind_chunks (for_stmt a b c s) = word (codes "for") ∷ blank ∷ head_chunks a b c ++ (line_end ∷ stmt_chunks s)
+  kind_chunks (block_stmt ss) =
+      (mark p.LeftBrace ∷ line_end ∷ items_chunks ss ++ mark p.RightBrace ∷ []) ++ line_end ∷ []
+  kind_chunks (if_stmt e s other) = word (codes "if") ∷ blank ∷ in_parens (expr_chunks e)
+      ++ (line_end ∷ stmt_chunks s ++ else_chunks other)
+  kind_chunks (while_stmt e s) =
+      word (codes "while") ∷ blank ∷ in_parens (expr_chunks e) ++ (line_end ∷ stmt_chunks s)
+  kind_chunks (do_stmt s e) = word (codes "do") ∷ line_end ∷ stmt_chunks s ++
+      (word (codes "while") ∷ blank ∷ in_parens (expr_chunks e)
+      ++ (mark p.Semicolon ∷ line_end ∷ []))
+  kind_chunks (for_stmt a b c s) =
+      word (codes "for") ∷ blank ∷ head_chunks a b c ++ (line_end ∷ stmt_chunks s)
   kind_chunks break_stmt = word (codes "break") ∷ mark p.Semicolon ∷ line_end ∷ []
   kind_chunks continue_stmt = word (codes "continue") ∷ mark p.Semicolon ∷ line_end ∷ []
-  kind_chunks (return_stmt e) = word (codes "return") ∷ return_chunks e ++ mark p.Semicolon ∷ line_end ∷ []
-  kind_chunks (goto_stmt l) = word (codes "goto") ∷ blank ∷ word l ∷ mark p.Semicolon ∷ line_end ∷ []
+  kind_chunks (return_stmt e) =
+      word (codes "return") ∷ return_chunks e ++ mark p.Semicolon ∷ line_end ∷ []
+  kind_chunks (goto_stmt l) =
+      word (codes "goto") ∷ blank ∷ word l ∷ mark p.Semicolon ∷ line_end ∷ []
   kind_chunks (label_stmt l s) = word l ∷ mark p.Colon ∷ line_end ∷ stmt_chunks s
   kind_chunks (decl_stmt d) = decl_chunks d ++ line_end ∷ []
   -- an embedded statement or a mark is no C and leaves nothing
@@ -88,7 +97,8 @@ body_chunks None = mark p.Semicolon ∷ []
 body_chunks (Some ss) = line_end ∷ block_chunks ss
 
 abbrev pub func_chunks : FuncData → Chunks
-func_chunks f = base_chunks f.base ++ (blank ∷ star_chunks f.stars ++ (word f.name ∷ params_chunks f.params ++ body_chunks f.body))
+func_chunks f = base_chunks f.base
+    ++ (blank ∷ star_chunks f.stars ++ (word f.name ∷ params_chunks f.params ++ body_chunks f.body))
 
 -- a directive or a mark of a declare section is no C and leaves nothing
 abbrev pub top_chunks : TopData → Chunks

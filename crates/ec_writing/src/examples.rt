@@ -27,7 +27,8 @@ pub fn expression_examples()
     ensures bumps { expr_text (sum (sum (bump true true a) (bump true false a))
         (sum (bump false true a) (bump false false a))) ≡ codes "++a + --a + (a++ + a--)" }
     ensures no_arguments { expr_text (call (codes "f") no_exprs) ≡ codes "f()" }
-    ensures called { expr_text (call_other (index a (int 0)) (arguments (b ∷ []))) ≡ codes "a[0](b)" }
+    ensures called { expr_text (call_other (index a (int 0)) (arguments (b ∷ [])))
+        ≡ codes "a[0](b)" }
     ensures parts { expr_text (arrow (member (index a (sum b c)) (codes "m")) (codes "n"))
         ≡ codes "a[b + c].m->n" }
     ensures casts { expr_text (cast int_words 1 a) ≡ codes "(int *)a" }
@@ -153,7 +154,8 @@ pub fn program_example()
         ≡ codes "#line 7\nint f(int x, int *, int *t[]);\n" }
     ensures body { top_text (function [] (Some (list []))) ≡ codes "#line 7\nint f(void)\n{\n}\n" }
     ensures include { top_text (include_top (codes "#include <a.h>")) ≡ codes "#include <a.h>\n" }
-    ensures text { written_text example ≡ codes "#include <ecpglib.h>\n#include <sqlca.h>\n#line 1\nint x;\n#line 2\nint main(void)\n{\n#line 3\n{\n#line 3\nECPGdo(3, NULL, ECPGst_normal, \"SELECT a FROM t\", ECPGt_EOIT, ECPGt_int, &x, 0L, 1L, 4L, ECPGt_NO_INDICATOR, NULL, 0L, 0L, 0L, ECPGt_EORT);\n}\n#line 4\nprintf(\"%d\\012\", x);\n#line 5\nreturn 0;\n}\n" }
+    ensures text { written_text example
+        ≡ codes "#include <ecpglib.h>\n#include <sqlca.h>\n#line 1\nint x;\n#line 2\nint main(void)\n{\n#line 3\n{\n#line 3\nECPGdo(3, NULL, ECPGst_normal, \"SELECT a FROM t\", ECPGt_EOIT, ECPGt_int, &x, 0L, 1L, 4L, ECPGt_NO_INDICATOR, NULL, 0L, 0L, 0L, ECPGt_EORT);\n}\n#line 4\nprintf(\"%d\\012\", x);\n#line 5\nreturn 0;\n}\n" }
     ensures shape { is_written_shape example ≡ true }
     ensures last { last_line example ≡ 7 }
 {}

@@ -29,7 +29,14 @@ module _ {A B : Type 0} (f : A → B) where
   indicator_with i = record { sym = i.sym; value = f i.value; count = i.count; step = i.step }
 
   abbrev pub place_with : Place A → Place B
-  place_with p = record { sym = p.sym; value = f p.value; size = p.size; count = p.count; step = p.step; ind = option_map indicator_with p.ind }
+  place_with p = record {
+    sym = p.sym;
+    value = f p.value;
+    size = p.size;
+    count = p.count;
+    step = p.step;
+    ind = option_map indicator_with p.ind;
+  }
 
   abbrev pub member_with : Member A → Member B
   member_with (host p) = host (place_with p)
@@ -46,8 +53,10 @@ module _ {A B : Type 0} (f : A → B) where
   statement_with (opening head name) = opening head name
 
   abbrev pub call_with : Call A → Call B
-  call_with (run connection statement ins outs) = run (text_with connection) (statement_with statement) (map member_with ins) (map member_with outs)
-  call_with (connect target user password name) = connect (text_with target) (text_with user) (text_with password) (text_with name)
+  call_with (run connection statement ins outs) = run (text_with connection)
+      (statement_with statement) (map member_with ins) (map member_with outs)
+  call_with (connect target user password name) =
+      connect (text_with target) (text_with user) (text_with password) (text_with name)
   call_with (disconnect name) = disconnect (text_with name)
   call_with (set_connection name) = set_connection (text_with name)
   call_with (set_autocommit on connection) = set_autocommit on (text_with connection)
@@ -58,8 +67,10 @@ module _ {A B : Type 0} (f : A → B) where
   call_with (deallocate_descriptor name) = deallocate_descriptor (text_with name)
   call_with (get_count name target) = get_count (text_with name) (member_with target)
   call_with (set_count name value) = set_count (text_with name) (member_with value)
-  call_with (get_items name index items) = get_items (text_with name) (member_with index) (map item_with items)
-  call_with (set_items name index items) = set_items (text_with name) (member_with index) (map item_with items)
+  call_with (get_items name index items) =
+      get_items (text_with name) (member_with index) (map item_with items)
+  call_with (set_items name index items) =
+      set_items (text_with name) (member_with index) (map item_with items)
 
   abbrev pub cut_with : Cut A → Cut B
   cut_with c = record { line = c.line; call = call_with c.call }
@@ -70,15 +81,19 @@ module _ {A B : Type 0} (f : A → B) where
 abbrev pub HaveTypes : (ExprData → Bool) → List (Arg ExprData) → List (Option TyData) → Type 0
 HaveTypes is_text [] ts = ⊤
 HaveTypes is_text (a ∷ more) [] = ⊥
-HaveTypes is_text (pointer e ∷ more) (t ∷ ts) = (argument_of e t ≡ pointer (is_text e)) × HaveTypes is_text more ts
+HaveTypes is_text (pointer e ∷ more) (t ∷ ts) = (argument_of e t ≡ pointer (is_text e))
+    × HaveTypes is_text more ts
 HaveTypes is_text (stray ∷ more) (t ∷ ts) = ⊥
 HaveTypes is_text (_ ∷ more) (t ∷ ts) = HaveTypes is_text more ts
 
 -- A call that keeps the rules is written so that the checks of written C cut it into itself again, and find no fault in it.
 abbrev pub AreCutBack : Type 0
-AreCutBack = (is_text : ExprData → Bool) (c : Cut ExprData) (ts : List (Option TyData)) → is_call is_text c.call ≡ true → HaveTypes is_text (arguments c) ts
-    → cut leads_to_text (name_of c.call) (arguments_of_call (argument_exprs (arguments c)) ts) ≡ Some (cut_with is_text c)
+AreCutBack = (is_text : ExprData → Bool) (c : Cut ExprData) (ts : List (Option TyData)) →
+    is_call is_text c.call ≡ true → HaveTypes is_text (arguments c) ts
+    → cut leads_to_text (name_of c.call) (arguments_of_call (argument_exprs (arguments c)) ts)
+    ≡ Some (cut_with is_text c)
 
 abbrev pub AreTaken : Type 0
-AreTaken = (is_text : ExprData → Bool) (c : Cut ExprData) (ts : List (Option TyData)) → is_call is_text c.call ≡ true → HaveTypes is_text (arguments c) ts
+AreTaken = (is_text : ExprData → Bool) (c : Cut ExprData) (ts : List (Option TyData)) →
+    is_call is_text c.call ≡ true → HaveTypes is_text (arguments c) ts
     → cuts (name_of c.call) (argument_exprs (arguments c)) ts ≡ true

@@ -6,7 +6,8 @@ use Rattle.ec_language.specs.Letters.{Text}
 use Rattle.ec_written.specs.Written.{ReadsWritten}
 
 abbrev pub HasOneReading : Type 0
-HasOneReading = (text : Text) (a b : Result TypedData Stop) → ReadsWritten text a → ReadsWritten text b → a ≡ b
+HasOneReading = (text : Text) (a b : Result TypedData Stop) →
+    ReadsWritten text a → ReadsWritten text b → a ≡ b
 
 abbrev pub IsRead : Type 0
 IsRead = (text : Text) → (answer : Result TypedData Stop) × ReadsWritten text answer

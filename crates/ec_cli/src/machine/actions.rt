@@ -48,8 +48,14 @@ pub fn act<O: Sink>(
     requires few { length globals.now < 2 ^ 31 }
     requires int { StoresInt action.now }
     requires open { IsOpen rack.old conn.old }
-    ensures done { OnOk result (Done (talk_by ⟦<dyn Link as Link>⟧) (faults_by ⟦<dyn Link as Link>⟧) O.held O.faults globals.now action.now memory.old memory.new rack.old conn.old out.old rack.new conn.new out.new) }
-    ensures stopped { OnErr result (Stopped (talk_by ⟦<dyn Link as Link>⟧) (faults_by ⟦<dyn Link as Link>⟧) O.held O.faults globals.now action.now memory.old rack.old conn.old out.old rack.new conn.new out.new) }
+    ensures done { OnOk result
+        (Done (talk_by ⟦<dyn Link as Link>⟧) (faults_by ⟦<dyn Link as Link>⟧)
+        O.held O.faults globals.now action.now memory.old memory.new
+        rack.old conn.old out.old rack.new conn.new out.new) }
+    ensures stopped { OnErr result
+        (Stopped (talk_by ⟦<dyn Link as Link>⟧) (faults_by ⟦<dyn Link as Link>⟧)
+        O.held O.faults globals.now action.now memory.old
+        rack.old conn.old out.old rack.new conn.new out.new) }
     ensures cause { result ≡ Err RunStop.WriteFault → Rose (O.faults out.old) (O.faults out.new) }
     ensures steady { result ≡ Err RunStop.OutOfMemory → O.faults out.new ≡ O.faults out.old }
 {

@@ -48,8 +48,12 @@ pub fn call_library(
 ) -> Result<(), OutOfMemory>
     requires start { IfSome pointer (λ p. p.offset ≡ 0) }
     requires taken { TakenAt (states (slots_of rack.old)) (slot_of conn.old) }
-    ensures called { OnOk result (Called (talk_by ⟦<dyn Link as Link>⟧) (faults_by ⟦<dyn Link as Link>⟧) call.now pointer memory.old memory.new rack.old conn.old rack.new conn.new) }
-    ensures unasked { OnErr result (Asks (talk_by ⟦<dyn Link as Link>⟧) (faults_by ⟦<dyn Link as Link>⟧) rack.old conn.old rack.new conn.new []) }
+    ensures called { OnOk result
+        (Called (talk_by ⟦<dyn Link as Link>⟧) (faults_by ⟦<dyn Link as Link>⟧)
+        call.now pointer memory.old memory.new
+        rack.old conn.old rack.new conn.new) }
+    ensures unasked { OnErr result (Asks (talk_by ⟦<dyn Link as Link>⟧)
+        (faults_by ⟦<dyn Link as Link>⟧) rack.old conn.old rack.new conn.new []) }
     ensures kept { OnErr result (memory.new ≡ memory.old) }
 {
     let request = Request::Text {

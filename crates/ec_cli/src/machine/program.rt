@@ -45,8 +45,14 @@ fn act_all<O: Sink>(
     requires few { length globals.now < 2 ^ 31 }
     requires ints { All (λ (s : WrittenStatement). StoresInt s.action) body.now }
     requires open { IsOpen rack.old conn.old }
-    ensures reached { OnOk result (Reached (talk_by ⟦<dyn Link as Link>⟧) (faults_by ⟦<dyn Link as Link>⟧) O.held O.faults globals.now body.now memory.old [] memory.new rack.old conn.old out.old rack.new conn.new out.new) }
-    ensures broke { OnErr result (Broke (talk_by ⟦<dyn Link as Link>⟧) (faults_by ⟦<dyn Link as Link>⟧) O.held O.faults globals.now body.now memory.old rack.old conn.old out.old rack.new conn.new out.new) }
+    ensures reached { OnOk result
+        (Reached (talk_by ⟦<dyn Link as Link>⟧) (faults_by ⟦<dyn Link as Link>⟧)
+        O.held O.faults globals.now body.now memory.old [] memory.new
+        rack.old conn.old out.old rack.new conn.new out.new) }
+    ensures broke { OnErr result
+        (Broke (talk_by ⟦<dyn Link as Link>⟧) (faults_by ⟦<dyn Link as Link>⟧)
+        O.held O.faults globals.now body.now memory.old
+        rack.old conn.old out.old rack.new conn.new out.new) }
     ensures cause { result ≡ Err RunStop.WriteFault → Rose (O.faults out.old) (O.faults out.new) }
     ensures steady { result ≡ Err RunStop.OutOfMemory → O.faults out.new ≡ O.faults out.old }
 {
@@ -67,8 +73,14 @@ fn carry_out<O: Sink>(
     requires few { length program.now.globals < 2 ^ 31 }
     requires ints { All (λ (s : WrittenStatement). StoresInt s.action) program.now.body }
     requires open { IsOpen rack.old conn.old }
-    ensures whole { IfOk result (Finished (talk_by ⟦<dyn Link as Link>⟧) (faults_by ⟦<dyn Link as Link>⟧) O.held O.faults program.now rack.old conn.old out.old rack.new conn.new out.new) }
-    ensures part { OnErr result (Cut (talk_by ⟦<dyn Link as Link>⟧) (faults_by ⟦<dyn Link as Link>⟧) O.held O.faults program.now rack.old conn.old out.old rack.new conn.new out.new) }
+    ensures whole { IfOk result
+        (Finished (talk_by ⟦<dyn Link as Link>⟧) (faults_by ⟦<dyn Link as Link>⟧)
+        O.held O.faults program.now
+        rack.old conn.old out.old rack.new conn.new out.new) }
+    ensures part { OnErr result
+        (Cut (talk_by ⟦<dyn Link as Link>⟧) (faults_by ⟦<dyn Link as Link>⟧)
+        O.held O.faults program.now
+        rack.old conn.old out.old rack.new conn.new out.new) }
     ensures cause { result ≡ Err RunStop.WriteFault → Rose (O.faults out.old) (O.faults out.new) }
     ensures steady { result ≡ Err RunStop.OutOfMemory → O.faults out.new ≡ O.faults out.old }
 {
@@ -97,8 +109,14 @@ fn execute<O: Sink>(
     requires few { length program.now.globals < 2 ^ 31 }
     requires ints { All (λ (s : WrittenStatement). StoresInt s.action) program.now.body }
     requires open { IsOpen rack.old conn.old }
-    ensures whole { IfOk result (Finished (talk_by ⟦<dyn Link as Link>⟧) (faults_by ⟦<dyn Link as Link>⟧) O.held O.faults program.now rack.old conn.old out.old rack.new conn.new out.new) }
-    ensures part { OnErr result (Cut (talk_by ⟦<dyn Link as Link>⟧) (faults_by ⟦<dyn Link as Link>⟧) O.held O.faults program.now rack.old conn.old out.old rack.new conn.new out.new) }
+    ensures whole { IfOk result
+        (Finished (talk_by ⟦<dyn Link as Link>⟧) (faults_by ⟦<dyn Link as Link>⟧)
+        O.held O.faults program.now
+        rack.old conn.old out.old rack.new conn.new out.new) }
+    ensures part { OnErr result
+        (Cut (talk_by ⟦<dyn Link as Link>⟧) (faults_by ⟦<dyn Link as Link>⟧)
+        O.held O.faults program.now
+        rack.old conn.old out.old rack.new conn.new out.new) }
     ensures cause { result ≡ Err RunStop.WriteFault → Rose (O.faults out.old) (O.faults out.new) }
     ensures steady { result ≡ Err RunStop.OutOfMemory → O.faults out.new ≡ O.faults out.old }
 {
@@ -110,7 +128,8 @@ fn execute<O: Sink>(
 /// Gives a connection back, if there is one.
 pub fn release(rack: &mut Rack, conn: Option<Conn>)
     requires { IsOpen rack.old conn }
-    ensures released { MatchOption conn (slots_of rack.new ≡ slots_of rack.old) (GivesBack (slots_of rack.old) (slots_of rack.new)) }
+    ensures released { MatchOption conn (slots_of rack.new ≡ slots_of rack.old)
+        (GivesBack (slots_of rack.old) (slots_of rack.new)) }
     ensures log { log_of rack.new ≡ log_of rack.old }
 {
     if let Some(conn) = conn {
@@ -134,18 +153,27 @@ pub fn run<O: Sink>(alloc: alloc::Global, program: &Written, rack: &mut Rack, ou
     requires few { length program.now.globals < 2 ^ 31 }
     requires ints { All (λ (s : WrittenStatement). StoresInt s.action) program.now.body }
     ensures exited { (status : ℕ) → result ≡ RunEnd.Exited status → IsWhole
-        (written_meaning program.now (option_map (λ r. r.0) (ready_slot (states (slots_of rack.old)))) (answers_in (growth_of (log_of rack.old) (log_of rack.new))))
+        (written_meaning program.now
+        (option_map (λ r. r.0) (ready_slot (states (slots_of rack.old))))
+        (answers_in (growth_of (log_of rack.old) (log_of rack.new))))
         (growth_of (log_of rack.old) (log_of rack.new)) (O.held out.old) (O.held out.new) status }
     ensures stopped { result ≡ RunEnd.WriteFault ⊎ (result ≡ RunEnd.OutOfMemory) → IsPart
-        (written_meaning program.now (option_map (λ r. r.0) (ready_slot (states (slots_of rack.old)))) (answers_in (growth_of (log_of rack.old) (log_of rack.new))))
+        (written_meaning program.now
+        (option_map (λ r. r.0) (ready_slot (states (slots_of rack.old))))
+        (answers_in (growth_of (log_of rack.old) (log_of rack.new))))
         (growth_of (log_of rack.old) (log_of rack.new)) (O.held out.old) (O.held out.new) }
     ensures fault { result ≡ RunEnd.WriteFault → Rose (O.faults out.old) (O.faults out.new) }
     ensures later { O.faults out.old ≤ O.faults out.new }
     ensures steady { (result ≡ RunEnd.WriteFault → ⊥) → O.faults out.new ≡ O.faults out.old }
-    ensures logged { log_of rack.new ≡ log_of rack.old ++ growth_of (log_of rack.old) (log_of rack.new) }
-    ensures slots { RunsOver (slots_of rack.old) (growth_of (log_of rack.old) (log_of rack.new)) (slots_of rack.new) }
-    ensures talks { KeepsTalks (talk_at (talk_by ⟦<dyn Link as Link>⟧) (slots_of rack.old)) (talk_at (talk_by ⟦<dyn Link as Link>⟧) (slots_of rack.new)) (growth_of (log_of rack.old) (log_of rack.new)) }
-    ensures dropped { SparesDropped (states (slots_of rack.old)) (states (slots_of rack.new)) (growth_of (log_of rack.old) (log_of rack.new)) }
+    ensures logged { log_of rack.new
+        ≡ log_of rack.old ++ growth_of (log_of rack.old) (log_of rack.new) }
+    ensures slots { RunsOver (slots_of rack.old)
+        (growth_of (log_of rack.old) (log_of rack.new)) (slots_of rack.new) }
+    ensures talks { KeepsTalks (talk_at (talk_by ⟦<dyn Link as Link>⟧) (slots_of rack.old))
+        (talk_at (talk_by ⟦<dyn Link as Link>⟧) (slots_of rack.new))
+        (growth_of (log_of rack.old) (log_of rack.new)) }
+    ensures dropped { SparesDropped (states (slots_of rack.old))
+        (states (slots_of rack.new)) (growth_of (log_of rack.old) (log_of rack.new)) }
 {
     let mut conn = rack.take_ready();
     let end = execute(alloc, program, rack, &mut conn, out);

@@ -35,7 +35,8 @@ fn assignment(line: &[u8]) -> Option<(Letter, u32)>
 
 /// The words and the letter of `EXEC SQL SELECT words INTO :x;`.
 fn selection(line: &[u8]) -> Option<(&[u8], Letter)>
-    ensures { ReadsAs (option_map (λ p. (p.0.now, p.1)) result) IsSelection selection_text line.now }
+    ensures { ReadsAs
+        (option_map (λ p. (p.0.now, p.1)) result) IsSelection selection_text line.now }
 {
     let (last, front) = between(line, b"EXEC SQL SELECT ", b";")?.split_last()?;
     let letter = letter(&[*last])?;

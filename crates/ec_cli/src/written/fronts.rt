@@ -66,7 +66,8 @@ pub fn number_then<'a>(text: &'a [u8], fixed: &[u8]) -> Option<(u32, &'a [u8])>
 /// `SELECT` with words behind it at the front, and then the fixed text.
 pub fn query_then<'a>(text: &'a [u8], fixed: &[u8]) -> Option<(&'a [u8], &'a [u8])>
     requires { BeginsWith is_quote fixed.now }
-    ensures { ReadsFront (option_map (λ f. (f.0.now, f.1.now)) result) IsQuery (λ t. t ++ fixed.now) text.now }
+    ensures { ReadsFront (option_map (λ f. (f.0.now, f.1.now)) result) IsQuery
+        (λ t. t ++ fixed.now) text.now }
 {
     let (piece, rest) = text.split_at(quote_at(text));
     Some((query(piece)?, behind(rest, fixed)?))

@@ -58,7 +58,8 @@ fn opening_at(text: &[u8]) -> Option<(Line, &[u8])>
 
 /// The end of `main`, with its mark.
 fn ending_at(text: &[u8]) -> Option<((Line, u32), &[u8])>
-    ensures { ReadsFront (front_of result) (λ e. IsReadableLine e.0 × IsNumber e.1) ending_text text.now }
+    ensures { ReadsFront (front_of result)
+        (λ e. IsReadableLine e.0 × IsNumber e.1) ending_text text.now }
 {
     let (line, rest) = mark_at(text)?;
     let (status, rest) = number_then(behind(rest, b"return ")?, b";\n}\n")?;
@@ -85,7 +86,8 @@ fn host_at(text: &[u8]) -> Option<(Host, &[u8])>
 
 /// A call of the library, with the end of its block.
 fn site_at(text: &[u8]) -> Option<(Site<'_>, &[u8])>
-    ensures { ReadsFront (option_map (λ f. (call_of f.0, f.1.now)) result) IsReadableCall call_lines_text text.now }
+    ensures { ReadsFront
+        (option_map (λ f. (call_of f.0, f.1.now)) result) IsReadableCall call_lines_text text.now }
 {
     let (line, rest) = number_then(behind(text, b"ECPGdo(")?, b", NULL, ECPGst_normal, \"")?;
     let (query, rest) = query_then(rest, b"\", ECPGt_EOIT, ECPGt_int, &")?;
@@ -105,7 +107,8 @@ fn behind_mark(text: &[u8], line: Line) -> Option<&[u8]>
 /// What stands in a block, behind its brace: the mark of the same line, and a call.
 fn block_at(alloc: Heap, line: Line, text: &[u8]) -> Result<Option<(Call, &[u8])>, OutOfMemory>
     requires { IsReadableLine line }
-    ensures { IfOk result (λ found. ReadsFront (front_of found) IsReadableCall (λ c. mark_text line ++ call_lines_text c) text.now) }
+    ensures { IfOk result (λ found. ReadsFront (front_of found) IsReadableCall
+        (λ c. mark_text line ++ call_lines_text c) text.now) }
 {
     let Some(inside) = behind_mark(text, line) else {
         return Ok(None);
@@ -141,7 +144,8 @@ fn plain_at(text: &[u8]) -> Option<(Action, &[u8])>
 /// An action at a line.
 fn action_at(alloc: Heap, line: Line, text: &[u8]) -> Result<Option<(Action, &[u8])>, OutOfMemory>
     requires { IsReadableLine line }
-    ensures { IfOk result (λ found. ReadsFront (front_of found) IsReadableAction (action_text line) text.now) }
+    ensures { IfOk result
+        (λ found. ReadsFront (front_of found) IsReadableAction (action_text line) text.now) }
 {
     let Some(inside) = behind(text, b"{\n") else {
         return Ok(plain_at(text));
@@ -154,7 +158,8 @@ fn action_at(alloc: Heap, line: Line, text: &[u8]) -> Result<Option<(Action, &[u
 
 /// A statement, with its mark.
 fn statement_at(alloc: Heap, text: &[u8]) -> Result<Option<(WrittenStatement, &[u8])>, OutOfMemory>
-    ensures { IfOk result (λ found. ReadsFront (front_of found) IsReadableStatement statement_text text.now) }
+    ensures { IfOk result
+        (λ found. ReadsFront (front_of found) IsReadableStatement statement_text text.now) }
 {
     let Some((line, rest)) = mark_at(text) else {
         return Ok(None);
@@ -167,7 +172,8 @@ fn statement_at(alloc: Heap, text: &[u8]) -> Result<Option<(WrittenStatement, &[
 
 /// The globals at the front, as many as stand there.
 fn globals_at(alloc: Heap, text: &[u8]) -> Result<(List<Global>, &[u8]), OutOfMemory>
-    ensures { IfOk result (λ found. ReadsAll IsReadableGlobal global_text text.now found.0 found.1.now) }
+    ensures { IfOk result
+        (λ found. ReadsAll IsReadableGlobal global_text text.now found.0 found.1.now) }
 {
     let mut globals = List::new(alloc);
     let mut rest = text;
@@ -180,7 +186,8 @@ fn globals_at(alloc: Heap, text: &[u8]) -> Result<(List<Global>, &[u8]), OutOfMe
 
 /// The statements at the front, as many as stand there.
 fn statements_at(alloc: Heap, text: &[u8]) -> Result<(List<WrittenStatement>, &[u8]), OutOfMemory>
-    ensures { IfOk result (λ found. ReadsAll IsReadableStatement statement_text text.now found.0 found.1.now) }
+    ensures { IfOk result
+        (λ found. ReadsAll IsReadableStatement statement_text text.now found.0 found.1.now) }
 {
     let mut body = List::new(alloc);
     let mut rest = text;
@@ -197,8 +204,10 @@ fn statements_at(alloc: Heap, text: &[u8]) -> Result<(List<WrittenStatement>, &[
 ///
 /// Where there is no memory left.
 pub(crate) fn read_written(alloc: Heap, text: &[u8]) -> Result<Option<Written>, OutOfMemory>
-    ensures read { (q : Written) → IsReadable q → text.now ≡ written_text q → IfOk result (λ found. found ≡ Some q) }
-    ensures found { IfOk result (λ found. IfSome found (λ q. IsReadable q × (text.now ≡ written_text q))) }
+    ensures read { (q : Written) → IsReadable q →
+        text.now ≡ written_text q → IfOk result (λ found. found ≡ Some q) }
+    ensures found { IfOk result
+        (λ found. IfSome found (λ q. IsReadable q × (text.now ≡ written_text q))) }
 {
     let Some(rest) = behind(text, b"#include <ecpglib.h>\n#include <sqlca.h>\n") else {
         return Ok(None);

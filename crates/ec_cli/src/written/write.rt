@@ -35,7 +35,8 @@ fn push_mark(out: &mut Bytes, line: Line) -> Result<(), OutOfMemory>
 
 /// Puts the declaration of a global at the end, with its mark.
 fn push_global(out: &mut Bytes, line: Line, letter: Letter) -> Result<(), OutOfMemory>
-    ensures { OnOk result (out.new ≡ out.old ++ global_text (record { line = line; letter = letter })) }
+    ensures { OnOk result
+        (out.new ≡ out.old ++ global_text (record { line = line; letter = letter })) }
 {
     push_mark(out, line)?;
     out.extend_from_slice(b"int ")?;
@@ -45,7 +46,8 @@ fn push_global(out: &mut Bytes, line: Line, letter: Letter) -> Result<(), OutOfM
 
 /// Puts `x = N;` at the end.
 fn push_store(out: &mut Bytes, letter: Letter, n: u32) -> Result<(), OutOfMemory>
-    ensures { (line : Line) → OnOk result (out.new ≡ out.old ++ action_text line (action.Store letter n)) }
+    ensures { (line : Line) →
+        OnOk result (out.new ≡ out.old ++ action_text line (action.Store letter n)) }
 {
     out.push(letter.0)?;
     out.extend_from_slice(b" = ")?;
@@ -55,7 +57,8 @@ fn push_store(out: &mut Bytes, letter: Letter, n: u32) -> Result<(), OutOfMemory
 
 /// Puts a call of `printf` at the end.
 fn push_print(out: &mut Bytes, letter: Letter) -> Result<(), OutOfMemory>
-    ensures { (line : Line) → OnOk result (out.new ≡ out.old ++ action_text line (action.Print letter)) }
+    ensures { (line : Line) →
+        OnOk result (out.new ≡ out.old ++ action_text line (action.Print letter)) }
 {
     out.extend_from_slice(b"printf(\"%d\\012\", ")?;
     out.push(letter.0)?;
@@ -65,7 +68,18 @@ fn push_print(out: &mut Bytes, letter: Letter) -> Result<(), OutOfMemory>
 
 /// Puts a call of the library at the end that sends a SELECT and stores one int.
 fn push_call(out: &mut Bytes, line: Line, words: &[u8], letter: Letter) -> Result<(), OutOfMemory>
-    ensures { OnOk result (out.new ≡ out.old ++ call_text (record { line = line; text = codes "SELECT " ++ words.now; symbol = Int; pointer = letter; length = 0; count = 1; distance = 4 })) }
+    ensures { OnOk result
+        (out.new
+        ≡ out.old
+        ++ call_text (record {
+          line = line;
+          text = codes "SELECT " ++ words.now;
+          symbol = Int;
+          pointer = letter;
+          length = 0;
+          count = 1;
+          distance = 4;
+        })) }
 {
     out.extend_from_slice(b"ECPGdo(")?;
     push_number(out, line.0)?;
@@ -79,7 +93,8 @@ fn push_call(out: &mut Bytes, line: Line, words: &[u8], letter: Letter) -> Resul
 
 /// Puts the block at the end that is written for a SELECT.
 fn push_select(out: &mut Bytes, line: Line, words: &[u8], letter: Letter) -> Result<(), OutOfMemory>
-    ensures { OnOk result (out.new ≡ out.old ++ action_text line (written_action line.0 (Select words.now letter))) }
+    ensures { OnOk result
+        (out.new ≡ out.old ++ action_text line (written_action line.0 (Select words.now letter))) }
 {
     out.extend_from_slice(b"{\n")?;
     push_mark(out, line)?;
@@ -90,7 +105,8 @@ fn push_select(out: &mut Bytes, line: Line, words: &[u8], letter: Letter) -> Res
 
 /// Puts what is written for a statement at the end, with its mark.
 fn push_statement(out: &mut Bytes, line: Line, statement: &Statement) -> Result<(), OutOfMemory>
-    ensures { OnOk result (out.new ≡ out.old ++ statement_text (record { line = line; action = written_action line.0 statement.now })) }
+    ensures { OnOk result (out.new ≡ out.old
+        ++ statement_text (record { line = line; action = written_action line.0 statement.now })) }
 {
     push_mark(out, line)?;
     match statement {
@@ -103,7 +119,8 @@ fn push_statement(out: &mut Bytes, line: Line, statement: &Statement) -> Result<
 /// Puts the declarations of the globals at the end, from line 1 on.
 fn push_globals(out: &mut Bytes, letters: &[Letter]) -> Result<(), OutOfMemory>
     requires { length letters.now < 2 ^ 31 }
-    ensures { OnOk result (out.new ≡ out.old ++ unlines (flat_map global_lines (written_globals 1 letters.now))) }
+    ensures { OnOk result
+        (out.new ≡ out.old ++ unlines (flat_map global_lines (written_globals 1 letters.now))) }
 {
     for (before, letter) in letters.iter().enumerate() {
         push_global(out, Line(before as u32 + 1), *letter)?;
@@ -114,7 +131,8 @@ fn push_globals(out: &mut Bytes, letters: &[Letter]) -> Result<(), OutOfMemory>
 /// Puts what is written for the statements at the end, from the line `first` on.
 fn push_body(out: &mut Bytes, first: u32, body: &[Statement]) -> Result<(), OutOfMemory>
     requires { first + length body.now < 2 ^ 31 }
-    ensures { OnOk result (out.new ≡ out.old ++ unlines (flat_map statement_lines (written_body first body.now))) }
+    ensures { OnOk result
+        (out.new ≡ out.old ++ unlines (flat_map statement_lines (written_body first body.now))) }
 {
     for (before, statement) in body.iter().enumerate() {
         push_statement(out, Line(first + before as u32), statement)?;

@@ -26,13 +26,33 @@ abbrev pub name_view : ℕ × Ty → ℕ × TyData
 name_view n = (n.0, ty_view n.1)
 
 abbrev pub typed_view : Typed → TypedData
-typed_view t = record { unit = unit_view t.unit; structs = structs_view t.structs; names = map name_view t.names; hosts = t.hosts.hosts; handlers = handlers_view t.handlers; denoted = t.denoted }
+typed_view t =
+    record {
+      unit = unit_view t.unit;
+      structs = structs_view t.structs;
+      names = map name_view t.names;
+      hosts = t.hosts.hosts;
+      handlers = handlers_view t.handlers;
+      denoted = t.denoted;
+    }
 
 abbrev pub indicator_view : Sym × Expr × ℕ × ℕ → IndicatorData
 indicator_view i = (i.0, expr_view i.1, i.2, i.3)
 
 abbrev pub place_view : Place → PlaceData
-place_view p = record { sym = p.sym; value = expr_view p.value; size = p.size; count = p.count; step = p.step; ind = option_map indicator_view p.ind }
+place_view p = record {
+  sym = p.sym;
+  value = expr_view p.value;
+  size = p.size;
+  count = p.count;
+  step = p.step;
+  ind = option_map indicator_view p.ind;
+}
 
 abbrev pub bound_view : Bound → BoundData
-bound_view b = record { text = b.text; texts = map expr_view b.texts; ins = map place_view b.ins; outs = map place_view b.outs }
+bound_view b = record {
+  text = b.text;
+  texts = map expr_view b.texts;
+  ins = map place_view b.ins;
+  outs = map place_view b.outs;
+}

@@ -61,13 +61,16 @@ abbrev pub set_item_view : Item × Input → Item × InputData
 set_item_view i = (i.0, input_view i.1)
 
 abbrev pub emb_kind_view : EmbKind → EmbKindData
-emb_kind_view (kind.Connect target name user password) = connect (text_arg_view target) (option_map text_arg_view name) (option_map text_arg_view user) (option_map text_arg_view password)
+emb_kind_view (kind.Connect target name user password) =
+    connect (text_arg_view target) (option_map text_arg_view name)
+    (option_map text_arg_view user) (option_map text_arg_view password)
 emb_kind_view (kind.SetConnection name) = set_connection (text_arg_view name)
 emb_kind_view (kind.Disconnect name) = disconnect (text_arg_view name)
 emb_kind_view (kind.Autocommit on) = autocommit on
 emb_kind_view (kind.Trans text) = trans text
 emb_kind_view (kind.Text parts os) = server_text (map part_view parts) (outs_view os)
-emb_kind_view (kind.Declare cursor parts prepared) = declare_cursor cursor (map part_view parts) prepared
+emb_kind_view (kind.Declare cursor parts prepared) =
+    declare_cursor cursor (map part_view parts) prepared
 emb_kind_view (kind.OpenCursor cursor is) = open_cursor cursor (ins_view is)
 emb_kind_view (kind.Immediate text) = execute_immediate (text_arg_view text)
 emb_kind_view (kind.Prepare name text) = prepare name (text_arg_view text)
@@ -76,11 +79,18 @@ emb_kind_view (kind.Deallocate name) = deallocate name
 emb_kind_view (kind.Allocate area) = allocate_area (text_arg_view area)
 emb_kind_view (kind.Free area) = free_area (text_arg_view area)
 emb_kind_view (kind.GetCount area host) = get_count (text_arg_view area) (host_view host)
-emb_kind_view (kind.Get area at items) = get_items (text_arg_view area) (input_view at) (map get_item_view items)
+emb_kind_view (kind.Get area at items) =
+    get_items (text_arg_view area) (input_view at) (map get_item_view items)
 emb_kind_view (kind.SetCount area value) = set_count (text_arg_view area) (input_view value)
-emb_kind_view (kind.Set area at items) = set_items (text_arg_view area) (input_view at) (map set_item_view items)
+emb_kind_view (kind.Set area at items) =
+    set_items (text_arg_view area) (input_view at) (map set_item_view items)
 emb_kind_view (kind.Whenever cond act) = whenever cond (action_view act)
 emb_kind_view kind.IncludeSqlca = include_sqlca
 
 abbrev pub emb_view : Emb → EmbData
-emb_view e = record { line = e.line; place = e.place; at = option_map text_arg_view e.at; kind = emb_kind_view e.kind }
+emb_view e = record {
+  line = e.line;
+  place = e.place;
+  at = option_map text_arg_view e.at;
+  kind = emb_kind_view e.kind;
+}

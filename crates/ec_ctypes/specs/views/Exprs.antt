@@ -69,23 +69,34 @@ expr_step (Expr-F.SizeExpr a) = size_expr a
 abbrev pub decl_step : Decl-F BaseData InitData ExprData DeclData DeclaratorData → DeclData
 decl_step d = decl d.base (declarators_of d.items) d.section d.line
 
-abbrev pub declarator_step : Declarator-F BaseData InitData ExprData DeclData DeclaratorData → DeclaratorData
+abbrev pub declarator_step : Declarator-F BaseData InitData ExprData DeclData DeclaratorData →
+    DeclaratorData
 declarator_step d = declarator d.stars d.name (dims_of d.dims) (init_of d.init)
 
 abbrev pub expr_view : Expr → ExprData
-expr_view = fold-Expr BaseData InitData ExprData DeclData DeclaratorData base_step init_step expr_step decl_step declarator_step
+expr_view =
+    fold-Expr BaseData InitData ExprData DeclData DeclaratorData
+    base_step init_step expr_step decl_step declarator_step
 
 abbrev pub base_view : Base → BaseData
-base_view = fold-Base BaseData InitData ExprData DeclData DeclaratorData base_step init_step expr_step decl_step declarator_step
+base_view =
+    fold-Base BaseData InitData ExprData DeclData DeclaratorData
+    base_step init_step expr_step decl_step declarator_step
 
 abbrev pub init_view : Init → InitData
-init_view = fold-Init BaseData InitData ExprData DeclData DeclaratorData base_step init_step expr_step decl_step declarator_step
+init_view =
+    fold-Init BaseData InitData ExprData DeclData DeclaratorData
+    base_step init_step expr_step decl_step declarator_step
 
 abbrev pub decl_view : Decl → DeclData
-decl_view = fold-Decl BaseData InitData ExprData DeclData DeclaratorData base_step init_step expr_step decl_step declarator_step
+decl_view =
+    fold-Decl BaseData InitData ExprData DeclData DeclaratorData
+    base_step init_step expr_step decl_step declarator_step
 
 abbrev pub declarator_view : Declarator → DeclaratorData
-declarator_view = fold-Declarator BaseData InitData ExprData DeclData DeclaratorData base_step init_step expr_step decl_step declarator_step
+declarator_view =
+    fold-Declarator BaseData InitData ExprData DeclData DeclaratorData
+    base_step init_step expr_step decl_step declarator_step
 
 -- lists and options of them
 abbrev pub expr_option_view : Option Expr → Option ExprData

@@ -22,7 +22,8 @@ kind_step (StmtKind-F.Block ss) = block_stmt (stmts_of ss)
 kind_step (StmtKind-F.If e s other) = if_stmt (expr_view e) s (stmt_of other)
 kind_step (StmtKind-F.While e s) = while_stmt (expr_view e) s
 kind_step (StmtKind-F.Do s e) = do_stmt s (expr_view e)
-kind_step (StmtKind-F.For parts s) = for_stmt (expr_option_view parts.first) (expr_option_view parts.condition) (expr_option_view parts.step) s
+kind_step (StmtKind-F.For parts s) = for_stmt (expr_option_view parts.first)
+    (expr_option_view parts.condition) (expr_option_view parts.step) s
 kind_step StmtKind-F.Break = break_stmt
 kind_step StmtKind-F.Continue = continue_stmt
 kind_step (StmtKind-F.Return e) = return_stmt (expr_option_view e)

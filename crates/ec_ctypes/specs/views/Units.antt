@@ -11,10 +11,25 @@ use Rattle.ec_ctypes.specs.views.Stmts.{stmts_view}
 use Rattle.ec_ctypes.specs.views.Embedded.{emb_view}
 
 abbrev pub param_view : Param → ParamData
-param_view p = record { base = base_view p.base; stars = p.stars; name = p.name; dims = dims_view p.dims; section = p.section }
+param_view p = record {
+  base = base_view p.base;
+  stars = p.stars;
+  name = p.name;
+  dims = dims_view p.dims;
+  section = p.section;
+}
 
 abbrev pub func_view : Func → FuncData
-func_view f = record { base = base_view f.base; stars = f.stars; name = f.name; params = map param_view f.params; body = option_map stmts_view f.body; section = f.section; line = f.line }
+func_view f =
+    record {
+      base = base_view f.base;
+      stars = f.stars;
+      name = f.name;
+      params = map param_view f.params;
+      body = option_map stmts_view f.body;
+      section = f.section;
+      line = f.line;
+    }
 
 abbrev pub top_view : Top → TopData
 top_view (top.Include bytes) = include_top bytes
