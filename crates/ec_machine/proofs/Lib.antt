@@ -3,6 +3,7 @@ pub mod Fuel
 pub mod Moves
 pub mod Objects
 pub mod Parts
+pub mod Plainly
 pub mod Running
 pub mod Turns
 pub mod Views

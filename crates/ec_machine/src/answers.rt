@@ -128,7 +128,7 @@ impl<'p> Machine<'p> {
 
     /// The statement that a value chooses is run.
     #[tactic(auto, using(crate::proofs::Weighing::weights))]
-    fn choose(
+    pub(crate) fn choose(
         &self,
         first: &'p Statement,
         second: &'p Statement,
@@ -154,7 +154,7 @@ impl<'p> Machine<'p> {
 
     /// The test of a loop has this value.
     #[tactic(auto, using(crate::proofs::Weighing::weights))]
-    fn tested(&mut self, inner: &'p Loop, value: Word) -> Result<Focus<'p>, Stop>
+    pub(crate) fn tested(&mut self, inner: &'p Loop, value: Word) -> Result<Focus<'p>, Stop>
         ensures goes { (functions : List FunctionData) → Goes functions self.old (env_of self.old)
             (λ knowing w t. elim (is_true (word_view value)) [
               | true ↦ w (turn_of (here (env_of self.old) self.old.line) (test_of inner.now)

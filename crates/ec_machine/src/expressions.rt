@@ -49,7 +49,7 @@ impl<'p> Machine<'p> {
         ensures nears { remaining self.old.turns result self.new ≤
             1 + frames_weight self.old.frames }
     {
-        match evaluate(&mut self.store, self.scope.objects(), plain) {
+        match evaluate(&mut self.store, self.scope.objects(), plain).get() {
             Ok(value) => Ok(Focus::Value(value)),
             Err(why) => Err(stopped(self.line, why)),
         }
@@ -89,8 +89,10 @@ impl<'p> Machine<'p> {
         ensures nears { remaining self.old.turns result self.new ≤
             1 + frames_weight self.old.frames + steps_weight steps.now }
     {
-        self.frames.push(Frame::Steps(self.line, steps))?;
-        self.plain(plain)
+        match evaluate(&mut self.store, self.scope.objects(), plain).get() {
+            Ok(value) => self.follow(steps, value),
+            Err(why) => Err(stopped(self.line, why)),
+        }
     }
 
     /// The library is called, behind which these steps are taken.
@@ -240,7 +242,7 @@ impl<'p> Machine<'p> {
         ensures nears { remaining self.old.turns result self.new ≤
             1 + frames_weight self.old.frames + steps_weight rest.now }
     {
-        match unary(&mut self.store, step, value) {
+        match unary(&mut self.store, step, value).get() {
             Ok(next) => {
                 self.frames.push(Frame::Steps(self.line, rest))?;
                 Ok(Focus::Value(next))
@@ -299,7 +301,7 @@ impl<'p> Machine<'p> {
         ensures nears { remaining self.old.turns result self.new ≤
             1 + frames_weight self.old.frames + steps_weight rest.now }
     {
-        match finish(&mut self.store, step, left, old, right) {
+        match finish(&mut self.store, step, left, old, right).get() {
             Ok(next) => {
                 self.frames.push(Frame::Steps(self.line, rest))?;
                 Ok(Focus::Value(next))

@@ -1,23 +1,26 @@
 //! Statements, run from their start or from a label.
 
-ghost use Rattle.std.specs.Prelude.{◌≡◌, ◌≤◌, ◌+◌, ℕ, List, map};
+ghost use Rattle.std.specs.Prelude.{◌≡◌, ◌≤◌, ◌+◌, ℕ, List, Some, true, false, map};
 ghost use Rattle.std.specs.Option.{option_map};
 ghost use Rattle.ec_code.specs.declared.program.Function.{Function as FunctionData};
-ghost use Rattle.ec_code.specs.Views.{expression_view, expressions_view, loop_view, size_view, statement_view, statements_view};
+ghost use Rattle.ec_code.specs.Views.{expression_view, expressions_view, loop_view, plain_view, size_view, statement_view, statements_view};
+ghost use Rattle.ec_evaluation.specs.Evaluate.{eval};
 ghost use Rattle.ec_evaluation.specs.Execute.{declared, enter, initialized, look, look_all, returning, run, run_all};
-ghost use Rattle.ec_evaluation.specs.Results.{returned, turn, went};
+ghost use Rattle.ec_evaluation.specs.Results.{on, on_value, returned, turn, went};
+ghost use Rattle.ec_resolved.specs.Operations.{is_true};
 ghost use Rattle.ec_values.specs.Words.{word_view};
 ghost use Rattle.ec_machine.specs.Frames.{here};
 ghost use Rattle.ec_machine.specs.Goes.{EndsWith, Goes, Returns, env_of};
 ghost use Rattle.ec_machine.specs.declared.machine.Machine.{Machine as MachineData};
-ghost use Rattle.ec_machine.specs.Weights.{expressions_weight, frames_weight, remaining, optional_weight, statement_weight, statements_weight, test_weight};
+ghost use Rattle.ec_machine.specs.Weights.{expression_weight, expressions_weight, frames_weight, remaining, optional_weight, statement_weight, statements_weight, test_weight};
 
 use crate::frame::{Callee, Flow, Focus, Frame};
 use crate::labels::holds;
 use crate::machine::Machine;
-use crate::making::{place, take_turn};
+use crate::making::{place, stopped, take_turn};
 use crate::stop::{End, Stop};
-use ec_code::{Expression, Function, Loop, ObjectSize, Statement};
+use ec_code::{Expression, Function, Loop, ObjectSize, Plain, Statement};
+use ec_plain::evaluate;
 use ec_values::Word;
 
 impl<'p> Machine<'p> {
@@ -37,22 +40,17 @@ impl<'p> Machine<'p> {
         match statement {
             Statement::OnLine(line, inner) => {
                 self.line = *line;
-                Ok(Focus::Runs(inner.get()))
+                self.at_once(inner.get())
             }
             Statement::Nothing => Ok(Focus::Leads(Flow::On)),
-            Statement::Evaluate(expression) => {
-                self.frames.push(Frame::Do)?;
-                Ok(Focus::Evaluates(expression))
-            }
+            Statement::Evaluate(expression) => self.effect(expression),
             Statement::Declare(slot, size) => self.declare(*slot, *size),
             Statement::Initialize(slot, size, values) => {
                 self.initialize(functions, *slot, *size, values.as_slice())
             }
             Statement::Block(sizes, body) => { self.run_block(sizes.as_slice(), body.as_slice()) }
             Statement::Choose(test, first, second) => {
-                self.frames
-                    .push(Frame::Choose(self.line, first.get(), second.get()))?;
-                Ok(Focus::Evaluates(test))
+                self.branch(test, first.get(), second.get())
             }
             Statement::Loop(inner) => { self.run_loop(inner.get()) }
             Statement::Leave => Ok(Focus::Leads(Flow::Broke)),
@@ -61,6 +59,143 @@ impl<'p> Machine<'p> {
             Statement::Goto(label) => self.jump(*label),
             Statement::Label(_, inner) => Ok(Focus::Runs(inner.get())),
             Statement::Embedded(_) => Err(Stop::Over(End::Stuck)),
+        }
+    }
+
+    /// A statement on a line is begun. One that needs no frame is done here.
+    fn at_once(&mut self, statement: &'p Statement) -> Result<Focus<'p>, Stop>
+        ensures goes { (functions : List FunctionData) → Goes functions self.old (env_of self.old)
+            (λ knowing w t. run knowing w (here (env_of self.old) self.old.line)
+            (statement_view statement.now) t) result self.new }
+        ensures turns { self.new.turns ≤ self.old.turns }
+        ensures nears { remaining self.old.turns result self.new ≤
+            1 + frames_weight self.old.frames + statement_weight statement.now }
+    {
+        match statement {
+            Statement::Evaluate(expression) => self.effect(expression),
+            _ => Ok(Focus::Runs(statement)),
+        }
+    }
+
+    /// An expression as a statement.
+    fn effect(&mut self, expression: &'p Expression) -> Result<Focus<'p>, Stop>
+        ensures goes { (functions : List FunctionData) → Goes functions self.old (env_of self.old)
+            (λ knowing w t. on_value (eval knowing w (here (env_of self.old) self.old.line)
+            (expression_view expression.now) t) (λ v u. on u)) result self.new }
+        ensures turns { self.new.turns ≤ self.old.turns }
+        ensures nears { remaining self.old.turns result self.new ≤
+            2 + frames_weight self.old.frames + expression_weight expression.now }
+    {
+        match expression {
+            Expression::Plain(plain) => self.effect_at_once(plain),
+            Expression::Full(_) => {
+                self.frames.push(Frame::Do)?;
+                Ok(Focus::Evaluates(expression))
+            }
+        }
+    }
+
+    /// An expression without calls as a statement.
+    fn effect_at_once(&mut self, plain: &Plain) -> Result<Focus<'p>, Stop>
+        ensures goes { (functions : List FunctionData) → Goes functions self.old (env_of self.old)
+            (λ knowing w t. on_value (eval knowing w (here (env_of self.old) self.old.line)
+            (plain_view plain.now) t) (λ v u. on u)) result self.new }
+        ensures turns { self.new.turns ≤ self.old.turns }
+        ensures nears { remaining self.old.turns result self.new ≤
+            1 + frames_weight self.old.frames }
+    {
+        match evaluate(&mut self.store, self.scope.objects(), plain).get() {
+            Ok(_) => Ok(Focus::Leads(Flow::On)),
+            Err(why) => Err(stopped(self.line, why)),
+        }
+    }
+
+    /// The statement that an expression chooses is run.
+    fn branch(
+        &mut self,
+        test: &'p Expression,
+        first: &'p Statement,
+        second: &'p Statement,
+    ) -> Result<Focus<'p>, Stop>
+        ensures goes { (functions : List FunctionData) → Goes functions self.old (env_of self.old)
+            (λ knowing w t. on_value (eval knowing w (here (env_of self.old) self.old.line)
+            (expression_view test.now) t) (λ v u. elim (is_true v) [
+              | true ↦ run knowing w (here (env_of self.old) self.old.line) (statement_view
+                  first.now) u
+              | false ↦ run knowing w (here (env_of self.old) self.old.line) (statement_view
+                  second.now) u
+            ])) result self.new }
+        ensures turns { self.new.turns ≤ self.old.turns }
+        ensures nears { remaining self.old.turns result self.new ≤
+            2 + frames_weight self.old.frames + expression_weight test.now +
+            statement_weight first.now + statement_weight second.now }
+    {
+        match test {
+            Expression::Plain(plain) => self.branch_at_once(plain, first, second),
+            Expression::Full(_) => {
+                self.frames.push(Frame::Choose(self.line, first, second))?;
+                Ok(Focus::Evaluates(test))
+            }
+        }
+    }
+
+    /// The statement that an expression without calls chooses is run.
+    fn branch_at_once(
+        &mut self,
+        test: &Plain,
+        first: &'p Statement,
+        second: &'p Statement,
+    ) -> Result<Focus<'p>, Stop>
+        ensures goes { (functions : List FunctionData) → Goes functions self.old (env_of self.old)
+            (λ knowing w t. on_value (eval knowing w (here (env_of self.old) self.old.line)
+            (plain_view test.now) t) (λ v u. elim (is_true v) [
+              | true ↦ run knowing w (here (env_of self.old) self.old.line) (statement_view
+                  first.now) u
+              | false ↦ run knowing w (here (env_of self.old) self.old.line) (statement_view
+                  second.now) u
+            ])) result self.new }
+        ensures turns { self.new.turns ≤ self.old.turns }
+        ensures nears { remaining self.old.turns result self.new ≤
+            1 + frames_weight self.old.frames + statement_weight first.now +
+            statement_weight second.now }
+    {
+        match evaluate(&mut self.store, self.scope.objects(), test).get() {
+            Ok(value) => self.choose(first, second, value),
+            Err(why) => Err(stopped(self.line, why)),
+        }
+    }
+
+    /// `return` of an expression.
+    fn give(&mut self, value: &'p Expression) -> Result<Focus<'p>, Stop>
+        ensures goes { (functions : List FunctionData) → Goes functions self.old (env_of self.old)
+            (λ knowing w t. on_value (eval knowing w (here (env_of self.old) self.old.line)
+            (expression_view value.now) t) (λ v u. returned self.old.first (Some v) u)) result self.new }
+        ensures turns { self.new.turns ≤ self.old.turns }
+        ensures nears { remaining self.old.turns result self.new ≤
+            2 + frames_weight self.old.frames + expression_weight value.now }
+    {
+        match value {
+            Expression::Plain(plain) => self.give_at_once(plain),
+            Expression::Full(_) => {
+                self.frames.push(Frame::Give)?;
+                Ok(Focus::Evaluates(value))
+            }
+        }
+    }
+
+    /// `return` of an expression without calls.
+    fn give_at_once(&mut self, value: &Plain) -> Result<Focus<'p>, Stop>
+        ensures goes { (functions : List FunctionData) → Goes functions self.old (env_of self.old)
+            (λ knowing w t. on_value (eval knowing w (here (env_of self.old) self.old.line)
+            (plain_view value.now) t) (λ v u. returned self.old.first (Some v) u))
+            result self.new }
+        ensures turns { self.new.turns ≤ self.old.turns }
+        ensures nears { remaining self.old.turns result self.new ≤
+            1 + frames_weight self.old.frames }
+    {
+        match evaluate(&mut self.store, self.scope.objects(), value).get() {
+            Ok(found) => gives(self.first, Some(found)),
+            Err(why) => Err(stopped(self.line, why)),
         }
     }
 
@@ -181,10 +316,7 @@ impl<'p> Machine<'p> {
     {
         match value {
             None => gives(self.first, None),
-            Some(value) => {
-                self.frames.push(Frame::Give)?;
-                Ok(Focus::Evaluates(value))
-            }
+            Some(value) => self.give(value),
         }
     }
 

@@ -13,6 +13,9 @@ use Rattle.ec_evaluation.specs.State.{State, Ending}
 use Rattle.ec_objects.specs.Memory.{ValueData, number, address, load}
 use Rattle.ec_objects.specs.Kinds.{kind_type}
 use Rattle.ec_resolved.specs.Resolved.{Exp}
+use Rattle.ec_values.specs.declared.word.Stop.{Stop}
+use Rattle.ec_values.specs.declared.word.Word.{Word}
+use Rattle.ec_plain.specs.Answered.{answered}
 use Rattle.ec_plain.specs.Steps.{one_on, two_on, step_on, followed, old_on, both_on}
 
 module _ (step : Knowing) (w : World) (c : Context) where
@@ -57,3 +60,6 @@ module _ (step : Knowing) (w : World) (c : Context) where
 -- the item at an index, and what stands behind it
 pub drop_item : {A : Type 0} (xs : List A) (i : ℕ) (x : A) → i < length xs → x ≡ get_or xs i x → drop i xs ≡ x ∷ drop (i + 1) xs
 drop_item xs i x h e = drop-cons xs i x h ∙ ap (λ y. y ∷ drop (suc i) xs) (sym e) ∙ ap (λ n. x ∷ drop n xs) (sym (add-one i))
+
+pub answered_as : (line : ℕ) (r r' : Result Word Stop) (s : State) → r ≡ r' → answered line r s ≡ answered line r' s
+answered_as line r r' s p = ap (λ x. answered line x s) p

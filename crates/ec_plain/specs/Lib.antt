@@ -1,3 +1,4 @@
 pub mod Answered
+pub mod Outcomes
 pub mod Ready
 pub mod Steps

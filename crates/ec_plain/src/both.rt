@@ -7,13 +7,16 @@ ghost use Rattle.ec_resolved.specs.Resolved.{Exp};
 ghost use Rattle.ec_values.specs.Words.{word_view};
 ghost use Rattle.ec_code.specs.declared.step.Binary.TheVariants as of;
 ghost use Rattle.ec_plain.specs.Answered.{answered, at};
+ghost use Rattle.ec_plain.specs.Outcomes.{outcome_view};
 ghost use Rattle.ec_plain.specs.Ready.{readied};
 ghost use Rattle.ec_plain.specs.Steps.{both_on, old_on, two_on};
 
+use crate::outcome::Outcome;
+use crate::quick::operate;
 use ec_code::{Binary, Update};
 use ec_memory::Store;
 use ec_objects::Kind;
-use ec_values::{Stop, Word, convert, load, store as stored, work};
+use ec_values::{Stop, Word, convert, load, store as stored};
 
 /// What a step does before the other expression is evaluated.
 #[derive(Clone, Copy, Debug)]
@@ -25,6 +28,7 @@ pub enum Ready {
 }
 
 /// What a step does with the value so far, before the other expression is evaluated.
+#[inline(always)]
 pub fn prepare(store: &Store, step: Binary, left: Word) -> Result<Ready, Stop>
     ensures { (knowing : Knowing) (w : World) (c : Context) (a : Exp) (s : State)
         → two_on knowing w c step a (word_view left) (at s store.now)
@@ -56,6 +60,7 @@ pub fn prepare(store: &Store, step: Binary, left: Word) -> Result<Ready, Stop>
 }
 
 /// The old value of a place that is updated.
+#[inline(always)]
 fn old_value(store: &Store, update: Update, place: Word) -> Result<Word, Stop>
     ensures { (line : ℕ) (s : State) → old_on line update (word_view place) (at s store.now)
         ≡ answered line result (at s store.now) }
@@ -71,93 +76,84 @@ fn old_value(store: &Store, update: Update, place: Word) -> Result<Word, Stop>
 }
 
 /// What a step makes of both values, and of the old value where a place is updated.
-pub fn finish(
-    store: &mut Store,
-    step: Binary,
-    left: Word,
-    old: Word,
-    right: Word,
-) -> Result<Word, Stop>
+#[inline(always)]
+pub fn finish(store: &mut Store, step: Binary, left: Word, old: Word, right: Word) -> Outcome
     ensures { (line : ℕ) (s : State)
         → both_on line step (word_view left) (word_view old) (word_view right) (at s store.old)
-        ≡ answered line result (at s store.new) }
+        ≡ answered line (outcome_view result) (at s store.new) }
 {
     match step {
         Binary::Store(kind) => assign(store, kind, left, right),
         Binary::Copy(size) => copy(store, size, left, right),
         Binary::Update(update) => renew(store, update, left, old, right),
-        Binary::Operate(operation) => work(operation, store, left, right),
-        Binary::Both => Ok(Word::truth(right.is_true())),
-        Binary::Either => Ok(Word::truth(right.is_true())),
+        Binary::Operate(operation) => operate(operation, store, left, right),
+        Binary::Both => Outcome::value(Word::truth(right.is_true())),
+        Binary::Either => Outcome::value(Word::truth(right.is_true())),
     }
 }
 
 /// To a place, of a value.
-fn assign(store: &mut Store, kind: Kind, left: Word, right: Word) -> Result<Word, Stop>
+#[inline(always)]
+fn assign(store: &mut Store, kind: Kind, left: Word, right: Word) -> Outcome
     ensures { (line : ℕ) (s : State)
         → both_on line (of.Store kind) (word_view left)
         (word_view left) (word_view right) (at s store.old)
-        ≡ answered line result (at s store.new) }
+        ≡ answered line (outcome_view result) (at s store.new) }
 {
     match left {
         Word::Address(ptr) => match stored(store, ptr, kind, right) {
-            Ok(()) => Ok(right),
-            Err(trap) => Err(Stop::Trap(trap)),
+            Ok(()) => Outcome::value(right),
+            Err(trap) => Outcome::trapped(trap),
         },
-        Word::Signed(_) => Err(Stop::Misfit),
-        Word::Unsigned(_) => Err(Stop::Misfit),
+        Word::Signed(_) => Outcome::Misfit,
+        Word::Unsigned(_) => Outcome::Misfit,
     }
 }
 
 /// To a place, of so many cells of another.
-fn copy(store: &mut Store, size: u64, left: Word, right: Word) -> Result<Word, Stop>
+fn copy(store: &mut Store, size: u64, left: Word, right: Word) -> Outcome
     ensures { (line : ℕ) (s : State)
         → both_on line (of.Copy size) (word_view left)
         (word_view left) (word_view right) (at s store.old)
-        ≡ answered line result (at s store.new) }
+        ≡ answered line (outcome_view result) (at s store.new) }
 {
     match left {
         Word::Address(to) => match right {
             Word::Address(from) => match store.copy(to, from, size) {
-                Ok(()) => Ok(left),
-                Err(trap) => Err(Stop::Trap(trap)),
+                Ok(()) => Outcome::value(left),
+                Err(trap) => Outcome::trapped(trap),
             },
-            Word::Signed(_) => Err(Stop::Misfit),
-            Word::Unsigned(_) => Err(Stop::Misfit),
+            Word::Signed(_) => Outcome::Misfit,
+            Word::Unsigned(_) => Outcome::Misfit,
         },
-        Word::Signed(_) => Err(Stop::Misfit),
-        Word::Unsigned(_) => Err(Stop::Misfit),
+        Word::Signed(_) => Outcome::Misfit,
+        Word::Unsigned(_) => Outcome::Misfit,
     }
 }
 
 /// `a op= b`, `++` and `--`.
-fn renew(
-    store: &mut Store,
-    update: Update,
-    left: Word,
-    old: Word,
-    right: Word,
-) -> Result<Word, Stop>
+#[inline(always)]
+fn renew(store: &mut Store, update: Update, left: Word, old: Word, right: Word) -> Outcome
     ensures { (line : ℕ) (s : State)
         → both_on line (of.Update update) (word_view left)
         (word_view old) (word_view right) (at s store.old)
-        ≡ answered line result (at s store.new) }
+        ≡ answered line (outcome_view result) (at s store.new) }
 {
     match left {
         Word::Address(ptr) => {
             let widened = convert(update.widened, old);
-            match work(update.operation, store, widened, right) {
+            match operate(update.operation, store, widened, right).get() {
                 Ok(new) => {
                     let new = convert(update.kind, new);
                     match stored(store, ptr, update.kind, new) {
-                        Ok(()) => Ok(if update.gives_old { old } else { new }),
-                        Err(trap) => Err(Stop::Trap(trap)),
+                        Ok(()) => Outcome::value(if update.gives_old { old } else { new }),
+                        Err(trap) => Outcome::trapped(trap),
                     }
                 }
-                Err(stop) => Err(stop),
+                Err(stop) => Outcome::stopped(stop),
             }
         }
-        Word::Signed(_) => Err(Stop::Misfit),
-        Word::Unsigned(_) => Err(Stop::Misfit),
+        Word::Signed(_) => Outcome::Misfit,
+        Word::Unsigned(_) => Outcome::Misfit,
     }
 }

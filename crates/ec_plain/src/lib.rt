@@ -3,8 +3,11 @@
 
 mod both;
 mod one;
+mod outcome;
+mod quick;
 mod whole;
 
 pub use both::{Ready, finish, prepare};
 pub use one::unary;
+pub use outcome::Outcome;
 pub use whole::evaluate;

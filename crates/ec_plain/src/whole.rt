@@ -7,10 +7,12 @@ ghost use Rattle.ec_values.specs.Words.{word_view};
 ghost use Rattle.ec_code.specs.Trees.{leaf_view};
 ghost use Rattle.ec_code.specs.Views.{plain_step_view, plain_view};
 ghost use Rattle.ec_plain.specs.Answered.{answered, at, context};
+ghost use Rattle.ec_plain.specs.Outcomes.{outcome_view};
 ghost use Rattle.ec_plain.specs.Steps.{step_on};
 
 use crate::both::{Ready, finish, prepare};
 use crate::one::unary;
+use crate::outcome::Outcome;
 use ec_bytes::Ptr;
 use ec_code::{Binary, Leaf, Plain, PlainStep};
 use ec_memory::Store;
@@ -19,26 +21,42 @@ use ec_values::{Stop, Word};
 /// The value of an expression without calls, with the objects in scope by their pointers (ISO/IEC 9899:1999, 6.5). What
 /// stops it is a trap, whose line is that of the statement.
 #[cycle(evaluation)]
-pub fn evaluate(store: &mut Store, scope: &[Ptr], expression: &Plain) -> Result<Word, Stop>
+pub fn evaluate(store: &mut Store, scope: &[Ptr], expression: &Plain) -> Outcome
     ensures { (knowing : Knowing) (w : World) (line : ℕ) (first : Bool) (s : State)
         → eval knowing w (context line scope.now first) (plain_view expression.now) (at s store.old)
-        ≡ answered line result (at s store.new) }
+        ≡ answered line (outcome_view result) (at s store.new) }
 {
     let steps = expression.steps.as_slice();
     let mut value = match begin(scope, expression.leaf) {
         Ok(value) => value,
-        Err(stop) => return Err(stop),
+        Err(stop) => return Outcome::stopped(stop),
     };
     for step in steps {
-        match take_step(store, scope, step, value) {
+        match take_step(store, scope, step, value).get() {
             Ok(next) => value = next,
-            Err(stop) => return Err(stop),
+            Err(stop) => return Outcome::stopped(stop),
         }
     }
-    Ok(value)
+    Outcome::value(value)
+}
+
+/// The same, where the expression may well be a leaf.
+#[cycle(evaluation)]
+#[inline(always)]
+fn operand(store: &mut Store, scope: &[Ptr], expression: &Plain) -> Outcome
+    ensures { (knowing : Knowing) (w : World) (line : ℕ) (first : Bool) (s : State)
+        → eval knowing w (context line scope.now first) (plain_view expression.now) (at s store.old)
+        ≡ answered line (outcome_view result) (at s store.new) }
+{
+    if expression.steps.is_empty() {
+        Outcome::of(begin(scope, expression.leaf))
+    } else {
+        evaluate(store, scope, expression)
+    }
 }
 
 /// Where an expression begins.
+#[inline(always)]
 fn begin(scope: &[Ptr], leaf: Leaf) -> Result<Word, Stop>
     ensures { (knowing : Knowing) (w : World) (line : ℕ) (first : Bool) (s : State)
         → eval knowing w (context line scope.now first) (leaf_view leaf) s
@@ -57,21 +75,22 @@ fn begin(scope: &[Ptr], leaf: Leaf) -> Result<Word, Stop>
 
 /// What a step makes of the value so far.
 #[cycle(evaluation)]
-fn take_step(store: &mut Store, scope: &[Ptr], step: &PlainStep, value: Word) -> Result<Word, Stop>
+#[inline(always)]
+fn take_step(store: &mut Store, scope: &[Ptr], step: &PlainStep, value: Word) -> Outcome
     ensures { (knowing : Knowing) (w : World) (line : ℕ) (first : Bool) (s : State)
         → step_on knowing w (context line scope.now first)
         (plain_step_view step.now) (word_view value) (at s store.old)
-        ≡ answered line result (at s store.new) }
+        ≡ answered line (outcome_view result) (at s store.new) }
 {
     match step {
         PlainStep::One(step) => unary(store, step, value),
         PlainStep::Two(step, right) => match prepare(store, *step, value) {
-            Ok(Ready::Done(done)) => Ok(done),
-            Ok(Ready::Waits(old)) => match evaluate(store, scope, right) {
+            Ok(Ready::Done(done)) => Outcome::value(done),
+            Ok(Ready::Waits(old)) => match operand(store, scope, right).get() {
                 Ok(right) => finish(store, *step, value, old, right),
-                Err(stop) => Err(stop),
+                Err(stop) => Outcome::stopped(stop),
             },
-            Err(stop) => Err(stop),
+            Err(stop) => Outcome::stopped(stop),
         },
     }
 }

@@ -11,7 +11,7 @@ use Rattle.ec_evaluation.specs.Results.{value, on_value}
 use Rattle.ec_values.specs.Words.{word_view}
 use Rattle.ec_plain.specs.Answered.{at, context, answered, ending_of}
 use Rattle.ec_plain.specs.Steps.{both_on, followed, step_on}
-use Rattle.ec_plain.proofs.Walks.{drop_item, followed_over, walk_leads}
+use Rattle.ec_plain.proofs.Walks.{answered_as, drop_item, followed_over, walk_leads}
 use Rattle.ec_plain.proofs.whole.+evaluation.Goals as goal
 
 pub evaluate-loop-step-init : goal.evaluate-loop-step-init
@@ -29,10 +29,12 @@ evaluate-returns-in-Err t c = λ knowing w line first s.
     ∙ walk_leads knowing w (context line c.args.scope.now first) (leaf_view (out-Plain c.args.expression.now).leaf) (map plain_step_view (out-Plain c.args.expression.now).steps) (at s c.args.store.now)
     ∙ ap (followed knowing w (context line c.args.scope.now first) (map plain_step_view (out-Plain c.args.expression.now).steps)) (c.in-Err.ensures knowing w line first (at s c.args.store.now))
     ∙ followed_over knowing w (context line c.args.scope.now first) (map plain_step_view (out-Plain c.args.expression.now).steps) _ _
+    ∙ answered_as line _ _ _ (sym c.stopped.ensures)
 
-pub evaluate-returns-in-Err-take_step : goal.evaluate-returns-in-Err-take_step
-evaluate-returns-in-Err-take_step t c = λ knowing w line first s.
+pub evaluate-returns-in-Err-get : goal.evaluate-returns-in-Err-get
+evaluate-returns-in-Err-get t c = λ knowing w line first s.
     c.loop-step.invariant knowing w line first s
     ∙ ap (λ xs. followed knowing w (context line c.args.scope.now first) (map plain_step_view xs) (value (word_view c.loop-step.value) (at s c.loop-step.store))) (drop_item c.as_slice-steps.result.now c.loop-step.step-index c.step-item.result c.loop-step-test.true c.step-item.is)
-    ∙ ap (followed knowing w (context line c.args.scope.now first) (map plain_step_view (drop (c.loop-step.step-index + 1) c.as_slice-steps.result.now))) (c.in-Err-take_step.ensures knowing w line first s)
+    ∙ ap (followed knowing w (context line c.args.scope.now first) (map plain_step_view (drop (c.loop-step.step-index + 1) c.as_slice-steps.result.now))) (c.take_step.ensures knowing w line first s ∙ answered_as line _ _ _ (sym c.get.ensures ∙ c.in-Err-get.is))
     ∙ followed_over knowing w (context line c.args.scope.now first) (map plain_step_view (drop (c.loop-step.step-index + 1) c.as_slice-steps.result.now)) _ _
+    ∙ answered_as line _ _ _ (sym c.stopped-in-Err-get.ensures)

@@ -1,25 +1,30 @@
-use Rattle.std.proofs.Common.{map, arith, ap}
-use Rattle.std.specs.Prelude.{reverse}
-use Rattle.ec_code.specs.Views.{plain_view}
-use Rattle.ec_evaluation.specs.Evaluate.{eval}
-use Rattle.ec_machine.specs.declared.frame.Frame.TheVariants as frame
+use Rattle.std.proofs.Common.{◌∙◌, refl, sym, ap, arith, map}
+use Rattle.ec_code.specs.Views.{full_step_view}
+use Rattle.ec_plain.specs.Steps.{followed}
+use Rattle.ec_plain.proofs.Walks.{followed_over}
 use Rattle.ec_machine.specs.Frames.{here}
-use Rattle.ec_machine.specs.Goes.{at, env_of, tasks}
-use Rattle.ec_machine.proofs.Moves.{pushed, stands_by}
-use Rattle.ec_machine.specs.Weights.{frames_weight}
-use Rattle.ec_machine.proofs.Weighing.{err_exit, pushed_weight}
+use Rattle.ec_machine.proofs.Weighing.{err_near}
+use Rattle.ec_plain.specs.Outcomes.{outcome_view}
+use Rattle.ec_machine.specs.Goes.{env_of}
+use Rattle.ec_machine.proofs.Plainly.{evaluated, unevaluated}
 use Rattle.ec_machine.proofs.machine.Machine.begun.Goals as goal
 
-pub returns-clause-goes : goal.returns-clause-goes
-returns-clause-goes c = λ fs knowing fits k s l.
-    let w = tasks knowing fs k in
+pub returns-in-Ok-clause-goes : goal.returns-in-Ok-clause-goes
+returns-in-Ok-clause-goes c = λ fs.
     let m = c.args.self.now in
-    stands_by knowing w s c.plain.new.self c.plain.result _ _
-    (pushed knowing w (env_of m) m.frames c.push.new.self (frame.Steps m.line c.args.steps) (eval knowing w (here (env_of m) m.line) (plain_view c.args.plain.now) (at s m)) c.in_ok-push.ensures.ok)
-    (c.plain.ensures.goes fs knowing fits k s l)
+    evaluated fs m c.evaluate.new.store c.follow.new.self (env_of m) c.args.plain.now c.objects.result.now (outcome_view c.evaluate.result)
+    (λ knowing w o. followed knowing w (here (env_of m) m.line) (map full_step_view c.args.steps.now) o)
+    c.objects.ensures c.evaluate.ensures c.in-Ok.value c.follow.result (sym c.get.ensures ∙ c.in-Ok.is) (c.follow.ensures.goes fs)
 
-pub returns-in_err-push-clause-nears : goal.returns-in_err-push-clause-nears
-returns-in_err-push-clause-nears c = err_exit _ _ _ _ _ c.from_residual.ensures.1
+pub returns-in-Err-clause-goes : goal.returns-in-Err-clause-goes
+returns-in-Err-clause-goes c = λ fs.
+    let m = c.args.self.now in
+    unevaluated fs m c.evaluate.new.store m (env_of m) c.args.plain.now c.objects.result.now (outcome_view c.evaluate.result)
+    (λ knowing w o. followed knowing w (here (env_of m) m.line) (map full_step_view c.args.steps.now) o)
+    c.objects.ensures c.evaluate.ensures c.in-Err.why c.stopped.result (sym c.get.ensures ∙ c.in-Err.is) c.stopped.ensures (λ knowing w y t. followed_over knowing w (here (env_of m) m.line) (map full_step_view c.args.steps.now) y t)
 
-pub returns-clause-nears : goal.returns-clause-nears
-returns-clause-nears c = omega (arith, c.plain.ensures.nears, ap frames_weight c.in_ok-push.ensures.ok, pushed_weight c.args.self.now.frames (frame.Steps c.args.self.now.line c.args.steps))
+pub returns-in-Ok-clause-nears : goal.returns-in-Ok-clause-nears
+returns-in-Ok-clause-nears c = omega (arith, c.follow.ensures.nears)
+
+pub returns-in-Err-clause-nears : goal.returns-in-Err-clause-nears
+returns-in-Err-clause-nears c = err_near _ _ _ _

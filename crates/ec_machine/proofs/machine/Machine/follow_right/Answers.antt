@@ -1,4 +1,4 @@
-use Rattle.std.proofs.Common.{◌∙◌, ap, map, arith}
+use Rattle.std.proofs.Common.{◌∙◌, ap, sym, map, arith}
 use Rattle.std.specs.Prelude.{reverse}
 use Rattle.ec_code.specs.Views.{full_step_view}
 use Rattle.ec_evaluation.specs.Results.{value}
@@ -20,7 +20,7 @@ returns-in_ok-push-in-Ok-clause-goes c = λ fs knowing fits k s l.
     let d = here (env_of m) m.line in
     let t = at s (record m { store = c.finish.new.store }) in
     ap (λ o. resume knowing w (env_of m) (reverse m.frames) (followed knowing w d (map full_step_view c.args.rest.now) o))
-    (c.finish.ensures m.line.0 (at s m) ∙ ap (λ r. answered m.line.0 r t) c.in-Ok.is)
+    (c.finish.ensures m.line.0 (at s m) ∙ ap (λ r. answered m.line.0 r t) (sym c.get.ensures ∙ c.in-Ok.is))
     ∙ pushed knowing w (env_of m) m.frames c.push.new.self (frame.Steps m.line c.args.rest) (value (word_view c.in-Ok.next) t) c.in_ok-push-in-Ok.ensures.ok
 
 pub returns-in-Err-clause-goes : goal.returns-in-Err-clause-goes
@@ -30,7 +30,7 @@ returns-in-Err-clause-goes c = λ fs knowing fits k s l.
     let d = here (env_of m) m.line in
     let t = at s (record m { store = c.finish.new.store }) in
     over_stops knowing w (env_of m) (reverse m.frames) t c.stopped.result (ending_of m.line.0 c.in-Err.why) (followed knowing w d (map full_step_view c.args.rest.now) (both_on m.line.0 c.args.step (word_view c.args.left) (word_view c.args.old) (word_view c.args.right) (at s m))) c.stopped.ensures
-    (ap (followed knowing w d (map full_step_view c.args.rest.now)) (c.finish.ensures m.line.0 (at s m) ∙ ap (λ r. answered m.line.0 r t) c.in-Err.is)
+    (ap (followed knowing w d (map full_step_view c.args.rest.now)) (c.finish.ensures m.line.0 (at s m) ∙ ap (λ r. answered m.line.0 r t) (sym c.get.ensures ∙ c.in-Err.is))
     ∙ followed_over knowing w d (map full_step_view c.args.rest.now) (ending_of m.line.0 c.in-Err.why) t)
 
 pub returns-in_ok-push-in-Ok-clause-nears : goal.returns-in_ok-push-in-Ok-clause-nears

@@ -16,7 +16,7 @@ returns-in-Ok-clause-goes c = λ fs knowing fits k s l.
     ap (resume knowing w (env_of m) (reverse m.frames))
     (ap (λ xs. eval knowing w (context m.line.0 xs m.first) (plain_view c.args.plain.now) (at s m)) (sym c.objects.ensures)
     ∙ c.evaluate.ensures knowing w m.line.0 m.first (at s m)
-    ∙ ap (λ r. answered m.line.0 r (at s (record m { store = c.evaluate.new.store }))) c.in-Ok.is)
+    ∙ ap (λ r. answered m.line.0 r (at s (record m { store = c.evaluate.new.store }))) (sym c.get.ensures ∙ c.in-Ok.is))
 
 pub returns-in-Err-clause-goes : goal.returns-in-Err-clause-goes
 returns-in-Err-clause-goes c = λ fs knowing fits k s l.
@@ -25,7 +25,7 @@ returns-in-Err-clause-goes c = λ fs knowing fits k s l.
     over_stops knowing w (env_of m) (reverse m.frames) (at s (record m { store = c.evaluate.new.store })) c.stopped.result (ending_of m.line.0 c.in-Err.why) (eval knowing w (here (env_of m) m.line) (plain_view c.args.plain.now) (at s m)) c.stopped.ensures
     (ap (λ xs. eval knowing w (context m.line.0 xs m.first) (plain_view c.args.plain.now) (at s m)) (sym c.objects.ensures)
     ∙ c.evaluate.ensures knowing w m.line.0 m.first (at s m)
-    ∙ ap (λ r. answered m.line.0 r (at s (record m { store = c.evaluate.new.store }))) c.in-Err.is)
+    ∙ ap (λ r. answered m.line.0 r (at s (record m { store = c.evaluate.new.store }))) (sym c.get.ensures ∙ c.in-Err.is))
 
 pub returns-in-Ok-clause-nears : goal.returns-in-Ok-clause-nears
 returns-in-Ok-clause-nears c = nearer _ _ _ _ (omega arith)

@@ -1,25 +1,27 @@
-use Rattle.std.proofs.Common.{◌≡◌, ◌∙◌, ap, map, arith}
+use Rattle.std.proofs.Common.{◌∙◌, ap, map, arith, true, false}
 use Rattle.std.specs.Prelude.{reverse}
 use Rattle.std.specs.Option.{option_map}
 use Rattle.ec_code.specs.Views.{expression_view, expressions_view, loop_view, size_view, statement_view, statements_view}
 use Rattle.ec_evaluation.specs.Evaluate.{eval}
 use Rattle.ec_evaluation.specs.Execute.{declared, enter, initialized, returning, run, run_all}
-use Rattle.ec_evaluation.specs.Results.{turn, went}
+use Rattle.ec_evaluation.specs.Results.{on, on_value, turn, went}
 use Rattle.ec_evaluation.specs.State.{stuck}
-use Rattle.ec_machine.specs.declared.frame.Frame.TheVariants as frame
+use Rattle.ec_resolved.specs.Operations.{is_true}
 use Rattle.ec_machine.specs.Frames.{here, resume}
 use Rattle.ec_machine.specs.Goes.{at, env_of, tasks}
-use Rattle.ec_machine.proofs.Moves.{goes_as, pushed, resume_over}
+use Rattle.ec_machine.proofs.Moves.{goes_as, resume_over}
 use Rattle.ec_machine.proofs.Running.{to_OnLine, to_Nothing, to_Evaluate, to_Declare, to_Initialize, to_Block, to_Choose, to_Loop, to_Leave, to_Next, to_Return, to_Goto, to_Label, to_Embedded}
 use Rattle.ec_machine.specs.Weights.{expressions_weight, statement_weight, statements_weight, test_weight}
-use Rattle.ec_machine.proofs.Weighing.{err_near, nearer, pushes, weight-OnLine, weight-Nothing, weight-Evaluate, weight-Declare, weight-Initialize, weight-Block, weight-Choose, weight-Loop, weight-Leave, weight-Next, weight-Return, weight-Label, err_exit}
+use Rattle.ec_machine.proofs.Weighing.{err_near, nearer, weight-OnLine, weight-Nothing, weight-Evaluate, weight-Declare, weight-Initialize, weight-Block, weight-Choose, weight-Loop, weight-Leave, weight-Next, weight-Return, weight-Label}
 use Rattle.ec_machine.proofs.machine.Machine.run.Goals as goal
 
 pub returns-in-OnLine-clause-goes : goal.returns-in-OnLine-clause-goes
-returns-in-OnLine-clause-goes c = λ knowing fits k s l.
-    let w = tasks knowing c.args.functions.now k in
+returns-in-OnLine-clause-goes c =
+    let fs = c.args.functions.now in
     let m = c.args.self.now in
-    ap (resume knowing w (env_of m) (reverse m.frames)) (to_OnLine knowing w (env_of m) (at s m) m.line c.args.statement.now c.in-OnLine.line c.in-OnLine.inner c.get.result.now c.in-OnLine.is c.get.ensures)
+    goes_as fs m c.at_once.new.self (env_of m) c.at_once.result _ (λ knowing w t. run knowing w (here (env_of m) c.in-OnLine.line) (statement_view c.get.result.now) t)
+    (λ knowing w t. to_OnLine knowing w (env_of m) t m.line c.args.statement.now c.in-OnLine.line c.in-OnLine.inner c.get.result.now c.in-OnLine.is c.get.ensures)
+    (c.at_once.ensures.goes fs)
 
 pub returns-in-Nothing-clause-goes : goal.returns-in-Nothing-clause-goes
 returns-in-Nothing-clause-goes c = λ knowing fits k s l.
@@ -27,12 +29,13 @@ returns-in-Nothing-clause-goes c = λ knowing fits k s l.
     let m = c.args.self.now in
     ap (resume knowing w (env_of m) (reverse m.frames)) (to_Nothing knowing w (env_of m) (at s m) m.line c.args.statement.now c.in-Nothing.is)
 
-pub returns-in_ok-push-in-Evaluate-clause-goes : goal.returns-in_ok-push-in-Evaluate-clause-goes
-returns-in_ok-push-in-Evaluate-clause-goes c = λ knowing fits k s l.
-    let w = tasks knowing c.args.functions.now k in
+pub returns-in-Evaluate-clause-goes : goal.returns-in-Evaluate-clause-goes
+returns-in-Evaluate-clause-goes c =
+    let fs = c.args.functions.now in
     let m = c.args.self.now in
-    ap (resume knowing w (env_of m) (reverse m.frames)) (to_Evaluate knowing w (env_of m) (at s m) m.line c.args.statement.now c.in-Evaluate.expression c.in-Evaluate.is)
-    ∙ pushed knowing w (env_of m) m.frames c.push.new.self frame.Do (eval knowing w (here (env_of m) m.line) (expression_view c.in-Evaluate.expression) (at s m)) c.in_ok-push-in-Evaluate.ensures.ok
+    goes_as fs m c.effect.new.self (env_of m) c.effect.result _ (λ knowing w t. on_value (eval knowing w (here (env_of m) m.line) (expression_view c.in-Evaluate.expression) t) (λ v u. on u))
+    (λ knowing w t. to_Evaluate knowing w (env_of m) t m.line c.args.statement.now c.in-Evaluate.expression c.in-Evaluate.is)
+    (c.effect.ensures.goes fs)
 
 pub returns-in-Declare-clause-goes : goal.returns-in-Declare-clause-goes
 returns-in-Declare-clause-goes c =
@@ -63,12 +66,15 @@ returns-in-Block-clause-goes c =
     (λ knowing w t. to_Block knowing w (env_of m) t m.line c.args.statement.now c.in-Block.sizes sizes c.in-Block.body body c.in-Block.is c.as_slice-in-Block.ensures c.as_slice-in-Block-2.ensures)
     (c.run_block.ensures.goes fs)
 
-pub returns-in_ok-push-in-Choose-clause-goes : goal.returns-in_ok-push-in-Choose-clause-goes
-returns-in_ok-push-in-Choose-clause-goes c = λ knowing fits k s l.
-    let w = tasks knowing c.args.functions.now k in
+pub returns-in-Choose-clause-goes : goal.returns-in-Choose-clause-goes
+returns-in-Choose-clause-goes c =
+    let fs = c.args.functions.now in
     let m = c.args.self.now in
-    ap (resume knowing w (env_of m) (reverse m.frames)) (to_Choose knowing w (env_of m) (at s m) m.line c.args.statement.now c.in-Choose.test c.in-Choose.first c.in-Choose.second c.get-in-Choose.result c.get-in-Choose-2.result c.in-Choose.is c.get-in-Choose.ensures c.get-in-Choose-2.ensures)
-    ∙ pushed knowing w (env_of m) m.frames c.push-in-Choose.new.self (frame.Choose m.line c.get-in-Choose.result c.get-in-Choose-2.result) (eval knowing w (here (env_of m) m.line) (expression_view c.in-Choose.test) (at s m)) c.in_ok-push-in-Choose.ensures.ok
+    let d = here (env_of m) m.line in
+    goes_as fs m c.branch-self.new.self (env_of m) c.branch-self.result _
+    (λ knowing w t. on_value (eval knowing w d (expression_view c.in-Choose.test) t) (λ v u. elim (is_true v) [ true ↦ run knowing w d (statement_view c.get-in-Choose.result.now) u | false ↦ run knowing w d (statement_view c.get-in-Choose-2.result.now) u ]))
+    (λ knowing w t. to_Choose knowing w (env_of m) t m.line c.args.statement.now c.in-Choose.test c.in-Choose.first c.in-Choose.second c.get-in-Choose.result c.get-in-Choose-2.result c.in-Choose.is c.get-in-Choose.ensures c.get-in-Choose-2.ensures)
+    (c.branch-self.ensures.goes fs)
 
 pub returns-in-Loop-clause-goes : goal.returns-in-Loop-clause-goes
 returns-in-Loop-clause-goes c =
@@ -122,13 +128,13 @@ returns-in-Embedded-clause-goes c = λ knowing fits k s l.
     ∙ resume_over knowing w (env_of m) (reverse m.frames) stuck (at s m)
 
 pub returns-in-OnLine-clause-nears : goal.returns-in-OnLine-clause-nears
-returns-in-OnLine-clause-nears c = nearer _ _ _ _ (omega (arith, ap statement_weight c.in-OnLine.is ∙ weight-OnLine _ _, ap statement_weight c.get.ensures))
+returns-in-OnLine-clause-nears c = omega (arith, c.at_once.ensures.nears, ap statement_weight c.in-OnLine.is ∙ weight-OnLine _ _, ap statement_weight c.get.ensures)
 
 pub returns-in-Nothing-clause-nears : goal.returns-in-Nothing-clause-nears
 returns-in-Nothing-clause-nears c = nearer _ _ _ _ (omega (arith, ap statement_weight c.in-Nothing.is ∙ weight-Nothing))
 
-pub returns-in_ok-push-in-Evaluate-clause-nears : goal.returns-in_ok-push-in-Evaluate-clause-nears
-returns-in_ok-push-in-Evaluate-clause-nears c = pushes _ _ _ _ _ _ c.in_ok-push-in-Evaluate.ensures.ok (omega (arith, ap statement_weight c.in-Evaluate.is ∙ weight-Evaluate _))
+pub returns-in-Evaluate-clause-nears : goal.returns-in-Evaluate-clause-nears
+returns-in-Evaluate-clause-nears c = omega (arith, c.effect.ensures.nears, ap statement_weight c.in-Evaluate.is ∙ weight-Evaluate _)
 
 pub returns-in-Declare-clause-nears : goal.returns-in-Declare-clause-nears
 returns-in-Declare-clause-nears c = omega (arith, c.declare.ensures.nears, ap statement_weight c.in-Declare.is ∙ weight-Declare _ _)
@@ -139,8 +145,8 @@ returns-in-Initialize-clause-nears c = omega (arith, c.initialize.ensures.nears,
 pub returns-in-Block-clause-nears : goal.returns-in-Block-clause-nears
 returns-in-Block-clause-nears c = omega (arith, c.run_block.ensures.nears, ap statement_weight c.in-Block.is ∙ weight-Block _ _, ap statements_weight c.as_slice-in-Block-2.ensures)
 
-pub returns-in_ok-push-in-Choose-clause-nears : goal.returns-in_ok-push-in-Choose-clause-nears
-returns-in_ok-push-in-Choose-clause-nears c = pushes _ _ _ _ _ _ c.in_ok-push-in-Choose.ensures.ok (omega (arith, ap statement_weight c.in-Choose.is ∙ weight-Choose _ _ _, ap statement_weight c.get-in-Choose.ensures, ap statement_weight c.get-in-Choose-2.ensures))
+pub returns-in-Choose-clause-nears : goal.returns-in-Choose-clause-nears
+returns-in-Choose-clause-nears c = omega (arith, c.branch-self.ensures.nears, ap statement_weight c.in-Choose.is ∙ weight-Choose _ _ _, ap statement_weight c.get-in-Choose.ensures, ap statement_weight c.get-in-Choose-2.ensures)
 
 pub returns-in-Loop-clause-nears : goal.returns-in-Loop-clause-nears
 returns-in-Loop-clause-nears c = omega (arith, c.run_loop.ensures.nears, ap statement_weight c.in-Loop.is ∙ weight-Loop _, ap test_weight c.get-in-Loop.ensures)
@@ -162,9 +168,3 @@ returns-in-Label-clause-nears c = nearer _ _ _ _ (omega (arith, ap statement_wei
 
 pub returns-in-Embedded-clause-nears : goal.returns-in-Embedded-clause-nears
 returns-in-Embedded-clause-nears c = err_near _ _ _ _
-
-pub returns-in_err-push-in-Evaluate-clause-nears : goal.returns-in_err-push-in-Evaluate-clause-nears
-returns-in_err-push-in-Evaluate-clause-nears c = err_exit _ _ _ _ _ c.from_residual.ensures.1
-
-pub returns-in_err-push-in-Choose-clause-nears : goal.returns-in_err-push-in-Choose-clause-nears
-returns-in_err-push-in-Choose-clause-nears c = err_exit _ _ _ _ _ c.from_residual-in_err-push-in-Choose.ensures.1

@@ -1,0 +1,29 @@
+use Rattle.std.proofs.Common.{◌∙◌, refl, sym, ap, arith}
+use Rattle.ec_evaluation.specs.Execute.{tested}
+use Rattle.ec_evaluation.specs.Results.{on_value}
+use Rattle.ec_machine.specs.Frames.{behind_of, body_of, here, test_of}
+use Rattle.ec_machine.proofs.Weighing.{err_near}
+use Rattle.ec_plain.specs.Outcomes.{outcome_view}
+use Rattle.ec_machine.specs.Goes.{env_of}
+use Rattle.ec_machine.proofs.Plainly.{evaluated, unevaluated}
+use Rattle.ec_machine.proofs.machine.Machine.go_behind_at_once.Goals as goal
+
+pub returns-in-Ok-clause-goes : goal.returns-in-Ok-clause-goes
+returns-in-Ok-clause-goes c = λ fs.
+    let m = c.args.self.now in
+    evaluated fs m c.evaluate.new.store c.test.new.self (env_of m) c.args.behind.now c.objects.result.now (outcome_view c.evaluate.result)
+    (λ knowing w o. on_value o (λ v u. tested knowing w (here (env_of m) m.line) (test_of c.args.inner.now) (behind_of c.args.inner.now) (body_of c.args.inner.now) u))
+    c.objects.ensures c.evaluate.ensures c.in-Ok.field-0 c.test.result (sym c.get.ensures ∙ c.in-Ok.is) (c.test.ensures.goes fs)
+
+pub returns-in-Err-clause-goes : goal.returns-in-Err-clause-goes
+returns-in-Err-clause-goes c = λ fs.
+    let m = c.args.self.now in
+    unevaluated fs m c.evaluate.new.store m (env_of m) c.args.behind.now c.objects.result.now (outcome_view c.evaluate.result)
+    (λ knowing w o. on_value o (λ v u. tested knowing w (here (env_of m) m.line) (test_of c.args.inner.now) (behind_of c.args.inner.now) (body_of c.args.inner.now) u))
+    c.objects.ensures c.evaluate.ensures c.in-Err.why c.stopped.result (sym c.get.ensures ∙ c.in-Err.is) c.stopped.ensures (λ knowing w y t. refl)
+
+pub returns-in-Ok-clause-nears : goal.returns-in-Ok-clause-nears
+returns-in-Ok-clause-nears c = omega (arith, c.test.ensures.nears)
+
+pub returns-in-Err-clause-nears : goal.returns-in-Err-clause-nears
+returns-in-Err-clause-nears c = err_near _ _ _ _

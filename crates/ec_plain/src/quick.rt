@@ -1,0 +1,171 @@
+//! Operations on two numbers that `long` has, which are the most of all, done in its arithmetic; and all others.
+
+ghost use Rattle.std.specs.Prelude.{◌≡◌, ◌≤ℤ◌, Ok, pos, int_div, int_rem, IfSome};
+ghost use Rattle.ec_objects.specs.Memory.{Memory, moved, number};
+ghost use Rattle.ec_resolved.specs.Operations.{address_worked, calculated, compares, gives, quotient, result_of, worked};
+ghost use Rattle.ec_values.specs.Operations.{comparison_view, operation_view, operator_view};
+ghost use Rattle.ec_values.specs.Words.{word_view, worked_by};
+ghost use Rattle.ec_plain.specs.Outcomes.{outcome_view};
+
+use crate::outcome::Outcome;
+use ec_bytes::Ptr;
+use ec_ctypes::Arith;
+use ec_memory::Store;
+use ec_values::{Comparison, IntegerOperator, Operation, Word, work};
+
+/// What an operation gives for two values. Pointers move within their objects.
+#[inline(always)]
+pub fn operate(operation: Operation, store: &Store, a: Word, b: Word) -> Outcome
+    ensures { worked_by (outcome_view result)
+        ≡ worked (operation_view operation) store.now (word_view a) (word_view b) }
+{
+    match small(b) {
+        Some(y) => match a {
+            Word::Address(ptr) => match operation {
+                Operation::PointerPlus(size) => moved(store, ptr, y, size),
+                _ => slow(operation, store, a, b),
+            },
+            _ => match small(a) {
+                Some(x) => match quick(operation, x, y) {
+                    Some(number) => Outcome::Signed(number),
+                    None => slow(operation, store, a, b),
+                },
+                None => slow(operation, store, a, b),
+            },
+        },
+        None => slow(operation, store, a, b),
+    }
+}
+
+/// The same, for any values.
+#[inline(never)]
+fn slow(operation: Operation, store: &Store, a: Word, b: Word) -> Outcome
+    ensures { worked_by (outcome_view result)
+        ≡ worked (operation_view operation) store.now (word_view a) (word_view b) }
+{
+    Outcome::of(work(operation, store, a, b))
+}
+
+/// A pointer that is so many elements further on.
+#[inline(always)]
+fn moved(store: &Store, ptr: Ptr, by: i64, size: u64) -> Outcome
+    ensures { worked_by (outcome_view result) ≡ address_worked (moved store.now ptr.0 by size) }
+{
+    match store.move_ptr(ptr, by, size) {
+        Ok(to) => Outcome::Address(to),
+        Err(trap) => Outcome::trapped(trap),
+    }
+}
+
+/// The number of a value, where `long` has it.
+#[inline(always)]
+fn small(word: Word) -> Option<i64>
+    ensures { IfSome result (λ z. word_view word ≡ number z) }
+{
+    match word {
+        Word::Signed(number) => Some(number),
+        Word::Unsigned(number) => {
+            if number <= i64::MAX as u64 {
+                Some(number as i64)
+            } else {
+                None
+            }
+        }
+        Word::Address(_) => None,
+    }
+}
+
+/// What an operation gives for two numbers, where it is a number that `long` has and is found at once.
+#[inline(always)]
+fn quick(operation: Operation, x: i64, y: i64) -> Option<i64>
+    ensures { IfSome result (λ z. (m : Memory) →
+        worked (operation_view operation) m (number x) (number y) ≡ gives (number z)) }
+{
+    match operation {
+        Operation::Integers(ty, operator) => integers(ty, operator, x, y),
+        Operation::Compare(comparison) => Some(compared(comparison, x, y) as i64),
+        _ => None,
+    }
+}
+
+/// What an operator gives for two numbers of `int`, `long` or `long long`, where it doesn't trap and is found at once.
+#[inline(always)]
+fn integers(ty: Arith, operator: IntegerOperator, x: i64, y: i64) -> Option<i64>
+    ensures { IfSome result (λ z. calculated ty (operator_view operator) x y ≡ Ok z) }
+{
+    match operator {
+        IntegerOperator::Plus => fitting(ty, x.checked_add(y)?),
+        IntegerOperator::Minus => fitting(ty, x.checked_sub(y)?),
+        IntegerOperator::Times => fitting(ty, x.checked_mul(y)?),
+        IntegerOperator::Divided => divided(ty, x, y),
+        IntegerOperator::Remainder => {
+            divided(ty, x, y)?;
+            Some(rest(x, y))
+        }
+        _ => None,
+    }
+}
+
+/// The quotient by a number above 0.
+#[inline(always)]
+fn divided(ty: Arith, x: i64, y: i64) -> Option<i64>
+    ensures value { IfSome result (λ z. quotient ty x y ≡ Ok z) }
+    ensures above { IfSome result (λ z. pos 1 ≤ℤ y) }
+{
+    if y <= 0 {
+        return None;
+    }
+    fitting(ty, over(x, y))
+}
+
+/// The quotient, cut towards zero.
+#[inline(always)]
+fn over(x: i64, y: i64) -> i64
+    requires { pos 1 ≤ℤ y }
+    ensures { result ≡ int_div x y }
+{
+    x / y
+}
+
+/// The remainder, with the sign of the left operand.
+#[inline(always)]
+fn rest(x: i64, y: i64) -> i64
+    requires { pos 1 ≤ℤ y }
+    ensures { result ≡ int_rem x y }
+{
+    x % y
+}
+
+/// A result of `int`, `long` or `long long`, where it is one.
+#[inline(always)]
+fn fitting(ty: Arith, number: i64) -> Option<i64>
+    ensures { IfSome result (λ z. result_of ty number ≡ Ok z) }
+{
+    match ty {
+        Arith::Int => {
+            if i32::MIN as i64 <= number && number <= i32::MAX as i64 {
+                Some(number)
+            } else {
+                None
+            }
+        }
+        Arith::Long => Some(number),
+        Arith::LLong => Some(number),
+        _ => None,
+    }
+}
+
+/// Whether two numbers compare so.
+#[inline(always)]
+fn compared(comparison: Comparison, x: i64, y: i64) -> bool
+    ensures { result ≡ compares (comparison_view comparison) x y }
+{
+    match comparison {
+        Comparison::Equal => x == y,
+        Comparison::Unequal => x != y,
+        Comparison::Less => x < y,
+        Comparison::Greater => x > y,
+        Comparison::AtMost => x <= y,
+        Comparison::AtLeast => x >= y,
+    }
+}
