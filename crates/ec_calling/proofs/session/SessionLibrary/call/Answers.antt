@@ -1,0 +1,14 @@
+use Rattle.std.specs.Prelude.{map}
+use Rattle.ec_calling.specs.Making.{known_of}
+use Rattle.ec_calling.specs.Views.{call_view}
+use Rattle.ec_calling.proofs.Carrying.{numbered}
+use Rattle.ec_calling.proofs.Held.{holds}
+use Rattle.ec_calling.proofs.session.SessionLibrary.call.Goals as goal
+
+pub make-requires : goal.make-requires
+make-requires g c = holds c.args.self.now.library c.args.self.now.rack.now c.args.self.now.holds
+
+pub returns-in-Some-clause-called : goal.returns-in-Some-clause-called
+returns-in-Some-clause-called g c =
+    numbered (map call_view c.args.self.now.calls.now) c.args.number c.args.line.0 c.args.scope.now c.args.store.now c.make.new.store c.args.turns.now c.make.new.turns
+    (known_of c.args.self.now.rack.now c.args.self.now.library) (known_of c.make.new.rack c.make.new.library) c.in-Some.call.now c.make.result c.in-Some.ensures c.make.ensures.made

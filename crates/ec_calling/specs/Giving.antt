@@ -1,0 +1,62 @@
+-- The arguments of a call, evaluated.
+use Rattle.std.specs.Prelude.{◌≡◌, ℕ, Bool, List, map, Option, Some, None, Result, Ok, Err}
+use Rattle.std.proofs.Common.{Bor}
+use Rattle.ec_arguments.specs.Arguments.{Arg}
+use Rattle.ec_bytes.specs.declared.scalar.address.Ptr.{Ptr}
+use Rattle.ec_calls.specs.Steps.{arguments_given, no_step}
+use Rattle.ec_cut.specs.Views as cut
+use Rattle.ec_cut.specs.declared.arguments.Argument.{Argument as Given}
+use Rattle.ec_evaluation.specs.Evaluate.{World}
+use Rattle.ec_evaluation.specs.Results.{Res, over}
+use Rattle.ec_evaluation.specs.State.{State}
+use Rattle.ec_objects.specs.Memory.{Memory}
+use Rattle.ec_plain.specs.Answered.{at, context, ending_of}
+use Rattle.ec_values.specs.declared.word.Stop.{Stop}
+use Rattle.ec_calling.specs.declared.address.Address.{Address}
+use Rattle.ec_calling.specs.declared.call.Argument.{Argument}
+use Rattle.ec_calling.specs.Views.{argument_view}
+
+-- ---- what is given
+
+abbrev pub bytes_of : Bor (List ℕ) → List ℕ
+bytes_of literal = literal.now
+
+-- where an address leads
+abbrev pub number_of : Address → ℕ
+number_of address = (address.0).0
+
+abbrev pub seen : Given (Bor (List ℕ)) Address → Arg ℕ
+seen x = cut.argument_view bytes_of number_of x
+
+abbrev pub all_seen : List (Given (Bor (List ℕ)) Address) → List (Arg ℕ)
+all_seen xs = cut.arguments_view bytes_of number_of xs
+
+-- ---- one argument
+
+-- what goes on with it, or the end of the run on this line
+abbrev pub one_given : ℕ → Result (Given (Bor (List ℕ)) Address) Stop → State → (Arg ℕ → State → Res) → Res
+one_given line (Ok x) t go = go (seen x) t
+one_given line (Err why) t go = over (ending_of line why) t
+
+-- ---- all of them
+
+module _ (scope : List Ptr) (arguments : List Argument) (old new : Memory) where
+  -- whatever goes on with them, and whatever the tasks are: these are given, with the second memory
+  abbrev pub Evaluated : List (Arg ℕ) → Type 0
+  Evaluated given =
+      (w : World) (line : ℕ) (first : Bool) (s : State) (go : List (Arg ℕ) → State → Res)
+      → arguments_given no_step w (context line scope first) (map argument_view arguments) (at s old) go
+      ≡ go given (at s new)
+
+  -- they stop the run
+  abbrev pub Halted : Stop → Type 0
+  Halted why =
+      (w : World) (line : ℕ) (first : Bool) (s : State) (go : List (Arg ℕ) → State → Res)
+      → arguments_given no_step w (context line scope first) (map argument_view arguments) (at s old) go
+      ≡ over (ending_of line why) (at s new)
+
+  -- without memory for them they are evaluated all the same
+  abbrev pub Gives : Result (Option (List (Given (Bor (List ℕ)) Address))) Stop → Type 0
+  Gives (Ok (Some given)) = Evaluated (all_seen given)
+  Gives (Ok None) = (given : List (Arg ℕ)) × Evaluated given
+  Gives (Err why) = Halted why

@@ -1,0 +1,6 @@
+pub mod Giving
+pub mod Held
+pub mod Laws
+pub mod Making
+pub mod Serving
+pub mod Views

@@ -1,0 +1,31 @@
+-- Calls that are cut, in the words of the definitions.
+use Rattle.std.specs.Prelude.{ℕ, List}
+use Rattle.std.proofs.Common.{Bor}
+use Rattle.ec_arguments.specs.Arguments as spec
+use Rattle.ec_cut.specs.Views as cut
+use Rattle.ec_cut.specs.declared.arguments.Cut.{Cut}
+use Rattle.ec_cut.specs.declared.arguments.Member.{Member}
+use Rattle.ec_cut.specs.declared.arguments.Statement.{Statement}
+use Rattle.ec_cut.specs.declared.arguments.Text.{Text}
+use Rattle.ec_calling.specs.declared.address.Address.{Address}
+use Rattle.ec_calling.specs.Giving.{bytes_of, number_of}
+
+abbrev pub text_seen : Text (Bor (List ℕ)) Address → spec.TextArg ℕ
+text_seen x = cut.text_view bytes_of number_of x
+
+abbrev pub member_seen : Member (Bor (List ℕ)) Address → spec.Member ℕ
+member_seen x = cut.member_view bytes_of number_of x
+
+abbrev pub members_seen : List (Member (Bor (List ℕ)) Address) → List (spec.Member ℕ)
+members_seen xs = cut.members_view bytes_of number_of xs
+
+abbrev pub statement_seen : Statement (Bor (List ℕ)) Address → spec.Statement ℕ
+statement_seen x = cut.statement_view bytes_of number_of x
+
+abbrev pub cut_seen : Cut (Bor (List ℕ)) Address → spec.Cut ℕ
+cut_seen c = cut.cut_view bytes_of number_of c
+
+-- a call of ECPGdo, by its parts
+abbrev pub run_seen : ℕ → Text (Bor (List ℕ)) Address → Statement (Bor (List ℕ)) Address → List (Member (Bor (List ℕ)) Address) → List (Member (Bor (List ℕ)) Address) → spec.Cut ℕ
+run_seen line connection statement ins outs =
+    record { line = line; call = spec.run (text_seen connection) (statement_seen statement) (members_seen ins) (members_seen outs) }

@@ -1,0 +1,14 @@
+//! The calls of the library in a program, made for the machine that runs it: their arguments are evaluated, cut, and carried
+//! out over a rack of links.
+#![tactic(auto)]
+
+mod address;
+mod area;
+mod call;
+mod giving;
+mod making;
+mod serving;
+mod session;
+
+pub use call::{Argument, Call};
+pub use session::Session;

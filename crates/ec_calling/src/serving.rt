@@ -1,0 +1,219 @@
+//! Calls that are cut, as the library is given them: those of ECPGdo with a text, over hosts and constants.
+
+ghost use Rattle.std.specs.Prelude.{◌≡◌, IfSome, map, option_map};
+ghost use Rattle.ec_arguments.specs.Arguments.{normal, run};
+ghost use Rattle.ec_cut.specs.Views.{indicators_view, place_view};
+ghost use Rattle.ec_runtime.specs.Places as places;
+ghost use Rattle.ec_runtime.specs.Reading.{input_view, text_view};
+ghost use Rattle.ec_runtime.specs.Statements.{cut_view, target_view};
+ghost use Rattle.ec_runtime.specs.Views.{host_view};
+ghost use Rattle.ec_calling.specs.Giving.{number_of};
+ghost use Rattle.ec_calling.specs.Serving.{cut_seen, member_seen, members_seen, run_seen, text_seen};
+
+use crate::address::Address;
+use ec_base::{Bytes, Line, List};
+use ec_bytes::Ptr;
+use ec_convert::HostPlace;
+use ec_ctypes::Sym;
+use ec_cut::{Call as CutCall, Cut, Indicator, Member, Place, Statement, Text};
+use ec_runtime::{Call, Host, Input, TextArg};
+use std::alloc::Global;
+
+// A text.
+fn text_of(alloc: Global, text: Text<&[u8], Address>) -> Option<TextArg>
+    ensures { IfSome result (λ made. text_view made ≡ text_seen text.entry) }
+{
+    match text {
+        Text::Absent => Some(TextArg::Absent),
+        Text::Word(bytes) => match Bytes::from_slice(alloc, bytes) {
+            Ok(copy) => Some(TextArg::Word(copy)),
+            Err(_) => None,
+        },
+        Text::Held(address) => Some(TextArg::Held(address.0)),
+    }
+}
+
+// The indicators of a host.
+fn indicators_of(ind: Option<Indicator<Address>>) -> Option<(Sym, Ptr, u64, u64)>
+    ensures { option_map places.indicator_view result ≡ indicators_view number_of ind }
+{
+    match ind {
+        Some(ind) => Some((ind.sym, ind.value.0, ind.count, ind.step)),
+        None => None,
+    }
+}
+
+// The place of a host.
+fn place_of(place: Place<Address>) -> HostPlace
+    ensures { places.place_view result ≡ place_view number_of place }
+{
+    HostPlace {
+        sym: place.sym,
+        at: place.value.0,
+        size: place.size,
+        count: place.count,
+        step: place.step,
+        ind: indicators_of(place.ind),
+    }
+}
+
+// A host.
+fn host_of(place: Place<Address>) -> Option<Host>
+    ensures { IfSome result (λ host. host_view host ≡ place_view number_of place) }
+{
+    match Host::new(place_of(place)) {
+        Some(host) => Some(host),
+        None => None,
+    }
+}
+
+// A value that a statement is given.
+fn input_of(alloc: Global, member: &Member<&[u8], Address>) -> Option<Input>
+    ensures { IfSome result (λ made. input_view made ≡ member_seen member.now) }
+{
+    match member {
+        Member::Host(place) => match host_of(*place) {
+            Some(host) => Some(Input::Host(host)),
+            None => None,
+        },
+        Member::Constant(bytes) => match Bytes::from_slice(alloc, bytes) {
+            Ok(copy) => Some(Input::Constant(copy)),
+            Err(_) => None,
+        },
+        Member::Descriptor(_) => None,
+    }
+}
+
+// A host that is stored into.
+fn output_of(member: &Member<&[u8], Address>) -> Option<Host>
+    ensures { IfSome result (λ made. target_view made ≡ member_seen member.now) }
+{
+    match member {
+        Member::Host(place) => host_of(*place),
+        Member::Constant(_) => None,
+        Member::Descriptor(_) => None,
+    }
+}
+
+// The values that a statement is given.
+fn inputs_of(alloc: Global, members: &[Member<&[u8], Address>]) -> Option<List<Input>>
+    ensures { IfSome result (λ made. map input_view made ≡ members_seen members.now) }
+{
+    let mut made = List::new(alloc);
+    for member in members {
+        let Some(input) = input_of(alloc, member) else {
+            return None;
+        };
+        match made.push(input) {
+            Ok(()) => {}
+            Err(_) => return None,
+        }
+    }
+    Some(made)
+}
+
+// The hosts that its rows go into.
+fn outputs_of(alloc: Global, members: &[Member<&[u8], Address>]) -> Option<List<Host>>
+    ensures { IfSome result (λ made. map target_view made ≡ members_seen members.now) }
+{
+    let mut made = List::new(alloc);
+    for member in members {
+        let Some(host) = output_of(member) else {
+            return None;
+        };
+        match made.push(host) {
+            Ok(()) => {}
+            Err(_) => return None,
+        }
+    }
+    Some(made)
+}
+
+// The line of a call.
+fn line_of(line: u64) -> Option<Line>
+    ensures { IfSome result (λ made. made.0 ≡ line) }
+{
+    if line <= 0xffff_ffff {
+        Some(Line(line as u32))
+    } else {
+        None
+    }
+}
+
+// A text with the parts of its call.
+fn made_of(
+    alloc: Global,
+    line: u64,
+    connection: Text<&[u8], Address>,
+    text: &[u8],
+    ins: &[Member<&[u8], Address>],
+    outs: &[Member<&[u8], Address>],
+) -> Option<Call>
+    ensures { IfSome result (λ made. cut_view made
+        ≡ record {
+          line = line;
+          call
+              = run (text_seen connection.entry) (normal text.now) (members_seen ins.now) (members_seen outs.now);
+        }) }
+{
+    let Some(line) = line_of(line) else {
+        return None;
+    };
+    let Some(connection) = text_of(alloc, connection) else {
+        return None;
+    };
+    let Ok(text) = Bytes::from_slice(alloc, text) else {
+        return None;
+    };
+    let Some(ins) = inputs_of(alloc, ins) else {
+        return None;
+    };
+    let Some(outs) = outputs_of(alloc, outs) else {
+        return None;
+    };
+    Some(Call {
+        line,
+        connection,
+        text,
+        ins,
+        outs,
+    })
+}
+
+// A statement with the parts of its call.
+fn run_of(
+    alloc: Global,
+    line: u64,
+    connection: Text<&[u8], Address>,
+    statement: Statement<&[u8], Address>,
+    ins: &[Member<&[u8], Address>],
+    outs: &[Member<&[u8], Address>],
+) -> Option<Call>
+    ensures { IfSome result (λ made. cut_view made
+        ≡ run_seen line connection.entry statement.entry ins.now outs.now) }
+{
+    match statement {
+        Statement::Normal(text) => made_of(alloc, line, connection, text, ins, outs),
+        Statement::Prepared(_) => None,
+        Statement::Immediate(_) => None,
+        Statement::Opening(_, _) => None,
+    }
+}
+
+/// A call as the library is given it. There is none of another kind than those that the library makes, and none without
+/// memory.
+pub(crate) fn served(alloc: Global, cut: &Cut<&[u8], Address>) -> Option<Call>
+    ensures { IfSome result (λ made. cut_view made ≡ cut_seen cut.now) }
+{
+    match &cut.call {
+        CutCall::Run(connection, statement, ins, outs) => run_of(
+            alloc,
+            cut.line,
+            *connection,
+            *statement,
+            ins.as_slice(),
+            outs.as_slice(),
+        ),
+        _ => None,
+    }
+}
