@@ -34,7 +34,8 @@ all_seen xs = cut.arguments_view bytes_of number_of xs
 -- ---- one argument
 
 -- what goes on with it, or the end of the run on this line
-abbrev pub one_given : ℕ → Result (Given (Bor (List ℕ)) Address) Stop → State → (Arg ℕ → State → Res) → Res
+abbrev pub one_given : ℕ → Result (Given (Bor (List ℕ)) Address) Stop → State →
+    (Arg ℕ → State → Res) → Res
 one_given line (Ok x) t go = go (seen x) t
 one_given line (Err why) t go = over (ending_of line why) t
 
@@ -45,14 +46,16 @@ module _ (scope : List Ptr) (arguments : List Argument) (old new : Memory) where
   abbrev pub Evaluated : List (Arg ℕ) → Type 0
   Evaluated given =
       (w : World) (line : ℕ) (first : Bool) (s : State) (go : List (Arg ℕ) → State → Res)
-      → arguments_given no_step w (context line scope first) (map argument_view arguments) (at s old) go
+      → arguments_given no_step w (context line scope first)
+      (map argument_view arguments) (at s old) go
       ≡ go given (at s new)
 
   -- they stop the run
   abbrev pub Halted : Stop → Type 0
   Halted why =
       (w : World) (line : ℕ) (first : Bool) (s : State) (go : List (Arg ℕ) → State → Res)
-      → arguments_given no_step w (context line scope first) (map argument_view arguments) (at s old) go
+      → arguments_given no_step w (context line scope first)
+      (map argument_view arguments) (at s old) go
       ≡ over (ending_of line why) (at s new)
 
   -- without memory for them they are evaluated all the same

@@ -35,8 +35,11 @@ abbrev pub Part : Type 0
 Part = World → Bool → State → Res
 
 -- a part was carried out: over the answers that came, and then any others, it leads where it says, and leaves exactly the others
-pub record Made (part : Part) (m : Memory) (turns : ℕ) (x : Option Session) (m' : Memory) (turns' : ℕ) (y : Option Session) (result : Result (Unit {0}) Stop) : Type 0 where
+pub record Made (part : Part) (m : Memory) (turns : ℕ) (x : Option Session)
+    (m' : Memory) (turns' : ℕ) (y : Option Session) (result : Result (Unit {0}) Stop) : Type 0 where
   pub growth : List Logged
   pub said : Said x y growth
   pub does : (w : World) (first : Bool) (s : State) (rest : List Answer)
-      → Answers result (part w first (holding m turns (placed x (answers_in growth ++ rest) s))) (holding m' turns' (placed y rest (saying growth s)))
+      → Answers result
+      (part w first (holding m turns (placed x (answers_in growth ++ rest) s)))
+      (holding m' turns' (placed y rest (saying growth s)))

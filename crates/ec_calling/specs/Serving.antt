@@ -26,6 +26,11 @@ abbrev pub cut_seen : Cut (Bor (List ℕ)) Address → spec.Cut ℕ
 cut_seen c = cut.cut_view bytes_of number_of c
 
 -- a call of ECPGdo, by its parts
-abbrev pub run_seen : ℕ → Text (Bor (List ℕ)) Address → Statement (Bor (List ℕ)) Address → List (Member (Bor (List ℕ)) Address) → List (Member (Bor (List ℕ)) Address) → spec.Cut ℕ
+abbrev pub run_seen : ℕ → Text (Bor (List ℕ)) Address → Statement (Bor (List ℕ)) Address →
+    List (Member (Bor (List ℕ)) Address) → List (Member (Bor (List ℕ)) Address) → spec.Cut ℕ
 run_seen line connection statement ins outs =
-    record { line = line; call = spec.run (text_seen connection) (statement_seen statement) (members_seen ins) (members_seen outs) }
+    record {
+      line = line;
+      call = spec.run (text_seen connection) (statement_seen statement)
+          (members_seen ins) (members_seen outs);
+    }

@@ -77,7 +77,8 @@ fn keep<'p>(
     kept: bool,
 ) -> bool
     ensures before { result ≡ true → kept ≡ true }
-    ensures behind { result ≡ true → all_seen given.new ≡ all_seen given.old ++ seen argument.entry ∷ [] }
+    ensures behind { result ≡ true →
+        all_seen given.new ≡ all_seen given.old ++ seen argument.entry ∷ [] }
 {
     if !kept {
         return false;

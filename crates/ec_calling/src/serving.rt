@@ -153,7 +153,8 @@ fn made_of(
         ≡ record {
           line = line;
           call
-              = run (text_seen connection.entry) (normal text.now) (members_seen ins.now) (members_seen outs.now);
+              = run (text_seen connection.entry) (normal text.now)
+              (members_seen ins.now) (members_seen outs.now);
         }) }
 {
     let Some(line) = line_of(line) else {

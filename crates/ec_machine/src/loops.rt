@@ -162,7 +162,8 @@ impl<'p> Machine<'p> {
         ensures goes { (functions : List FunctionData) → Goes functions self.old (env_of self.old)
             (λ knowing w t. on_value (eval knowing w (here (env_of self.old) self.old.line)
             (expression_view behind.now) t) (λ v u. tested knowing w (here (env_of self.old)
-            self.old.line) (test_of inner.now) (behind_of inner.now) (body_of inner.now) u)) result self.new }
+            self.old.line) (test_of inner.now) (behind_of inner.now) (body_of inner.now) u))
+            result self.new }
         ensures turns { self.new.turns ≤ self.old.turns }
         ensures nears { remaining self.old.turns result self.new ≤
             2 + frames_weight self.old.frames + expression_weight behind.now +

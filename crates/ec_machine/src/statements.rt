@@ -169,7 +169,8 @@ impl<'p> Machine<'p> {
     fn give(&mut self, value: &'p Expression) -> Result<Focus<'p>, Stop>
         ensures goes { (functions : List FunctionData) → Goes functions self.old (env_of self.old)
             (λ knowing w t. on_value (eval knowing w (here (env_of self.old) self.old.line)
-            (expression_view value.now) t) (λ v u. returned self.old.first (Some v) u)) result self.new }
+            (expression_view value.now) t) (λ v u. returned self.old.first (Some v) u))
+            result self.new }
         ensures turns { self.new.turns ≤ self.old.turns }
         ensures nears { remaining self.old.turns result self.new ≤
             2 + frames_weight self.old.frames + expression_weight value.now }
