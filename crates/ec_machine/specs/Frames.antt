@@ -124,6 +124,10 @@ plug knowing w e (frame.Rest line xs) o =
 plug knowing w e (frame.Settle line xs) o = settle w (here e line) (statements_view xs.now) o
 plug knowing w e (frame.Close mark height count) o = closing mark o
 
+-- the value of an expression, for a frame that waits for it
+abbrev pub evaluated_for : Env → Line → Exp → Frame → Knowing → World → State → Res
+evaluated_for e line x f knowing w t = plug knowing w e f (eval knowing w (here e line) x t)
+
 -- what the frames make of an answer, the innermost first, and the first `main` behind them
 abbrev pub resume : Knowing → World → Env → List Frame → Res → Res
 resume knowing w e [] o = finished (option_map word_view e.otherwise) o

@@ -1,15 +1,15 @@
 //! Lists of statements, blocks and loops.
 
-ghost use Rattle.std.specs.Prelude.{◌≡◌, ◌≤◌, ◌+◌, ℕ, List, true, false, map, OnOk};
+ghost use Rattle.std.specs.Prelude.{◌≡◌, ◌≤◌, ◌+◌, ℕ, List, map, OnOk};
 ghost use Rattle.ec_code.specs.declared.program.Function.{Function as FunctionData};
 ghost use Rattle.ec_code.specs.Views.{expression_view, plain_view, size_view, statements_view};
-ghost use Rattle.ec_evaluation.specs.Evaluate.{Context, World, Step as Knowing, eval, turn_of};
+ghost use Rattle.ec_evaluation.specs.Evaluate.{Context, World, Step as Knowing, turn_of};
 ghost use Rattle.ec_evaluation.specs.Execute.{again, enter, look_all, run_all, tested};
-ghost use Rattle.ec_evaluation.specs.Results.{Res, on, on_value};
+ghost use Rattle.ec_evaluation.specs.Results.{Res};
 ghost use Rattle.ec_evaluation.specs.State.{State};
-ghost use Rattle.ec_resolved.specs.Operations.{is_true};
-ghost use Rattle.ec_machine.specs.Frames.{behind_of, body_of, here, test_of};
+ghost use Rattle.ec_machine.specs.Frames.{behind_of, body_of, evaluated_for, here, test_of};
 ghost use Rattle.ec_machine.specs.Goes.{Enters, Goes, at, env_of};
+ghost use Rattle.ec_machine.specs.declared.frame.Frame.TheVariants as frame;
 ghost use Rattle.ec_machine.specs.Weights.{again_weight, expression_weight, frames_weight, remaining, statements_weight, test_weight};
 
 use crate::frame::{Flow, Focus, Frame};
@@ -119,12 +119,8 @@ impl<'p> Machine<'p> {
     /// A loop from this test.
     fn ask(&mut self, inner: &'p Loop, test: &'p Expression) -> Result<Focus<'p>, Stop>
         ensures goes { (functions : List FunctionData) → Goes functions self.old (env_of self.old)
-            (λ knowing w t. on_value (eval knowing w (here (env_of self.old) self.old.line)
-            (expression_view test.now) t) (λ v u. elim (is_true v) [
-              | true ↦ w (turn_of (here (env_of self.old) self.old.line) (test_of inner.now)
-                  (behind_of inner.now) (body_of inner.now)) u
-              | false ↦ on u
-            ])) result self.new }
+            (evaluated_for (env_of self.old) self.old.line (expression_view test.now)
+            (frame.Test self.old.line inner.entry)) result self.new }
         ensures turns { self.new.turns ≤ self.old.turns }
         ensures nears { remaining self.old.turns result self.new ≤
             2 + frames_weight self.old.frames + expression_weight test.now }
@@ -141,12 +137,8 @@ impl<'p> Machine<'p> {
     /// A loop from its test, which holds no call.
     fn ask_at_once(&mut self, inner: &'p Loop, test: &Plain) -> Result<Focus<'p>, Stop>
         ensures goes { (functions : List FunctionData) → Goes functions self.old (env_of self.old)
-            (λ knowing w t. on_value (eval knowing w (here (env_of self.old) self.old.line)
-            (plain_view test.now) t) (λ v u. elim (is_true v) [
-              | true ↦ w (turn_of (here (env_of self.old) self.old.line) (test_of inner.now)
-                  (behind_of inner.now) (body_of inner.now)) u
-              | false ↦ on u
-            ])) result self.new }
+            (evaluated_for (env_of self.old) self.old.line (plain_view test.now)
+            (frame.Test self.old.line inner.entry)) result self.new }
         ensures turns { self.new.turns ≤ self.old.turns }
         ensures nears { remaining self.old.turns result self.new ≤
             1 + frames_weight self.old.frames }
@@ -160,10 +152,8 @@ impl<'p> Machine<'p> {
     /// A loop behind its body, where this is evaluated.
     fn go_behind(&mut self, inner: &'p Loop, behind: &'p Expression) -> Result<Focus<'p>, Stop>
         ensures goes { (functions : List FunctionData) → Goes functions self.old (env_of self.old)
-            (λ knowing w t. on_value (eval knowing w (here (env_of self.old) self.old.line)
-            (expression_view behind.now) t) (λ v u. tested knowing w (here (env_of self.old)
-            self.old.line) (test_of inner.now) (behind_of inner.now) (body_of inner.now) u))
-            result self.new }
+            (evaluated_for (env_of self.old) self.old.line (expression_view behind.now)
+            (frame.Behind self.old.line inner.entry)) result self.new }
         ensures turns { self.new.turns ≤ self.old.turns }
         ensures nears { remaining self.old.turns result self.new ≤
             2 + frames_weight self.old.frames + expression_weight behind.now +
@@ -181,10 +171,8 @@ impl<'p> Machine<'p> {
     /// A loop behind its body, where what is evaluated there holds no call.
     fn go_behind_at_once(&mut self, inner: &'p Loop, behind: &Plain) -> Result<Focus<'p>, Stop>
         ensures goes { (functions : List FunctionData) → Goes functions self.old (env_of self.old)
-            (λ knowing w t. on_value (eval knowing w (here (env_of self.old) self.old.line)
-            (plain_view behind.now) t) (λ v u. tested knowing w (here (env_of self.old)
-            self.old.line) (test_of inner.now) (behind_of inner.now) (body_of inner.now) u))
-            result self.new }
+            (evaluated_for (env_of self.old) self.old.line (plain_view behind.now)
+            (frame.Behind self.old.line inner.entry)) result self.new }
         ensures turns { self.new.turns ≤ self.old.turns }
         ensures nears { remaining self.old.turns result self.new ≤
             1 + frames_weight self.old.frames + test_weight inner.now }

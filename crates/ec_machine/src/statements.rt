@@ -1,16 +1,15 @@
 //! Statements, run from their start or from a label.
 
-ghost use Rattle.std.specs.Prelude.{◌≡◌, ◌≤◌, ◌+◌, ℕ, List, Some, true, false, map};
+ghost use Rattle.std.specs.Prelude.{◌≡◌, ◌≤◌, ◌+◌, ℕ, List, map};
 ghost use Rattle.std.specs.Option.{option_map};
 ghost use Rattle.ec_code.specs.declared.program.Function.{Function as FunctionData};
 ghost use Rattle.ec_code.specs.Views.{expression_view, expressions_view, loop_view, plain_view, size_view, statement_view, statements_view};
-ghost use Rattle.ec_evaluation.specs.Evaluate.{eval};
 ghost use Rattle.ec_evaluation.specs.Execute.{declared, enter, initialized, look, look_all, returning, run, run_all};
-ghost use Rattle.ec_evaluation.specs.Results.{on, on_value, returned, turn, went};
-ghost use Rattle.ec_resolved.specs.Operations.{is_true};
+ghost use Rattle.ec_evaluation.specs.Results.{returned, turn, went};
 ghost use Rattle.ec_values.specs.Words.{word_view};
-ghost use Rattle.ec_machine.specs.Frames.{here};
+ghost use Rattle.ec_machine.specs.Frames.{evaluated_for, here};
 ghost use Rattle.ec_machine.specs.Goes.{EndsWith, Goes, Returns, env_of};
+ghost use Rattle.ec_machine.specs.declared.frame.Frame.TheVariants as frame;
 ghost use Rattle.ec_machine.specs.declared.machine.Machine.{Machine as MachineData};
 ghost use Rattle.ec_machine.specs.Weights.{expression_weight, expressions_weight, frames_weight, remaining, optional_weight, statement_weight, statements_weight, test_weight};
 
@@ -80,8 +79,8 @@ impl<'p> Machine<'p> {
     /// An expression as a statement.
     fn effect(&mut self, expression: &'p Expression) -> Result<Focus<'p>, Stop>
         ensures goes { (functions : List FunctionData) → Goes functions self.old (env_of self.old)
-            (λ knowing w t. on_value (eval knowing w (here (env_of self.old) self.old.line)
-            (expression_view expression.now) t) (λ v u. on u)) result self.new }
+            (evaluated_for (env_of self.old) self.old.line (expression_view expression.now)
+            frame.Do) result self.new }
         ensures turns { self.new.turns ≤ self.old.turns }
         ensures nears { remaining self.old.turns result self.new ≤
             2 + frames_weight self.old.frames + expression_weight expression.now }
@@ -98,8 +97,8 @@ impl<'p> Machine<'p> {
     /// An expression without calls as a statement.
     fn effect_at_once(&mut self, plain: &Plain) -> Result<Focus<'p>, Stop>
         ensures goes { (functions : List FunctionData) → Goes functions self.old (env_of self.old)
-            (λ knowing w t. on_value (eval knowing w (here (env_of self.old) self.old.line)
-            (plain_view plain.now) t) (λ v u. on u)) result self.new }
+            (evaluated_for (env_of self.old) self.old.line (plain_view plain.now)
+            frame.Do) result self.new }
         ensures turns { self.new.turns ≤ self.old.turns }
         ensures nears { remaining self.old.turns result self.new ≤
             1 + frames_weight self.old.frames }
@@ -118,13 +117,8 @@ impl<'p> Machine<'p> {
         second: &'p Statement,
     ) -> Result<Focus<'p>, Stop>
         ensures goes { (functions : List FunctionData) → Goes functions self.old (env_of self.old)
-            (λ knowing w t. on_value (eval knowing w (here (env_of self.old) self.old.line)
-            (expression_view test.now) t) (λ v u. elim (is_true v) [
-              | true ↦ run knowing w (here (env_of self.old) self.old.line) (statement_view
-                  first.now) u
-              | false ↦ run knowing w (here (env_of self.old) self.old.line) (statement_view
-                  second.now) u
-            ])) result self.new }
+            (evaluated_for (env_of self.old) self.old.line (expression_view test.now)
+            (frame.Choose self.old.line first.entry second.entry)) result self.new }
         ensures turns { self.new.turns ≤ self.old.turns }
         ensures nears { remaining self.old.turns result self.new ≤
             2 + frames_weight self.old.frames + expression_weight test.now +
@@ -147,13 +141,8 @@ impl<'p> Machine<'p> {
         second: &'p Statement,
     ) -> Result<Focus<'p>, Stop>
         ensures goes { (functions : List FunctionData) → Goes functions self.old (env_of self.old)
-            (λ knowing w t. on_value (eval knowing w (here (env_of self.old) self.old.line)
-            (plain_view test.now) t) (λ v u. elim (is_true v) [
-              | true ↦ run knowing w (here (env_of self.old) self.old.line) (statement_view
-                  first.now) u
-              | false ↦ run knowing w (here (env_of self.old) self.old.line) (statement_view
-                  second.now) u
-            ])) result self.new }
+            (evaluated_for (env_of self.old) self.old.line (plain_view test.now)
+            (frame.Choose self.old.line first.entry second.entry)) result self.new }
         ensures turns { self.new.turns ≤ self.old.turns }
         ensures nears { remaining self.old.turns result self.new ≤
             1 + frames_weight self.old.frames + statement_weight first.now +
@@ -168,9 +157,8 @@ impl<'p> Machine<'p> {
     /// `return` of an expression.
     fn give(&mut self, value: &'p Expression) -> Result<Focus<'p>, Stop>
         ensures goes { (functions : List FunctionData) → Goes functions self.old (env_of self.old)
-            (λ knowing w t. on_value (eval knowing w (here (env_of self.old) self.old.line)
-            (expression_view value.now) t) (λ v u. returned self.old.first (Some v) u))
-            result self.new }
+            (evaluated_for (env_of self.old) self.old.line (expression_view value.now)
+            frame.Give) result self.new }
         ensures turns { self.new.turns ≤ self.old.turns }
         ensures nears { remaining self.old.turns result self.new ≤
             2 + frames_weight self.old.frames + expression_weight value.now }
@@ -187,9 +175,8 @@ impl<'p> Machine<'p> {
     /// `return` of an expression without calls.
     fn give_at_once(&mut self, value: &Plain) -> Result<Focus<'p>, Stop>
         ensures goes { (functions : List FunctionData) → Goes functions self.old (env_of self.old)
-            (λ knowing w t. on_value (eval knowing w (here (env_of self.old) self.old.line)
-            (plain_view value.now) t) (λ v u. returned self.old.first (Some v) u))
-            result self.new }
+            (evaluated_for (env_of self.old) self.old.line (plain_view value.now)
+            frame.Give) result self.new }
         ensures turns { self.new.turns ≤ self.old.turns }
         ensures nears { remaining self.old.turns result self.new ≤
             1 + frames_weight self.old.frames }
