@@ -214,7 +214,7 @@ class Parser:
     """Reads a program, binds its names, and makes a flat list of instructions of each function."""
 
     def __init__(self, text):
-        self.tokens, self.at = tokens(text), 0
+        self.tokens, self.at = self.cut(text), 0
         self.names, self.tags = [{}], [{}]
         self.globals, self.literals, self.functions = [], [], {}
         self.function = None
@@ -222,6 +222,9 @@ class Parser:
             self.external()
 
     # -- tokens
+
+    def cut(self, text):
+        return tokens(text)
 
     @property
     def text(self):
@@ -504,8 +507,7 @@ class Parser:
         return Node("operate", promoted(s) if op in ("<<", ">>") else common(s, t), op, a, b)
 
     def cast(self):
-        if self.text == "(" and (self.tokens[self.at + 1][1] in TYPE_WORDS or self.tokens[self.at + 1][1] in ("struct", "const")) \
-                and self.tokens[self.at + 1][0] == "word":
+        if self.text == "(" and self.tokens[self.at + 1][0] == "word" and self.tokens[self.at + 1][1] in TYPE_WORDS | {"struct", "const"}:
             self.take()
             t = self.type_name()
             self.take(")")

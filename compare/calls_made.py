@@ -1,0 +1,363 @@
+#!/usr/bin/env python3
+"""Calls of ECPGdo for the second evaluator, from docs/CALLS.md, docs/STORING.md and docs/RUNNING.md alone.
+
+    compare/calls_made.py TURNS FILE
+
+runs a program of written C without a connection. A call sends its text over the one connection that is ready, whose link has
+a script of replies. A reply is a tuple: its kind, and what docs/ROWS.md says behind it, as bytes and numbers:
+("rows", "I", [(name, code)], [[field]]), ("done", "I", count), ("refused", "I", state, message), ("connected",),
+("notarget",) and ("broken",). A field and a parameter are bytes, or None for NULL.
+"""
+
+import re
+import sys
+
+import evaluator
+import library
+import storing
+from evaluator import SPACE, VOID, Node, Object, Struct, Trap, decayed, is_pointer
+
+FINDINGS = {
+    100: ("02000", "no data found"), -201: ("07002", "too many targets"), -202: ("07002", "too few targets"),
+    -203: ("21000", "too many rows"), -204: ("42804", "not a number of type int"),
+    -205: ("42804", "not a number of an unsigned type"), -211: ("42804", "not a bool"),
+    -213: ("22002", "null value without indicator"), -220: ("08003", "no such connection"),
+}
+BROKEN, OUT_OF_PLACE = (-400, b"08006", b"connection broken"), (-400, b"08P01", b"reply out of place")
+SERVER_CODES = {b"23505": -403, b"21000": -404}
+
+
+# ---- sqlca, which is object 1
+
+def struct(*members):
+    made = Struct()
+    made.members = list(members)
+    return made
+
+
+def array(of, length):
+    return ("array", of, length)
+
+
+AREA = Object(struct(
+    ("sqlcaid", array("char", 8)), ("sqlabc", "long"), ("sqlcode", "long"),
+    ("sqlerrm", struct(("sqlerrml", "int"), ("sqlerrmc", array("char", 150)))), ("sqlerrp", array("char", 8)),
+    ("sqlerrd", array("long", 6)), ("sqlwarn", array("char", 8)), ("sqlstate", array("char", 5))), True)
+AREA.number = 1
+SHORTER = {"SQLCODE": "sqlcode", "SQLSTATE": "sqlstate"}
+MESSAGE_LENGTH, MESSAGE = (1 << 32) + 24, (1 << 32) + 28
+
+
+# ---- what a program writes
+
+class Argument:
+    """An argument of a call: its tokens, its expression, and what library.py asks of it."""
+
+    def __init__(self, tokens, node):
+        while len(tokens) > 2 and tokens[0][1] == "(" and tokens[-1][1] == ")":
+            tokens = tokens[1:-1]
+        kind, what, _ = tokens[0]
+        self.node, self.is_alone, self.literal = node, len(tokens) == 1, None
+        self.word = what if self.is_alone and kind == "word" else None
+        if self.is_alone and kind == "string":
+            self.literal = bytes(what)
+        self.calls = any(calls_function(a, b) for a, b in zip(tokens, tokens[1:]))
+
+    def pair(self):
+        """The expression and its type, as library.py has them."""
+        if self.literal is not None:
+            return ("str", self.literal), None
+        if self.is_alone and self.node.kind == "number" and self.word is None:
+            return ("int", self.node.parts[0], self.node.type), None
+        return ("name", self.word), seen_type(self.node.type)
+
+    def constant(self):
+        return self.node.parts[0]
+
+
+def calls_function(token, following):
+    not_called = evaluator.TYPE_WORDS | {"sizeof", "struct", "const"}
+    return token[0] == "word" and token[1] not in not_called and following[:2] == ("mark", "(")
+
+
+def seen_type(t):
+    t = decayed(t)
+    if not is_pointer(t):
+        return ("number", t)
+    return ("pointer", ("number", {"char": "char", "unsigned char": "uchar"}.get(t[1] if isinstance(t[1], str) else "")))
+
+
+class Member:
+    """Ten values of a list."""
+
+    def __init__(self, ten):
+        self.symbol, self.at = ten[0].word[6:], ten[1]
+        self.length, self.count, self.distance = (a.constant() for a in ten[2:5])
+        self.has_indicator = ten[5].word != "ECPGt_NO_INDICATOR"
+        self.indicator, self.told_at = ten[5].word[6:], ten[6]
+        self.told_count, self.told_distance = (a.constant() for a in ten[8:])
+
+    def host(self):
+        """As storing.py has it, with the pointers that were evaluated."""
+        told = {"symbol": self.indicator.replace("_", "-"), "at": self.told_at.given, "step": self.told_distance}
+        return {"symbol": self.symbol.replace("_", "-"), "at": self.at.given, "size": self.length, "step": self.distance,
+                "indicator": told if self.has_indicator else None}
+
+
+def members(arguments, end):
+    """The members before this symbol, and the arguments behind it."""
+    found = []
+    while arguments[0].word != end:
+        found.append(Member(arguments[:10]))
+        arguments = arguments[10:]
+    return found, arguments[1:]
+
+
+class Call:
+    """ECPGdo with a text that is sent."""
+
+    def __init__(self, arguments):
+        self.arguments = arguments
+        self.line, self.connection, self.text = arguments[0].constant(), arguments[1], arguments[3].literal
+        self.inputs, rest = members(arguments[4:], "ECPGt_EOIT")
+        self.outputs, _ = members(rest, "ECPGt_EORT")
+
+
+def is_made(name, arguments):
+    """Whether the library makes this call already."""
+    return (name == "ECPGdo" and arguments[2].word == "ECPGst_normal"
+            and not any(a.word == "ECPGt_descriptor" or a.calls for a in arguments))
+
+
+def lines_told(text):
+    """The number of each line, from the lines `#line N` on; the first line is at 1."""
+    found, number = [0], 1
+    for line in text.split("\n"):
+        found.append(number)
+        told = re.fullmatch(r"[ \t]*#line (\d+)[ \t\r]*", line)
+        number = int(told[1]) if told else number + 1
+    return found
+
+
+class WrittenParser(evaluator.Parser):
+    """Reads written C, and finds the lines of the calls that aren't taken, and of those that aren't made yet."""
+
+    def __init__(self, text):
+        self.not_taken, self.not_made, self.started = [], [], 1
+        super().__init__(text)
+
+    def leave(self):
+        """The names of the scope that was left last are kept: those of the last function, once the text is read."""
+        self.left = self.names[-1]
+        super().leave()
+
+    def refusal(self):
+        """The line of the first call for which the program is refused."""
+        found = self.not_taken or self.not_made
+        return found[0] if found else None
+
+    def cut(self, text):
+        lines = lines_told(text)
+        return [(kind, what, lines[line]) for kind, what, line in evaluator.tokens(text)]
+
+    def find(self, tables, name):
+        return AREA if name == "sqlca" and tables is self.names else super().find(tables, name)
+
+    def statement(self):
+        self.started = self.line
+        super().statement()
+
+    def primary(self):
+        _, what, _ = self.tokens[self.at]
+        if self.text in SHORTER:
+            self.take()
+            at, t = evaluator.offset(AREA.type, SHORTER[what])
+            return Node("member", t, Node("object", AREA.type, AREA), at, False)
+        if self.text in library.SYMBOLS:
+            self.take()
+            return Node("symbol", None)
+        return super().primary()
+
+    def call(self, name):
+        if name == "sqlprint":
+            self.take("(")
+            self.take(")")
+            return Node("sqlprint", VOID)
+        return self.library_call(name) if name in library.CALLS else super().call(name)
+
+    def library_call(self, name):
+        started, arguments = self.started, []
+        self.take("(")
+        while not self.taken(")"):
+            arguments.append(self.argument())
+            if self.text != ")":
+                self.take(",")
+        if not library.takes(name, [a.pair() for a in arguments]):
+            self.not_taken.append(started)
+        elif not is_made(name, arguments):
+            self.not_made.append(started)
+        else:
+            return Node("library", VOID, Call(arguments))
+        return Node("library", VOID, None)
+
+    def argument(self):
+        """A literal by itself makes no object here."""
+        start = self.at
+        node = self.assign()
+        found = Argument(self.tokens[start:self.at], node)
+        if found.literal is not None:
+            self.literals.pop()
+        return found
+
+
+# ---- links
+
+class Link:
+    """A script of replies; behind the last one the link breaks, and so it does at some asks, counted from 0."""
+
+    def __init__(self, replies, breaks=()):
+        self.replies, self.breaks, self.asks = list(replies), set(breaks), 0
+
+    def answer(self, call):
+        self.asks += 1
+        if self.asks - 1 in self.breaks or not self.replies:
+            return ("broken",)
+        return self.replies.pop(0)
+
+
+class Slot:
+    def __init__(self, is_ready, name, link):
+        self.is_ready, self.name, self.link = is_ready, name, link
+
+
+# ---- runs
+
+class Told(Exception):
+    """A code with its state and its message: the call ends."""
+
+
+def finding(code):
+    state, message = FINDINGS[code]
+    return Told(code, state.encode(), message.encode())
+
+
+class CallingMachine(evaluator.Machine):
+    """A run over slots, of which one may be ready: that is the current connection, and autocommit is on."""
+
+    def __init__(self, program, turns, slots):
+        super().__init__(program, turns)
+        self.exchanges = []
+        self.connection = next(((n, slot) for n, slot in enumerate(slots) if slot.is_ready), None)
+
+    def opened(self):
+        super().opened()
+        self.objects[1][:] = list(storing.OPENING)
+
+    def value_sqlprint(self, t):
+        """The message is as long as sqlca says, within its array."""
+        length = min(max(self.load(MESSAGE_LENGTH, "int"), 0), 149)
+        self.errors += b"SQL error: " + bytes(self.read(MESSAGE, length)) + b"\n"
+
+    def value_library(self, t, call):
+        for a in call.arguments:
+            if a.literal is None and a.node.type is not None and is_pointer(decayed(a.node.type)):
+                a.given = self.value(a.node)
+        self.turn()
+        try:
+            self.made_call(call)
+        except storing.Trap as trap:
+            raise Trap(trap.args[0]) from None
+
+    def made_call(self, call):
+        name = self.text_of(call.connection)
+        parameters = [self.parameter(m) for m in call.inputs]
+        storing.reset(self.objects[1])
+        try:
+            self.settled(call, self.answered(call, name, parameters))
+        except Told as told:
+            storing.raise_code(self.objects[1], *told.args, call.line)
+        except storing.Code as code:
+            storing.raise_code(self.objects[1], *finding(code.args[0]).args, call.line)
+
+    def text_of(self, argument):
+        """A text, or None where it isn't given."""
+        if argument.literal is not None:
+            return argument.literal
+        return None if argument.word == "NULL" else storing.text(self.objects, argument.given)
+
+    def parameter(self, member):
+        return member.at.literal if member.symbol == "const" else storing.to_text(self.objects, member.host())
+
+    def answered(self, call, name, parameters):
+        """The reply to the text, over the connection of this name or the current one."""
+        if self.connection is None or name not in (None, self.connection[1].name):
+            raise finding(-220)
+        number, slot = self.connection
+        reply = slot.link.answer(call)
+        self.exchanges.append((number, call.text, parameters, reply))
+        return reply
+
+    def settled(self, call, reply):
+        """What a reply makes of the call, by the table `Answers of ECPGdo`."""
+        kind, *rest = reply
+        if kind == "rows":
+            self.rows_settled(call, rest[1], rest[2])
+        elif kind == "done":
+            self.done_settled(call, rest[1])
+        elif kind == "refused":
+            raise Told(SERVER_CODES.get(rest[1], -400), rest[1], rest[2])
+        else:
+            raise Told(*(BROKEN if kind == "broken" else OUT_OF_PLACE))
+
+    def done_settled(self, call, count):
+        storing.rows(self.objects[1], count or 0)
+        if count == 0:
+            raise finding(100)
+        if call.outputs:
+            raise finding(-201)
+
+    def rows_settled(self, call, columns, rows):
+        storing.rows(self.objects[1], len(rows))
+        if not rows:
+            raise finding(100)
+        if not call.outputs:
+            return
+        if len(columns) != len(call.outputs):
+            raise finding(-201 if len(columns) < len(call.outputs) else -202)
+        if any(m.count < len(rows) for m in call.outputs):
+            raise finding(-203)
+        for column, member in enumerate(call.outputs):
+            for row, fields in enumerate(rows):
+                if storing.from_text(self.objects, member.host(), row, fields[column]):
+                    storing.warn(self.objects[1])
+
+
+class Run:
+    """What is seen of a run: its outputs, its ending, its exchanges (slot, text, parameters, reply), and each object's cells.
+
+    `used` is the number of turns that it took. A program that is refused has the ending ("refused", LINE), for F16.
+    """
+
+    def __init__(self, text, turns, slots):
+        program = WrittenParser(text)
+        self.machine = CallingMachine(program, turns, slots)
+        refused = program.refusal()
+        self.ending = ("refused", refused) if refused is not None else self.machine.main()
+        self.output, self.errors = bytes(self.machine.output), bytes(self.machine.errors)
+        self.exchanges, self.used = self.machine.exchanges, turns - self.machine.turns
+        self.objects = [self.machine.objects.get(n) for n in range(1, self.machine.made + 1)]
+
+
+def main(turns, file):
+    sys.setrecursionlimit(100_000)
+    with open(file, encoding="latin-1") as source:
+        run = Run(source.read(), int(turns), [])
+    sys.stdout.buffer.write(run.output)
+    sys.stdout.flush()
+    sys.stderr.buffer.write(run.errors)
+    print(*run.ending, file=sys.stderr)
+
+
+if __name__ == "__main__":
+    sys.dont_write_bytecode = True
+    main(*sys.argv[1:])
