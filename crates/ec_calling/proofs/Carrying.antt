@@ -40,14 +40,14 @@ use Rattle.ec_values.specs.declared.word.Stop.{Stop as NoValue}
 use Rattle.ec_calling.specs.declared.call.Argument.{Argument}
 use Rattle.ec_calling.specs.declared.call.Call.{Call}
 use Rattle.ec_calling.specs.Giving.{Evaluated, Halted}
-use Rattle.ec_calling.specs.Making.{Made, Part, known_of, turned}
+use Rattle.ec_calling.specs.Making.{Made, Part, known_of, position, running, turned}
 use Rattle.ec_calling.specs.Views.{argument_view, call_view}
 
 -- ---- parts in which nothing is said
 
 pub quiet : (part : Part) (m m' : Memory) (turns turns' : ℕ) (x : Session) (result : Result (Unit {0}) Stop)
     → ((w : World) (first : Bool) (u : State) → Answers result (part w first (holding m turns u)) (holding m' turns' u))
-    → Made part m turns (Some x) m' turns' (Some x) result
+    → Made part (position m turns (Some x)) (position m' turns' (Some x)) result
 quiet part m m' turns turns' x result h = record {
   growth = [];
   said = sym (append-nil x.log);
@@ -93,7 +93,7 @@ module _ {X : Type 0} {F : X → Type 0} (talk : DynBox X Global F → Option Ta
       (front.more, ap (λ t. t.conversation) (sym (settled_state line.0 (action (placed_there (seen_by m was) (answers_in growth ++ rest) (record s { turns = turns }))))) ∙ front.is)
 
   pub served_made : (result : Result (Unit {0}) CallStop) → Served talk faults action m old was m' new now result
-      → Made (λ w first s. settled line.0 (action s)) m turns (known_of old was) m' turns (known_of new now) (answer_of line result)
+      → Made (λ w first s. settled line.0 (action s)) (position m turns (known_of old was)) (position m' turns (known_of new now)) (answer_of line result)
   served_made result p = record {
     growth = p.growth;
     said = said_by talk faults old new (conn_of was) (conn_of now) p.growth p.asked;
@@ -102,7 +102,7 @@ module _ {X : Type 0} {F : X → Type 0} (talk : DynBox X Global F → Option Ta
 
 -- it isn't made
 pub unserved : (c : Cut ℕ) (line : ℕ) (m : Memory) (turns : ℕ) (x : Session)
-    → Made (λ w first s. settled line (cut_done c s)) m turns (Some x) m turns (Some x) (Err stop.OutOfMemory)
+    → Made (λ w first s. settled line (cut_done c s)) (position m turns (Some x)) (position m turns (Some x)) (Err stop.OutOfMemory)
 unserved c line m turns x = quiet _ m m turns turns x (Err stop.OutOfMemory) (λ w first u. left_off (settled line (cut_done c (holding m turns u))) (holding m turns u) (cut_grows line c (holding m turns u)))
 
 -- ---- a call with its arguments
@@ -111,31 +111,31 @@ module _ (line : ℕ) (name : LibName) (given : List (Arg ℕ)) where
   abbrev Carried : Part
   Carried w first s = settled line (library_call name given s)
 
-  pub uncarried : (m : Memory) (turns : ℕ) (x : Session) → Made Carried m turns (Some x) m turns (Some x) (Err stop.OutOfMemory)
+  pub uncarried : (m : Memory) (turns : ℕ) (x : Session) → Made Carried (position m turns (Some x)) (position m turns (Some x)) (Err stop.OutOfMemory)
   uncarried m turns x = quiet Carried m m turns turns x (Err stop.OutOfMemory) (λ w first u. left_off (settled line (library_call name given (holding m turns u))) (holding m turns u) (settled_grows line name given (holding m turns u)))
 
   -- a list that doesn't cut
-  pub uncut : (m : Memory) (turns : ℕ) (x : Session) → None ≡ cut leads name given → Made Carried m turns (Some x) m turns (Some x) (Err (stop.Over ends.Stuck))
+  pub uncut : (m : Memory) (turns : ℕ) (x : Session) → None ≡ cut leads name given → Made Carried (position m turns (Some x)) (position m turns (Some x)) (Err (stop.Over ends.Stuck))
   uncut m turns x e = quiet Carried m m turns turns x (Err (stop.Over ends.Stuck)) (λ w first u j. settled line (if_cut (sym e j) (holding m turns u)))
 
   -- a list that does
   pub cut_made : (c c' : Cut ℕ) (m m' : Memory) (turns turns' : ℕ) (x y : Option Session) (result : Result (Unit {0}) Stop) → c ≡ c' → Some c' ≡ cut leads name given
-      → Made (λ w first s. settled line (cut_done c s)) m turns x m' turns' y result → Made Carried m turns x m' turns' y result
+      → Made (λ w first s. settled line (cut_done c s)) (position m turns x) (position m' turns' y) result → Made Carried (position m turns x) (position m' turns' y) result
   cut_made c c' m m' turns turns' x y result e f p =
       let g : Some c ≡ cut leads name given = ap Some e ∙ f in
-      subst (λ part. Made part m turns x m' turns' y result) (λ j w first s. settled line (if_cut (g j) s)) p
+      subst (λ part. Made part (position m turns x) (position m' turns' y) result) (λ j w first s. settled line (if_cut (g j) s)) p
 
 -- ---- a call in a program
 
 -- what a part leads to first
 behind : (part part' : Part) (m m1 m' : Memory) (turns turns1 turns' : ℕ) (x y : Option Session) (result : Result (Unit {0}) Stop)
     → ((w : World) (first : Bool) (u : State) → part w first (holding m turns u) ≡ part' w first (holding m1 turns1 u))
-    → Made part' m1 turns1 x m' turns' y result → Made part m turns x m' turns' y result
+    → Made part' (position m1 turns1 x) (position m' turns' y) result → Made part (position m turns x) (position m' turns' y) result
 behind part part' m m1 m' turns turns1 turns' x y result h p = record {
   growth = p.growth;
   said = p.said;
   does = λ w first s rest.
-      subst (λ o. Answers result o (holding m' turns' (placed y rest (saying p.growth s)))) (sym (h w first (placed x (answers_in p.growth ++ rest) s))) (p.does w first s rest);
+      subst (λ o. Answers result o (running (position m' turns' y) rest (saying p.growth s))) (sym (h w first (placed x (answers_in p.growth ++ rest) s))) (p.does w first s rest);
 }
 
 ended : (e : Stop) (ending : Ending) (o : Res) (u : State) → IsOver e ending → o ≡ over ending u → Answers (Err e) o u
@@ -151,13 +151,13 @@ module _ (scope : List Ptr) (arguments : List Argument) (name : LibName) (line :
 
   -- an argument stops the run
   pub argument_stops : (why : NoValue) (e : Stop) (turns : ℕ) (x : Session) → Halted scope arguments m m1 why → IsOver e (ending_of line why)
-      → Made InProgram m turns (Some x) m1 turns (Some x) (Err e)
+      → Made InProgram (position m turns (Some x)) (position m1 turns (Some x)) (Err e)
   argument_stops why e turns x h is =
       quiet InProgram m m1 turns turns x (Err e) (λ w first u. ended e (ending_of line why) _ (holding m1 turns u) is (h w line first (record u { turns = turns }) Turning))
 
   -- there is no memory for the arguments
   pub arguments_left : (given : List (Arg ℕ)) (turns : ℕ) (x : Session) → Evaluated scope arguments m m1 given
-      → Made InProgram m turns (Some x) m1 turns (Some x) (Err stop.OutOfMemory)
+      → Made InProgram (position m turns (Some x)) (position m1 turns (Some x)) (Err stop.OutOfMemory)
   arguments_left given turns x h =
       quiet InProgram m m1 turns turns x (Err stop.OutOfMemory) (λ w first u.
       left_off (InProgram w first (holding m turns u)) (holding m1 turns u)
@@ -172,32 +172,32 @@ module _ (scope : List Ptr) (arguments : List Argument) (name : LibName) (line :
 
     -- no turn is left
     pub no_turn : (x : Session) → ((s : State) (go : State → Res) → turn (record s { turns = turns }) go ≡ turned false (record s { turns = turns1 }) go)
-        → Made InProgram m turns (Some x) m1 turns1 (Some x) (Err (stop.Over ends.TurnsSpent))
+        → Made InProgram (position m turns (Some x)) (position m1 turns1 (Some x)) (Err (stop.Over ends.TurnsSpent))
     no_turn x t = quiet InProgram m m1 turns turns1 x (Err (stop.Over ends.TurnsSpent)) (λ w first u. turned_so false t w first u)
 
     -- with its turn it is carried out
     pub in_turn : (m' : Memory) (turns' : ℕ) (x y : Option Session) (result : Result (Unit {0}) Stop)
         → ((s : State) (go : State → Res) → turn (record s { turns = turns }) go ≡ turned true (record s { turns = turns1 }) go)
-        → Made (Carried line name given) m1 turns1 x m' turns' y result → Made InProgram m turns x m' turns' y result
+        → Made (Carried line name given) (position m1 turns1 x) (position m' turns' y) result → Made InProgram (position m turns x) (position m' turns' y) result
     in_turn m' turns' x y result t p = behind InProgram (Carried line name given) m m1 m' turns turns1 turns' x y result (λ w first u. turned_so true t w first u) p
 
 -- ---- the call of a number
 
 module _ (all : List (LibName × List (Arg Exp))) (number line : ℕ) (scope : List Ptr) (m m' : Memory) (turns turns' : ℕ) where
   pub numbered : (x y : Option Session) (call : Call) (result : Result (Unit {0}) Stop) → Some (call_view call) ≡ slice_get all number
-      → Made (InProgram scope call.arguments call.name line m m) m turns x m' turns' y result
+      → Made (InProgram scope call.arguments call.name line m m) (position m turns x) (position m' turns' y) result
       → Called (library_step all) number line scope m turns x m' turns' y result
   numbered x y call result e p = record {
     growth = p.growth;
     said = p.said;
     does = λ w first s rest.
-        subst (λ o. Answers result (called_of no_step w (context line scope first) o (holding m turns (placed x (answers_in p.growth ++ rest) s))) (holding m' turns' (placed y rest (saying p.growth s)))) e
+        subst (λ o. Answers result (called_of no_step w (context line scope first) o (running (position m turns x) (answers_in p.growth ++ rest) s)) (running (position m' turns' y) rest (saying p.growth s))) e
         (p.does w first s rest);
   }
 
 pub unnumbered : (all : List (LibName × List (Arg Exp))) (number line : ℕ) (scope : List Ptr) (m : Memory) (turns : ℕ) (x : Session) → None ≡ slice_get all number
     → Called (library_step all) number line scope m turns (Some x) m turns (Some x) (Err (stop.Over ends.Stuck))
 unnumbered all number line scope m turns x e =
-    let p : Made (λ w first s. called_of no_step w (context line scope first) (slice_get all number) s) m turns (Some x) m turns (Some x) (Err (stop.Over ends.Stuck)) =
+    let p : Made (λ w first s. called_of no_step w (context line scope first) (slice_get all number) s) (position m turns (Some x)) (position m turns (Some x)) (Err (stop.Over ends.Stuck)) =
     quiet _ m m turns turns x (Err (stop.Over ends.Stuck)) (λ w first u j. called_of no_step w (context line scope first) (sym e j) (holding m turns u)) in
     record { growth = p.growth; said = p.said; does = p.does }

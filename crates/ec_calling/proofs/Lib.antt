@@ -1,3 +1,3 @@
 mod Carrying
 mod Evaluating
-mod Held
+pub mod Held

@@ -1,5 +1,5 @@
 -- The arguments of a call, evaluated.
-use Rattle.std.specs.Prelude.{◌≡◌, ℕ, Bool, List, map, Option, Some, None, Result, Ok, Err}
+use Rattle.std.specs.Prelude.{◌≡◌, ℕ, Bool, List, ◌∷◌, map, Option, Some, None, Result, Ok, Err}
 use Rattle.std.proofs.Common.{Bor}
 use Rattle.ec_arguments.specs.Arguments.{Arg}
 use Rattle.ec_bytes.specs.declared.scalar.address.Ptr.{Ptr}
@@ -11,6 +11,7 @@ use Rattle.ec_evaluation.specs.Results.{Res, over}
 use Rattle.ec_evaluation.specs.State.{State}
 use Rattle.ec_objects.specs.Memory.{Memory}
 use Rattle.ec_plain.specs.Answered.{at, context, ending_of}
+use Rattle.ec_resolved.specs.Resolved.{Exp}
 use Rattle.ec_values.specs.declared.word.Stop.{Stop}
 use Rattle.ec_calling.specs.declared.address.Address.{Address}
 use Rattle.ec_calling.specs.declared.call.Argument.{Argument}
@@ -25,19 +26,39 @@ bytes_of literal = literal.now
 abbrev pub number_of : Address → ℕ
 number_of address = (address.0).0
 
-abbrev pub seen : Given (Bor (List ℕ)) Address → Arg ℕ
+-- an argument as a call has it, over the literals of the program
+abbrev pub GivenArgument : Type 0
+GivenArgument = Given (Bor (List ℕ)) Address
+
+abbrev pub seen : GivenArgument → Arg ℕ
 seen x = cut.argument_view bytes_of number_of x
 
-abbrev pub all_seen : List (Given (Bor (List ℕ)) Address) → List (Arg ℕ)
+abbrev pub all_seen : List GivenArgument → List (Arg ℕ)
 all_seen xs = cut.arguments_view bytes_of number_of xs
+
+-- what goes on with the arguments that were given
+abbrev pub Next : Type 0
+Next = List (Arg ℕ) → State → Res
+
+-- arguments of a call on a line, evaluated over the objects in scope, and what goes on with them
+abbrev pub evaluated : List Ptr → List (Arg Exp) → World → ℕ → Bool → State → Next → Res
+evaluated scope arguments w line first s go =
+    arguments_given no_step w (context line scope first) arguments s go
 
 -- ---- one argument
 
 -- what goes on with it, or the end of the run on this line
-abbrev pub one_given : ℕ → Result (Given (Bor (List ℕ)) Address) Stop → State →
-    (Arg ℕ → State → Res) → Res
+abbrev pub one_given : ℕ → Result GivenArgument Stop → State → (Arg ℕ → State → Res) → Res
 one_given line (Ok x) t go = go (seen x) t
 one_given line (Err why) t go = over (ending_of line why) t
+
+-- whatever arguments stand behind it, and whatever goes on: it is given first, with the second memory, or it stops the run
+abbrev pub GivesOne : List Ptr → Arg Exp → Memory → Memory → Result GivenArgument Stop → Type 0
+GivesOne scope argument old new result =
+    (w : World) (line : ℕ) (first : Bool) (s : State) (rest : List (Arg Exp)) (go : Next)
+    → evaluated scope (argument ∷ rest) w line first (at s old) go
+    ≡ one_given line result (at s new)
+    (λ x t. evaluated scope rest w line first t (λ given u. go (x ∷ given) u))
 
 -- ---- all of them
 
@@ -45,21 +66,19 @@ module _ (scope : List Ptr) (arguments : List Argument) (old new : Memory) where
   -- whatever goes on with them, and whatever the tasks are: these are given, with the second memory
   abbrev pub Evaluated : List (Arg ℕ) → Type 0
   Evaluated given =
-      (w : World) (line : ℕ) (first : Bool) (s : State) (go : List (Arg ℕ) → State → Res)
-      → arguments_given no_step w (context line scope first)
-      (map argument_view arguments) (at s old) go
+      (w : World) (line : ℕ) (first : Bool) (s : State) (go : Next)
+      → evaluated scope (map argument_view arguments) w line first (at s old) go
       ≡ go given (at s new)
 
   -- they stop the run
   abbrev pub Halted : Stop → Type 0
   Halted why =
-      (w : World) (line : ℕ) (first : Bool) (s : State) (go : List (Arg ℕ) → State → Res)
-      → arguments_given no_step w (context line scope first)
-      (map argument_view arguments) (at s old) go
+      (w : World) (line : ℕ) (first : Bool) (s : State) (go : Next)
+      → evaluated scope (map argument_view arguments) w line first (at s old) go
       ≡ over (ending_of line why) (at s new)
 
   -- without memory for them they are evaluated all the same
-  abbrev pub Gives : Result (Option (List (Given (Bor (List ℕ)) Address))) Stop → Type 0
+  abbrev pub Gives : Result (Option (List GivenArgument)) Stop → Type 0
   Gives (Ok (Some given)) = Evaluated (all_seen given)
   Gives (Ok None) = (given : List (Arg ℕ)) × Evaluated given
   Gives (Err why) = Halted why

@@ -14,8 +14,19 @@ use Rattle.ec_runtime.specs.Calling.{connection_of}
 use Rattle.ec_runtime.specs.Does.{connections_of, current_of}
 use Rattle.ec_runtime.specs.declared.library.Library.{Library}
 
+-- ---- where a run stands
+
+-- where a run stands between its calls: its memory, the turns that are left, and what the library knows
+pub record Position : Type 0 where
+  pub memory : Memory
+  pub turns : ℕ
+  pub known : Option Session
+
+abbrev pub position : Memory → ℕ → Option Session → Position
+position m turns x = record { memory = m; turns = turns; known = x }
+
 module _ {X : Type 0} {F : X → Type 0} where
-  -- the connection that is open is the current one; there is no descriptor; and the log is that of the rack
+  -- the connection that is open is the current one; there is no descriptor; the log is the rack's
   abbrev pub known_of : Rack X F → Library X F → Option Session
   known_of rack it =
       Some (record {
@@ -24,6 +35,11 @@ module _ {X : Type 0} {F : X → Type 0} where
         descriptors = [];
         log = log_of rack;
       })
+
+  abbrev pub position_of : Memory → ℕ → Rack X F → Library X F → Position
+  position_of m turns rack it = position m turns (known_of rack it)
+
+-- ---- parts of a call
 
 -- what goes on where a turn was taken, or the end of the run
 abbrev pub turned : Bool → State → (State → Res) → Res
@@ -34,12 +50,14 @@ turned false s go = over turns_spent s
 abbrev pub Part : Type 0
 Part = World → Bool → State → Res
 
--- a part was carried out: over the answers that came, and then any others, it leads where it says, and leaves exactly the others
-pub record Made (part : Part) (m : Memory) (turns : ℕ) (x : Option Session)
-    (m' : Memory) (turns' : ℕ) (y : Option Session) (result : Result (Unit {0}) Stop) : Type 0 where
+-- a run at a position: over its memory, its turns and what the library knows, with these answers still to come
+abbrev pub running : Position → List Answer → State → State
+running p answers s = holding p.memory p.turns (placed p.known answers s)
+
+-- a part was carried out from one position to another: over the answers that came, and then any others, it leads where it says, and leaves exactly the others
+pub record Made (part : Part) (old new : Position) (result : Result (Unit {0}) Stop) : Type 0 where
   pub growth : List Logged
-  pub said : Said x y growth
+  pub said : Said old.known new.known growth
   pub does : (w : World) (first : Bool) (s : State) (rest : List Answer)
-      → Answers result
-      (part w first (holding m turns (placed x (answers_in growth ++ rest) s)))
-      (holding m' turns' (placed y rest (saying growth s)))
+      → Answers result (part w first (running old (answers_in growth ++ rest) s))
+      (running new rest (saying growth s))

@@ -10,27 +10,36 @@ use Rattle.ec_cut.specs.declared.arguments.Text.{Text}
 use Rattle.ec_calling.specs.declared.address.Address.{Address}
 use Rattle.ec_calling.specs.Giving.{bytes_of, number_of}
 
-abbrev pub text_seen : Text (Bor (List ℕ)) Address → spec.TextArg ℕ
+-- the parts of a call that is cut, over the literals of the program
+abbrev pub GivenText : Type 0
+GivenText = Text (Bor (List ℕ)) Address
+
+abbrev pub GivenMember : Type 0
+GivenMember = Member (Bor (List ℕ)) Address
+
+abbrev pub GivenStatement : Type 0
+GivenStatement = Statement (Bor (List ℕ)) Address
+
+abbrev pub text_seen : GivenText → spec.TextArg ℕ
 text_seen x = cut.text_view bytes_of number_of x
 
-abbrev pub member_seen : Member (Bor (List ℕ)) Address → spec.Member ℕ
+abbrev pub member_seen : GivenMember → spec.Member ℕ
 member_seen x = cut.member_view bytes_of number_of x
 
-abbrev pub members_seen : List (Member (Bor (List ℕ)) Address) → List (spec.Member ℕ)
+abbrev pub members_seen : List GivenMember → List (spec.Member ℕ)
 members_seen xs = cut.members_view bytes_of number_of xs
 
-abbrev pub statement_seen : Statement (Bor (List ℕ)) Address → spec.Statement ℕ
+abbrev pub statement_seen : GivenStatement → spec.Statement ℕ
 statement_seen x = cut.statement_view bytes_of number_of x
 
 abbrev pub cut_seen : Cut (Bor (List ℕ)) Address → spec.Cut ℕ
 cut_seen c = cut.cut_view bytes_of number_of c
 
--- a call of ECPGdo, by its parts
-abbrev pub run_seen : ℕ → Text (Bor (List ℕ)) Address → Statement (Bor (List ℕ)) Address →
-    List (Member (Bor (List ℕ)) Address) → List (Member (Bor (List ℕ)) Address) → spec.Cut ℕ
+-- a call of ECPGdo on a line: over which connection, which statement, with which values, into which hosts
+abbrev pub run_seen : ℕ → GivenText → spec.Statement ℕ → List GivenMember → List GivenMember →
+    spec.Cut ℕ
 run_seen line connection statement ins outs =
     record {
       line = line;
-      call = spec.run (text_seen connection) (statement_seen statement)
-          (members_seen ins) (members_seen outs);
+      call = spec.run (text_seen connection) statement (members_seen ins) (members_seen outs);
     }

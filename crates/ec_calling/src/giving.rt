@@ -1,15 +1,9 @@
 //! The arguments of a call, evaluated.
 
-ghost use Rattle.std.specs.Prelude.{◌≡◌, ℕ, Bool, true, List, ◌∷◌, ◌++◌, []};
-ghost use Rattle.ec_arguments.specs.Arguments.{Arg, pointer};
-ghost use Rattle.ec_calls.specs.Steps.{arguments_given, no_step};
+ghost use Rattle.std.specs.Prelude.{◌≡◌, true, ◌∷◌, ◌++◌, []};
+ghost use Rattle.ec_arguments.specs.Arguments.{pointer};
 ghost use Rattle.ec_code.specs.Views.{plain_view};
-ghost use Rattle.ec_evaluation.specs.Evaluate.{World};
-ghost use Rattle.ec_evaluation.specs.Results.{Res};
-ghost use Rattle.ec_evaluation.specs.State.{State};
-ghost use Rattle.ec_plain.specs.Answered.{at, context};
-ghost use Rattle.ec_resolved.specs.Resolved.{Exp};
-ghost use Rattle.ec_calling.specs.Giving.{Gives, all_seen, one_given, seen};
+ghost use Rattle.ec_calling.specs.Giving.{Gives, GivesOne, all_seen, seen};
 ghost use Rattle.ec_calling.specs.Views.{argument_view};
 
 use crate::address::Address;
@@ -29,13 +23,7 @@ fn pointer<'p>(
     scope: &[Ptr],
     expression: &'p Plain,
 ) -> Result<Given<&'p [u8], Address>, Stop>
-    ensures { (w : World) (line : ℕ) (first : Bool) (s : State) (rest : List (Arg Exp))
-        (go : List (Arg ℕ) → State → Res)
-        → arguments_given no_step w (context line scope.now first)
-        (pointer (plain_view expression.now) ∷ rest) (at s store.old) go
-        ≡ one_given line result (at s store.new)
-        (λ x t. arguments_given no_step w (context line scope.now first) rest t
-        (λ given u. go (x ∷ given) u)) }
+    ensures { GivesOne scope.now (pointer (plain_view expression.now)) store.old store.new result }
 {
     match evaluate(store, scope, expression).get() {
         Ok(Word::Address(ptr)) => Ok(Given::Pointer(Address(ptr))),
@@ -51,13 +39,7 @@ fn one<'p>(
     scope: &[Ptr],
     argument: &'p Argument,
 ) -> Result<Given<&'p [u8], Address>, Stop>
-    ensures { (w : World) (line : ℕ) (first : Bool) (s : State) (rest : List (Arg Exp))
-        (go : List (Arg ℕ) → State → Res)
-        → arguments_given no_step w (context line scope.now first)
-        (argument_view argument.now ∷ rest) (at s store.old) go
-        ≡ one_given line result (at s store.new)
-        (λ x t. arguments_given no_step w (context line scope.now first) rest t
-        (λ given u. go (x ∷ given) u)) }
+    ensures { GivesOne scope.now (argument_view argument.now) store.old store.new result }
 {
     match argument {
         Argument::Symbol(symbol) => Ok(Given::Symbol(*symbol)),
@@ -89,8 +71,8 @@ fn keep<'p>(
     }
 }
 
-/// The arguments of a call, evaluated in their order, or what stops the run at one of them. Where there is no memory for
-/// them all are evaluated, and none is given.
+/// The arguments of a call, evaluated in their order, or what stops the run at one of them.
+/// Where there is no memory for them all are evaluated, and none is given.
 pub(crate) fn give<'p>(
     alloc: Global,
     store: &mut Store,

@@ -1,5 +1,5 @@
-//! The calls of the library in a program, made for the machine that runs it: their arguments are evaluated, cut, and carried
-//! out over a rack of links.
+//! The calls of the library in a program, made for the machine that runs it: their arguments
+//! are evaluated, cut, and carried out over a rack of links.
 #![tactic(auto)]
 
 mod address;

@@ -5,12 +5,14 @@ ghost use Rattle.ec_calls.specs.Library.{library_call};
 ghost use Rattle.ec_calls.specs.Steps.{called, no_step, settled};
 ghost use Rattle.ec_evaluation.specs.Results.{Res, turn};
 ghost use Rattle.ec_evaluation.specs.State.{State};
+ghost use Rattle.ec_link.specs.Links.{faults_by, talk_by};
 ghost use Rattle.ec_machine.specs.Goes.{IsOver};
 ghost use Rattle.ec_plain.specs.Answered.{context, ending_of};
 ghost use Rattle.ec_runtime.specs.Calling.{Holds};
 ghost use Rattle.ec_runtime.specs.Statements.{call_action};
 ghost use Rattle.ec_calling.specs.Giving.{all_seen};
-ghost use Rattle.ec_calling.specs.Making.{Made, known_of, turned};
+ghost use Rattle.ec_calling.specs.Leading.{Moved};
+ghost use Rattle.ec_calling.specs.Making.{Made, position_of, turned};
 ghost use Rattle.ec_calling.specs.Views.{argument_view};
 
 use crate::address::Address;
@@ -22,7 +24,7 @@ use ec_base::Line;
 use ec_bytes::Ptr;
 use ec_ctypes::LibName;
 use ec_cut::{Argument as Given, cut};
-use ec_link::Rack;
+use ec_link::{Link, Rack};
 use ec_machine::{End, Stop};
 use ec_memory::Store;
 use ec_runtime::{Call as Served, CallStop, Library};
@@ -63,8 +65,10 @@ fn run(
 ) -> Result<(), Stop>
     requires { Holds library.old rack.old }
     ensures made { (turns : ℕ) → Made (λ w first s. settled line.0 (call_action call.now s))
-        store.old turns (known_of rack.old library.old) store.new turns
-        (known_of rack.new library.new) result }
+        (position_of store.old turns rack.old library.old)
+        (position_of store.new turns rack.new library.new) result }
+    ensures moved { Moved (talk_by ⟦<dyn Link as Link>⟧) (faults_by ⟦<dyn Link as Link>⟧)
+        rack.old library.old rack.new library.new }
     ensures still_holds { Holds library.new rack.new }
 {
     if !has_area(store) {
@@ -90,8 +94,10 @@ fn carry(
     requires { Holds library.old rack.old }
     ensures made { (turns : ℕ) → Made
         (λ w first s. settled line.0 (library_call name (all_seen given.now) s))
-        store.old turns (known_of rack.old library.old) store.new turns
-        (known_of rack.new library.new) result }
+        (position_of store.old turns rack.old library.old)
+        (position_of store.new turns rack.new library.new) result }
+    ensures moved { Moved (talk_by ⟦<dyn Link as Link>⟧) (faults_by ⟦<dyn Link as Link>⟧)
+        rack.old library.old rack.new library.new }
     ensures still_holds { Holds library.new rack.new }
 {
     match cut(alloc, name, given) {
@@ -104,10 +110,11 @@ fn carry(
     }
 }
 
-/// A call: its arguments are evaluated, it takes its turn, and it is carried out. Its traps are at this line.
+/// A call: its arguments are evaluated, it takes its turn, and it is carried out. Its traps are at
+/// this line.
 ///
-/// A call that the library doesn't make is left as if there were no memory for it, and so is one without a communication
-/// area.
+/// A call that the library doesn't make is left as if there were no memory for it, and so is one
+/// without a communication area.
 pub(crate) fn make(
     alloc: Global,
     store: &mut Store,
@@ -121,8 +128,10 @@ pub(crate) fn make(
     requires { Holds library.old rack.old }
     ensures made { Made (λ w first s. called no_step w (context line.0 scope.now first)
         call.now.name (map argument_view call.now.arguments) s)
-        store.old turns.old (known_of rack.old library.old) store.new turns.new
-        (known_of rack.new library.new) result }
+        (position_of store.old turns.old rack.old library.old)
+        (position_of store.new turns.new rack.new library.new) result }
+    ensures moved { Moved (talk_by ⟦<dyn Link as Link>⟧) (faults_by ⟦<dyn Link as Link>⟧)
+        rack.old library.old rack.new library.new }
     ensures still_holds { Holds library.new rack.new }
     ensures fewer { turns.new ≤ turns.old }
 {

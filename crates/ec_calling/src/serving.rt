@@ -1,14 +1,15 @@
-//! Calls that are cut, as the library is given them: those of ECPGdo with a text, over hosts and constants.
+//! Calls that are cut, as the library is given them: those of ECPGdo with a text, over hosts and
+//! constants.
 
 ghost use Rattle.std.specs.Prelude.{◌≡◌, IfSome, map, option_map};
-ghost use Rattle.ec_arguments.specs.Arguments.{normal, run};
+ghost use Rattle.ec_arguments.specs.Arguments.{normal};
 ghost use Rattle.ec_cut.specs.Views.{indicators_view, place_view};
 ghost use Rattle.ec_runtime.specs.Places as places;
 ghost use Rattle.ec_runtime.specs.Reading.{input_view, text_view};
 ghost use Rattle.ec_runtime.specs.Statements.{cut_view, target_view};
 ghost use Rattle.ec_runtime.specs.Views.{host_view};
 ghost use Rattle.ec_calling.specs.Giving.{number_of};
-ghost use Rattle.ec_calling.specs.Serving.{cut_seen, member_seen, members_seen, run_seen, text_seen};
+ghost use Rattle.ec_calling.specs.Serving.{cut_seen, member_seen, members_seen, run_seen, statement_seen, text_seen};
 
 use crate::address::Address;
 use ec_base::{Bytes, Line, List};
@@ -61,10 +62,7 @@ fn place_of(place: Place<Address>) -> HostPlace
 fn host_of(place: Place<Address>) -> Option<Host>
     ensures { IfSome result (λ host. host_view host ≡ place_view number_of place) }
 {
-    match Host::new(place_of(place)) {
-        Some(host) => Some(host),
-        None => None,
-    }
+    Host::new(place_of(place))
 }
 
 // A value that a statement is given.
@@ -150,12 +148,7 @@ fn made_of(
     outs: &[Member<&[u8], Address>],
 ) -> Option<Call>
     ensures { IfSome result (λ made. cut_view made
-        ≡ record {
-          line = line;
-          call
-              = run (text_seen connection.entry) (normal text.now)
-              (members_seen ins.now) (members_seen outs.now);
-        }) }
+        ≡ run_seen line connection.entry (normal text.now) ins.now outs.now) }
 {
     let Some(line) = line_of(line) else {
         return None;
@@ -191,7 +184,7 @@ fn run_of(
     outs: &[Member<&[u8], Address>],
 ) -> Option<Call>
     ensures { IfSome result (λ made. cut_view made
-        ≡ run_seen line connection.entry statement.entry ins.now outs.now) }
+        ≡ run_seen line connection.entry (statement_seen statement.entry) ins.now outs.now) }
 {
     match statement {
         Statement::Normal(text) => made_of(alloc, line, connection, text, ins, outs),
@@ -201,8 +194,8 @@ fn run_of(
     }
 }
 
-/// A call as the library is given it. There is none of another kind than those that the library makes, and none without
-/// memory.
+/// A call as the library is given it. There is none of another kind than those that the library
+/// makes, and none without memory.
 pub(crate) fn served(alloc: Global, cut: &Cut<&[u8], Address>) -> Option<Call>
     ensures { IfSome result (λ made. cut_view made ≡ cut_seen cut.now) }
 {

@@ -9,21 +9,24 @@ use crate::call::Call;
 use crate::making::make;
 use ec_base::Line;
 use ec_bytes::Ptr;
-use ec_link::Rack;
+use ec_link::{Link, Rack};
 use ec_machine::{End, Stop};
 use ec_memory::Store;
 use ec_running::Library;
 use ec_runtime::Library as Runtime;
 use std::alloc::Global;
+use std::marker::PhantomData;
 
 /// The library of a program whose calls are these, over a rack of links.
 ///
-/// It can't be dropped, since the library's connection has to be given back.
+/// It can't be dropped, since the library's connection has to be given back. It names the links,
+/// which the rack has inside, so that its ghost members can speak of what they tell.
 pub struct Session<'p, 'r> {
     pub alloc: Global,
     pub calls: &'p [Call],
     pub rack: &'r mut Rack,
     pub library: Runtime,
+    pub links: PhantomData<Box<dyn Link>>,
     ghost holds: { is_held library rack.now ≡ true },
 }
 
@@ -38,7 +41,8 @@ fn call_at<'p>(calls: &'p [Call], number: u32) -> Option<&'p Call>
 impl Library for Session<'_, '_> {
     ghost use Rattle.std.specs.Prelude.{map};
     ghost use Rattle.ec_calls.specs.Steps.{library_step};
-    ghost use Rattle.ec_calling.specs.Laws.{library_suits};
+    ghost use Rattle.ec_calling.specs.Laws.{library_suits, session_goes_on, session_stays};
+    ghost use Rattle.ec_calling.specs.Leading.{Leads};
     ghost use Rattle.ec_calling.specs.Making.{known_of};
     ghost use Rattle.ec_calling.specs.Views.{call_view};
 
@@ -46,7 +50,16 @@ impl Library for Session<'_, '_> {
 
     ghost session = { λ it. known_of it.rack.now it.library };
 
+    ghost leads = { λ old new. Leads (λ b. (Link-box b).talk b.value)
+        (λ b. (Link-box b).faults b.value) old.calls.now old.rack old.library
+        new.calls.now new.rack new.library };
+
     ghost suits = { λ it. library_suits (map call_view it.calls.now) };
+
+    ghost stays = { λ it. session_stays _ _ it.calls.now it.rack it.library };
+
+    ghost goes_on = { λ x y z. session_goes_on _ _ x.calls.now y.calls.now z.calls.now
+        x.rack y.rack z.rack x.library y.library z.library };
 
     fn call(
         &mut self,
@@ -91,6 +104,7 @@ impl<'p, 'r> Session<'p, 'r> {
             calls,
             rack,
             library,
+            links: PhantomData,
         }
     }
 }

@@ -1,5 +1,5 @@
 -- From the run of a program to what is promised of a call that runs written C.
-use Rattle.std.proofs.Common.{◌≡◌, ℕ, ◌+◌, ◌≤◌, ◌<◌, ◌^◌, List, [], ◌++◌, length, refl, ap, sym, ◌∙◌, subst, arith, Option, Some, inl, inr, Result, Ok, Err}
+use Rattle.std.proofs.Common.{◌≡◌, ℕ, ◌+◌, ◌≤◌, ◌<◌, ◌^◌, List, [], ◌++◌, length, refl, ap, sym, ◌∙◌, subst, arith, Option, None, Some, inl, inr, Result, Ok, Err}
 use Rattle.std.specs.Prelude.{◌⊎◌, ◌↔◌}
 use Rattle.std.specs.declared.alloc.Global.{Global as Allocator}
 use Rattle.std.specs.declared.dyn_box.DynBox.{DynBox}
@@ -14,8 +14,11 @@ use Rattle.ec_base.specs.declared.stop.Stop.TheVariants as stops
 use Rattle.ec_base.specs.Causes.{Rose}
 use Rattle.ec_base.specs.Reading.{ReadsAll, ReadsPart}
 use Rattle.ec_base.proofs.Transfers.{Reads-none, ReadsAll-text, ReadsPart-long}
+use Rattle.ec_link.proofs.Runs.{growth_of-grown}
+use Rattle.ec_link.specs.declared.connection.Conn.{Conn}
 use Rattle.ec_link.specs.declared.logged.Logged.{Logged}
 use Rattle.ec_link.specs.declared.rack.Rack.{Rack}
+use Rattle.ec_link.specs.declared.slot.Slot.{Slot}
 use Rattle.ec_link.specs.Logged.{Talk}
 use Rattle.ec_link.specs.Rack.{slots_of, log_of}
 use Rattle.ec_link.specs.Slot.{states, talk_at}
@@ -25,19 +28,21 @@ use Rattle.ec_observed.specs.Headline.{IsRead, RefusesAt, ReadsWithin}
 use Rattle.ec_observed.specs.Observed.{answers_in}
 use Rattle.ec_evaluation.specs.State as evaluation
 use Rattle.ec_evaluation.specs.State.{Answer}
-use Rattle.ec_resolved.specs.Programs.{Program}
-use Rattle.ec_execution.specs.Programs.{IsProgram, meaning}
+use Rattle.ec_execution.specs.Programs.{Executable, IsProgram, meaning}
 use Rattle.ec_execution.specs.Runs.{Runs, RunsPart}
 use Rattle.ec_execute.specs.declared.running.RunEnd.{RunEnd}
 use Rattle.ec_execute.specs.declared.running.RunEnd.TheVariants as ends
 use Rattle.ec_execute.specs.Answers.{TellsProgram}
 use Rattle.ec_execute.specs.Ends.{Performs}
+use Rattle.ec_execute.specs.Runs.{Connects, Ran, Takes}
+use Rattle.ec_runtime.specs.Calling.{GivesFirst, MayAsk as Asked}
 use Rattle.ec_cli.specs.Answers.{IsCrowded, grown}
 use Rattle.ec_cli.specs.Executing.{IsOfProgram, IsOfCarried, IsOfExecution, EndsAs, ending_of_program, limit_of, text_refusal, IsRefusedWritten, PassesWritten, DecidesExecution, meaning_over, Untouched, CarriedOut, CarriedPart, Carries, RefusesText, ExecutesText, ExecutesWhole, ExecutesPart, MayExecute, Executes}
-use Rattle.ec_cli.specs.Machine.{RunsOver}
+use Rattle.ec_cli.specs.Machine.{MayAsk, RunsOver}
 use Rattle.ec_cli.specs.declared.ending.Ending.{Ending}
 use Rattle.ec_cli.specs.declared.ending.Ending.TheVariants.{Wrote, Exited, Trapped, TurnsSpent, Usage, Refused, Limit, ReadFault, WriteFault, OutOfMemory}
-use Rattle.ec_cli.proofs.SameRack.{no_growth, logged, same_log, same_talks, same_dropped}
+use Rattle.ec_cli.proofs.SameRack.{same_log, same_talks, same_dropped}
+use Rattle.ec_cli.proofs.Sessions as session
 
 either : {A B C : Type 0} → (A → C) → (B → C) → A ⊎ B → C
 either f g (inl a) = f a
@@ -147,83 +152,108 @@ stopped_ending input_stop.OutOfMemory = OutOfMemory
 module _ {O E X : Type 0} {F : X → Type 0} (held : O → Option (List ℕ)) (puts : O → ℕ) (told : E → Option (List ℕ)) (tells : E → ℕ) (talk : DynBox X Allocator F → Option Talk) where
   -- ---- a program
 
-  module _ (p : Program) (turns : ℕ) (out out' : O) (err err' : E) (rack rack' : Rack X F) (same : log_of rack' ≡ log_of rack) (slots : RunsOver (slots_of rack) [] (slots_of rack')) where
-    grown_none : grown rack rack' ≡ []
-    grown_none = no_growth rack rack' same
+  module _ (faults : DynBox X Allocator F → ℕ) (x : Executable) (turns : ℕ) (out out' : O) (err err' : E) (rack rack' : Rack X F) where
+    module _ (growth : List Logged) (c : Connects talk faults rack rack' growth) where
+      taken_there : (was : Option (Conn X F)) (after : List (Slot X F)) → Takes (slots_of rack) was after → session.Takes talk faults (slots_of rack) after was
+      taken_there None after t = t
+      taken_there (Some conn) after t = t
 
-    over_slots : RunsOver (slots_of rack) (grown rack rack') (slots_of rack')
-    over_slots = subst (λ w. RunsOver (slots_of rack) w (slots_of rack')) (sym grown_none) slots
+      given_there : (now : Option (Conn X F)) (before : List (Slot X F)) → GivesFirst before now (slots_of rack') → session.Gives talk faults before (slots_of rack') now
+      given_there None before g = g
+      given_there (Some conn) before g = g
 
-    carried_out : (e : evaluation.Ending) (ending : Ending) → EndsAs e ending → Runs held puts told tells (meaning_over p turns rack rack') [] e out out' err err'
-        → CarriedOut held puts told tells talk p turns out out' err err' rack rack' ending
-    carried_out e ending agrees r = record {
-      ended = e;
-      ends = agrees;
-      runs = subst (λ w. Runs held puts told tells (meaning_over p turns rack rack') w e out out' err err') (sym grown_none) r;
-      slots = over_slots;
-    }
+      asked_there : (old new : Rack X F) (was now : Option (Conn X F)) → Asked talk faults old was new now growth → MayAsk talk faults old was new now growth
+      asked_there old new None None a = a
+      asked_there old new None (Some now) a = absurd a
+      asked_there old new (Some was) None a = absurd a
+      asked_there old new (Some was) (Some now) a = a
 
-    carried_part : RunsPart held puts told tells (meaning_over p turns rack rack') [] out out' err err' → CarriedPart held puts told tells talk p turns out out' err err' rack rack'
-    carried_part r = record {
-      part = subst (λ w. RunsPart held puts told tells (meaning_over p turns rack rack') w out out' err err') (sym grown_none) r;
-      slots = over_slots;
-    }
+      taken : session.Takes talk faults (slots_of rack) (slots_of c.opened) c.was
+      taken = taken_there c.was (slots_of c.opened) c.taken
 
-    module _ (talks : KeepsTalks (talk_at talk (slots_of rack)) (talk_at talk (slots_of rack')) []) (dropped : SparesDropped (states (slots_of rack)) (states (slots_of rack')) []) where
+      asked : MayAsk talk faults c.opened c.was c.given_back.closing c.given_back.now growth
+      asked = asked_there c.opened c.given_back.closing c.was c.given_back.now c.given_back.asked
+
+      given : session.Gives talk faults (slots_of c.given_back.closing) (slots_of rack') c.given_back.now
+      given = given_there c.given_back.now (slots_of c.given_back.closing) c.given_back.given
+
+      log_grown : log_of rack' ≡ log_of rack ++ growth
+      log_grown = session.run_logged talk faults rack c.opened c.given_back.closing rack' c.was c.given_back.now growth c.logged asked c.given_back.logged
+
+      same : growth ≡ grown rack rack'
+      same = sym (growth_of-grown (log_of rack) (log_of rack') growth log_grown)
+
+      over_slots : RunsOver (slots_of rack) (grown rack rack') (slots_of rack')
+      over_slots = subst (λ w. RunsOver (slots_of rack) w (slots_of rack')) same
+          (session.RunsOver-run talk faults rack c.opened c.given_back.closing rack' c.was c.given_back.now growth taken asked given)
+
       talks_kept : KeepsTalks (talk_at talk (slots_of rack)) (talk_at talk (slots_of rack')) (grown rack rack')
-      talks_kept = subst (λ w. KeepsTalks (talk_at talk (slots_of rack)) (talk_at talk (slots_of rack')) w) (sym grown_none) talks
+      talks_kept = subst (λ w. KeepsTalks (talk_at talk (slots_of rack)) (talk_at talk (slots_of rack')) w) same
+          (session.KeepsTalks-session talk faults rack c.opened c.given_back.closing rack' c.was c.given_back.now growth taken asked given)
 
       dropped_spared : SparesDropped (states (slots_of rack)) (states (slots_of rack')) (grown rack rack')
-      dropped_spared = subst (λ w. SparesDropped (states (slots_of rack)) (states (slots_of rack')) w) (sym grown_none) dropped
+      dropped_spared = subst (λ w. SparesDropped (states (slots_of rack)) (states (slots_of rack')) w) same
+          (session.SparesDropped-session talk faults rack c.opened c.given_back.closing rack' c.was c.given_back.now growth taken asked given)
+
+      log_logged : log_of rack' ≡ log_of rack ++ grown rack rack'
+      log_logged = log_grown ∙ ap (λ w. log_of rack ++ w) same
+
+    -- over the answers that the log got in this call
+    here : (end : RunEnd) (r : Ran talk faults held puts told tells x turns out out' err err' rack rack' end) → Performs held puts told tells (meaning_over x turns rack rack') (grown rack rack') out out' err err' end
+    here end r = subst (λ w. Performs held puts told tells (meaning x turns (ready_slot (states (slots_of rack))) (answers_in w)) w out out' err err' end) (same r.growth r.connects) r.performs
+
+    module _ (growth : List Logged) (c : Connects talk faults rack rack' growth) where
+      carried_out : (e : evaluation.Ending) (ending : Ending) → EndsAs e ending → Runs held puts told tells (meaning_over x turns rack rack') (grown rack rack') e out out' err err'
+          → CarriedOut held puts told tells talk x turns out out' err err' rack rack' ending
+      carried_out e ending agrees r = record { ended = e; ends = agrees; runs = r; slots = over_slots growth c }
+
+      carried_part : RunsPart held puts told tells (meaning_over x turns rack rack') (grown rack rack') out out' err err' → CarriedPart held puts told tells talk x turns out out' err err' rack rack'
+      carried_part r = record { part = r; slots = over_slots growth c }
 
       ran : (e : evaluation.Ending) (ending : Ending) → EndsAs e ending → IsOfCarried ending → (ending ≡ WriteFault → ⊥) → (ending ≡ OutOfMemory → ⊥)
-          → Runs held puts told tells (meaning_over p turns rack rack') [] e out out' err err' → Carries held puts told tells talk p turns out out' err err' rack rack' ending
+          → Runs held puts told tells (meaning_over x turns rack rack') (grown rack rack') e out out' err err' → Carries held puts told tells talk x turns out out' err err' rack rack' ending
       ran e ending agrees own calm room r = record {
         whole = λ h. carried_out e ending agrees r;
         part = λ h. absurd (either calm room h);
         ends = own;
-        talks = talks_kept;
-        dropped = dropped_spared;
-        logged = logged rack rack' same;
+        talks = talks_kept growth c;
+        dropped = dropped_spared growth c;
+        logged = log_logged growth c;
         fault = λ h. absurd (calm h);
         steady = λ h. (r.output.steady, r.errors.steady);
       }
 
-      pub carries : (end : RunEnd) → ((ready : Option (ℕ × List ℕ)) (answers : List Answer) → Performs held puts told tells (meaning p turns ready answers) out out' err err' end)
-          → Carries held puts told tells talk p turns out out' err err' rack rack' (ending_of_program end)
-      carries (ends.Exited status) h = ran (evaluation.exited status) (Exited status) refl tt (λ e. cc (e)) (λ e. cc (e)) (h (ready_slot (states (slots_of rack))) (answers_in (grown rack rack')))
-      carries (ends.Trapped trap line) h = ran (evaluation.trapped trap line.0) (Trapped trap line) refl tt (λ e. cc (e)) (λ e. cc (e)) (h (ready_slot (states (slots_of rack))) (answers_in (grown rack rack')))
-      carries ends.TurnsSpent h = ran evaluation.turns_spent TurnsSpent refl tt (λ e. cc (e)) (λ e. cc (e)) (h (ready_slot (states (slots_of rack))) (answers_in (grown rack rack')))
-      carries ends.WriteFault h =
-          let done = h (ready_slot (states (slots_of rack))) (answers_in (grown rack rack')) in
-          record {
-            whole = λ e. absurd e;
-            part = λ e. carried_part done.0;
-            ends = tt;
-            talks = talks_kept;
-            dropped = dropped_spared;
-            logged = logged rack rack' same;
-            fault = λ e. done.1;
-            steady = λ e. absurd (e refl);
-          }
-      carries ends.OutOfMemory h =
-          let done = h (ready_slot (states (slots_of rack))) (answers_in (grown rack rack')) in
-          record {
-            whole = λ e. absurd e;
-            part = λ e. carried_part done.0;
-            ends = tt;
-            talks = talks_kept;
-            dropped = dropped_spared;
-            logged = logged rack rack' same;
-            fault = λ e. absurd (cc (e));
-            steady = λ e. (done.1, done.2);
-          }
+      performed : (end : RunEnd) → Performs held puts told tells (meaning_over x turns rack rack') (grown rack rack') out out' err err' end
+          → Carries held puts told tells talk x turns out out' err err' rack rack' (ending_of_program end)
+      performed (ends.Exited status) done = ran (evaluation.exited status) (Exited status) refl tt (λ e. cc (e)) (λ e. cc (e)) done
+      performed (ends.Trapped trap line) done = ran (evaluation.trapped trap line.0) (Trapped trap line) refl tt (λ e. cc (e)) (λ e. cc (e)) done
+      performed ends.TurnsSpent done = ran evaluation.turns_spent TurnsSpent refl tt (λ e. cc (e)) (λ e. cc (e)) done
+      performed ends.WriteFault done = record {
+        whole = λ e. absurd e;
+        part = λ e. carried_part done.0;
+        ends = tt;
+        talks = talks_kept growth c;
+        dropped = dropped_spared growth c;
+        logged = log_logged growth c;
+        fault = λ e. done.1;
+        steady = λ e. absurd (e refl);
+      }
+      performed ends.OutOfMemory done = record {
+        whole = λ e. absurd e;
+        part = λ e. carried_part done.0;
+        ends = tt;
+        talks = talks_kept growth c;
+        dropped = dropped_spared growth c;
+        logged = log_logged growth c;
+        fault = λ e. absurd (cc (e));
+        steady = λ e. (done.1, done.2);
+      }
 
-      -- with the ending of the run
-      pub carries_by : (end : RunEnd) (ending : Ending) → ending ≡ ending_of_program end
-          → ((ready : Option (ℕ × List ℕ)) (answers : List Answer) → Performs held puts told tells (meaning p turns ready answers) out out' err err' end)
-          → Carries held puts told tells talk p turns out out' err err' rack rack' ending
-      carries_by end ending e h = subst (λ x. Carries held puts told tells talk p turns out out' err err' rack rack' x) (sym e) (carries end h)
+    -- with the ending of the run
+    pub carries_by : (end : RunEnd) (ending : Ending) → ending ≡ ending_of_program end → Ran talk faults held puts told tells x turns out out' err err' rack rack' end
+        → Carries held puts told tells talk x turns out out' err err' rack rack' ending
+    carries_by end ending e r =
+        subst (λ w. Carries held puts told tells talk x turns out out' err err' rack rack' w) (sym e) (performed r.growth r.connects end (here end r))
 
   -- ---- a call
 
@@ -288,7 +318,7 @@ module _ {O E X : Type 0} {F : X → Type 0} (held : O → Option (List ℕ)) (p
         (refused_decides turns _ _ text ending r.within h))
 
     -- a program that was carried out ends as it means to
-    concluded : (ending : Ending) (text : List ℕ) (p : Program) → length text ≤ 2 ^ 24 → IsProgram text (Ok p) → Carries held puts told tells talk p turns out out' err err' rack rack' ending
+    concluded : (ending : Ending) (text : List ℕ) (p : Executable) → length text ≤ 2 ^ 24 → IsProgram text (Ok p) → Carries held puts told tells talk p turns out out' err err' rack rack' ending
         → (Rose (puts out) (puts out') → ⊥) → (Rose (tells err) (tells err') → ⊥) → Sorted ending → DecidesExecution turns (ready_slot (states (slots_of rack))) (answers_in (grown rack rack')) text ending
     concluded ending text p small is c calm calm' (inl h) =
         let w = c.whole h in inr (inr (small, (Ok p, is, subst (λ e. EndsAs e ending) (sym w.runs.ends) w.ends)))
@@ -301,7 +331,7 @@ module _ {O E X : Type 0} {F : X → Type 0} (held : O → Option (List ℕ)) (p
     other_of ending (inr (inr e)) = inr (inr (inl e))
 
     -- its program was run
-    text_run : (ending : Ending) (text : List ℕ) (p : Program) → (IsCrowded rack → ⊥) → ReadsAll left reads input input' (2 ^ 24) text → IsProgram text (Ok p)
+    text_run : (ending : Ending) (text : List ℕ) (p : Executable) → (IsCrowded rack → ⊥) → ReadsAll left reads input input' (2 ^ 24) text → IsProgram text (Ok p)
         → Carries held puts told tells talk p turns out out' err err' rack rack' ending → Done ending
     text_run ending text p room r is c = record {
       whole = λ h. record { text = text; read = read_of text r; program = p; is = is; carried = c.whole h };

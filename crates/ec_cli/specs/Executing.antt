@@ -21,8 +21,7 @@ use Rattle.ec_observed.specs.Observed.{answers_in}
 use Rattle.ec_evaluation.specs.State as evaluation
 use Rattle.ec_evaluation.specs.State.{Answer}
 use Rattle.ec_evaluation.specs.Whole.{Observed}
-use Rattle.ec_resolved.specs.Programs.{Program}
-use Rattle.ec_execution.specs.Programs.{IsProgram, meaning}
+use Rattle.ec_execution.specs.Programs.{Executable, IsProgram, meaning}
 use Rattle.ec_execution.specs.Runs.{Runs, RunsPart}
 use Rattle.ec_execute.specs.declared.running.RunEnd.{RunEnd}
 use Rattle.ec_execute.specs.declared.running.RunEnd.TheVariants as ends
@@ -138,14 +137,15 @@ RefusesText text ReadFault = ⊥
 RefusesText text WriteFault = ⊥
 
 -- what the call ends with, where the text is run as this program or refused for this
-abbrev pub Concludes : ℕ → Option (ℕ × List ℕ) → List Answer → Result Program Stop → Ending → Type 0
+abbrev pub Concludes : ℕ → Option (ℕ × List ℕ) → List Answer → Result Executable Stop → Ending →
+    Type 0
 Concludes turns ready answers (Ok program) ending =
     EndsAs (meaning program turns ready answers).ending ending
 Concludes turns ready answers (Err stop) ending = ending ≡ text_refusal stop
 
 abbrev pub AnswersProgram : ℕ → Option (ℕ × List ℕ) → List Answer → List ℕ → Ending → Type 0
 AnswersProgram turns ready answers text ending =
-    (answer : Result Program Stop) × IsProgram text answer
+    (answer : Result Executable Stop) × IsProgram text answer
     × Concludes turns ready answers answer ending
 
 -- What a text decides, where nothing fails: more than 2^24 bytes pass the limit; any other text is refused as the phases of
@@ -160,7 +160,7 @@ DecidesExecution turns ready answers text ending =
 
 -- what a program means over the slots and the log of a rack
 abbrev pub meaning_over : {X : Type 0} {F : X → Type 0} →
-    Program → ℕ → Rack X F → Rack X F → Observed
+    Executable → ℕ → Rack X F → Rack X F → Observed
 meaning_over program turns rack rack' =
     meaning program turns (ready_slot (states (slots_of rack))) (answers_in (grown rack rack'))
 
@@ -180,7 +180,7 @@ module _ {O E X : Type 0} {F : X → Type 0} (held : O → Option (List ℕ)) (p
     pub links : rack' ≡ rack
 
   -- the whole of what the program means was carried out, and the slot that was ready is free
-  pub record CarriedOut (program : Program) (turns : ℕ) (out out' : O)
+  pub record CarriedOut (program : Executable) (turns : ℕ) (out out' : O)
       (err err' : E) (rack rack' : Rack X F) (ending : Ending) : Type 0 where
     pub ended : evaluation.Ending
     pub ends : EndsAs ended ending
@@ -189,14 +189,14 @@ module _ {O E X : Type 0} {F : X → Type 0} (held : O → Option (List ℕ)) (p
     pub slots : RunsOver (slots_of rack) (grown rack rack') (slots_of rack')
 
   -- a part of it was
-  pub record CarriedPart (program : Program) (turns : ℕ) (out out' : O)
+  pub record CarriedPart (program : Executable) (turns : ℕ) (out out' : O)
       (err err' : E) (rack rack' : Rack X F) : Type 0 where
     pub part : RunsPart held puts told tells
         (meaning_over program turns rack rack') (grown rack rack') out out' err err'
     pub slots : RunsOver (slots_of rack) (grown rack rack') (slots_of rack')
 
   -- what carrying a program out does, by its ending
-  pub record Carries (program : Program) (turns : ℕ) (out out' : O)
+  pub record Carries (program : Executable) (turns : ℕ) (out out' : O)
       (err err' : E) (rack rack' : Rack X F) (ending : Ending) : Type 0 where
     pub whole : IsOfProgram ending → CarriedOut program turns out out' err err' rack rack' ending
     pub part : (ending ≡ WriteFault) ⊎ (ending ≡ OutOfMemory) →
@@ -213,7 +213,7 @@ module _ {O E X : Type 0} {F : X → Type 0} (held : O → Option (List ℕ)) (p
   -- what a text leads to
   abbrev pub ExecutesText : ℕ → List ℕ → O → O → E → E → Rack X F → Rack X F → Ending → Type 0
   ExecutesText turns text out out' err err' rack rack' ending =
-      ((program : Program) × IsProgram text (Ok program)
+      ((program : Executable) × IsProgram text (Ok program)
       × Carries program turns out out' err err' rack rack' ending)
       ⊎ (RefusesText text ending × Untouched out out' err err' rack rack')
 
@@ -223,7 +223,7 @@ module _ {O E X : Type 0} {F : X → Type 0} (held : O → Option (List ℕ)) (p
         (err err' : E) (rack rack' : Rack X F) (ending : Ending) : Type 0 where
       pub text : List ℕ
       pub read : IsRead (left input) (left input') text
-      pub program : Program
+      pub program : Executable
       pub is : IsProgram text (Ok program)
       pub carried : CarriedOut program turns out out' err err' rack rack' ending
 
@@ -232,7 +232,7 @@ module _ {O E X : Type 0} {F : X → Type 0} (held : O → Option (List ℕ)) (p
         (err err' : E) (rack rack' : Rack X F) : Type 0 where
       pub text : List ℕ
       pub read : IsRead (left input) (left input') text
-      pub program : Program
+      pub program : Executable
       pub is : IsProgram text (Ok program)
       pub carried : CarriedPart program turns out out' err err' rack rack'
 

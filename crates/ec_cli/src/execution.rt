@@ -1,35 +1,16 @@
 //! The command `exec`: written C is read, and run.
-ghost use Rattle.std.specs.Prelude.{◌≡◌, []};
-ghost use Rattle.ec_code.specs.Views.{program_view};
+ghost use Rattle.std.specs.Prelude.{◌≡◌};
+ghost use Rattle.ec_execute.specs.Executables.{executable_view};
 ghost use Rattle.ec_link.specs.Links.{talk_by};
-ghost use Rattle.ec_link.specs.Rack.{slots_of, log_of};
-ghost use Rattle.ec_link.specs.Slot.{states, talk_at};
-ghost use Rattle.ec_link.specs.Told.{KeepsTalks, SparesDropped};
 ghost use Rattle.ec_cli.specs.Answers.{IsCrowded};
 ghost use Rattle.ec_cli.specs.Executing.{ending_of_program, text_refusal, Carries, ExecutesText, Executes};
-ghost use Rattle.ec_cli.specs.Machine.{RunsOver};
 
 use crate::command::{INPUT_LIMIT, is_crowded};
 use crate::ending::Ending;
-use crate::machine::release;
 use ec_base::{Bytes, InputStop, LimitKind, Sink, Source as Input, Stop, read_all};
-use ec_code::Program;
-use ec_execute::{RunEnd, read_program, run};
+use ec_execute::{Executable, RunEnd, read_program, run};
 use ec_link::{Link, Rack};
 use std::alloc::Global;
-
-// The first ready slot is free, if there is one: a program connects before it runs, and nothing asks over that connection.
-fn free_ready(rack: &mut Rack)
-    requires { IsCrowded rack.old → ⊥ }
-    ensures slots { RunsOver (slots_of rack.old) [] (slots_of rack.new) }
-    ensures log { log_of rack.new ≡ log_of rack.old }
-    ensures talks { KeepsTalks (talk_at (talk_by ⟦<dyn Link as Link>⟧) (slots_of rack.old))
-        (talk_at (talk_by ⟦<dyn Link as Link>⟧) (slots_of rack.new)) [] }
-    ensures dropped { SparesDropped (states (slots_of rack.old)) (states (slots_of rack.new)) [] }
-{
-    let conn = rack.take_ready();
-    release(rack, conn);
-}
 
 // The ending of a run.
 fn ended(end: RunEnd) -> Ending
@@ -58,7 +39,7 @@ fn refused(stop: Stop) -> Ending
 // Runs a program over the first ready slot, if there is one.
 fn run_over<O: Sink, E: Sink>(
     alloc: Global,
-    program: &Program,
+    executable: &Executable,
     turns: u64,
     out: &mut O,
     err: &mut E,
@@ -66,10 +47,10 @@ fn run_over<O: Sink, E: Sink>(
 ) -> Ending
     requires { IsCrowded rack.old → ⊥ }
     ensures { Carries O.held O.faults E.held E.faults (talk_by ⟦<dyn Link as Link>⟧)
-        (program_view program.now) turns out.old out.new err.old err.new rack.old rack.new result }
+        (executable_view executable.now) turns out.old out.new err.old err.new rack.old rack.new
+        result }
 {
-    free_ready(rack);
-    ended(run(alloc, program, turns, out, err))
+    ended(run(alloc, executable, turns, rack, out, err))
 }
 
 // Runs the program in a text, which is let go.
@@ -86,7 +67,7 @@ fn execute_text<O: Sink, E: Sink>(
         turns text out.old out.new err.old err.new rack.old rack.new result }
 {
     match read_program(alloc, text.as_slice()) {
-        Ok(program) => run_over(alloc, &program, turns, out, err, rack),
+        Ok(executable) => run_over(alloc, &executable, turns, out, err, rack),
         Err(stop) => refused(stop),
     }
 }

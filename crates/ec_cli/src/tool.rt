@@ -63,8 +63,9 @@ fn perform<I: Source, O: Sink, E: Sink>(
 /// 64 slots are a limit, which is tested before the input is read.
 ///
 /// `exec`, with the options and links of `run`, runs the written C that `input` gives. What the program prints on its two
-/// outputs goes to `out` and `err`, which are flushed at its end, before the ending is decided. It makes no call of the
-/// library yet: the first ready slot of the rack, which it connects to, is free at the end, and nothing was asked.
+/// outputs goes to `out` and `err`, which are flushed at its end, before the ending is decided. It begins connected to the
+/// first ready slot of the rack, if it has one, which is free at the end. A program with a call that the library doesn't
+/// make yet is refused.
 ///
 /// A fault while the last line is put changes no ending.
 pub fn ec_main<I: Source, O: Sink, E: Sink>(

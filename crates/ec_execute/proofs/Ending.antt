@@ -1,68 +1,28 @@
--- From the run of a machine to what a program means.
+-- From the run of a machine to what is done of what a program means.
 use Rattle.std.proofs.Common.{◌≡◌, ◌⊎◌, inl, inr, ℕ, suc, ◌≤◌, List, [], ◌++◌, refl, ap, sym, ◌∙◌, subst, arith, Option, None, Some, append-nil}
 use Rattle.std.specs.Io.KnownBytes.{Appends, Keeps}
 use Rattle.ec_base.specs.Causes.{Rose}
 use Rattle.ec_base.specs.Putting.{Puts, Took}
-use Rattle.ec_base.proofs.Transfers.{Took-puts}
-use Rattle.ec_code.specs.declared.program.Program.{Program as Code}
-use Rattle.ec_code.specs.Views.{program_view}
-use Rattle.ec_evaluation.specs.Agree.{richer, beside, same_over, Kept, Agree, Never, Any, state_of}
-use Rattle.ec_evaluation.specs.Expanded.{itself}
-use Rattle.ec_evaluation.specs.Results.{Res, value, on, broke, continued, went, back, over}
-use Rattle.ec_evaluation.specs.State.{Answer, State, Ending}
-use Rattle.ec_evaluation.specs.Whole.{Observed, observed, opening_state, program_meaning, whole_within, without_atoms}
-use Rattle.ec_evaluation.proofs.WholeRuns.{within_twins, holds_at_end}
+use Rattle.ec_base.proofs.Transfers.{Puts-none, Took-puts}
+use Rattle.ec_evaluation.specs.State.{Ending}
+use Rattle.ec_evaluation.specs.Whole.{Observed}
+use Rattle.ec_link.specs.declared.logged.Logged.{Logged}
 use Rattle.ec_objects.specs.Memory.{Memory}
 use Rattle.ec_observed.specs.Run.{IsFront}
-use Rattle.ec_resolved.specs.Programs.{Program}
 use Rattle.ec_interp.specs.declared.end.RunEnd.{RunEnd as MachineEnd}
 use Rattle.ec_interp.specs.declared.end.RunEnd.TheVariants as machine
 use Rattle.ec_interp.specs.Ran as ran
-use Rattle.ec_execution.specs.Programs.{meaning}
 use Rattle.ec_execution.specs.Runs.{Runs, RunsPart}
 use Rattle.ec_execute.specs.declared.running.RunEnd.{RunEnd}
 use Rattle.ec_execute.specs.declared.running.RunEnd.TheVariants as ends
 use Rattle.ec_execute.specs.Ends.{Performs, end_of}
-
--- ---- a run that asks nothing
-
--- what is said so far
-abbrev Silent : State → Type 0
-Silent s = s.conversation ≡ []
-
-silent_kept : Kept Silent Never Any 0 []
-silent_kept = record { memory = λ s m p. p; printed = λ s o e p. p; turn = λ s k e p. p; both = λ e own. tt; spent = inr refl; first_later = λ e s t u a b. a; same_later = λ s. tt; later_still = λ s t u a b. tt; memory_later = λ s m. tt; printed_later = λ s o e. tt; turn_later = λ s k. tt; richer_later = λ s. tt }
-
-silent_step : Agree Silent Never Any 0 [] without_atoms without_atoms itself
-silent_step = record {
-  no_label = λ l n. refl;
-  embeds = λ w w' r c n. record { same = λ s s' p. same_over tt p; later = λ u. tt };
-  libraries = λ w w' r c n. record { same = λ s s' p. same_over tt p; later = λ u. tt };
-}
-
--- what is seen of a run is what its last state has
-seen_said : (r : Res) → (observed r).conversation ≡ (state_of r).conversation
-seen_said (value v s) = refl
-seen_said (on s) = refl
-seen_said (broke s) = refl
-seen_said (continued s) = refl
-seen_said (went l s) = refl
-seen_said (back v s) = refl
-seen_said (over e s) = refl
-
--- nothing is said to a server
-nothing_said : (p : Program) (turns : ℕ) (ready : Option (ℕ × List ℕ)) (answers : List Answer) → (program_meaning without_atoms p turns ready answers).conversation ≡ []
-nothing_said p turns ready answers =
-    let s = opening_state ready answers turns in
-    let twins = within_twins Silent Never Any 0 [] silent_kept without_atoms silent_step p turns s (richer 0 [] s) (beside refl) in
-    seen_said (whole_within without_atoms p turns s) ∙ holds_at_end Silent silent_kept twins
 
 -- ---- parts
 
 all_of : {A : Type 0} (xs : List A) → IsFront xs xs
 all_of xs = record { rest = []; same = sym (append-nil xs) }
 
-none_of : {A : Type 0} (xs : List A) → IsFront [] xs
+pub none_of : {A : Type 0} (xs : List A) → IsFront [] xs
 none_of xs = record { rest = xs; same = refl }
 
 -- bytes that were appended stay so where what is known is kept
@@ -86,11 +46,11 @@ rose_later a b c p q = omega arith
 
 module _ {O E : Type 0} (held : O → Option (List ℕ)) (puts : O → ℕ) (told : E → Option (List ℕ)) (tells : E → ℕ) where
   -- all of it is a part of it
-  part_of_whole : {m : Observed} {e : Ending} {out out' : O} {err err' : E} → Runs held puts told tells m [] e out out' err err' → RunsPart held puts told tells m [] out out' err err'
-  part_of_whole {m} r = record {
+  part_of_whole : {m : Observed} {growth : List Logged} {e : Ending} {out out' : O} {err err' : E} → Runs held puts told tells m growth e out out' err err' → RunsPart held puts told tells m growth out out' err err'
+  part_of_whole {m} {growth} r = record {
     printed = m.output;
     complained = m.errors;
-    conversation = none_of m.conversation;
+    conversation = record { rest = []; same = r.conversation ∙ sym (append-nil growth) };
     output_front = all_of m.output;
     errors_front = all_of m.errors;
     output = Took-puts r.output;
@@ -99,50 +59,51 @@ module _ {O E : Type 0} (held : O → Option (List ℕ)) (puts : O → ℕ) (tol
 
   -- ---- the machine
 
-  left_of : {m : Observed} {out out' : O} {err err' : E} (printed complained : List ℕ) → ran.IsFront printed m.output → ran.IsFront complained m.errors
-      → Took held puts out out' printed → Took told tells err err' complained → RunsPart held puts told tells m [] out out' err err'
-  left_of {m} printed complained a b p q = record {
+  left_of : {m : Observed} {growth : List Logged} {out out' : O} {err err' : E} (printed complained : List ℕ) → ran.IsFront growth m.conversation → ran.IsFront printed m.output → ran.IsFront complained m.errors
+      → Took held puts out out' printed → Took told tells err err' complained → RunsPart held puts told tells m growth out out' err err'
+  left_of printed complained said a b p q = record {
     printed = printed;
     complained = complained;
-    conversation = none_of m.conversation;
+    conversation = record { rest = said.0; same = said.1 };
     output_front = record { rest = a.0; same = a.1 };
     errors_front = record { rest = b.0; same = b.1 };
     output = p;
     errors = q;
   }
 
-  over_of : {m : Observed} {out out' : O} {err err' : E} {memory : Memory} {e : Ending} → m.conversation ≡ [] → ran.IsOver held puts told tells m out out' err err' memory e → Runs held puts told tells m [] e out out' err err'
-  over_of silent o = record { ends = o.ends; conversation = silent; output = o.prints.output; errors = o.prints.errors }
+  over_of : {m : Observed} {growth : List Logged} {out out' : O} {err err' : E} {memory : Memory} {e : Ending} → ran.IsOver held puts told tells m growth out out' err err' memory e → Runs held puts told tells m growth e out out' err err'
+  over_of o = record { ends = o.ends; conversation = o.conversation; output = o.prints.output; errors = o.prints.errors }
 
-  performed : (m : Observed) (out out' : O) (err err' : E) (memory : Memory) (end : MachineEnd) → m.conversation ≡ [] → ran.Ran held puts told tells m out out' err err' memory end
-      → Performs held puts told tells m out out' err err' (end_of end)
-  performed m out out' err err' memory (machine.Exited status) silent o = over_of silent o
-  performed m out out' err err' memory (machine.Trapped trap line) silent o = over_of silent o
-  performed m out out' err err' memory machine.TurnsSpent silent o = over_of silent o
-  performed m out out' err err' memory machine.Stuck silent o = (part_of_whole (over_of silent o), o.prints.output.steady, o.prints.errors.steady)
-  performed m out out' err err' memory machine.WriteFault silent f = (left_of f.printed f.complained f.output f.errors f.prints.output f.prints.errors, f.prints.failed)
-  performed m out out' err err' memory machine.OutOfMemory silent l =
-      (left_of l.printed l.complained l.output l.errors (Took-puts l.prints.output) (Took-puts l.prints.errors), l.prints.output.steady, l.prints.errors.steady)
+  pub performed : (m : Observed) (growth : List Logged) (out out' : O) (err err' : E) (memory : Memory) (end : MachineEnd) → ran.Ran held puts told tells m growth out out' err err' memory end
+      → Performs held puts told tells m growth out out' err err' (end_of end)
+  performed m growth out out' err err' memory (machine.Exited status) o = over_of o
+  performed m growth out out' err err' memory (machine.Trapped trap line) o = over_of o
+  performed m growth out out' err err' memory machine.TurnsSpent o = over_of o
+  performed m growth out out' err err' memory machine.Stuck o = (part_of_whole (over_of o), o.prints.output.steady, o.prints.errors.steady)
+  performed m growth out out' err err' memory machine.WriteFault f = (left_of f.printed f.complained f.conversation f.output f.errors f.prints.output f.prints.errors, f.prints.failed)
+  performed m growth out out' err err' memory machine.OutOfMemory l =
+      (left_of l.printed l.complained l.conversation l.output l.errors (Took-puts l.prints.output) (Took-puts l.prints.errors), l.prints.output.steady, l.prints.errors.steady)
 
-  performs : (p : Program) (turns : ℕ) (ready : Option (ℕ × List ℕ)) (answers : List Answer) (out out' : O) (err err' : E) (memory : Memory) (end : MachineEnd)
-      → ran.Ran held puts told tells (program_meaning without_atoms p turns ready answers) out out' err err' memory end
-      → Performs held puts told tells (meaning p turns ready answers) out out' err err' (end_of end)
-  unfolding meaning
-  performs p turns ready answers out out' err err' memory end r = performed _ out out' err err' memory end (nothing_said p turns ready answers) r
-
-  -- by a machine for the program
-  pub performs_by : (a b : Code) → a ≡ b → (turns : ℕ) (ready : Option (ℕ × List ℕ)) (answers : List Answer) (out out' : O) (err err' : E) (memory : Memory) (end : MachineEnd) (result : RunEnd)
-      → result ≡ end_of end → ran.Ran held puts told tells (program_meaning without_atoms (program_view a) turns ready answers) out out' err err' memory end
-      → Performs held puts told tells (meaning (program_view b) turns ready answers) out out' err err' result
-  performs_by a b same turns ready answers out out' err err' memory end result e r =
-      subst (λ x. Performs held puts told tells (meaning (program_view b) turns ready answers) out out' err err' x) (sym e)
-      (performs (program_view b) turns ready answers out out' err err' memory end
-      (subst (λ q. ran.Ran held puts told tells (program_meaning without_atoms (program_view q) turns ready answers) out out' err err' memory end) same r))
+  -- nothing was done
+  pub nothing_done : (m : Observed) (out : O) (err : E) → Performs held puts told tells m [] out out err err ends.OutOfMemory
+  nothing_done m out err = (
+    record {
+      printed = [];
+      complained = [];
+      conversation = none_of m.conversation;
+      output_front = none_of m.output;
+      errors_front = none_of m.errors;
+      output = Took-puts (Puts-none {held = held} {faults = puts} out);
+      errors = Took-puts (Puts-none {held = told} {faults = tells} err);
+    },
+    refl,
+    refl,
+  )
 
   -- ---- both outputs pass on what they kept back
 
-  module _ (m : Observed) (out put flushed : O) (err said passed : E) (output : Keeps (held put) (held flushed)) (errors : Keeps (told said) (told passed)) where
-    whole_kept : {e : Ending} → puts flushed ≡ puts put → tells passed ≡ tells said → Runs held puts told tells m [] e out put err said → Runs held puts told tells m [] e out flushed err passed
+  module _ (m : Observed) (growth : List Logged) (out put flushed : O) (err said passed : E) (output : Keeps (held put) (held flushed)) (errors : Keeps (told said) (told passed)) where
+    whole_kept : {e : Ending} → puts flushed ≡ puts put → tells passed ≡ tells said → Runs held puts told tells m growth e out put err said → Runs held puts told tells m growth e out flushed err passed
     whole_kept a b r = record {
       ends = r.ends;
       conversation = r.conversation;
@@ -150,7 +111,7 @@ module _ {O E : Type 0} (held : O → Option (List ℕ)) (puts : O → ℕ) (tol
       errors = puts_kept r.errors errors b;
     }
 
-    part_kept : puts put ≤ puts flushed → tells said ≤ tells passed → RunsPart held puts told tells m [] out put err said → RunsPart held puts told tells m [] out flushed err passed
+    part_kept : puts put ≤ puts flushed → tells said ≤ tells passed → RunsPart held puts told tells m growth out put err said → RunsPart held puts told tells m growth out flushed err passed
     part_kept a b r = record {
       printed = r.printed;
       complained = r.complained;
@@ -161,7 +122,7 @@ module _ {O E : Type 0} (held : O → Option (List ℕ)) (puts : O → ℕ) (tol
       errors = took_kept r.errors errors b;
     }
 
-    part_of : (end : RunEnd) → Performs held puts told tells m out put err said end → RunsPart held puts told tells m [] out put err said
+    part_of : (end : RunEnd) → Performs held puts told tells m growth out put err said end → RunsPart held puts told tells m growth out put err said
     part_of (ends.Exited status) h = part_of_whole h
     part_of (ends.Trapped trap line) h = part_of_whole h
     part_of ends.TurnsSpent h = part_of_whole h
@@ -177,7 +138,7 @@ module _ {O E : Type 0} (held : O → Option (List ℕ)) (puts : O → ℕ) (tol
     has_risen a b (inr r) = inr (rose_before _ _ _ b r)
 
     -- where both did
-    pub flushed_whole : (end : RunEnd) → puts flushed ≡ puts put → tells passed ≡ tells said → Performs held puts told tells m out put err said end → Performs held puts told tells m out flushed err passed end
+    pub flushed_whole : (end : RunEnd) → puts flushed ≡ puts put → tells passed ≡ tells said → Performs held puts told tells m growth out put err said end → Performs held puts told tells m growth out flushed err passed end
     flushed_whole (ends.Exited status) a b h = whole_kept a b h
     flushed_whole (ends.Trapped trap line) a b h = whole_kept a b h
     flushed_whole ends.TurnsSpent a b h = whole_kept a b h
@@ -186,7 +147,7 @@ module _ {O E : Type 0} (held : O → Option (List ℕ)) (puts : O → ℕ) (tol
 
     -- where one of them failed
     pub flushed_part : (end : RunEnd) → puts put ≤ puts flushed → tells said ≤ tells passed → Rose (puts put) (puts flushed) ⊎ Rose (tells said) (tells passed)
-        → Performs held puts told tells m out put err said end → Performs held puts told tells m out flushed err passed ends.WriteFault
+        → Performs held puts told tells m growth out put err said end → Performs held puts told tells m growth out flushed err passed ends.WriteFault
     flushed_part end a b rose h =
         let part = part_of end h in
         (part_kept a b part, has_risen part.output.later part.errors.later rose)

@@ -1,2 +1,4 @@
+pub mod Carrying
 pub mod Ending
+pub mod Flushing
 pub mod Telling

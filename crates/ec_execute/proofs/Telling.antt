@@ -2,8 +2,6 @@
 use Rattle.std.proofs.Common.{◌≡◌, ℕ, Bool, true, false, if◌then◌else◌, List, [], ◌∷◌, map, Option, None, Some, Result, Ok, Err, refl, sym, ap, ◌∙◌, subst}
 use Rattle.ec_base.specs.declared.stop.Stop.{Stop}
 use Rattle.ec_base.specs.declared.stop.Stop.TheVariants.{Refused, Limit, OutOfMemory}
-use Rattle.ec_code.specs.declared.program.Program.{Program}
-use Rattle.ec_code.specs.Views.{program_view}
 use Rattle.ec_ctypes.specs.declared.checked.typed.Typed.{Typed}
 use Rattle.ec_ctypes.specs.trees.Checked.{TypedData}
 use Rattle.ec_ctypes.specs.trees.Units.{UnitData}
@@ -11,7 +9,6 @@ use Rattle.ec_ctypes.specs.views.Checked.{typed_view}
 use Rattle.ec_ctypes.specs.views.Embedded.{emb_view}
 use Rattle.ec_language.specs.First.{Violation, comes_before, earlier, first_of, stop_at}
 use Rattle.ec_language.specs.Letters.{Text}
-use Rattle.ec_resolved.specs.Programs as resolved_by
 use Rattle.ec_sections.specs.Answers.{hosts_answer}
 use Rattle.ec_typing.specs.Answers.{answer_by, check_answer, checked, stop_of_unit, violations}
 use Rattle.ec_typing.specs.Worlds.{World}
@@ -21,6 +18,7 @@ use Rattle.ec_execution.specs.Laws.{HasOneProgram}
 use Rattle.ec_execution.specs.Programs.{resolved, IsProgram}
 use Rattle.ec_execution.specs.Programs.IsProgram.{left_of}
 use Rattle.ec_execute.specs.Answers.{Is, TellsProgram, IsOnlyProgram}
+use Rattle.ec_execute.specs.declared.executable.Executable.{Executable}
 
 -- ---- a program that is read has no violation
 
@@ -77,8 +75,8 @@ no_statements text t r = nothing_there emb_view t.unit.embs (of_tree r.tree (typ
 
 -- ---- whole texts
 
-pub of_checked : (text : Text) (t : TypedData) (answer : Result Program Stop) → ReadsWritten text (Ok t) → Is (resolved (Ok t)) answer → TellsProgram text answer
-of_checked text t (Ok program) h e = left_of (Ok t) h e
+pub of_checked : (text : Text) (t : TypedData) (answer : Result Executable Stop) → ReadsWritten text (Ok t) → Is (resolved (Ok t)) answer → TellsProgram text answer
+of_checked text t (Ok executable) h e = left_of (Ok t) h e
 of_checked text t (Err (Refused kind line)) h e = left_of (Ok t) h e
 of_checked text t (Err (Limit limit)) h e = left_of (Ok t) h e
 of_checked text t (Err OutOfMemory) h e = tt
@@ -89,8 +87,8 @@ of_refused text (Limit limit) h = left_of (Err _) h refl
 of_refused text OutOfMemory h = tt
 
 -- each text is run as one program
-pub only : (text : Text) (answer : Result Program Stop) → HasOneProgram → TellsProgram text answer → IsOnlyProgram text answer
-only text (Ok program) one told wanted h = one text _ _ told h
+pub only : (text : Text) (answer : Result Executable Stop) → HasOneProgram → TellsProgram text answer → IsOnlyProgram text answer
+only text (Ok executable) one told wanted h = one text _ _ told h
 only text (Err (Refused kind line)) one told wanted h = one text _ _ told h
 only text (Err (Limit limit)) one told wanted h = one text _ _ told h
 only text (Err OutOfMemory) one told wanted h = tt

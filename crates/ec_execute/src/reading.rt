@@ -1,33 +1,56 @@
 //! The program of written C.
 
-ghost use Rattle.std.specs.Prelude.{◌≡◌, true, [], Ok};
+ghost use Rattle.std.specs.Prelude.{◌≡◌, true, [], Ok, IfSome, map};
+ghost use Rattle.ec_code.specs.Views.{program_view};
 ghost use Rattle.ec_ctypes.specs.views.Checked.{typed_view};
 ghost use Rattle.ec_ctypes.specs.views.Units.{unit_view};
 ghost use Rattle.ec_typing.specs.Answers.{violations};
 ghost use Rattle.ec_execution.specs.Programs.{resolved};
+ghost use Rattle.ec_storage.specs.Stored as stored;
 ghost use Rattle.ec_execute.specs.Answers.{Is, TellsProgram, IsOnlyProgram};
+ghost use Rattle.ec_execute.specs.Executables.{executable_view};
 
+use crate::calls::calls_of;
+use crate::executable::Executable;
 use ec_base::{FaultKind, Stop};
-use ec_code::Program;
 use ec_ctypes::Typed;
 use ec_execution::written_programs_are_single;
 use ec_function_forms::resolve;
-use ec_library_calls::first_library_call;
+use ec_library_calls::first_unmade_call;
 use ec_read_written::read_written;
+use ec_storage::Resolved;
 use std::alloc::Global;
 
-// What is left of a program that was checked.
-#[tactic(auto, unfolding(ec_function_forms::specs::Clean::FindsNothing, ec_function_forms::specs::Clean::resolved_form))]
-fn resolve_checked(alloc: Global, typed: &Typed) -> Result<Program, Stop>
+// A program that is resolved, with its calls as they are made.
+fn linked(alloc: Global, resolved: Resolved) -> Option<Executable>
+    ensures { IfSome result (λ made. executable_view made ≡ record {
+      program = program_view resolved.program;
+      calls = map stored.call_view resolved.calls;
+    }) }
+{
+    let Resolved { program, calls } = resolved;
+    match calls_of(alloc, calls) {
+        Some(calls) => Some(Executable { program, calls }),
+        None => None,
+    }
+}
+
+// What is left of a program that was checked. That pointers in its calls are evaluated without calls is sure where all of
+// them are made; it isn't proved, and there is no memory for a program with another.
+#[tactic(auto, unfolding(ec_function_forms::specs::Clean::FindsNothing, ec_function_forms::specs::Clean::resolved_form, ec_function_forms::specs::Clean::called_form))]
+fn resolve_checked(alloc: Global, typed: &Typed) -> Result<Executable, Stop>
     requires no_statements { typed.now.unit.embs ≡ [] }
     requires no_violations { violations true (unit_view typed.now.unit) ≡ [] }
     ensures { Is (resolved (Ok (typed_view typed.now))) result }
 {
-    if let Some(line) = first_library_call(&typed.unit) {
+    if let Some(line) = first_unmade_call(&typed.unit) {
         return Err(Stop::Refused(FaultKind::F16, line));
     }
     match resolve(alloc, true, &typed.unit) {
-        Ok(program) => Ok(program),
+        Ok(resolved) => match linked(alloc, resolved) {
+            Some(executable) => Ok(executable),
+            None => Err(Stop::OutOfMemory),
+        },
         Err(_) => Err(Stop::OutOfMemory),
     }
 }
@@ -36,8 +59,9 @@ fn resolve_checked(alloc: Global, typed: &Typed) -> Result<Program, Stop>
 ///
 /// # Errors
 ///
-/// What `read_written` refuses the text for; and F16 where a program without other faults calls the library first.
-pub fn read_program(alloc: Global, text: &[u8]) -> Result<Program, Stop>
+/// What `read_written` refuses the text for; and F16 where a program without other faults makes a call first that the
+/// library doesn't make yet.
+pub fn read_program(alloc: Global, text: &[u8]) -> Result<Executable, Stop>
     ensures answer { TellsProgram text.now result }
     ensures only { IsOnlyProgram text.now result }
 {

@@ -1,16 +1,21 @@
 //! The run of a program.
 
-ghost use Rattle.std.specs.Prelude.{◌≡◌, ◌⊎◌, ◌≤◌, ℕ, List, Option as Maybe, OnOk, OnErr};
+ghost use Rattle.std.specs.Prelude.{◌≡◌, ◌⊎◌, ◌≤◌, ℕ, List, [], length, OnOk, OnErr};
 ghost use Rattle.std.specs.Io.KnownBytes.{Keeps};
 ghost use Rattle.ec_base.specs.Causes.{Rose};
-ghost use Rattle.ec_code.specs.Views.{program_view};
-ghost use Rattle.ec_evaluation.specs.State.{Answer};
-ghost use Rattle.ec_execution.specs.Programs.{meaning};
-ghost use Rattle.ec_execute.specs.Ends.{Performs, end_of};
+ghost use Rattle.ec_link.specs.Links.{talk_by, faults_by};
+ghost use Rattle.ec_link.specs.Rack.{slots_of};
+ghost use Rattle.ec_runtime.specs.Calling.{Holds};
+ghost use Rattle.ec_execute.specs.Ends.{end_of};
+ghost use Rattle.ec_execute.specs.Executables.{executable_view};
+ghost use Rattle.ec_execute.specs.Runs.{CarriedOut, Connects, Ran};
 
+use crate::executable::Executable;
 use ec_base::{Failed, Line, Sink, Trap};
-use ec_code::Program;
+use ec_calling::Session;
 use ec_interp::{Machine, RunEnd as MachineEnd};
+use ec_link::{Link, Rack};
+use ec_runtime::Library;
 use std::alloc::Global;
 
 /// How a run ended.
@@ -42,23 +47,72 @@ fn ended(end: MachineEnd) -> RunEnd
     }
 }
 
-// Runs a program. What it printed may not be passed on yet.
+// Carries a program out over the connection that is open, if one is, and gives it back. What the program printed may not be
+// passed on yet.
 fn carry_out<O: Sink, E: Sink>(
     alloc: Global,
-    program: &Program,
+    executable: &Executable,
     turns: u64,
+    rack: &mut Rack,
+    library: Library,
     out: &mut O,
     err: &mut E,
 ) -> RunEnd
-    ensures { (ready : Maybe (ℕ × List ℕ)) (answers : List Answer)
-        → Performs O.held O.faults E.held E.faults
-        (meaning (program_view program.now) turns ready answers)
-        out.old out.new err.old err.new result }
+    requires { Holds library rack.old }
+    ensures { CarriedOut (talk_by ⟦<dyn Link as Link>⟧) (faults_by ⟦<dyn Link as Link>⟧)
+        O.held O.faults E.held E.faults (executable_view executable.now) turns
+        out.old out.new err.old err.new library rack.old rack.new result }
 {
-    let mut machine = Machine::new(alloc, program);
-    let end = machine.go(turns, out, err);
+    let mut machine = Machine::new(alloc, &executable.program);
+    let mut session = Session::new(alloc, executable.calls.as_slice(), rack, library);
+    let end = machine.go(turns, &mut session, out, err);
     machine.give_up();
+    let Session {
+        alloc: _,
+        calls: _,
+        rack,
+        library,
+        links: _,
+    } = session;
+    library.finish(rack);
     ended(end)
+}
+
+// The first ready slot is free, if there is one, and nothing was asked over it.
+fn free_ready(rack: &mut Rack)
+    requires { length (slots_of rack.old) ≤ 64 }
+    ensures { Connects (talk_by ⟦<dyn Link as Link>⟧) (faults_by ⟦<dyn Link as Link>⟧)
+        rack.old rack.new [] }
+{
+    match rack.take_ready() {
+        Some(conn) => rack.give_back(conn),
+        None => {}
+    }
+}
+
+// Runs a program over the first ready slot, if there is one. What it printed may not be passed on yet.
+fn run_over<O: Sink, E: Sink>(
+    alloc: Global,
+    executable: &Executable,
+    turns: u64,
+    rack: &mut Rack,
+    out: &mut O,
+    err: &mut E,
+) -> RunEnd
+    requires { length (slots_of rack.old) ≤ 64 }
+    ensures { Ran (talk_by ⟦<dyn Link as Link>⟧) (faults_by ⟦<dyn Link as Link>⟧)
+        O.held O.faults E.held E.faults (executable_view executable.now) turns
+        out.old out.new err.old err.new rack.old rack.new result }
+{
+    let mut library = Library::new();
+    match library.open_ready(rack) {
+        Ok(()) => carry_out(alloc, executable, turns, rack, library, out, err),
+        Err(_) => {
+            library.finish(rack);
+            free_ready(rack);
+            RunEnd::OutOfMemory
+        }
+    }
 }
 
 // Passes on what both outputs kept back.
@@ -78,22 +132,22 @@ fn flush_both<O: Sink, E: Sink>(out: &mut O, err: &mut E) -> Result<(), Failed>
     }
 }
 
-/// Runs a program with so many turns. What it printed is passed on, however it ended.
-///
-/// A program with a call of the library, which doesn't run yet, may be left for want of memory.
+/// Runs a program with so many turns over the first ready slot of a rack, if it has one. The slot is free at the end. What
+/// the program printed is passed on, however it ended.
 pub fn run<O: Sink, E: Sink>(
     alloc: Global,
-    program: &Program,
+    executable: &Executable,
     turns: u64,
+    rack: &mut Rack,
     out: &mut O,
     err: &mut E,
 ) -> RunEnd
-    ensures { (ready : Maybe (ℕ × List ℕ)) (answers : List Answer)
-        → Performs O.held O.faults E.held E.faults
-        (meaning (program_view program.now) turns ready answers)
-        out.old out.new err.old err.new result }
+    requires { length (slots_of rack.old) ≤ 64 }
+    ensures { Ran (talk_by ⟦<dyn Link as Link>⟧) (faults_by ⟦<dyn Link as Link>⟧)
+        O.held O.faults E.held E.faults (executable_view executable.now) turns
+        out.old out.new err.old err.new rack.old rack.new result }
 {
-    let end = carry_out(alloc, program, turns, out, err);
+    let end = run_over(alloc, executable, turns, rack, out, err);
     match flush_both(out, err) {
         Ok(()) => end,
         Err(Failed) => RunEnd::WriteFault,

@@ -3,11 +3,10 @@ use Rattle.std.proofs.Common.{◌≡◌, Result, ap, sym, ◌∙◌}
 use Rattle.ec_base.specs.declared.stop.Stop.{Stop}
 use Rattle.ec_ctypes.specs.trees.Checked.{TypedData}
 use Rattle.ec_language.specs.Letters.{Text}
-use Rattle.ec_resolved.specs.Programs.{Program}
 use Rattle.ec_written.specs.Written.{ReadsWritten}
-use Rattle.ec_execution.specs.Programs.{resolved, IsProgram}
+use Rattle.ec_execution.specs.Programs.{Executable, resolved, IsProgram}
 use Rattle.ec_execution.specs.Programs.IsProgram.{left_of}
 
 pub single : (text : Text) → ((t t' : Result TypedData Stop) → ReadsWritten text t → ReadsWritten text t' → t ≡ t')
-    → (a b : Result Program Stop) → IsProgram text a → IsProgram text b → a ≡ b
+    → (a b : Result Executable Stop) → IsProgram text a → IsProgram text b → a ≡ b
 single text one a b (left_of t r e) (left_of t' r' e') = e ∙ ap resolved (one t t' r r') ∙ sym e'

@@ -2,12 +2,11 @@
 use Rattle.std.specs.Prelude.{◌≡◌, Result}
 use Rattle.ec_base.specs.declared.stop.Stop.{Stop}
 use Rattle.ec_language.specs.Letters.{Text}
-use Rattle.ec_resolved.specs.Programs.{Program}
-use Rattle.ec_execution.specs.Programs.{IsProgram}
+use Rattle.ec_execution.specs.Programs.{Executable, IsProgram}
 
 abbrev pub HasOneProgram : Type 0
 HasOneProgram =
-    (text : Text) (a b : Result Program Stop) → IsProgram text a → IsProgram text b → a ≡ b
+    (text : Text) (a b : Result Executable Stop) → IsProgram text a → IsProgram text b → a ≡ b
 
 abbrev pub HasProgram : Type 0
-HasProgram = (text : Text) → (answer : Result Program Stop) × IsProgram text answer
+HasProgram = (text : Text) → (answer : Result Executable Stop) × IsProgram text answer

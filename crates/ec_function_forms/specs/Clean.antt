@@ -1,8 +1,10 @@
--- Programs in which the checks find nothing, and their resolved forms. Both stay shut, since the walk of the checks is all of them.
-use Rattle.std.specs.Prelude.{◌≡◌, Bool, []}
+-- Programs in which the checks find nothing, their resolved forms, and their calls of the library.
+-- All stay shut, since the walk of the checks is all of them.
+use Rattle.std.specs.Prelude.{◌≡◌, Bool, List, []}
 use Rattle.ec_ctypes.specs.trees.Units.{UnitData}
 use Rattle.ec_resolved.specs.Programs.{Program}
-use Rattle.ec_resolving.specs.Programs.{program_by, resolve, walked}
+use Rattle.ec_resolving.specs.Programs.{library_calls_of, program_by, resolve, walked}
+use Rattle.ec_resolving.specs.Storage.{LibraryCall}
 use Rattle.ec_typing.specs.Answers.{violations}
 
 -- nothing is found, as written C or not
@@ -12,6 +14,10 @@ FindsNothing written u = violations written u ≡ []
 -- what is left of a program
 unfoldable pub resolved_form : Bool → UnitData → Program
 resolved_form written u = resolve written u
+
+-- the calls of the library in it, by their numbers
+unfoldable pub called_form : Bool → UnitData → List LibraryCall
+called_form written u = library_calls_of written u
 
 -- what is left of it whatever is found
 unfoldable pub walked_form : Bool → UnitData → Program

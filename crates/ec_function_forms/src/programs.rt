@@ -7,19 +7,18 @@ ghost use Rattle.ec_ctypes.specs.views.Units.{top_view, unit_view};
 ghost use Rattle.ec_forms.specs.Seen.{from, Reaches};
 ghost use Rattle.ec_resolving.specs.Programs as rule;
 ghost use Rattle.ec_scopes.specs.Seen.{world_of};
-ghost use Rattle.ec_storage.specs.Stored.{storage_of};
+ghost use Rattle.ec_storage.specs.Stored.{call_view, storage_of};
 ghost use Rattle.ec_typing.specs.Programs as checked;
-ghost use Rattle.ec_function_forms.specs.Clean.{FindsNothing, resolved_form, walked_form};
+ghost use Rattle.ec_function_forms.specs.Clean.{FindsNothing, called_form, resolved_form, walked_form};
 
 use crate::counting::{defined_names, defined_table, globals_in};
 use crate::functions::function_rule;
 use ec_base::OutOfMemory;
-use ec_code::Program;
 use ec_ctypes::{Top, Unit};
 use ec_forms::Resolver;
 use ec_scopes::Checker;
 use ec_statement_forms::declaration;
-use ec_storage::Storage;
+use ec_storage::{Resolved, Storage};
 use std::alloc::Global;
 
 /// What stands at the top level.
@@ -83,24 +82,31 @@ fn start(alloc: Global, written: bool, unit: &Unit) -> Result<Resolver, OutOfMem
     Ok(Resolver { checker, storage })
 }
 
-/// The resolved form of a program without embedded statements, whatever the checks find in it.
-fn walked(alloc: Global, written: bool, unit: &Unit) -> Result<Program, OutOfMemory>
+/// The resolved form of a program without embedded statements and its calls of the library, whatever the checks find in it.
+fn walked(alloc: Global, written: bool, unit: &Unit) -> Result<Resolved, OutOfMemory>
     requires { unit.now.embs ≡ [] }
-    ensures { IfOk result (λ p. program_view p ≡ walked_form written (unit_view unit.now)) }
+    ensures program { IfOk result
+        (λ it. program_view it.program ≡ walked_form written (unit_view unit.now)) }
+    ensures calls { IfOk result
+        (λ it. map call_view it.calls ≡ called_form written (unit_view unit.now)) }
 {
     let mut resolver = start(alloc, written, unit)?;
     tops_rule(&mut resolver, unit.tops.as_slice())?;
     let Resolver { checker, storage } = resolver;
     drop(checker);
-    storage.into_program()
+    storage.into_resolved()
 }
 
-/// The resolved form of a program without embedded statements, in which the checks find nothing.
+/// The resolved form of a program without embedded statements, in which the checks find nothing, and its calls of the
+/// library.
 #[tactic(none)]
-pub fn resolve(alloc: Global, written: bool, unit: &Unit) -> Result<Program, OutOfMemory>
+pub fn resolve(alloc: Global, written: bool, unit: &Unit) -> Result<Resolved, OutOfMemory>
     requires no_statements { unit.now.embs ≡ [] }
     requires no_violations { FindsNothing written (unit_view unit.now) }
-    ensures { IfOk result (λ p. program_view p ≡ resolved_form written (unit_view unit.now)) }
+    ensures program { IfOk result
+        (λ it. program_view it.program ≡ resolved_form written (unit_view unit.now)) }
+    ensures calls { IfOk result
+        (λ it. map call_view it.calls ≡ called_form written (unit_view unit.now)) }
 {
     walked(alloc, written, unit)
 }

@@ -1,14 +1,13 @@
 //! The machine, and its run.
 
-ghost use Rattle.std.specs.Prelude.{◌≡◌, ℕ, [], List, Option, map, slice_get};
+ghost use Rattle.std.specs.Prelude.{◌≡◌, [], map, slice_get};
 ghost use Rattle.std.specs.Option.{option_copied, option_map};
 ghost use Rattle.ec_code.specs.Views.{function_view, program_view};
-ghost use Rattle.ec_evaluation.specs.State.{Answer};
-ghost use Rattle.ec_evaluation.specs.Whole.{main_run, program_meaning, without_atoms};
-ghost use Rattle.ec_machine.specs.Goes.{at, world};
-ghost use Rattle.ec_running.specs.Runs.{Halts};
+ghost use Rattle.ec_evaluation.specs.Whole.{main_run};
+ghost use Rattle.ec_machine.specs.Goes.{at, tasks};
+ghost use Rattle.ec_running.specs.LibraryRuns.{HaltsWith};
 ghost use Rattle.ec_interp.specs.Ends.{halt_of};
-ghost use Rattle.ec_interp.specs.Ran.{IsNew, Ran};
+ghost use Rattle.ec_interp.specs.Ran.{IsNew, RanOver};
 
 use crate::end::{RunEnd, end_of, unopened};
 use ec_base::Sink;
@@ -16,7 +15,7 @@ use ec_code::{Function, Program};
 use ec_machine::Machine as Frames;
 use ec_memory::Store;
 use ec_opening::open_program;
-use ec_running::run_main;
+use ec_running::{Library, run_main_with};
 use std::alloc::Global;
 
 /// A machine for a program. It isn't let go by itself: `give_up` takes it apart.
@@ -37,23 +36,33 @@ impl<'p> Machine<'p> {
         }
     }
 
-    /// Runs the program from its beginning to the end of the run, within so many turns, and puts what it prints into two
-    /// sinks.
+    /// Runs the program from its beginning to the end of the run, within so many turns, and puts
+    /// what it prints into two sinks. The library makes its calls; a program without any runs over
+    /// `NoLibrary`.
     ///
-    /// Where the run is over, by its own end, a trap or want of turns, both sinks took all that the program prints, and the
-    /// memory is that at the end. Where a sink failed (`WriteFault`) or there was no memory left (`OutOfMemory`), they took
-    /// the front of it, and the run isn't gone on with.
-    pub fn go<O: Sink, E: Sink>(&mut self, turns: u64, out: &mut O, err: &mut E) -> RunEnd
+    /// Where the run is over, by its own end, a trap or want of turns, both sinks took all that the
+    /// program prints, all that it asks was asked, and the memory is that at the end. Where a sink
+    /// failed (`WriteFault`) or there was no memory left (`OutOfMemory`), they took the front of it,
+    /// a front was asked, and the run isn't gone on with.
+    pub fn go<L: Library, O: Sink, E: Sink>(
+        &mut self,
+        turns: u64,
+        library: &mut L,
+        out: &mut O,
+        err: &mut E,
+    ) -> RunEnd
         requires new { IsNew self.old }
-        ensures ran { (ready : Option (ℕ × List ℕ)) (answers : List Answer) → Ran O.held O.faults
-            E.held E.faults
-            (program_meaning without_atoms (program_view self.old.program.now) turns ready answers)
-            out.old out.new err.old err.new self.new.frames.store result }
+        ensures ran { RanOver O.held O.faults E.held E.faults (L.knowing library.old)
+            (program_view self.old.program.now) turns
+            (L.session library.old) (L.session library.new) out.old out.new err.old err.new
+            self.new.frames.store result }
+        ensures led { L.leads library.old library.new }
+        ensures same { L.knowing library.new ≡ L.knowing library.old }
         ensures program { self.new.program.now ≡ self.old.program.now }
     {
         self.frames.turns = turns;
         match open_program(&mut self.frames.store, self.program) {
-            Ok(()) => run_opened(&mut self.frames, self.program, out, err),
+            Ok(()) => run_opened(&mut self.frames, self.program, library, out, err),
             Err(why) => unopened(why),
         }
     }
@@ -72,23 +81,29 @@ impl<'p> Machine<'p> {
     }
 }
 
-/// Runs the first `main` of a program, over the objects that are there.
-fn run_opened<'p, O: Sink, E: Sink>(
+/// Runs the first `main` of a program, over the objects that are there. The library makes its
+/// calls.
+fn run_opened<'p, L: Library, O: Sink, E: Sink>(
     frames: &mut Frames<'p>,
     program: &'p Program,
+    library: &mut L,
     out: &mut O,
     err: &mut E,
 ) -> RunEnd
     requires no_frames { frames.old.frames ≡ [] }
     requires no_objects { frames.old.scope.count ≡ 0 }
-    ensures { Halts O.held O.faults E.held E.faults frames.old.turns
-        (λ k s. main_run without_atoms (world program.now.functions k)
+    ensures halts { HaltsWith O.held O.faults E.held E.faults frames.old.turns
+        (λ k s. main_run (L.knowing library.old)
+        (tasks (L.knowing library.old) program.now.functions k)
         (slice_get (program_view program.now).functions program.now.main) (at s frames.old))
-        out.old out.new err.old err.new frames.new (halt_of result) }
+        (L.session library.old) (L.session library.new) out.old out.new err.old err.new
+        frames.new (halt_of result) }
+    ensures led { L.leads library.old library.new }
+    ensures same { L.knowing library.new ≡ L.knowing library.old }
 {
     let functions = program.functions.as_slice();
     match function_at(functions, program.main) {
-        Some(main) => end_of(run_main(frames, functions, main, out, err)),
+        Some(main) => end_of(run_main_with(frames, functions, main, library, out, err)),
         None => RunEnd::Stuck,
     }
 }

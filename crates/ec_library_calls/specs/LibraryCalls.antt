@@ -1,24 +1,74 @@
--- Where a program of written C calls the library first.
-use Rattle.std.specs.Prelude.{Bool, true, false, ◌||◌, List, [], ◌∷◌, Option, Some, None, is_some}
+-- Where a program of written C first makes a call that the library doesn't make yet.
+use Rattle.std.specs.Prelude.{Bool, true, false, ◌||◌, ◌&&◌, not, List, [], ◌∷◌, Option, Some, None}
 use Rattle.ec_base.specs.declared.line.Line.{Line}
-use Rattle.ec_ctypes.specs.trees.Exprs.{ExprData, unary, binary, assign, bump, call, call_other, index, member, arrow, cast, size_expr, ExprList, no_exprs, exprs, InitData, one, many, InitList, no_inits, inits, InitOption, no_init, some_init, DeclaratorData, declarator, DeclaratorList, no_declarators, declarators, DeclData, decl}
+use Rattle.ec_ctypes.specs.Texts.{symbol_text}
+use Rattle.ec_ctypes.specs.declared.checked.library.LibName.{LibName}
+use Rattle.ec_ctypes.specs.declared.checked.library.LibName.TheVariants as library
+use Rattle.ec_ctypes.specs.declared.checked.library.Sym.{Sym}
+use Rattle.ec_ctypes.specs.declared.checked.library.Sym.TheVariants as symbol
+use Rattle.ec_ctypes.specs.trees.Exprs.{ExprData, identifier, unary, binary, assign, bump, call, call_other, index, member, arrow, cast, size_expr, ExprList, no_exprs, exprs, InitData, one, many, InitList, no_inits, inits, InitOption, no_init, some_init, DeclaratorData, declarator, DeclaratorList, no_declarators, declarators, DeclData, decl}
 use Rattle.ec_ctypes.specs.trees.Stmts.{StmtData, stmt, StmtKindData, expr_stmt, block_stmt, if_stmt, while_stmt, do_stmt, for_stmt, return_stmt, label_stmt, decl_stmt, StmtList, no_stmts, stmts, StmtOption, no_stmt, some_stmt}
 use Rattle.ec_ctypes.specs.trees.Units.{TopData, decl_top, func_top, UnitData}
-use Rattle.ec_language.specs.Letters.{Text}
+use Rattle.ec_language.specs.Letters.{Text, same_text}
 use Rattle.ec_typing.specs.Library.{library_call}
 
--- whether a function of this name is one of the library. A program declares none of such a name
-abbrev pub is_of_library : Text → Bool
-is_of_library name = is_some (library_call true name)
+-- whether a function is called in an expression, evaluated or not
+abbrev pub calls_function : ExprData → Bool
+calls_function (unary op a) = calls_function a
+calls_function (binary op a b) = calls_function a || calls_function b
+calls_function (assign op a b) = calls_function a || calls_function b
+calls_function (bump before up a) = calls_function a
+calls_function (call f es) = true
+calls_function (call_other f es) = true
+calls_function (index a b) = calls_function a || calls_function b
+calls_function (member a m) = calls_function a
+calls_function (arrow a m) = calls_function a
+calls_function (cast b stars a) = calls_function a
+calls_function (size_expr a) = calls_function a
+calls_function _ = false
+
+abbrev pub any_calls_function : ExprList → Bool
+any_calls_function no_exprs = false
+any_calls_function (exprs e es) = calls_function e || any_calls_function es
+
+-- whether an expression is this symbol of the library
+abbrev pub is_symbol : Sym → ExprData → Bool
+is_symbol s (identifier x) = same_text (symbol_text s) x
+is_symbol s _ = false
+
+-- whether the third argument, behind the line and the connection, says that a text is sent
+abbrev pub is_normal : ExprList → Bool
+is_normal (exprs line (exprs connection (exprs kind rest))) = is_symbol symbol.StatementNormal kind
+is_normal _ = false
+
+abbrev pub has_descriptor : ExprList → Bool
+has_descriptor no_exprs = false
+has_descriptor (exprs e es) = is_symbol symbol.Descriptor e || has_descriptor es
+
+-- The calls that the library makes: a text is sent, over hosts and constants, and no function is
+-- called for an argument.
+abbrev pub is_made : LibName → ExprList → Bool
+is_made library.Do es = is_normal es && not (has_descriptor es) && not (any_calls_function es)
+is_made _ es = false
+
+abbrev pub unmade : Option LibName → ExprList → Bool
+unmade None es = false
+unmade (Some name) es = not (is_made name es)
+
+-- Whether a call of this name is one of the library that it doesn't make yet. A program declares
+-- no such name.
+abbrev pub is_unmade : Text → ExprList → Bool
+is_unmade name es = unmade (library_call true name) es
 
 abbrev mutual
-  -- whether there is a call of the library in an expression. Types hold none: the lengths in them are constant
+  -- Whether there is such a call in an expression. Types hold none: the lengths in them are
+  -- constant.
   pub calls : ExprData → Bool
   calls (unary op a) = calls a
   calls (binary op a b) = calls a || calls b
   calls (assign op a b) = calls a || calls b
   calls (bump before up a) = calls a
-  calls (call f es) = is_of_library f || any_calls es
+  calls (call f es) = is_unmade f es || any_calls es
   calls (call_other f es) = calls f || any_calls es
   calls (index a b) = calls a || calls b
   calls (member a m) = calls a
@@ -68,7 +118,7 @@ abbrev pub or_else : Option Line → Option Line → Option Line
 or_else (Some line) o = Some line
 or_else None o = o
 
--- the line of the first statement that calls the library, in the order of the text
+-- the line of the first statement with such a call, in the order of the text
 abbrev mutual
   pub in_statement : StmtData → Option Line
   in_statement (stmt line kind) = in_kind line kind
@@ -109,5 +159,5 @@ in_tops [] = None
 in_tops (t ∷ ts) = or_else (in_top t) (in_tops ts)
 
 -- of a whole program
-unfoldable pub first_library_call : UnitData → Option Line
-first_library_call u = in_tops u.tops
+unfoldable pub first_unmade_call : UnitData → Option Line
+first_unmade_call u = in_tops u.tops

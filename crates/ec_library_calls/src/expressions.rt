@@ -1,21 +1,14 @@
-//! Calls in expressions and initializers (ISO/IEC 9899:1999, 6.5.2.2).
+//! Calls in expressions and initializers that the library doesn't make yet (ISO/IEC 9899:1999, 6.5.2.2).
 #![tactic(auto, using(ec_ctypes::specs::declared::tree::expr::Expr::the_lemmas))]
 
 ghost use Rattle.std.specs.Prelude.{◌≡◌};
 ghost use Rattle.ec_ctypes.specs.views.Exprs.{expr_view, expr_option_view, exprs_view, init_view, inits_view, init_option_view, declarator_view, declarators_view, decl_view};
 ghost use Rattle.ec_library_calls.specs.LibraryCalls as rule;
 
+use crate::made::is_unmade;
 use ec_ctypes::{Decl, Declarator, Expr, Init};
-use ec_known::library_call;
 
-/// Whether a function of this name is one of the library.
-fn is_of_library(name: &[u8]) -> bool
-    ensures { result ≡ rule.is_of_library name.now }
-{
-    library_call(true, name).is_some()
-}
-
-/// Whether there is a call of the library in the expression.
+/// Whether there is a call in the expression that the library doesn't make yet.
 #[cycle(calls)]
 pub(crate) fn calls(e: &Expr) -> bool
     ensures { result ≡ rule.calls (expr_view e.now) }
@@ -25,7 +18,10 @@ pub(crate) fn calls(e: &Expr) -> bool
         Expr::Binary(_, a, b) => calls(a.get()) || calls(b.get()),
         Expr::Assign(_, a, b) => calls(a.get()) || calls(b.get()),
         Expr::Bump { of, .. } => calls(of.get()),
-        Expr::Call(f, es) => is_of_library(f.as_slice()) || any_calls(es.get().as_slice()),
+        Expr::Call(f, es) => {
+            let arguments = es.get().as_slice();
+            is_unmade(f.as_slice(), arguments) || any_calls(arguments)
+        }
         Expr::CallOther(f, es) => calls(f.get()) || any_calls(es.as_slice()),
         Expr::Index(a, b) => calls(a.get()) || calls(b.get()),
         Expr::Member(a, _) => calls(a.get()),

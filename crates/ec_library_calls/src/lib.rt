@@ -1,8 +1,12 @@
-//! Where a program of written C calls the library of embedded SQL first (PostgreSQL manual, chapter ECPG).
+//! Where a program of written C first makes a call that the library of embedded SQL doesn't make yet (PostgreSQL manual,
+//! chapter ECPG).
 #![tactic(auto)]
 
+mod examples;
 mod expressions;
+mod made;
 mod programs;
 mod statements;
 
-pub use programs::first_library_call;
+pub use examples::worked_examples;
+pub use programs::first_unmade_call;

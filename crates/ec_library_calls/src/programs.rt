@@ -42,10 +42,10 @@ fn in_tops(tops: &[Top]) -> Option<Line>
     None
 }
 
-/// The line of the first statement of a program that calls the library, or none.
-#[tactic(auto, unfolding(crate::specs::LibraryCalls::first_library_call))]
-pub fn first_library_call(unit: &Unit) -> Option<Line>
-    ensures { result ≡ rule.first_library_call (unit_view unit.now) }
+/// The line of the first statement of a program with a call that the library doesn't make yet, or none.
+#[tactic(auto, unfolding(crate::specs::LibraryCalls::first_unmade_call))]
+pub fn first_unmade_call(unit: &Unit) -> Option<Line>
+    ensures { result ≡ rule.first_unmade_call (unit_view unit.now) }
 {
     in_tops(unit.tops.as_slice())
 }

@@ -1,4 +1,4 @@
-//! The first statement with a call (ISO/IEC 9899:1999, 6.8).
+//! The first statement with a call that the library doesn't make yet (ISO/IEC 9899:1999, 6.8).
 #![tactic(auto, using(ec_ctypes::specs::declared::tree::stmt::Stmt::the_lemmas, ec_ctypes::specs::declared::tree::stmt::StmtKind::the_lemmas))]
 
 ghost use Rattle.std.specs.Prelude.{◌≡◌, ◌||◌};
@@ -17,7 +17,7 @@ pub(crate) fn line_if(holds: bool, line: Line) -> Option<Line>
     if holds { Some(line) } else { None }
 }
 
-/// Whether there is a call in the parentheses of `for`.
+/// Whether there is such a call in the parentheses of `for`.
 fn parts_call(parts: &ForParts) -> bool
     ensures { result ≡ (rule.option_calls (expr_option_view parts.now.first)
         || rule.option_calls (expr_option_view parts.now.condition)
@@ -81,7 +81,7 @@ fn in_option(s: &Option<Boxed<Stmt>>) -> Option<Line>
     }
 }
 
-/// The line of the first of these that calls the library.
+/// The line of the first of these with such a call.
 #[cycle(lines)]
 pub(crate) fn in_statements(ss: &[Stmt]) -> Option<Line>
     ensures { result ≡ rule.in_statements (stmts_view ss.now) }

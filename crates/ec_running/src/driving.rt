@@ -78,6 +78,7 @@ pub fn run_on_with<'p, L: Library, O: Sink, E: Sink>(
         (L.session library.old) (L.session library.new) out.old out.new err.old err.new
         machine.new result }
     ensures same { L.knowing library.new ≡ L.knowing library.old }
+    ensures led { L.leads library.old library.new }
 {
     let mut focus = focus;
     loop {
@@ -107,6 +108,7 @@ pub fn run_main_with<'p, L: Library, O: Sink, E: Sink>(
         (L.session library.old) (L.session library.new) out.old out.new err.old err.new
         machine.new result }
     ensures same { L.knowing library.new ≡ L.knowing library.old }
+    ensures led { L.leads library.old library.new }
 {
     match machine.enter_main(main) {
         Ok(focus) => run_on_with(machine, functions, focus, library, out, err),
@@ -133,6 +135,7 @@ fn next_turn<'p, L: Library, O: Sink, E: Sink>(
         (L.session library.old) (L.session library.new) out.old out.new err.old err.new
         machine.new halt) }
     ensures same { L.knowing library.new ≡ L.knowing library.old }
+    ensures led { L.leads library.old library.new }
     ensures fewer { OnOk result (machine.new.turns < machine.old.turns) }
 {
     let turns = machine.turns;
@@ -165,6 +168,7 @@ fn advance<'p, L: Library, O: Sink, E: Sink>(
         (L.session library.old) (L.session library.new) out.old out.new err.old err.new
         machine.new halt) }
     ensures same { L.knowing library.new ≡ L.knowing library.old }
+    ensures led { L.leads library.old library.new }
     ensures nears { IfOk result (λ next. remaining machine.old.turns (Ok next) machine.new ≤ weight
         machine.old.frames focus.entry) }
 {

@@ -20,6 +20,9 @@ pub trait Library {
     /// What is known of the state of a run beside its memory, where anything is.
     ghost session: { Self → Option Session };
 
+    /// What calls leave: how a library may stand behind some of them, by how it stood before.
+    ghost leads: { Self → Self → Type 0 };
+
     /// Makes a call, with the objects in scope by their pointers. Its traps are at this line.
     ///
     /// After want of memory a front of what the call says was said.
@@ -34,10 +37,17 @@ pub trait Library {
         ensures same { knowing self.new ≡ knowing self.old }
         ensures called { Called (knowing self.old) number line.0 scope.now store.old turns.old
             (session self.old) store.new turns.new (session self.new) result }
+        ensures led { leads self.old self.new }
         ensures fewer { turns.new ≤ turns.old };
 
     /// Whole runs go by the step.
     ghost suits: { (x : Self) → Suits (knowing x) };
+
+    /// Without a call it stands where it stood.
+    ghost stays: { (x : Self) → leads x x };
+
+    /// Some calls and then some more are calls too.
+    ghost goes_on: { (x y z : Self) → leads x y → leads y z → leads x z };
 }
 
 /// The library of programs that make no call of one.
@@ -53,7 +63,13 @@ impl Library for NoLibrary {
 
     ghost session = { λ _. None };
 
+    ghost leads = { λ _ _. Unit {0} };
+
     ghost suits = { λ _. without_suits };
+
+    ghost stays = { λ _. tt };
+
+    ghost goes_on = { λ _ _ _ _ _. tt };
 
     fn call(
         &mut self,

@@ -6,6 +6,7 @@ mod block;
 mod embedded;
 mod library;
 mod names;
+mod resolved;
 mod site;
 mod storage;
 
@@ -13,5 +14,6 @@ pub use block::BlockObjects;
 pub use embedded::{Action, Actions, EmbeddedForm, Reference};
 pub use library::{Argument, LibraryCall};
 pub use names::Names;
+pub use resolved::Resolved;
 pub use site::{Site, site_leaf};
 pub use storage::Storage;

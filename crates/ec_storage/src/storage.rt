@@ -12,6 +12,7 @@ use crate::block::BlockObjects;
 use crate::embedded::EmbeddedForm;
 use crate::library::LibraryCall;
 use crate::names::Names;
+use crate::resolved::Resolved;
 use crate::site::Site;
 use ec_base::{List, OutOfMemory};
 use ec_code::{Function, GlobalVariable, Leaf, Literal, ObjectSize, Program};
@@ -222,16 +223,22 @@ impl Storage {
         inner.sizes
     }
 
-    /// The program.
-    pub fn into_program(self) -> Result<Program, OutOfMemory>
-        ensures { IfOk result (λ program. program_view program ≡ program_by (storage_of self)) }
+    /// The program, and its calls of the library.
+    pub fn into_resolved(self) -> Result<Resolved, OutOfMemory>
+        ensures program { IfOk result
+            (λ it. program_view it.program ≡ program_by (storage_of self)) }
+        ensures calls { IfOk result (λ it. map call_view it.calls ≡ (storage_of self).calls) }
     {
         let main = self.defined.place(b"main".as_slice())?;
-        Ok(Program {
+        let program = Program {
             globals: self.globals,
             literals: self.literals,
             functions: self.functions,
             main,
+        };
+        Ok(Resolved {
+            program,
+            calls: self.calls,
         })
     }
 }

@@ -2,6 +2,7 @@ use Rattle.std.proofs.Common.{◌∙◌, ap, sym}
 use Rattle.std.specs.Option.{option_map}
 use Rattle.ec_runtime.specs.Statements.{cut_view}
 use Rattle.ec_calling.specs.Giving.{all_seen}
+use Rattle.ec_calling.specs.Laws.{unmoved}
 use Rattle.ec_calling.specs.Serving.{cut_seen}
 use Rattle.ec_calling.proofs.Carrying.{cut_made, uncarried}
 use Rattle.ec_calling.proofs.making.carry.Goals as goal
@@ -16,3 +17,12 @@ returns-in-Some-clause-made g c = λ turns.
 
 pub returns-clause-made : goal.returns-clause-made
 returns-clause-made g c = λ turns. uncarried c.args.line.0 c.args.name (all_seen c.args.given.now) c.args.store.now turns _
+
+pub returns-in-Err-clause-moved : goal.returns-in-Err-clause-moved
+returns-in-Err-clause-moved g c = unmoved (λ z. (goal.Link-dyn g (z.vtable, z.value)).talk z.value) (λ z. (goal.Link-dyn g (z.vtable, z.value)).faults z.value) c.args.rack.now c.args.library.now
+
+pub returns-clause-moved : goal.returns-clause-moved
+returns-clause-moved g c = unmoved (λ z. (goal.Link-dyn g (z.vtable, z.value)).talk z.value) (λ z. (goal.Link-dyn g (z.vtable, z.value)).faults z.value) c.args.rack.now c.args.library.now
+
+pub returns-in-Ok-None-clause-moved : goal.returns-in-Ok-None-clause-moved
+returns-in-Ok-None-clause-moved g c = unmoved (λ z. (goal.Link-dyn g (z.vtable, z.value)).talk z.value) (λ z. (goal.Link-dyn g (z.vtable, z.value)).faults z.value) c.args.rack.now c.args.library.now

@@ -2,7 +2,8 @@ use Rattle.std.proofs.Common.{None, Ok, subst}
 use Rattle.ec_calls.specs.Library.{library_call}
 use Rattle.ec_calls.specs.Steps.{settled}
 use Rattle.ec_calling.specs.Giving.{all_seen, Evaluated, Gives, Halted}
-use Rattle.ec_calling.specs.Making.{Made, known_of}
+use Rattle.ec_calling.specs.Laws.{unmoved}
+use Rattle.ec_calling.specs.Making.{Made, position_of}
 use Rattle.ec_calling.proofs.Carrying.{argument_stops, arguments_left, in_turn, no_turn}
 use Rattle.ec_calling.proofs.making.make.Goals as goal
 
@@ -31,5 +32,14 @@ returns-else-not-take_turn-clause-made g c =
     (subst (λ a. Evaluated c.args.scope.now a c.args.store.now c.give.new.store (all_seen c.in-Ok-Some.given)) c.as_slice-arguments.ensures
     (subst (λ o. Gives c.args.scope.now c.as_slice-arguments.result.now c.args.store.now c.give.new.store (Ok o)) c.in-Ok-Some.field-0-is c.in-Ok-Some.ensures))
     c.carry.new.store c.take_turn.new.turns _ _ c.carry.result c.if-not-take_turn.ensures.turn
-    (subst (λ xs. Made (λ w first s. settled c.args.line.0 (library_call c.args.call.now.name (all_seen xs) s)) c.give.new.store c.take_turn.new.turns (known_of c.args.rack.now c.args.library.now) c.carry.new.store c.take_turn.new.turns (known_of c.carry.new.rack c.carry.new.library) c.carry.result)
+    (subst (λ xs. Made (λ w first s. settled c.args.line.0 (library_call c.args.call.now.name (all_seen xs) s)) (position_of c.give.new.store c.take_turn.new.turns c.args.rack.now c.args.library.now) (position_of c.carry.new.store c.take_turn.new.turns c.carry.new.rack c.carry.new.library) c.carry.result)
     c.as_slice-list.ensures (c.carry.ensures.made c.take_turn.new.turns))
+
+pub returns-then-not-take_turn-clause-moved : goal.returns-then-not-take_turn-clause-moved
+returns-then-not-take_turn-clause-moved g c = unmoved (λ z. (goal.Link-dyn g (z.vtable, z.value)).talk z.value) (λ z. (goal.Link-dyn g (z.vtable, z.value)).faults z.value) c.args.rack.now c.args.library.now
+
+pub returns-in-Err-clause-moved : goal.returns-in-Err-clause-moved
+returns-in-Err-clause-moved g c = unmoved (λ z. (goal.Link-dyn g (z.vtable, z.value)).talk z.value) (λ z. (goal.Link-dyn g (z.vtable, z.value)).faults z.value) c.args.rack.now c.args.library.now
+
+pub returns-in-Ok-None-clause-moved : goal.returns-in-Ok-None-clause-moved
+returns-in-Ok-None-clause-moved g c = unmoved (λ z. (goal.Link-dyn g (z.vtable, z.value)).talk z.value) (λ z. (goal.Link-dyn g (z.vtable, z.value)).faults z.value) c.args.rack.now c.args.library.now

@@ -5,4 +5,7 @@ pub walked-requires : goal.walked-requires
 walked-requires c = c.requires.no_statements
 
 pub returns : goal.returns
-returns c = resolved c.walked.result c.args.written c.args.unit.now c.requires.no_violations c.walked.ensures
+returns c = record {
+  program = resolved c.walked.result c.args.written c.args.unit.now c.requires.no_violations c.walked.ensures.program;
+  calls = c.walked.ensures.calls;
+}

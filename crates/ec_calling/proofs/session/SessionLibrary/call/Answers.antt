@@ -1,4 +1,5 @@
-use Rattle.std.specs.Prelude.{map}
+use Rattle.std.specs.Prelude.{map, refl}
+use Rattle.ec_calling.specs.Laws.{session_stays}
 use Rattle.ec_calling.specs.Making.{known_of}
 use Rattle.ec_calling.specs.Views.{call_view}
 use Rattle.ec_calling.proofs.Carrying.{numbered}
@@ -12,3 +13,16 @@ pub returns-in-Some-clause-called : goal.returns-in-Some-clause-called
 returns-in-Some-clause-called g c =
     numbered (map call_view c.args.self.now.calls.now) c.args.number c.args.line.0 c.args.scope.now c.args.store.now c.make.new.store c.args.turns.now c.make.new.turns
     (known_of c.args.self.now.rack.now c.args.self.now.library) (known_of c.make.new.rack c.make.new.library) c.in-Some.call.now c.make.result c.in-Some.ensures c.make.ensures.made
+
+pub returns-in-Some-clause-led : goal.returns-in-Some-clause-led
+returns-in-Some-clause-led g c = record {
+  growth = c.make.ensures.moved.growth;
+  asked = c.make.ensures.moved.asked;
+  same_reference = refl;
+  same_calls = refl;
+}
+
+pub returns-in-None-clause-led : goal.returns-in-None-clause-led
+returns-in-None-clause-led g c =
+    session_stays (λ z. (goal.Link-dyn g (z.vtable, z.value)).talk z.value) (λ z. (goal.Link-dyn g (z.vtable, z.value)).faults z.value)
+    c.args.self.now.calls.now c.args.self.now.rack c.args.self.now.library

@@ -1,0 +1,33 @@
+//! Worked examples, as the contract of a function that does nothing.
+#![tactic(auto, unfolding(crate::specs::LibraryCalls::first_unmade_call))]
+
+ghost use Rattle.std.specs.Prelude.{◌≡◌};
+ghost use Rattle.ec_library_calls.specs.Examples.{unmade_in, nowhere, on_line};
+
+/// A call over hosts and constants is made; one over a descriptor, of a prepared statement, with a function called for an
+/// argument, or of another function of the library isn't yet. The first such call in the text counts.
+pub fn worked_examples()
+    ensures no_call { unmade_in "f();"
+        ≡ nowhere }
+    ensures text_alone { unmade_in
+        "ECPGdo(2, NULL, ECPGst_normal, \"delete from t\", ECPGt_EOIT, ECPGt_EORT);"
+        ≡ nowhere }
+    ensures host { unmade_in
+        "ECPGdo(2, NULL, ECPGst_normal, \"s\", ECPGt_EOIT, ECPGt_int, &a[1], 0L, 1L, 4L, ECPGt_NO_INDICATOR, NULL, 0L, 0L, 0L, ECPGt_EORT);"
+        ≡ nowhere }
+    ensures descriptor { unmade_in
+        "ECPGdo(2, NULL, ECPGst_normal, \"s\", ECPGt_EOIT, ECPGt_descriptor, \"d\", 1L, 1L, 1L, ECPGt_NO_INDICATOR, NULL, 0L, 0L, 0L, ECPGt_EORT);"
+        ≡ on_line 2 }
+    ensures function_called { unmade_in
+        "ECPGdo(2, NULL, ECPGst_normal, \"s\", ECPGt_EOIT, ECPGt_int, &a[f()], 0L, 1L, 4L, ECPGt_NO_INDICATOR, NULL, 0L, 0L, 0L, ECPGt_EORT);"
+        ≡ on_line 2 }
+    ensures prepared { unmade_in
+        "ECPGdo(2, NULL, ECPGst_execute, \"s\", ECPGt_EOIT, ECPGt_EORT);"
+        ≡ on_line 2 }
+    ensures other_function { unmade_in
+        "ECPGtrans(2, NULL, \"commit\");"
+        ≡ on_line 2 }
+    ensures behind_others { unmade_in
+        "ECPGdo(2, NULL, ECPGst_normal, \"s\", ECPGt_EOIT, ECPGt_EORT);\nif (f()) ECPGtrans(3, NULL, \"commit\");\nECPGdisconnect(4, \"CURRENT\");"
+        ≡ on_line 3 }
+{}
