@@ -593,11 +593,11 @@ def tampered(rng, text):
         return text
     at = rng.choice(calls)
     change = rng.choice([
-        ("ECPGst_normal", "ECPGst_execute"), ("ECPGst_normal", "ECPGst_exec_immediate"), ("0L, ", ""), ("1L", "0L"), ("1L", "1"),
+        ("ECPGst_normal", "ECPGst_execute"), ("ECPGst_normal", "ECPGst_exec_immediate"), (" 0L, ", " "), ("1L", "0L"), ("1L", "1"),
         ("NULL, ECPGst", '"a", ECPGst'), ("ECPGt_EOIT", "ECPGt_EORT"), (", ECPGt_EORT", ""), ("ECPGt_int", "ECPGt_long"),
         ("ECPGt_short", "ECPGt_unsigned_short"), ("2L", "16777217L"), ("NULL, 0L, 0L, 0L", "NULL, 0L, 1L, 0L"), ("NULL", "0"),
         ("ECPGt_EOIT", "ECPGt_descriptor, \"d\", 1L, 1L, 1L, ECPGt_NO_INDICATOR, NULL, 0L, 0L, 0L, ECPGt_EOIT"),
-        ("ECPGt_EOIT", "ECPGt_char, strcpy(room, \"x\"), 5L, 1L, 5L, ECPGt_NO_INDICATOR, NULL, 0L, 0L, 0L, ECPGt_EOIT"),
+        ("ECPGt_EOIT", "ECPGt_char, strcpy(sqlca.sqlerrm.sqlerrmc, \"x\"), 5L, 1L, 5L, ECPGt_NO_INDICATOR, NULL, 0L, 0L, 0L, ECPGt_EOIT"),
         ("ECPGdo(", "ECPGdisconnect(1, \"db\");\nECPGdo("), ("ECPGdo(", "ECPGtrans(1, NULL, \"commit\");\nECPGdo("),
     ])
     return text[:at] + text[at:].replace(*change, 1)
@@ -634,7 +634,11 @@ def row(seed):
     """The row of a seed, and its run. Each fifth program is one that the precompiler writes."""
     rng = random.Random(f"calls {seed}")
     while True:
-        found, run = row_tried(rng, f"calls {seed}", seed % 5 == 4)
+        try:
+            found, run = row_tried(rng, f"calls {seed}", seed % 5 == 4)
+        except SyntaxError:
+            # what was put before a call stands in parentheses
+            continue
         # the outputs of a row hold no more
         if len(run.output) <= ROOM and len(run.errors) < 3900:
             return found, run
