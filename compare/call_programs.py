@@ -636,8 +636,8 @@ def row(seed):
     while True:
         try:
             found, run = row_tried(rng, f"calls {seed}", seed % 5 == 4)
-        except SyntaxError:
-            # what was put before a call stands in parentheses
+        except (SyntaxError, KeyError):
+            # what was put before a call stands where no statement may
             continue
         # the outputs of a row hold no more
         if len(run.output) <= ROOM and len(run.errors) < 3900:
