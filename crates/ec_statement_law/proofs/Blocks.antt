@@ -1,6 +1,6 @@
 -- The block that is written for a statement does what the statement does with its handlers, and then ends the objects that were made since.
-use Rattle.std.proofs.Common.{◌≡◌, ◌∙◌, ℕ, zero, suc, Bool, true, false, List, [], ◌∷◌, Option, Some, None, refl, sym, inl}
-use Rattle.std.specs.Prelude.{◌||◌, slice_get}
+use Rattle.std.proofs.Common.{◌≡◌, ◌∙◌, ℕ, zero, suc, Bool, true, false, List, Some, refl, inl}
+use Rattle.std.specs.Prelude.{slice_get}
 use Rattle.ec_arguments.specs.Arguments.{name_of}
 use Rattle.ec_arguments.specs.Writing.{arguments}
 use Rattle.ec_ctypes.specs.declared.embedded.emb.Cond.{Cond}
@@ -108,7 +108,8 @@ pub tests_bare : (l n : ℕ) (actions : ActionForms) → holds_any l (tests_stms
 tests_bare l n actions =
     before_bare l n NotFound actions.none_found _ (before_bare l n Warning actions.warning _ (before_bare l n Error actions.error no_stms refl))
 
-settle_bare : (w : World) (c : Context) (b : Stms) → ((l : ℕ) → holds_any l b ≡ false) → (o : Res) → settle w c b o ≡ o
+-- a block without labels answers no `goto`
+pub settle_bare : (w : World) (c : Context) (b : Stms) → ((l : ℕ) → holds_any l b ≡ false) → (o : Res) → settle w c b o ≡ o
 settle_bare w c b h (value v s) = refl
 settle_bare w c b h (on s) = refl
 settle_bare w c b h (broke s) = refl

@@ -1,7 +1,7 @@
-mod Alike
 mod Bare
 mod Blocks
 mod ByType
+mod Copying
 mod Done
 mod Evaluated
 mod Keeping
@@ -11,3 +11,4 @@ mod Plain
 mod Tests
 mod TidyRuns
 mod Whole
+mod Written

@@ -1,11 +1,11 @@
 -- A source and what is written of it mean the same, once both are resolved.
-use Rattle.std.proofs.Common.{◌≡◌, ◌∙◌, ℕ, suc, Bool, true, false, List, [], map, Option, Some, None, refl, sym, subst, inl, inr}
+use Rattle.std.proofs.Common.{◌≡◌, ◌∙◌, ℕ, Bool, true, false, List, Option, Some, None, refl, sym, inr}
 use Rattle.std.specs.Prelude.{pos, int_lt, slice_get}
 use Rattle.ec_ctypes.specs.declared.types.arith.Arith.TheVariants.{Long, Char}
 use Rattle.ec_ctypes.specs.trees.Checked.{TypedData}
 use Rattle.ec_ctypes.specs.trees.Embedded.{EmbData}
 use Rattle.ec_functions.specs.Functions.{sqlprint}
-use Rattle.ec_objects.specs.Memory.{Memory, ValueData, load, number_of, integer_type, last_number, end_to}
+use Rattle.ec_objects.specs.Memory.{ValueData, load, number_of, integer_type, last_number}
 use Rattle.ec_resolved.specs.Labels.{holds}
 use Rattle.ec_resolved.specs.Programs.{Program}
 use Rattle.ec_resolved.specs.Resolved.{Exp, known, no_exps, embedded, library, Stm}
@@ -13,28 +13,29 @@ use Rattle.ec_resolving.specs.Storage.{ActionForm, goes_on, jumps, prints, stops
 use Rattle.ec_ctypes.specs.declared.embedded.emb.Cond.{Cond}
 use Rattle.ec_ctypes.specs.declared.embedded.emb.Cond.TheVariants.{NotFound, Warning, Error}
 use Rattle.ec_evaluation.specs.State.{State}
-use Rattle.ec_evaluation.specs.Results.{Res, value, on, broke, continued, went, back, over, on_value, on_done, at_address, turn, closing}
-use Rattle.ec_evaluation.specs.Evaluate.{World, Context, Step, Task, calls as calls_task, eval}
+use Rattle.ec_evaluation.specs.Results.{Res, on, went, on_value, on_done, at_address, turn, closing}
+use Rattle.ec_evaluation.specs.Evaluate.{World, Context, calls as calls_task, eval}
 use Rattle.ec_evaluation.specs.Execute.{run, meaning}
-use Rattle.ec_evaluation.specs.Expanded.{written_function, written_program, written_task}
+use Rattle.ec_evaluation.specs.Expanded.{written_program}
 use Rattle.ec_evaluation.specs.Whole.{whole, without_atoms}
 use Rattle.ec_calls.specs.Steps.{settled, library_step}
 use Rattle.ec_direct.specs.Statements.{Statement}
-use Rattle.ec_direct.specs.Places.{address_of, placed}
+use Rattle.ec_direct.specs.Places.{address_of}
 use Rattle.ec_direct.specs.Executing.{statement_done}
 use Rattle.ec_direct.specs.Handling.{code_place, warning_place, is_number, when, acted, tested, handled}
 use Rattle.ec_direct.specs.Direct.{form_of, statement_at, executed_at, stepped, direct_step}
-use Rattle.ec_statement_law.specs.Blocks.{block_stm}
-use Rattle.ec_statement_law.specs.Clean.{CleanTask, CleanProgram}
-use Rattle.ec_statement_law.specs.Lives.{LeavesTidy, TidyWorld, TidyStep, Tidy}
+use Rattle.ec_statement_law.specs.Clean.{CleanProgram}
+use Rattle.ec_statement_law.specs.Copies.{IsProgramCopy}
+use Rattle.ec_statement_law.specs.Lives.{LeavesTidy, TidyWorld, TidyStep}
 use Rattle.ec_statement_law.specs.Whole.{IsWrittenAt}
-use Rattle.ec_statement_law.proofs.Alike.{whole_same}
 use Rattle.ec_statement_law.proofs.Bare.{placed_by}
 use Rattle.ec_statement_law.proofs.Blocks.{block_same, tests_bare}
+use Rattle.ec_statement_law.proofs.Copying.{whole_same}
 use Rattle.ec_statement_law.proofs.Keeping.{settled_tidy}
-use Rattle.ec_statement_law.proofs.Memories.{tidy_same, tidy_ended}
+use Rattle.ec_statement_law.proofs.Memories.{tidy_same}
 use Rattle.ec_statement_law.proofs.Plain.{eval_alike, handled_alike}
-use Rattle.ec_statement_law.proofs.TidyRuns.{Gives, value_leaves, done_leaves, at_leaves, tried_leaves, test_leaves, turn_leaves, eval_gives, meaning_tidy}
+use Rattle.ec_statement_law.proofs.TidyRuns.{closed_already, Gives, value_leaves, done_leaves, at_leaves, tried_leaves, test_leaves, turn_leaves, eval_gives, meaning_tidy}
+use Rattle.ec_statement_law.proofs.Written.{program_copy}
 
 -- ---- an embedded statement ends what it makes
 
@@ -98,16 +99,6 @@ direct_tidy : (t : TypedData) (forms : List StatementForm) → TidyStep (direct_
 direct_tidy t forms w tidy c (embedded n) s = stepped_leaves w tidy c t forms n (slice_get t.unit.embs n) (form_of n forms) s
 direct_tidy t forms w tidy c (library n) s = tt
 
--- what has ended already isn't ended again
-closed_already : (m : Memory) (r : Res) → LeavesTidy m r → closing (last_number m) r ≡ r
-closed_already m (value v s) h = refl
-closed_already m (on s) h = λ j. on (record s { memory = tidy_ended m s.memory h j })
-closed_already m (broke s) h = λ j. broke (record s { memory = tidy_ended m s.memory h j })
-closed_already m (continued s) h = λ j. continued (record s { memory = tidy_ended m s.memory h j })
-closed_already m (went l s) h = λ j. went l (record s { memory = tidy_ended m s.memory h j })
-closed_already m (back v s) h = λ j. back v (record s { memory = tidy_ended m s.memory h j })
-closed_already m (over e s) h = refl
-
 -- ---- what a statement does where functions do the same
 
 module _ (w w' : World) (c : Context) (functions : (line f : ℕ) (vs : List ValueData) (s : State) → w (calls_task line f vs) s ≡ w' (calls_task line f vs) s) where
@@ -124,29 +115,50 @@ module _ (w w' : World) (c : Context) (functions : (line f : ℕ) (vs : List Val
 
 -- ---- programs
 
-module _ (t : TypedData) (forms : List StatementForm) (calls : List LibraryCall) (text : ℕ → Stm) where
-  no_labels : (line n : ℕ) → IsWrittenAt t forms calls text line n → (l : ℕ) → holds l (text n) ≡ false
-  no_labels line n h l = (λ j. holds l (h.is_text j)) ∙ tests_bare l line h.form.actions
+module _ (t : TypedData) (forms : List StatementForm) (calls : List LibraryCall) where
+  -- what stands in the place of an embedded statement
+  abbrev pub Stands : ℕ → ℕ → Stm → Type 0
+  Stands line n x = IsWrittenAt t forms calls (λ _. x) line n
 
-  module _ (p : Program) (k : ℕ) where
-    abbrev source_world : World
-    source_world = meaning (direct_step t forms) p.functions k
+  no_labels : (line n : ℕ) (y : Stm) → Stands line n y → (l : ℕ) → holds l y ≡ false
+  no_labels line n y h l = (λ j. holds l (h.is_text j)) ∙ tests_bare l line h.form.actions
 
-    abbrev written_world : World
-    written_world = meaning (library_step calls) (map (written_function text) p.functions) k
+  in_place : (w w' : World) → TidyWorld w → ((line f : ℕ) (vs : List ValueData) (s : State) → w (calls_task line f vs) s ≡ w' (calls_task line f vs) s)
+      → (c : Context) (n : ℕ) (y : Stm) → Stands c.line n y → (s : State)
+      → direct_step t forms w c (embedded n) s ≡ run (library_step calls) w' c y s
+  in_place w w' tidy functions c n y h s =
+      (λ j. stepped t forms w c n (h.is_emb j) (h.is_form j) s)
+      ∙ (λ j. executed_at t forms w c (h.stands j) h.form (h.is_statement j) s)
+      ∙ sym (closed_already s.memory _ (executed_leaves w tidy c t forms c.line h.form (Some h.statement) s))
+      ∙ (λ j. closing (last_number s.memory) (executed_alike w w' c functions t forms c.line h.form h.statement s j))
+      ∙ sym (block_same calls h.number w' c.objects c.first c.line t forms h.form h.statement h.is_call h.rules h.targets h.silent s)
+      ∙ (λ j. run (library_step calls) w' c (sym h.is_text j) s)
 
-    in_place : ((task : Task) → CleanTask (IsWrittenAt t forms calls text) task → (s : State) → source_world task s ≡ written_world (written_task text task) s)
-        → (c : Context) (n : ℕ) (s : State) → IsWrittenAt t forms calls text c.line n
-        → direct_step t forms source_world c (embedded n) s ≡ run (library_step calls) written_world c (text n) s
-    in_place worlds c n s h =
-        (λ j. stepped t forms source_world c n (h.is_emb j) (h.is_form j) s)
-        ∙ (λ j. executed_at t forms source_world c (h.stands j) h.form (h.is_statement j) s)
-        ∙ sym (closed_already s.memory _ (executed_leaves source_world (meaning_tidy (direct_step t forms) (direct_tidy t forms) p.functions k) c t forms c.line h.form (Some h.statement) s))
-        ∙ (λ j. closing (last_number s.memory) (executed_alike source_world written_world c (λ line f vs r. worlds (calls_task line f vs) tt r) t forms c.line h.form h.statement s j))
-        ∙ sym (block_same calls h.number written_world c.objects c.first c.line t forms h.form h.statement h.is_call h.rules h.targets h.silent s)
-        ∙ (λ j. run (library_step calls) written_world c (sym h.is_text j) s)
+  pub copies_same : (p q : Program) → IsProgramCopy Stands p q → (s : State) → whole (direct_step t forms) p s ≡ whole (library_step calls) q s
+  copies_same p q copy s =
+      whole_same Stands no_labels (direct_step t forms) (library_step calls) (direct_tidy t forms) p q copy
+      (λ k functions c n y h r. in_place (meaning (direct_step t forms) p.functions k) (meaning (library_step calls) q.functions k) (meaning_tidy (direct_step t forms) (direct_tidy t forms) p.functions k) functions c n y h r)
+      s
 
-  pub programs_same : (p : Program) → CleanProgram (IsWrittenAt t forms calls text) p → (s : State)
+  -- what stands there by its number
+  by_number : (text : ℕ → Stm) (line n : ℕ) → IsWrittenAt t forms calls text line n → Stands line n (text n)
+  by_number text line n h = record {
+    emb = h.emb;
+    form = h.form;
+    statement = h.statement;
+    number = h.number;
+    is_emb = h.is_emb;
+    is_form = h.is_form;
+    is_statement = h.is_statement;
+    stands = h.stands;
+    is_call = h.is_call;
+    is_text = h.is_text;
+    rules = h.rules;
+    targets = h.targets;
+    silent = h.silent;
+  }
+
+  pub programs_same : (text : ℕ → Stm) (p : Program) → CleanProgram (IsWrittenAt t forms calls text) p → (s : State)
       → whole (direct_step t forms) p s ≡ whole (library_step calls) (written_program text p) s
-  programs_same p clean s =
-      whole_same (IsWrittenAt t forms calls text) text no_labels (direct_step t forms) (library_step calls) p clean (λ k worlds c n r h. in_place p k worlds c n r h) s
+  programs_same text p clean s =
+      copies_same p (written_program text p) (program_copy (IsWrittenAt t forms calls text) Stands text (by_number text) p clean) s
