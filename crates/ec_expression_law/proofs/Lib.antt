@@ -1,0 +1,4 @@
+mod AlikeInitializers
+pub mod Expressions
+pub mod Plain
+pub mod Structs
