@@ -1,9 +1,9 @@
 -- Each argument of a written call is resolved to itself.
-use Rattle.std.proofs.Common.{◌≡◌, ◌∙◌, ℕ, Bool, true, false, pos, List, [], ◌∷◌, map, Option, Some, None, refl, sym, codes}
+use Rattle.std.proofs.Common.{◌≡◌, ◌∙◌, ℕ, Bool, true, false, List, [], ◌∷◌, Option, None, refl, codes}
 use Rattle.ec_arguments.specs.Arguments.{Arg, symbol, literal, null, int_constant, long_constant, pointer, stray}
 use Rattle.ec_ctypes.specs.declared.checked.library.Sym.{Sym}
 use Rattle.ec_ctypes.specs.declared.checked.library.Sym.TheVariants as symbols_of
-use Rattle.ec_ctypes.specs.trees.Exprs.{ExprData, string, ExprList, no_exprs, exprs}
+use Rattle.ec_ctypes.specs.trees.Exprs.{ExprData}
 use Rattle.ec_ctypes.specs.trees.Types as types
 use Rattle.ec_expansion.specs.Calls.{argument_expr, argument_exprs}
 use Rattle.ec_typing.specs.Known.{with_symbols, is_symbol, is_no_expression}
@@ -13,9 +13,10 @@ use Rattle.ec_typing.specs.Worlds.{Place, EntryData, World, look_up, chain as ch
 use Rattle.ec_objects.specs.Memory.{address}
 use Rattle.ec_resolved.specs.Resolved.{Exp, constant}
 use Rattle.ec_resolving.specs.Storage.{Storage, Resolving, Reached, reached, followed, chain, pure, checks, ask, stored}
-use Rattle.ec_resolving.specs.Operands.{Found, found as found_of, named_exp, value_rule, no_expression, is_library_literal, argument_of, pointer_argument, arguments_of_call}
+use Rattle.ec_resolving.specs.Operands.{Found, found as found_of, named_exp, value_rule, no_expression, is_library_literal, argument_of, pointer_argument}
 use Rattle.ec_resolving.specs.Expressions.{library_literal, args}
-use Rattle.ec_argument_law.specs.Arguments.{with_pointer, IsArgument, AreArguments, AreResolved}
+use Rattle.ec_written.specs.Calls.{argument_with}
+use Rattle.ec_argument_law.specs.Arguments.{IsArgument, AreArguments, AreResolved}
 use Rattle.ec_argument_law.specs.Pointers.{value_of}
 
 -- ---- symbols
@@ -92,7 +93,7 @@ module _ (at : Place) (s : Storage) (w : World) (g : ExprData → Exp) where
   record Resolved (a : Arg ExprData) : Type 0 where
     found : Found
     is : there (argument_expr a) s w ≡ reached found s w
-    seen : argument_of (argument_expr a) found ≡ with_pointer g a
+    seen : argument_of (argument_expr a) found ≡ argument_with g a
 
   a_symbol : (x : Sym) → Resolved (symbol x)
   unfolding pure

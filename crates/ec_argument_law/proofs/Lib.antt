@@ -1,3 +1,3 @@
 mod AllArguments
 mod BoundSame
-mod Pointers
+pub mod Pointers

@@ -1,10 +1,9 @@
 -- The pointer that is written for a leaf is resolved to the place of the leaf.
-use Rattle.std.proofs.Common.{◌≡◌, ◌∙◌, ℕ, Bool, true, false, pos, List, [], ◌∷◌, Option, Some, None, refl, sym, subst}
-use Rattle.std.specs.Prelude.{option_map, option_and_then}
+use Rattle.std.proofs.Common.{◌≡◌, ◌∙◌, ℕ, Bool, true, false, pos, List, Option, Some, None, refl, sym, subst}
+use Rattle.std.specs.Prelude.{option_map}
 use Rattle.ec_ctypes.specs.Layout.{member_of}
 use Rattle.ec_ctypes.specs.declared.types.arith.Arith.TheVariants.{Int}
-use Rattle.ec_ctypes.specs.declared.tree.expr.UnOp.TheVariants.{Addr}
-use Rattle.ec_ctypes.specs.trees.Exprs.{ExprData, integer, unary, index, member as member_expr}
+use Rattle.ec_ctypes.specs.trees.Exprs.{ExprData, integer, index, member as member_expr}
 use Rattle.ec_ctypes.specs.trees.Types.{TyData, void, arithmetic, pointer, array, structure, StructData}
 use Rattle.ec_hosts.specs.Leaves.{Path, LeafData}
 use Rattle.ec_hosts.specs.Places as written
@@ -12,17 +11,17 @@ use Rattle.ec_hosts.specs.Places.{size_of, pointer_to, leaf_pointer}
 use Rattle.ec_objects.specs.Memory.{number}
 use Rattle.ec_resolved.specs.Operations.{pointer_plus}
 use Rattle.ec_resolved.specs.Resolved.{Exp, member, constant, operate, faulty}
-use Rattle.ec_typing.specs.Types.{element_type, struct_number}
+use Rattle.ec_typing.specs.Answers.{place_of, renumbered}
+use Rattle.ec_typing.specs.Types.{element_type}
 use Rattle.ec_typing.specs.Operands as checked
 use Rattle.ec_typing.specs.Operands.{address_rule as check_address, index_rule as check_index, member_rule as check_member, value_rule as check_value}
 use Rattle.ec_typing.specs.Operands.{OperandData, member_type, member_by, element_by, address, valued, integer_operand}
 use Rattle.ec_typing.specs.Worlds.{Place, World, members_of, is_complete, chain as check_chain, pure as check_pure, ask as check_ask}
-use Rattle.ec_resolving.specs.Conversions.{size_in, read_at}
-use Rattle.ec_resolving.specs.Storage.{Storage, Reached, reached, followed, beside, chain, pure, checks, ask}
+use Rattle.ec_resolving.specs.Conversions.{size_in}
+use Rattle.ec_resolving.specs.Storage.{Storage, Reached, reached, followed, chain, pure, checks, ask}
 use Rattle.ec_resolving.specs.Operands.{Found, found, offset_among, member_at, value_rule, address_rule, index_rule, member_rule}
-use Rattle.ec_resolving.specs.Expressions.{expr}
-use Rattle.ec_direct.specs.Leaves.{first_element, first_of_array, member_place, along, leaf_place}
-use Rattle.ec_argument_law.specs.Pointers.{value_of, IsPlace, IsPointer, target_of, HasMember, Leads, leads_here, leads_on, HasElements, LiesIn, in_itself, in_first_of}
+use Rattle.ec_direct.specs.Leaves.{first_element, member_place, along, leaf_place}
+use Rattle.ec_argument_law.specs.Pointers.{value_of, IsPlace, IsPointer, target_of, Leads, leads_here, leads_on, LiesIn, in_itself, in_first_of}
 
 module _ (at : Place) (s : Storage) (w : World) where
   -- ---- members
@@ -84,38 +83,39 @@ module _ (at : Place) (s : Storage) (w : World) where
     type = refl;
   }
 
-  place_pointer : (t : TyData) {e : ExprData} {x : Exp} → IsPlace at s w e t x → IsPointer at s w (pointer_to t e) (target_of t) x
-  place_pointer void h = address_pointer h
-  place_pointer (arithmetic a) h = address_pointer h
-  place_pointer (pointer t) h = address_pointer h
-  place_pointer (array t n) h = array_pointer h
-  place_pointer (structure k) h = address_pointer h
-
   -- ---- leaves
 
-  module _ (structs : List StructData) where
+  module _ (order : List ℕ) (structs : List StructData) where
     found_member : (m : Option (ℕ × TyData)) {offset : ℕ} (x : Exp) → option_map (λ m. m.0) m ≡ Some offset
         → elim m [ None ↦ faulty | Some m ↦ member m.0 x ] ≡ member_at x (option_map (λ m. m.0) m)
     found_member None x e = refl
     found_member (Some m) x e = refl
 
     along_path : {t u : TyData} {path : Path} {e : ExprData} {x : Exp}
-        → Leads w structs t path u → IsPlace at s w e t x → IsPlace at s w (written.along e path) u (along structs path x)
+        → Leads w order structs t path u → IsPlace at s w e t x → IsPlace at s w (written.along e path) u (along structs path x)
     along_path leads_here h = h
     along_path (leads_on {k = k} {name = name} {offset = offset} {path = path} m rest) h =
         along_path rest (moved (member_of_place h m.type m.place))
       where
-        moved : {e : ExprData} {t : TyData} {x : Exp} → IsPlace at s w e t (member offset x) → IsPlace at s w e t (member_place structs (k, name) x)
+        moved : {e : ExprData} {t : TyData} {x : Exp} → IsPlace at s w e t (member offset x) → IsPlace at s w e t (member_place structs (place_of k order, name) x)
         moved {e} {t} {x} p = subst (λ y. IsPlace at s w e t y)
-            (sym (found_member (member_of structs k name) x m.laid_out ∙ (λ j. member_at x (m.laid_out j)))) p
+            (sym (found_member (member_of structs (place_of k order) name) x m.laid_out ∙ (λ j. member_at x (m.laid_out j)))) p
+
+    -- the pointer to a place of this type is made in one way, whichever numbers its structs have
+    renumbered_pointer : (u : TyData) {e : ExprData} {x : Exp} → IsPlace at s w e u x → IsPointer at s w (pointer_to (renumbered order u) e) (target_of u) x
+    renumbered_pointer void h = address_pointer h
+    renumbered_pointer (arithmetic a) h = address_pointer h
+    renumbered_pointer (pointer t) h = address_pointer h
+    renumbered_pointer (array t n) h = array_pointer h
+    renumbered_pointer (structure k) h = address_pointer h
 
     -- a leaf of a host
-    pub leaf_pointed : {t : TyData} {l : LeafData} {e : ExprData} {x : Exp}
-        → LiesIn w structs t l → IsPlace at s w e t x → IsPointer at s w (leaf_pointer e l) (target_of l.whole) (leaf_place structs x l)
-    leaf_pointed (in_itself {whole = whole} leads) h = place_pointer whole (along_path leads h)
-    leaf_pointed {e = e} {x = x} (in_first_of {u = u} {whole = whole} {apart = apart} elements leads) h =
-        place_pointer whole (along_path leads (sized (first_of_place h elements.complete)))
+    pub leaf_pointed : {t u : TyData} {l : LeafData} {e : ExprData} {x : Exp}
+        → LiesIn w order structs t u l → IsPlace at s w e t x → IsPointer at s w (leaf_pointer e l) (target_of u) (leaf_place structs x l)
+    leaf_pointed (in_itself {u = u} leads) h = renumbered_pointer u (along_path leads h)
+    leaf_pointed {e = e} {x = x} (in_first_of {t = t} {u = u} {apart = apart} elements leads) h =
+        renumbered_pointer u (along_path leads (sized (first_of_place h elements.complete)))
       where
-        sized : IsPlace at s w (index e (integer 0 (arithmetic Int))) u (operate (pointer_plus (size_in w u)) x (constant (number (pos 0))))
-            → IsPlace at s w (index e (integer 0 (arithmetic Int))) u (first_element structs apart x)
-        sized p = subst (λ n. IsPlace at s w (index e (integer 0 (arithmetic Int))) u (operate (pointer_plus n) x (constant (number (pos 0))))) elements.size p
+        sized : IsPlace at s w (index e (integer 0 (arithmetic Int))) t (operate (pointer_plus (size_in w t)) x (constant (number (pos 0))))
+            → IsPlace at s w (index e (integer 0 (arithmetic Int))) t (first_element structs apart x)
+        sized p = subst (λ n. IsPlace at s w (index e (integer 0 (arithmetic Int))) t (operate (pointer_plus n) x (constant (number (pos 0))))) elements.size p

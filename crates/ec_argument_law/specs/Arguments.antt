@@ -1,6 +1,6 @@
 -- What the arguments of a written call are resolved to, where the call stands.
 use Rattle.std.specs.Prelude.{◌≡◌, false, List, [], ◌∷◌, map}
-use Rattle.ec_arguments.specs.Arguments.{Arg, symbol, literal, null, int_constant, long_constant, pointer, stray}
+use Rattle.ec_arguments.specs.Arguments.{Arg, pointer, stray}
 use Rattle.ec_ctypes.specs.trees.Exprs.{ExprData}
 use Rattle.ec_ctypes.specs.trees.Types.{TyData}
 use Rattle.ec_expansion.specs.Calls.{argument_exprs}
@@ -10,17 +10,8 @@ use Rattle.ec_resolved.specs.Resolved.{Exp}
 use Rattle.ec_resolving.specs.Storage.{Storage, reached}
 use Rattle.ec_resolving.specs.Operands.{Found, is_library_literal, argument_of, pointer_argument, arguments_of_call}
 use Rattle.ec_resolving.specs.Expressions.{args}
+use Rattle.ec_written.specs.Calls.{argument_with}
 use Rattle.ec_argument_law.specs.Pointers.{IsPointer}
-
--- an argument with a pointer in the place of its expression
-abbrev pub with_pointer : (ExprData → Exp) → Arg ExprData → Arg Exp
-with_pointer g (symbol x) = symbol x
-with_pointer g (literal bytes) = literal bytes
-with_pointer g null = null
-with_pointer g (int_constant n) = int_constant n
-with_pointer g (long_constant n) = long_constant n
-with_pointer g (pointer e) = pointer (g e)
-with_pointer g stray = stray
 
 module _ (at : Place) (s : Storage) (w : World) where
   -- an expression is seen as a pointer, by its form and its type
@@ -42,4 +33,4 @@ module _ (at : Place) (s : Storage) (w : World) where
   pub record AreResolved (g : ExprData → Exp) (written : List (Arg ExprData)) : Type 0 where
     pub found : List Found
     pub is : args at with_symbols (argument_exprs written) s w ≡ reached found s w
-    pub are : arguments_of_call (argument_exprs written) found ≡ map (with_pointer g) written
+    pub are : arguments_of_call (argument_exprs written) found ≡ map (argument_with g) written

@@ -1,10 +1,11 @@
 -- What the pointers in the arguments of a written call are resolved to, where the call stands.
-use Rattle.std.specs.Prelude.{◌≡◌, ℕ, Bool, true, false, List, [], ◌∷◌, Option, Some, None, option_map}
+use Rattle.std.specs.Prelude.{◌≡◌, ℕ, true, false, List, [], ◌∷◌, Some, option_map}
 use Rattle.ec_ctypes.specs.Layout.{member_of}
 use Rattle.ec_ctypes.specs.trees.Exprs.{ExprData}
 use Rattle.ec_ctypes.specs.trees.Types.{TyData, void, arithmetic, pointer, array, structure, StructData}
 use Rattle.ec_hosts.specs.Leaves.{Path, LeafData}
 use Rattle.ec_hosts.specs.Places.{size_of}
+use Rattle.ec_typing.specs.Answers.{place_of, renumbered}
 use Rattle.ec_typing.specs.Operands.{OperandData, member_type}
 use Rattle.ec_typing.specs.Worlds.{Place, World, members_of, is_complete}
 use Rattle.ec_resolved.specs.Resolved.{Exp}
@@ -42,41 +43,43 @@ target_of (structure k) = structure k
 
 -- ---- what is known of structs where a host stands
 
-module _ (w : World) (structs : List StructData) where
+-- These are the structs of the program in the order of its tables: the struct of a number has there its place in the order
+module _ (w : World) (order : List ℕ) (structs : List StructData) where
   -- the struct has a member of this type where the layout has it
   pub record HasMember (k : ℕ) (name : List ℕ) (t : TyData) (offset : ℕ) : Type 0 where
     pub type : member_type name (members_of k w) ≡ Some (Some t)
     pub place : offset_among w name (members_of k w) ≡ Some offset
-    pub laid_out : option_map (λ m. m.0) (member_of structs k name) ≡ Some offset
+    pub laid_out : option_map (λ m. m.0) (member_of structs (place_of k order) name) ≡ Some offset
 
   -- the members of a path lead from a struct to a type
   pub data Leads : TyData → Path → TyData → Type 0 where
     leads_here : {t : TyData} → Leads t [] t
     leads_on : {k : ℕ} {name : List ℕ} {offset : ℕ} {t u : TyData} {path : Path}
-        → HasMember k name t offset → Leads t path u → Leads (structure k) ((k, name) ∷ path) u
+        → HasMember k name t offset → Leads t path u
+        → Leads (structure k) ((place_of k order, name) ∷ path) u
 
   -- the first element of an array is complete, and has the size that the layout gives
   pub record HasElements (u apart : TyData) : Type 0 where
     pub complete : is_complete w u ≡ true
     pub size : size_in w u ≡ size_of structs apart
 
-  -- a leaf lies in a host of this type
-  pub data LiesIn : TyData → LeafData → Type 0 where
-    in_itself : {t whole element apart : TyData} {path : Path} {count : ℕ} → Leads t path whole
-        → LiesIn t (record {
+  -- a leaf of this type lies in a host of that type; the types in the leaf are those of the tables
+  pub data LiesIn : TyData → TyData → LeafData → Type 0 where
+    in_itself : {t u element apart : TyData} {path : Path} {count : ℕ} → Leads t path u
+        → LiesIn t u (record {
           in_first = false;
           path = path;
-          whole = whole;
+          whole = renumbered order u;
           element = element;
           count = count;
           apart = apart;
         })
-    in_first_of : {u whole element apart : TyData} {path : Path} {n count : ℕ}
-        → HasElements u apart → Leads u path whole
-        → LiesIn (array u n) (record {
+    in_first_of : {t u element apart : TyData} {path : Path} {n count : ℕ}
+        → HasElements t apart → Leads t path u
+        → LiesIn (array t n) u (record {
           in_first = true;
           path = path;
-          whole = whole;
+          whole = renumbered order u;
           element = element;
           count = count;
           apart = apart;

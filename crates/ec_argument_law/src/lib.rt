@@ -6,5 +6,5 @@ mod bound;
 mod places;
 
 pub use arguments::written_arguments_are_resolved;
-pub use bound::plain_calls_are_those_of_their_places;
+pub use bound::calls_are_those_of_their_places;
 pub use places::pointers_lead_to_leaves;

@@ -1,6 +1,6 @@
 //! What the expressions in a written call are resolved to.
 
-ghost use Rattle.std.specs.Prelude.{List};
+ghost use Rattle.std.specs.Prelude.{ℕ, List};
 ghost use Rattle.ec_ctypes.specs.trees.Exprs.{ExprData};
 ghost use Rattle.ec_ctypes.specs.trees.Types.{TyData, StructData};
 ghost use Rattle.ec_hosts.specs.Leaves.{LeafData};
@@ -12,11 +12,12 @@ ghost use Rattle.ec_direct.specs.Leaves.{leaf_place};
 ghost use Rattle.ec_argument_law.specs.Pointers.{IsPlace, IsPointer, target_of, LiesIn};
 
 /// The pointer that is written for a leaf is resolved to the place of the leaf, where the host is a place in whose type the
-/// leaf lies: to the member's place in the host or in its first element, and without making anything.
+/// leaf lies: to the member's place in the host or in its first element, and without making anything. Structs have their
+/// numbers where the host stands, and their places in the order of the program's tables in the leaf.
 #[tactic(none)]
 pub fn pointers_lead_to_leaves()
-    ensures { (at : Place) (s : Storage) (w : World) (structs : List StructData) (t : TyData)
-        (l : LeafData) (e : ExprData) (x : Exp)
-        → LiesIn w structs t l → IsPlace at s w e t x
-        → IsPointer at s w (leaf_pointer e l) (target_of l.whole) (leaf_place structs x l) }
+    ensures { (at : Place) (s : Storage) (w : World) (order : List ℕ) (structs : List StructData)
+        (t u : TyData) (l : LeafData) (e : ExprData) (x : Exp)
+        → LiesIn w order structs t u l → IsPlace at s w e t x
+        → IsPointer at s w (leaf_pointer e l) (target_of u) (leaf_place structs x l) }
 {}
