@@ -1,0 +1,10 @@
+mod AlikeStays
+mod GrowthStays
+mod HostsLead
+mod LeavesLie
+mod Lists
+mod MembersSame
+mod PlacesFound
+mod ReferencesFound
+mod Shapes
+mod TablesSame

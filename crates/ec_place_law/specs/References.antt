@@ -1,0 +1,74 @@
+-- The references of embedded statements, and what holds of the names in them.
+use Rattle.std.specs.Prelude.{◌≡◌, ℕ, Bool, true, List, [], Option, Some, slice_get}
+use Rattle.ec_ctypes.specs.trees.Exprs.{ExprData, integer, identifier, index, member, arrow}
+use Rattle.ec_ctypes.specs.trees.Types.{TyData, arithmetic}
+use Rattle.ec_language.specs.Letters.{Text}
+use Rattle.ec_hosts.specs.Programs.{ProgramData, is_among}
+use Rattle.ec_typing.specs.Worlds.{Place, object, function, World, look_up}
+use Rattle.ec_typing.specs.Answers.{struct_order, renumbered, structs_of, names_of}
+use Rattle.ec_resolved.specs.Resolved.{Exp}
+use Rattle.ec_resolving.specs.Storage.{Storage}
+use Rattle.ec_resolving.specs.Expressions.{expr}
+use Rattle.ec_resolving.specs.Embedded.{reference_rule}
+use Rattle.ec_argument_law.specs.Pointers.{IsPlace}
+use Rattle.ec_place_law.specs.Structs.{AreListed}
+
+-- an index: a number or a name
+abbrev pub IsIndex : ExprData → Type 0
+IsIndex (integer n (arithmetic a)) = Unit {0}
+IsIndex (identifier x) = Unit {0}
+IsIndex _ = ⊥
+
+-- a name with its suffixes
+abbrev pub IsReference : ExprData → Type 0
+IsReference (identifier x) = Unit {0}
+IsReference (index a b) = IsReference a × IsIndex b
+IsReference (member e m) = IsReference e
+IsReference (arrow e m) = IsReference e
+IsReference _ = ⊥
+
+-- the name of its variable
+abbrev pub variable_in : ExprData → Text
+variable_in (identifier x) = x
+variable_in (index a b) = variable_in a
+variable_in (member e m) = variable_in e
+variable_in (arrow e m) = variable_in e
+variable_in _ = []
+
+-- ---- what names stand for
+
+-- the declaration of this number is that of an object of this type, whose structs are listed
+pub record IsDeclared (w : World) (k : ℕ) (t : Option TyData) : Type 0 where
+  pub type : TyData
+  pub has_type : t ≡ Some type
+  pub in_table : slice_get w.types k ≡ Some type
+  pub are_listed : AreListed w type
+
+-- What holds of names wherever nothing was wrong so far, and no declaration is being read: each object is declared so, and each function is one of these
+pub record NamesAreDeclared (w : World) (functions : List ℕ) : Type 0 where
+  pub objects : (x : Text) (k : ℕ) (global : Bool) (t : Option TyData)
+      → look_up x w ≡ Some (object k global t) → IsDeclared w k t
+  pub are_functions : (x : Text) (k : ℕ) (done : Bool) (r : Option TyData)
+      (ps : Option (List (Option TyData)))
+      → look_up x w ≡ Some (function k done r ps) → is_among k functions ≡ true
+
+-- what hosts are looked at with, by what is known behind the whole source
+abbrev pub tables_of : World → List ℕ → List ℕ → ProgramData
+tables_of z hosts functions = record {
+  structs = structs_of z;
+  names = names_of z;
+  hosts = hosts;
+  functions = functions;
+}
+
+-- ---- references and places
+
+-- the expression is a place, whose type is this one in the tables; as a reference it is the expression
+pub record IsPlaceOf (at : Place) (s : Storage) (w z : World) (e : ExprData) (there : TyData)
+    : Type 0 where
+  pub type : TyData
+  pub address : Exp
+  pub is : IsPlace at s w e type address
+  pub same : there ≡ renumbered (struct_order z) type
+  pub are_listed : AreListed w type
+  pub rule : reference_rule at e s w ≡ expr at e s w
