@@ -1,0 +1,64 @@
+-- That statements, functions and the items of programs are copied.
+use Rattle.std.specs.Prelude.{ℕ, Bool, List, [], Option}
+use Rattle.ec_ctypes.specs.trees.Embedded.{EmbData}
+use Rattle.ec_ctypes.specs.trees.Stmts.{StmtData, StmtKindData, StmtList}
+use Rattle.ec_ctypes.specs.trees.Types.{TyData}
+use Rattle.ec_ctypes.specs.trees.Units.{FuncData, TopData}
+use Rattle.ec_bound_shape.specs.Numbers.{stmt_numbers, stmts_numbers, body_numbers, tops_numbers}
+use Rattle.ec_expansion.specs.Statements.{written_stmt, written_items, written_func, written_tops}
+use Rattle.ec_typing.specs.Tables.{Named}
+use Rattle.ec_typing.specs.Statements as checked
+use Rattle.ec_typing.specs.Programs as checked_programs
+use Rattle.ec_resolving.specs.Statements.{statement, statements}
+use Rattle.ec_resolving.specs.Programs.{function_rule, tops_rule}
+use Rattle.ec_resolving.specs.Agreement.{around_of}
+use Rattle.ec_statement_law.specs.Copies.{IsCopy, AreCopies}
+use Rattle.ec_expression_law.specs.Laws.{ExpressionsAreAlike, TypesAreAlike, LengthsAreAlike, InitializersAreAlike}
+use Rattle.ec_expression_law.specs.Lengths.{BaseHasLengths}
+use Rattle.ec_expression_law.specs.Varchars.{VarcharObjectsAreAlike, OuterLengthsAreAlike}
+use Rattle.ec_program_law.specs.Copied.{Whole, IsCopied, Any}
+use Rattle.ec_program_law.specs.Embedded.{inside}
+use Rattle.ec_program_law.specs.Shape.{StandsAlone, ItemsStand, ParamsHaveLengths, BodyStands, TopsStand}
+
+-- what is taken of the parts of declarations and statements
+pub record PartsAreAlike : Type 0 where
+  pub expressions : ExpressionsAreAlike
+  pub types : TypesAreAlike
+  pub lengths : LengthsAreAlike
+  pub initializers : InitializersAreAlike
+  pub objects : VarcharObjectsAreAlike
+  pub outer_lengths : OuterLengthsAreAlike
+
+module _ (g : Whole) (es : List EmbData) (embedded : ℕ → Option StmtKindData) where
+  -- a statement that stands alone, on whichever line
+  abbrev pub StatementsAreCopied : Type 0
+  StatementsAreCopied = (body loop : Bool) (labels : Named (Unit {0})) (result : Option TyData)
+      (s : StmtData) → StandsAlone es s → (line : ℕ) (behind : List ℕ)
+      → IsCopied g (IsCopy g.Stands line) (stmt_numbers s behind) behind
+      (checked.statement (inside es body loop labels result) s)
+      (checked.statement (inside [] body loop labels result) (written_stmt embedded s))
+      (statement (around_of (inside es body loop labels result)) s)
+      (statement (around_of (inside [] body loop labels result)) (written_stmt embedded s))
+
+  -- the items of a block
+  abbrev pub ItemsAreCopied : Type 0
+  ItemsAreCopied = (body loop : Bool) (labels : Named (Unit {0})) (result : Option TyData)
+      (ss : StmtList) → ItemsStand es ss → (line : ℕ) (behind : List ℕ)
+      → IsCopied g (AreCopies g.Stands line) (stmts_numbers ss behind) behind
+      (checked.statements (inside es body loop labels result) ss)
+      (checked.statements (inside [] body loop labels result) (written_items embedded ss))
+      (statements (around_of (inside es body loop labels result)) ss)
+      (statements (around_of (inside [] body loop labels result)) (written_items embedded ss))
+
+  abbrev pub FunctionsAreCopied : Type 0
+  FunctionsAreCopied = (f : FuncData) → BaseHasLengths f.base → ParamsHaveLengths f.params
+      → BodyStands es f.body → (behind : List ℕ)
+      → IsCopied g Any (body_numbers f.body behind) behind (checked_programs.function_rule es f)
+      (checked_programs.function_rule [] (written_func embedded f))
+      (function_rule es f) (function_rule [] (written_func embedded f))
+
+  abbrev pub TopsAreCopied : Type 0
+  TopsAreCopied = (ts : List TopData) → TopsStand es ts → (behind : List ℕ)
+      → IsCopied g Any (tops_numbers ts behind) behind (checked_programs.tops_rule es ts)
+      (checked_programs.tops_rule [] (written_tops embedded ts))
+      (tops_rule es ts) (tops_rule [] (written_tops embedded ts))

@@ -1,0 +1,52 @@
+-- Whole programs, and what is written of them.
+use Rattle.std.specs.Prelude.{◌≡◌, ℕ, true, false, List, [], Option}
+use Rattle.ec_ctypes.specs.trees.Checked.{TypedData}
+use Rattle.ec_ctypes.specs.trees.Stmts.{StmtKindData}
+use Rattle.ec_ctypes.specs.trees.Units.{UnitData}
+use Rattle.ec_bound_shape.specs.Numbers.{tops_numbers}
+use Rattle.ec_expansion.specs.Programs.{unit_of}
+use Rattle.ec_expansion.specs.Statements.{written_tops}
+use Rattle.ec_typing.specs.Answers.{checked, violations}
+use Rattle.ec_typing.specs.Worlds.{World}
+use Rattle.ec_resolved.specs.Resolved.{Stm}
+use Rattle.ec_resolving.specs.Programs.{resolve, embedded_statements_of, library_calls_of}
+use Rattle.ec_resolving.specs.Storage.{LibraryCall, StatementForm}
+use Rattle.ec_statement_law.specs.Copies.{IsProgramCopy}
+use Rattle.ec_statement_law.specs.Whole.{IsWrittenAt}
+use Rattle.ec_program_law.specs.Copied.{Whole}
+
+-- the program that is written for one, by what is written in the place of each embedded statement
+abbrev pub written_of : (ℕ → Option StmtKindData) → UnitData → UnitData
+written_of embedded u = unit_of (written_tops embedded u.tops)
+
+-- both as they are known at the end, by what may stand in the place of an embedded statement
+abbrev pub whole_of : (ℕ → ℕ → Stm → Type 0) → UnitData → UnitData → Whole
+whole_of stands u v = record {
+  Stands = stands;
+  forms = embedded_statements_of false u;
+  calls = library_calls_of true v;
+  numbers = tops_numbers u.tops [];
+  world = (checked false u).world;
+}
+
+-- nothing is wrong with what is written, and it is resolved to a copy
+pub record IsWrittenCopy (stands : ℕ → ℕ → Stm → Type 0) (u v : UnitData) : Type 0 where
+  pub without_fault : violations true v ≡ []
+  pub copy : IsProgramCopy stands (resolve false u) (resolve true v)
+
+-- where the block of an embedded statement stands, with these forms and calls
+abbrev pub blocks_of : TypedData → List StatementForm → List LibraryCall → ℕ → ℕ → Stm → Type 0
+blocks_of t forms calls line n y = IsWrittenAt t forms calls (λ _. y) line n
+
+abbrev pub whole_by : TypedData → List StatementForm → List LibraryCall → List ℕ → World → Whole
+whole_by t forms calls numbers world = record {
+  Stands = blocks_of t forms calls;
+  forms = forms;
+  calls = calls;
+  numbers = numbers;
+  world = world;
+}
+
+-- of a program with its types
+abbrev pub blocks_in : TypedData → UnitData → ℕ → ℕ → Stm → Type 0
+blocks_in t v = blocks_of t (embedded_statements_of false t.unit) (library_calls_of true v)
