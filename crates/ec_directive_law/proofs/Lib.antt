@@ -1,0 +1,4 @@
+mod Gone
+mod Making
+mod Staying
+mod Unwritten
