@@ -1,23 +1,30 @@
 -- A directive is gone in what is written.
-use Rattle.std.proofs.Common.{◌≡◌, ◌∙◌, ℕ, suc, true, List, [], ◌∷◌, ◌++◌, length, map, refl, sym, subst, Some}
+use Rattle.std.proofs.Common.{◌≡◌, ◌∙◌, ℕ, suc, true, List, [], ◌∷◌, ◌++◌, length, map, refl, sym, subst, Option, Some}
 use Rattle.std.specs.Prelude.{slice_get}
 use Rattle.ec_ctypes.specs.trees.Checked.{MarkData, BoundData}
 use Rattle.ec_ctypes.specs.trees.Embedded.{EmbData}
+use Rattle.ec_ctypes.specs.trees.Units.{TopData, UnitData}
 use Rattle.ec_language.specs.Letters.{Text}
 use Rattle.ec_statement_parts.specs.Handlers.{is_directive}
 use Rattle.ec_statement_parts.specs.References.{references}
 use Rattle.ec_typing.specs.Embedded as checked
 use Rattle.ec_typing.specs.Embedded.{denoted_in, variables_of}
-use Rattle.ec_typing.specs.Worlds.{World, Out}
+use Rattle.ec_typing.specs.Worlds.{Place, World, Out}
 use Rattle.ec_expansion.specs.Programs.{embedded}
-use Rattle.ec_resolving.specs.Embedded.{references_rule}
-use Rattle.ec_resolving.specs.Storage.{StatementForm, Storage, with_statement, reached}
+use Rattle.ec_hosts.specs.Programs.{Denoted}
+use Rattle.ec_resolving.specs.Embedded.{references_rule, embedded_rule}
+use Rattle.ec_resolving.specs.Storage.{ReferenceForm, StatementForm, Storage, with_statement, reached}
 use Rattle.ec_expression_law.specs.Worlds.{AreAlike}
 use Rattle.ec_expression_law.specs.Alike.{SameStorage}
+use Rattle.ec_growth_law.specs.Growth.{Grows}
+use Rattle.ec_growth_law.proofs.Rules.{begins_itself}
+use Rattle.ec_known_law.specs.Known.{IsKnown, IsFound, AreFound, Keeps}
+use Rattle.ec_known_law.specs.Laws.{EmbeddedStatementsKeep}
 use Rattle.ec_program_law.specs.Copied.{Whole, AreToCome, FindNothing}
+use Rattle.ec_program_law.proofs.Coming.{found_further, at_still}
 use Rattle.ec_program_law.specs.Embedded.{DirectiveIsGone}
 use Rattle.ec_directive_law.specs.References.{MakeNothing}
-use Rattle.ec_directive_law.proofs.Staying.{denoting, directive_checked}
+use Rattle.ec_directive_law.proofs.Staying.{denoting, directive_checked, references_clean}
 use Rattle.ec_directive_law.proofs.Making.{form_of, directive_resolved}
 use Rattle.ec_directive_law.proofs.Unwritten.{nothing_written}
 
@@ -58,34 +65,78 @@ same_still form s t h = record {
   block = h.block;
 }
 
-to_come_behind : (numbers behind : List ℕ) (names : List Text) (form : StatementForm) (s : Storage) (w : World) → AreToCome numbers (form.number ∷ behind) s w
-    → AreToCome numbers behind (with_statement form s) (denoting names w)
-to_come_behind numbers behind names form s w h = record {
-  in_order = numbers_joined s.statements form behind ∙ h.in_order;
-  denoted = length_joined w.denoted (denoted_in w names) ∙ (λ i. suc (h.denoted i)) ∙ sym (length_joined s.statements form);
-}
+-- one form more, with its row
+found_joined : (u : UnitData) (s : Storage) (w : World) (f : StatementForm) (row : Denoted) → IsFound u s w f row → (fs : List StatementForm) (rows : List Denoted)
+    → AreFound u s w fs rows → AreFound u s w (fs ++ f ∷ []) (rows ++ row ∷ [])
+found_joined u s w f row h [] [] are = (h, tt)
+found_joined u s w f row h [] (r ∷ rows) are = absurd are
+found_joined u s w f row h (x ∷ fs) [] are = absurd are
+found_joined u s w f row h (x ∷ fs) (r ∷ rows) are = (are.0, found_joined u s w f row h fs rows are.1)
 
-nothing_found : (g : Whole) (behind : List ℕ) (names : List Text) (form : StatementForm) (s t : Storage) (w v : World) (o : Out (Unit {0}))
-    → SameStorage s t → AreAlike w v → AreToCome g.numbers (form.number ∷ behind) s w → o.world ≡ denoting names w
-    → FindNothing g behind s t v o (reached tt (with_statement form s) (denoting names w))
-nothing_found g behind names form s t w v o same alike h known = record {
-  worlds = alike_still names w v alike;
-  storages = same_still form s t same;
-  to_come = to_come_behind g.numbers behind names form s w h;
-  forms_grow = record { rest = form ∷ []; is = refl };
-  functions = refl;
-  checked_world = sym known;
-}
+-- the storage behind it
+abbrev behind : ℕ → List ReferenceForm → Storage → Storage
+behind n references s = with_statement (form_of n references) s
 
-pub directive_gone : (g : Whole) (es : List EmbData) (handlers : List MarkData) (bounds : List BoundData) (n : ℕ) (e : EmbData)
-    → slice_get es n ≡ Some e → is_directive e ≡ true → MakeNothing (references e) → DirectiveIsGone g es (embedded handlers es bounds) n e
-directive_gone g es handlers bounds n e here d p = record {
-  is_written = nothing_written handlers es bounds n e here d;
-  gone = λ body loop labels at behind. record {
+module _ (g : Whole) (n : ℕ) (e : EmbData) (is : slice_get g.source.embs n ≡ Some e) (at : Place) (s : Storage) (w : World) (ns : List ℕ) (tops : Option (List TopData)) where
+  abbrev names : List Text
+  names = variables_of g.source.embs n e
+
+  abbrev forms : List ReferenceForm
+  forms = (references_rule at (references e) s w).answer
+
+  to_come_behind : AreToCome g (record { numbers = n ∷ ns; tops = tops }) s w → (checked.references_rule at (references e) w).found ≡ []
+      → IsKnown g.source (behind n forms s) (denoting names w) → Grows w (denoting names w)
+      → AreToCome g (record { numbers = ns; tops = tops }) (behind n forms s) (denoting names w)
+  to_come_behind h clean known grows = record {
+    in_order = numbers_joined s.statements (form_of n forms) ns ∙ h.in_order;
+    denoted = length_joined w.denoted (denoted_in w names) ∙ (λ i. suc (h.denoted i)) ∙ sym (length_joined s.statements (form_of n forms));
+    known = known;
+    found = found_joined g.source (behind n forms s) (denoting names w) (form_of n forms) (denoted_in w names)
+        (record {
+          emb = e;
+          is_emb = is;
+          at = at;
+          storage = s;
+          before = w;
+          known = h.known;
+          grows = grows;
+          sites = begins_itself s.sites;
+          clean = clean;
+          are = refl;
+          denoted = refl;
+        })
+        s.statements w.denoted (found_further g.source s (behind n forms s) w (denoting names w) grows (begins_itself s.sites) s.statements w.denoted h.found);
+    position = at_still g.source tops w (denoting names w) refl h.position;
+  }
+
+  nothing_found : (t : Storage) (v : World) (o : Out (Unit {0})) → SameStorage s t → AreAlike w v
+      → AreToCome g (record { numbers = n ∷ ns; tops = tops }) s w → (checked.references_rule at (references e) w).found ≡ []
+      → IsKnown g.source (behind n forms s) (denoting names w) → Grows w (denoting names w) → o.world ≡ denoting names w
+      → FindNothing g (record { numbers = ns; tops = tops }) s t v o (reached tt (behind n forms s) (denoting names w))
+  nothing_found t v o same alike h clean known grows checked_so = record {
+    worlds = alike_still names w v alike;
+    storages = same_still (form_of n forms) s t same;
+    to_come = to_come_behind h clean known grows;
+    forms_grow = record { rest = form_of n forms ∷ []; is = refl };
+    functions = refl;
+    checked_world = sym checked_so;
+  }
+
+pub directive_gone : (g : Whole) (handlers : List MarkData) (bounds : List BoundData) (n : ℕ) (e : EmbData)
+    → slice_get g.source.embs n ≡ Some e → is_directive e ≡ true → MakeNothing (references e) → EmbeddedStatementsKeep g.source
+    → DirectiveIsGone g g.source.embs (embedded handlers g.source.embs bounds) n e
+directive_gone g handlers bounds n e is d p keep = record {
+  is_written = nothing_written handlers g.source.embs bounds n e is d;
+  gone = λ body loop labels at ns tops. record {
     finds = λ s t w v same alike come none more.
-        subst (λ q. FindNothing g behind s t v (checked.embedded_rule es body loop labels at n e w) q)
-        (sym (directive_resolved es labels at n e d p s w))
-        (nothing_found g behind (variables_of es n e) (form_of n (references_rule at (references e) s w).answer) s t w v _ same alike come
-        (directive_checked es body loop labels at n e d p w));
+        let resolved = directive_resolved g.source.embs labels at n e d p s w in
+        let keeps : Keeps g.source (embedded_rule g.source.embs labels at n e) = keep g.source.embs labels at n e in
+        subst (λ q. FindNothing g (record { numbers = ns; tops = tops }) s t v (checked.embedded_rule g.source.embs body loop labels at n e w) q)
+        (sym resolved)
+        (nothing_found g n e is at s w ns tops t v _ same alike come
+        (references_clean g.source.embs body loop labels at n e w none)
+        (subst (λ q. IsKnown g.source q.storage q.world) resolved (keeps.known s w come.known))
+        (subst (λ q. Grows w q.world) resolved (keeps.grows s w))
+        (directive_checked g.source.embs body loop labels at n e d p w));
   };
 }

@@ -1,9 +1,9 @@
 -- The checks of references that make nothing leave what is known as it is.
-use Rattle.std.proofs.Common.{◌≡◌, ◌∙◌, ℕ, Bool, true, false, List, [], ◌∷◌, ◌++◌, refl, Option, Some, None, if◌then◌else◌}
+use Rattle.std.proofs.Common.{◌≡◌, ◌∙◌, ℕ, Bool, true, false, not, ◌&&◌, List, [], ◌∷◌, ◌++◌, refl, sym, Option, Some, None, if◌then◌else◌}
 use Rattle.std.proofs.lemmas.Bool.{false≢true}
 use Rattle.std.specs.Prelude.{codes, pos, is_some}
 use Rattle.ec_base.specs.declared.fault.FaultKind.{FaultKind}
-use Rattle.ec_base.specs.declared.fault.FaultKind.TheVariants.{F11, F14}
+use Rattle.ec_base.specs.declared.fault.FaultKind.TheVariants.{F11, F14, F29}
 use Rattle.ec_base.specs.declared.fault.LimitKind.{LimitKind}
 use Rattle.ec_ctypes.specs.trees.Types.{TyData, structure}
 use Rattle.ec_ctypes.specs.trees.Embedded.{EmbData}
@@ -18,6 +18,7 @@ use Rattle.ec_typing.specs.Operands.{OperandData, unknown, object_operand, null_
 use Rattle.ec_typing.specs.Worlds.{Place, EntryData, object, function, World, Rule, chain, pure, ask, change, note, demand, keep_within}
 use Rattle.ec_typing.specs.Expressions.{expr}
 use Rattle.ec_typing.specs.Embedded.{reference_rule, members_rule, references_rule, actions_rule, denoted_in, denote, variables_of, embedded_rule}
+use Rattle.ec_expression_law.specs.Rules.{none_before, none_behind}
 use Rattle.ec_directive_law.specs.References.{MakesNothing, MakeNothing}
 
 pub record Stays {A : Type 0} (m : Rule A) : Type 0 where
@@ -168,3 +169,12 @@ directive_checked es body loop labels at n e d p w = found.world w
     found : Denotes (variables_of es n e) (embedded_rule es body loop labels at n e)
     found = first (demand_stays _ _ _) (λ a. first (references_stay at (references e) p) (λ b.
         denoted_then (variables_of es n e) (λ u. unhandled (is_directive e) (pure tt) (actions_rule es loop labels at e) d (pure_stays tt))))
+
+-- its references have no fault where it has none
+pub references_clean : (es : List EmbData) (body loop : Bool) (labels : Named (Unit {0})) (at : Place) (n : ℕ) (e : EmbData) (w : World)
+    → (embedded_rule es body loop labels at n e w).found ≡ [] → (references_rule at (references e) w).found ≡ []
+unfolding chain
+references_clean es body loop labels at n e w none =
+    let o = demand at F29 (not (body && is_directive e)) w in
+    (λ i. (references_rule at (references e) (sym ((demand_stays at F29 (not (body && is_directive e))).world w) i)).found)
+    ∙ none_before (references_rule at (references e) o.world).found _ (none_behind o.found _ none)

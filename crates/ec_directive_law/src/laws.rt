@@ -8,17 +8,20 @@ ghost use Rattle.ec_resolving.specs.Storage.{LibraryCall, StatementForm};
 ghost use Rattle.ec_statement_parts.specs.Handlers.{is_directive};
 ghost use Rattle.ec_statement_parts.specs.References.{references};
 ghost use Rattle.ec_typing.specs.Worlds.{World};
+ghost use Rattle.ec_known_law.specs.Laws.{EmbeddedStatementsKeep};
 ghost use Rattle.ec_program_law.specs.Embedded.{DirectiveIsGone};
 ghost use Rattle.ec_program_law.specs.Programs.{whole_by};
 ghost use Rattle.ec_directive_law.specs.References.{MakeNothing};
 
 /// Nothing is written in the place of a directive, and behind it no more is known of the source than before, but for its own
-/// form and what its references denote.
+/// form and what its references denote, which are found as they stand in the source.
 #[tactic(none)]
 pub fn directives_are_gone()
     ensures { (t : TypedData) (forms : List StatementForm) (calls : List LibraryCall)
-        (numbers : List ℕ) (w : World) (es : List EmbData) (handlers : List MarkData)
-        (bounds : List BoundData) (n : ℕ) (e : EmbData)
-        → slice_get es n ≡ Some e → is_directive e ≡ true → MakeNothing (references e)
-        → DirectiveIsGone (whole_by t forms calls numbers w) es (embedded handlers es bounds) n e }
+        (numbers : List ℕ) (w : World) (handlers : List MarkData) (bounds : List BoundData)
+        (n : ℕ) (e : EmbData)
+        → slice_get t.unit.embs n ≡ Some e → is_directive e ≡ true → MakeNothing (references e)
+        → EmbeddedStatementsKeep t.unit
+        → DirectiveIsGone (whole_by t forms calls numbers w) t.unit.embs
+        (embedded handlers t.unit.embs bounds) n e }
 {}

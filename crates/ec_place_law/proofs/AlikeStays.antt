@@ -1,5 +1,5 @@
 -- What is known in what is written of a source stays as what is known in the source does.
-use Rattle.std.proofs.Common.{◌≡◌, ◌∙◌, ℕ, zero, suc, List, [], ◌∷◌, ◌++◌, map, Option, Some, refl, sym, subst, slice_get}
+use Rattle.std.proofs.Common.{◌≡◌, ◌∙◌, ℕ, zero, suc, List, [], ◌∷◌, ◌++◌, map, Option, Some, None, refl, sym, subst, slice_get}
 use Rattle.std.specs.Prelude.{option_and_then}
 use Rattle.ec_ctypes.specs.Layout.{struct_shape}
 use Rattle.ec_ctypes.specs.trees.Types.{TyData}
@@ -8,7 +8,7 @@ use Rattle.ec_typing.specs.Worlds.{StructInfo, World, or_else, look_up, look_up_
 use Rattle.ec_typing.specs.Tables.{find}
 use Rattle.ec_typing.specs.Expressions.{typed_members}
 use Rattle.ec_expression_law.specs.Worlds.{SameStructs, AreAlike}
-use Rattle.ec_place_law.specs.Structs.{IsListed, IsAmong, IsClosed, AreClosed, ClosedAreListed, Stays, IsWithin}
+use Rattle.ec_place_law.specs.Structs.{IsListed, EachStructIn, IsAmong, IsClosed, AreClosed, ClosedAreListed, Stays, IsWithin}
 use Rattle.ec_place_law.specs.References.{IsDeclared, NamesAreDeclared}
 use Rattle.ec_place_law.proofs.Lists.{none_not, some_is}
 use Rattle.ec_place_law.proofs.TablesSame.{each_struct}
@@ -118,8 +118,11 @@ module _ (w v : World) (a : AreAlike w v) where
     where
       declared : (k : ℕ) (t : Option TyData) → IsDeclared w k t → IsDeclared v k t
       declared k t d = record {
-        type = d.type;
-        has_type = d.has_type;
         in_table = (λ j. slice_get (a.types j) k) ∙ d.in_table;
-        are_listed = each_struct listed_there d.type d.are_listed;
+        are_listed = each_there t d.are_listed;
+        no_void = d.no_void;
       }
+        where
+          each_there : (t : Option TyData) → EachStructIn (IsListed w) t → EachStructIn (IsListed v) t
+          each_there None h = h
+          each_there (Some t) h = each_struct listed_there t h

@@ -13,6 +13,7 @@ use Rattle.ec_hosts.specs.Places.{leaf_pointer, text_pointer}
 use Rattle.ec_hosts.specs.Programs.{ProgramData, reference_type, names_count}
 use Rattle.ec_statement_parts.specs.References.{of_host}
 use Rattle.ec_typing.specs.Answers.{struct_order, place_of, renumbered, structs_of}
+use Rattle.ec_typing.specs.Types.{is_void}
 use Rattle.ec_typing.specs.Worlds.{Place, World}
 use Rattle.ec_objects.specs.Memory.{pointer_type}
 use Rattle.ec_resolved.specs.Resolved.{Exp, member, load, faulty}
@@ -43,6 +44,14 @@ next_reference n x = by_list x.references
     by_list (r ∷ []) = refl
     by_list (r ∷ q ∷ rs) = refl
 
+-- a type that names a text is not void
+text_solid : (structs : List StructData) (t : TyData) → NamesText structs t → is_void t ≡ false
+text_solid structs void n = absurd n
+text_solid structs (arithmetic a) n = refl
+text_solid structs (pointer t) n = refl
+text_solid structs (array t n) m = refl
+text_solid structs (structure k) n = refl
+
 module _ (at : Place) (s : Storage) (w z : World) (hosts functions : List ℕ) (r : IsWithin w z) (names : NamesAreDeclared w functions) where
   abbrev p : ProgramData
   p = tables_of z hosts functions
@@ -52,8 +61,8 @@ module _ (at : Place) (s : Storage) (w z : World) (hosts functions : List ℕ) (
 
   -- the place of the next reference
   pub place_of_next : {e : ExprData} {x : Around} → ReferenceIs at s w e x → {there : TyData} → reference_type p e (take (names_count e) x.denoted) ≡ Some there
-      → IsPlaceOf at s w z e there
-  place_of_next {e} {x} h {there} t = reference_placed at s w functions names z r hosts e h.form h.clean (take (names_count e) x.denoted) h.variable there t
+      → is_void there ≡ false → IsPlaceOf at s w z e there
+  place_of_next {e} {x} h {there} t solid = reference_placed at s w functions names z r hosts e h.form h.indexes h.clean (take (names_count e) x.denoted) h.variable there t solid
 
   same_address : {e : ExprData} {x : Around} → ReferenceIs at s w e x → {there : TyData} (q : IsPlaceOf at s w z e there) → q.address ≡ reference_at 0 x
   same_address h q = sym (λ j. (q.is.is j).answer.exp) ∙ h.address
@@ -77,11 +86,10 @@ module _ (at : Place) (s : Storage) (w z : World) (hosts functions : List ℕ) (
   all_lead h q [] a = tt
   all_lead h q (l ∷ ls) a = (leaf_leads h q l a.0, all_lead h q ls a.1)
 
-  -- those of a reference of this type, if it has one
-  leaves_lead : {e : ExprData} {x : Around} → ReferenceIs at s w e x → (t : Option TyData) → reference_type p e (take (names_count e) x.denoted) ≡ t
-      → AllLead e (reference_at 0 x) (leaves_or_none p.structs t)
-  leaves_lead h None is = tt
-  leaves_lead {e} {x} h (Some there) is = of_place (place_of_next h is)
+  -- those of a reference of a type that is not void
+  some_lead : {e : ExprData} {x : Around} → ReferenceIs at s w e x → {there : TyData} → reference_type p e (take (names_count e) x.denoted) ≡ Some there
+      → is_void there ≡ false → AllLead e (reference_at 0 x) (leaves_or_none p.structs (Some there))
+  some_lead {e} {x} h {there} is solid = of_place (place_of_next h is solid)
     where
       of_place : IsPlaceOf at s w z e there → AllLead e (reference_at 0 x) (leaves_or_none p.structs (Some there))
       of_place q = of_leaves (leaves p.structs there) refl
@@ -89,6 +97,16 @@ module _ (at : Place) (s : Storage) (w z : World) (hosts functions : List ℕ) (
           of_leaves : (o : Option (List LeafData)) → leaves p.structs there ≡ o → AllLead e (reference_at 0 x) (elim o [ None ↦ [] | Some ls ↦ ls ])
           of_leaves None are = tt
           of_leaves (Some ls) are = all_lead h q ls (leaves_lie w z r q.type q.are_listed ls (sym (λ j. leaves p.structs (q.same j)) ∙ are))
+
+  -- those of a reference of this type, if it has one: of type void it has none
+  leaves_lead : {e : ExprData} {x : Around} → ReferenceIs at s w e x → (t : Option TyData) → reference_type p e (take (names_count e) x.denoted) ≡ t
+      → AllLead e (reference_at 0 x) (leaves_or_none p.structs t)
+  leaves_lead h None is = tt
+  leaves_lead h (Some void) is = tt
+  leaves_lead h (Some (arithmetic a)) is = some_lead h is refl
+  leaves_lead h (Some (pointer t)) is = some_lead h is refl
+  leaves_lead h (Some (array t n)) is = some_lead h is refl
+  leaves_lead h (Some (structure k)) is = some_lead h is refl
 
   -- a host and its indicator
   module _ (h : HostData) (x y : Exp) where
@@ -186,7 +204,7 @@ module _ (at : Place) (s : Storage) (w z : World) (hosts functions : List ℕ) (
         of_member m = of_array m (array_by m.type (sym (λ j. array_length (m.same j))))
 
     pub text_leads : (there : TyData) → type_of p e x ≡ Some there → NamesText p.structs there → HostTextIs p g e x
-    text_leads there is n = of_place (place_of_next h is)
+    text_leads there is n = of_place (place_of_next h is (text_solid p.structs there n))
       where
         of_place : IsPlaceOf at s w z e there → HostTextIs p g e x
         of_place q = subst Leads (sym (is ∙ (λ j. Some (q.same j))))

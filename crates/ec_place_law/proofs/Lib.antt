@@ -1,10 +1,10 @@
-mod AlikeStays
-mod GrowthStays
-mod HostsLead
-mod LeavesLie
-mod Lists
-mod MembersSame
-mod PlacesFound
-mod ReferencesFound
-mod Shapes
-mod TablesSame
+pub mod AlikeStays
+pub mod GrowthStays
+pub mod HostsLead
+pub mod LeavesLie
+pub mod Lists
+pub mod MembersSame
+pub mod PlacesFound
+pub mod ReferencesFound
+pub mod Shapes
+pub mod TablesSame

@@ -8,7 +8,8 @@ use Rattle.ec_language.specs.Letters.{Text, same_text}
 use Rattle.ec_base.specs.declared.fault.FaultKind.TheVariants.{F11, F14}
 use Rattle.ec_hosts.specs.Programs as tables
 use Rattle.ec_hosts.specs.Programs.{ProgramData, Denoted, variable_of, variable_type, declared_type, reference_type, type_along, element_of, is_among}
-use Rattle.ec_typing.specs.Types.{int_type, is_structure, struct_number, decayed, element_type, only_if}
+use Rattle.ec_typing.specs.Statements.{type_or_void}
+use Rattle.ec_typing.specs.Types.{int_type, is_void, is_structure, struct_number, decayed, element_type, only_if}
 use Rattle.ec_typing.specs.Known.{known_function}
 use Rattle.ec_typing.specs.Operands as checked
 use Rattle.ec_typing.specs.Operands.{name_rule as check_name, named_by as check_named, value_rule as check_value, index_rule as check_index, member_rule as check_member, arrow_rule as check_arrow}
@@ -30,7 +31,7 @@ use Rattle.ec_argument_law.specs.Pointers.{value_of, IsPlace, IsPointer}
 use Rattle.ec_argument_law.proofs.Pointers.{member_of_place}
 use Rattle.ec_place_law.specs.Structs.{IsListed, AreListed, IsWithin}
 use Rattle.ec_place_law.specs.Places.{IsMember}
-use Rattle.ec_place_law.specs.References.{IsIndex, IsReference, variable_in, IsDeclared, NamesAreDeclared, tables_of, IsPlaceOf}
+use Rattle.ec_place_law.specs.References.{IsIndex, IsReference, IsTypedEntry, IndexHasType, IndexesHaveTypes, variable_in, IsDeclared, NamesAreDeclared, tables_of, IsPlaceOf}
 use Rattle.ec_place_law.proofs.Lists.{none_not, false_not, some_is, Follows, follows}
 use Rattle.ec_place_law.proofs.MembersSame.{member_known}
 use Rattle.ec_place_law.proofs.PlacesFound.{pointer_value, array_value, element_place, arrow_place}
@@ -138,9 +139,9 @@ module _ (at : Place) (s : Storage) (w : World) where
   name_formed x = refl
 
   module _ (functions : List ℕ) (names : NamesAreDeclared w functions) where
-    name_by : (x : Text) (entry : Option EntryData) → look_up x w ≡ entry → (with_entry x entry).found ≡ [] → NameIs x
+    name_by : (x : Text) (entry : Option EntryData) → look_up x w ≡ entry → IsTypedEntry entry → (with_entry x entry).found ≡ [] → NameIs x
     unfolding check_pure check_chain check_named note
-    name_by x None is clean = of_known (known_typed (same_text x (codes "sqlca")) (same_text x (codes "NULL")) (same_text x (codes "true"))
+    name_by x None is typed clean = of_known (known_typed (same_text x (codes "sqlca")) (same_text x (codes "NULL")) (same_text x (codes "true"))
         (same_text x (codes "false")) (is_some (known_function x)) clean)
       where
         of_known : IsKnown (predefined at x) → NameIs x
@@ -153,22 +154,20 @@ module _ (at : Place) (s : Storage) (w : World) where
           checked_name = name_checked x ∙ (λ j. with_entry x (is j)) ∙ k.is;
           has_type = k.has_type;
         }
-    name_by x (Some (object k global t)) is clean = of_declared (names.objects x k global t is)
-      where
-        of_declared : IsDeclared w k t → NameIs x
-        of_declared d = record {
-          operand = object_operand global t;
-          exp = named_exp s.sites x (Some (object k global t));
-          is_address = true;
-          type = d.type;
-          is = name_formed x ∙ (λ j. formed x (is j) (with_entry x (is j)));
-          checked_name = name_checked x ∙ (λ j. with_entry x (is j));
-          has_type = d.has_type;
-        }
-    name_by x (Some (function k done r ps)) is clean = full_not clean
+    name_by x (Some (object k global None)) is typed clean = absurd typed
+    name_by x (Some (object k global (Some t))) is typed clean = record {
+      operand = object_operand global (Some t);
+      exp = named_exp s.sites x (Some (object k global (Some t)));
+      is_address = true;
+      type = t;
+      is = name_formed x ∙ (λ j. formed x (is j) (with_entry x (is j)));
+      checked_name = name_checked x ∙ (λ j. with_entry x (is j));
+      has_type = refl;
+    }
+    name_by x (Some (function k done r ps)) is typed clean = full_not clean
 
-    name_is : (x : Text) → (checked_parts.expr at (identifier x) w).found ≡ [] → NameIs x
-    name_is x clean = name_by x (look_up x w) refl (sym (λ j. (name_checked x j).found) ∙ clean)
+    name_is : (x : Text) → IsTypedEntry (look_up x w) → (checked_parts.expr at (identifier x) w).found ≡ [] → NameIs x
+    name_is x typed clean = name_by x (look_up x w) refl typed (sym (λ j. (name_checked x j).found) ∙ clean)
 
     -- ---- the value of an index
 
@@ -216,8 +215,8 @@ module _ (at : Place) (s : Storage) (w : World) where
         as_valued = formed_so ∙ value_clean (is_structure n.type && not (is_complete w n.type)) (record n.operand { type = Some n.type }) n.type
             (sym (λ j. (formed_so j).found) ∙ clean)
 
-    name_value : (x : Text) → (check_chain (checked_parts.expr at (identifier x)) (check_value at) w).found ≡ [] → IndexIs (identifier x)
-    name_value x clean = of_name (name_is x (first_clean (checked_parts.expr at (identifier x)) (check_value at) w clean))
+    name_value : (x : Text) → IsTypedEntry (look_up x w) → (check_chain (checked_parts.expr at (identifier x)) (check_value at) w).found ≡ [] → IndexIs (identifier x)
+    name_value x typed clean = of_name (name_is x typed (first_clean (checked_parts.expr at (identifier x)) (check_value at) w clean))
       where
         of_name : NameIs x → IndexIs (identifier x)
         of_name n = name_valued x n (second_clean (checked_parts.expr at (identifier x)) (check_value at) w n.checked_name clean)
@@ -233,10 +232,10 @@ module _ (at : Place) (s : Storage) (w : World) where
       has_type = refl;
     }
 
-    index_value : (b : ExprData) → IsIndex b → (check_chain (checked_parts.expr at b) (check_value at) w).found ≡ [] → IndexIs b
-    index_value (integer n (arithmetic a)) h clean = number_value n a
-    index_value (identifier x) h clean = name_value x clean
-    index_value _ h clean = absurd h
+    index_value : (b : ExprData) → IsIndex b → IndexHasType w b → (check_chain (checked_parts.expr at b) (check_value at) w).found ≡ [] → IndexIs b
+    index_value (integer n (arithmetic a)) h typed clean = number_value n a
+    index_value (identifier x) h typed clean = name_value x typed clean
+    index_value _ h typed clean = absurd h
 
     -- ---- elements
 
@@ -282,33 +281,34 @@ module _ (at : Place) (s : Storage) (w : World) where
 
       -- ---- the type of a variable
 
-      declared_in_table : (k : ℕ) {t : Option TyData} (d : IsDeclared w k t) {there : TyData} → variable_type p (Some k) ≡ Some there → there ≡ renumbered order d.type
-      declared_in_table k d {there} e = by_among (is_among k functions) e
+      declared_in_table : (k : ℕ) {t : Option TyData} (d : IsDeclared w k t) {there : TyData} → variable_type p (Some k) ≡ Some there → there ≡ renumbered order (type_or_void t)
+      declared_in_table k {t} d {there} e = by_among (is_among k functions) e
         where
-          by_among : (b : Bool) → elim b [ true ↦ None | false ↦ declared_type p k ] ≡ Some there → there ≡ renumbered order d.type
+          by_among : (b : Bool) → elim b [ true ↦ None | false ↦ declared_type p k ] ≡ Some there → there ≡ renumbered order (type_or_void t)
           by_among true e = none_not e
-          by_among false e = some_is (sym e ∙ names_from 0 order z.types k ∙ (λ j. option_map (renumbered order) (r.types k d.type d.in_table j)))
+          by_among false e = some_is (sym e ∙ names_from 0 order z.types k ∙ (λ j. option_map (renumbered order) (r.types k (type_or_void t) d.in_table j)))
 
       function_is_none : (k : ℕ) → is_among k functions ≡ true → variable_type p (Some k) ≡ None
       function_is_none k e = λ j. elim (e j) [ true ↦ None | false ↦ declared_type p k ]
 
-      variable_by : (x : Text) (entry : Option EntryData) → look_up x w ≡ entry → (there : TyData) → variable_type p (denoted_by entry) ≡ Some there → Placed (identifier x) there
+      variable_by : (x : Text) (entry : Option EntryData) → look_up x w ≡ entry → (there : TyData) → variable_type p (denoted_by entry) ≡ Some there
+          → is_void there ≡ false → Placed (identifier x) there
       unfolding check_named check_pure
-      variable_by x None is there e = none_not e
-      variable_by x (Some (object k global t)) is there e = of_declared (names.objects x k global t is)
-        where
-          formed_so : expr at (identifier x) s w ≡ formed x (Some (object k global t)) (with_entry x (Some (object k global t)))
-          formed_so = name_formed x ∙ (λ j. formed x (is j) (with_entry x (is j)))
-
-          of_declared : IsDeclared w k t → Placed (identifier x) there
-          of_declared d = record {
-            type = d.type;
-            address = named_exp s.sites x (Some (object k global t));
-            is = record { operand = object_operand global t; is = formed_so; type = d.has_type; place = refl };
-            same = declared_in_table k d e;
-            are_listed = d.are_listed;
-          }
-      variable_by x (Some (function k done f ps)) is there e = none_not (sym (function_is_none k (names.are_functions x k done f ps is)) ∙ e)
+      variable_by x None is there e solid = none_not e
+      variable_by x (Some (object k global None)) is there e solid = false_not (sym solid ∙ (λ j. is_void (declared_in_table k (names.objects x k global None is) e j)))
+      variable_by x (Some (object k global (Some t))) is there e solid = record {
+        type = t;
+        address = named_exp s.sites x (Some (object k global (Some t)));
+        is = record {
+          operand = object_operand global (Some t);
+          is = name_formed x ∙ (λ j. formed x (is j) (with_entry x (is j)));
+          type = refl;
+          place = refl;
+        };
+        same = declared_in_table k (names.objects x k global (Some t) is) e;
+        are_listed = (names.objects x k global (Some t) is).are_listed;
+      }
+      variable_by x (Some (function k done f ps)) is there e solid = none_not (sym (function_is_none k (names.are_functions x k done f ps is)) ∙ e)
 
       -- ---- a pointer's or an array's elements
 
@@ -337,8 +337,8 @@ module _ (at : Place) (s : Storage) (w : World) where
           finds : Finds operand_of (value_of at e) (check_chain (checked_parts.expr at e) (check_value at))
           finds = chain_finds (expr at e) (checked_parts.expr at e) (value_rule at) (check_value at) (expr_finds at e) (λ f. value_finds at f)
 
-      index_placed : (a b : ExprData) → IsIndex b → {there : TyData} → (q : Points a there) → (checked_parts.expr at (index a b) w).found ≡ [] → Placed (index a b) there
-      index_placed a b h {there} q clean = with_index (index_value b h (first_clean value_b (λ y. check_index at q.is.operand y) w clean_b))
+      index_placed : (a b : ExprData) → IsIndex b → IndexHasType w b → {there : TyData} → (q : Points a there) → (checked_parts.expr at (index a b) w).found ≡ [] → Placed (index a b) there
+      index_placed a b h typed {there} q clean = with_index (index_value b h typed (first_clean value_b (λ y. check_index at q.is.operand y) w clean_b))
         where
           value_a : Rule OperandData
           value_a = check_chain (checked_parts.expr at a) (check_value at)
@@ -443,14 +443,36 @@ module _ (at : Place) (s : Storage) (w : World) where
 
       -- ---- references
 
+      -- what has elements or members is not void
+      solid_element : (t : TyData) {u : TyData} → element_of t ≡ Some u → is_void t ≡ false
+      solid_element void e = none_not e
+      solid_element (arithmetic a) e = refl
+      solid_element (pointer t) e = refl
+      solid_element (array t n) e = refl
+      solid_element (structure k) e = refl
+
+      solid_member : (name : Text) (t : TyData) {u : TyData} → tables.member_type structs name t ≡ Some u → is_void t ≡ false
+      solid_member name void e = none_not e
+      solid_member name (arithmetic a) e = refl
+      solid_member name (pointer t) e = refl
+      solid_member name (array t n) e = refl
+      solid_member name (structure k) e = refl
+
+      solid_target : (name : Text) (t : TyData) {u : TyData} → option_and_then (tables.member_type structs name) (element_of t) ≡ Some u → is_void t ≡ false
+      solid_target name void e = none_not e
+      solid_target name (arithmetic a) e = refl
+      solid_target name (pointer t) e = refl
+      solid_target name (array t n) e = refl
+      solid_target name (structure k) e = refl
+
       -- by the type of the variable
       module _ (of_variable : TyData) where
-        placed : (e : ExprData) → IsReference e → (checked_parts.expr at e w).found ≡ [] → variable_type p (denoted_by (look_up (variable_in e) w)) ≡ Some of_variable
-            → (there : TyData) → type_along structs of_variable e ≡ Some there → Placed e there
-        placed (identifier x) h clean v there e = variable_by x (look_up x w) refl there (v ∙ e)
-        placed (index a b) h clean v there e =
+        placed : (e : ExprData) → IsReference e → IndexesHaveTypes w e → (checked_parts.expr at e w).found ≡ [] → variable_type p (denoted_by (look_up (variable_in e) w)) ≡ Some of_variable
+            → (there : TyData) → type_along structs of_variable e ≡ Some there → is_void there ≡ false → Placed e there
+        placed (identifier x) h typed clean v there e solid = variable_by x (look_up x w) refl there (v ∙ e) solid
+        placed (index a b) h typed clean v there e solid =
             element (follows element_of (type_along structs of_variable a) e)
-            (placed a h.0 (first_clean (checked_parts.expr at a) (check_value at) w (first_clean value_a (λ x. check_chain value_b (λ y. check_index at x y)) w clean)) v)
+            (placed a h.0 typed.0 (first_clean (checked_parts.expr at a) (check_value at) w (first_clean value_a (λ x. check_chain value_b (λ y. check_index at x y)) w clean)) v)
           where
             value_a : Rule OperandData
             value_a = check_chain (checked_parts.expr at a) (check_value at)
@@ -459,24 +481,24 @@ module _ (at : Place) (s : Storage) (w : World) where
             value_b = check_chain (checked_parts.expr at b) (check_value at)
 
             element : Follows element_of (type_along structs of_variable a) there
-                → ((whole : TyData) → type_along structs of_variable a ≡ Some whole → Placed a whole) → Placed (index a b) there
-            element f further = index_placed a b h.1 (points a (further f.value f.is) f.then') clean
-        placed (member e m) h clean v there g =
+                → ((whole : TyData) → type_along structs of_variable a ≡ Some whole → is_void whole ≡ false → Placed a whole) → Placed (index a b) there
+            element f further = index_placed a b h.1 typed.1 (points a (further f.value f.is (solid_element f.value f.then')) f.then') clean
+        placed (member e m) h typed clean v there g solid =
             inner (follows (tables.member_type structs m) (type_along structs of_variable e) g)
-            (placed e h (first_clean (checked_parts.expr at e) (λ o. check_member at o m) w clean) v)
+            (placed e h typed (first_clean (checked_parts.expr at e) (λ o. check_member at o m) w clean) v)
           where
             inner : Follows (tables.member_type structs m) (type_along structs of_variable e) there
-                → ((whole : TyData) → type_along structs of_variable e ≡ Some whole → Placed e whole) → Placed (member e m) there
-            inner f further = member_placed e m (further f.value f.is) there f.then'
-        placed (arrow e m) h clean v there g =
+                → ((whole : TyData) → type_along structs of_variable e ≡ Some whole → is_void whole ≡ false → Placed e whole) → Placed (member e m) there
+            inner f further = member_placed e m (further f.value f.is (solid_member m f.value f.then')) there f.then'
+        placed (arrow e m) h typed clean v there g solid =
             inner (follows (λ s. option_and_then (tables.member_type structs m) (element_of s)) (type_along structs of_variable e) g)
-            (placed e h (first_clean (checked_parts.expr at e) (check_value at) w
+            (placed e h typed (first_clean (checked_parts.expr at e) (check_value at) w
             (first_clean (check_chain (checked_parts.expr at e) (check_value at)) (λ o. check_arrow at o m) w clean)) v)
           where
             inner : Follows (λ s. option_and_then (tables.member_type structs m) (element_of s)) (type_along structs of_variable e) there
-                → ((whole : TyData) → type_along structs of_variable e ≡ Some whole → Placed e whole) → Placed (arrow e m) there
-            inner f further = arrow_placed e m (further f.value f.is) there f.then' clean
-        placed _ h clean v there e = absurd h
+                → ((whole : TyData) → type_along structs of_variable e ≡ Some whole → is_void whole ≡ false → Placed e whole) → Placed (arrow e m) there
+            inner f further = arrow_placed e m (further f.value f.is (solid_target m f.value f.then')) there f.then' clean
+        placed _ h typed clean v there e solid = absurd h
 
       -- a function's name alone has no type as a host
       alone_by : (x : Text) (entry : Option EntryData) → look_up x w ≡ entry → {there : TyData} → variable_type p (denoted_by entry) ≡ Some there → is_function_entry x entry ≡ false
@@ -505,13 +527,14 @@ module _ (at : Place) (s : Storage) (w : World) where
       unfolding chain ask
       rule_resolved e = refl
 
-      pub reference_placed : (e : ExprData) → IsReference e → (checked_embedded.reference_rule at e w).found ≡ [] → (ds : Denoted)
-          → variable_of ds ≡ denoted_by (look_up (variable_in e) w) → (there : TyData) → reference_type p e ds ≡ Some there → IsPlaceOf at s w z e there
-      reference_placed e h clean ds denoted there g = of_variable (follows (λ t. type_along structs t e) (variable_type p (variable_of ds)) g)
+      pub reference_placed : (e : ExprData) → IsReference e → IndexesHaveTypes w e → (checked_embedded.reference_rule at e w).found ≡ [] → (ds : Denoted)
+          → variable_of ds ≡ denoted_by (look_up (variable_in e) w) → (there : TyData) → reference_type p e ds ≡ Some there
+          → is_void there ≡ false → IsPlaceOf at s w z e there
+      reference_placed e h typed clean ds denoted there g solid = of_variable (follows (λ t. type_along structs t e) (variable_type p (variable_of ds)) g)
         where
           of_variable : Follows (λ t. type_along structs t e) (variable_type p (variable_of ds)) there → IsPlaceOf at s w z e there
-          of_variable f = of_placed (placed f.value e h
-              (sym ((λ j. (rule_checked e j).found) ∙ (λ j. (reference_checked e (alone j) w).found)) ∙ clean) declared there f.then')
+          of_variable f = of_placed (placed f.value e h typed
+              (sym ((λ j. (rule_checked e j).found) ∙ (λ j. (reference_checked e (alone j) w).found)) ∙ clean) declared there f.then' solid)
             where
               declared : variable_type p (denoted_by (look_up (variable_in e) w)) ≡ Some f.value
               declared = sym (λ j. variable_type p (denoted j)) ∙ f.is

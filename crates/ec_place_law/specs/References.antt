@@ -1,17 +1,19 @@
 -- The references of embedded statements, and what holds of the names in them.
-use Rattle.std.specs.Prelude.{◌≡◌, ℕ, Bool, true, List, [], Option, Some, slice_get}
+use Rattle.std.specs.Prelude.{◌≡◌, ℕ, Bool, true, false, List, [], Option, Some, None, slice_get}
 use Rattle.ec_ctypes.specs.trees.Exprs.{ExprData, integer, identifier, index, member, arrow}
 use Rattle.ec_ctypes.specs.trees.Types.{TyData, arithmetic}
 use Rattle.ec_language.specs.Letters.{Text}
 use Rattle.ec_hosts.specs.Programs.{ProgramData, is_among}
-use Rattle.ec_typing.specs.Worlds.{Place, object, function, World, look_up}
+use Rattle.ec_typing.specs.Statements.{type_or_void}
+use Rattle.ec_typing.specs.Types.{is_void}
+use Rattle.ec_typing.specs.Worlds.{Place, EntryData, object, function, World, look_up}
 use Rattle.ec_typing.specs.Answers.{struct_order, renumbered, structs_of, names_of}
 use Rattle.ec_resolved.specs.Resolved.{Exp}
 use Rattle.ec_resolving.specs.Storage.{Storage}
 use Rattle.ec_resolving.specs.Expressions.{expr}
 use Rattle.ec_resolving.specs.Embedded.{reference_rule}
 use Rattle.ec_argument_law.specs.Pointers.{IsPlace}
-use Rattle.ec_place_law.specs.Structs.{AreListed}
+use Rattle.ec_place_law.specs.Structs.{IsListed, EachStructIn, AreListed}
 
 -- an index: a number or a name
 abbrev pub IsIndex : ExprData → Type 0
@@ -37,14 +39,39 @@ variable_in _ = []
 
 -- ---- what names stand for
 
--- the declaration of this number is that of an object of this type, whose structs are listed
-pub record IsDeclared (w : World) (k : ℕ) (t : Option TyData) : Type 0 where
-  pub type : TyData
-  pub has_type : t ≡ Some type
-  pub in_table : slice_get w.types k ≡ Some type
-  pub are_listed : AreListed w type
+-- an object is not void
+abbrev pub IsNoVoid : Option TyData → Type 0
+IsNoVoid None = Unit {0}
+IsNoVoid (Some t) = is_void t ≡ false
 
--- What holds of names wherever nothing was wrong so far, and no declaration is being read: each object is declared so, and each function is one of these
+abbrev pub IsSomeType : Option TyData → Type 0
+IsSomeType None = ⊥
+IsSomeType (Some t) = Unit {0}
+
+-- an object has a type
+abbrev pub IsTypedEntry : Option EntryData → Type 0
+IsTypedEntry None = Unit {0}
+IsTypedEntry (Some (object k global t)) = IsSomeType t
+IsTypedEntry (Some (function k done r ps)) = Unit {0}
+
+abbrev pub IndexHasType : World → ExprData → Type 0
+IndexHasType w (identifier x) = IsTypedEntry (look_up x w)
+IndexHasType w _ = Unit {0}
+
+-- Each name that is an index stands for what has a type: the tables, which tell of no index, give the type of an element whatever that of its index
+abbrev pub IndexesHaveTypes : World → ExprData → Type 0
+IndexesHaveTypes w (index a b) = IndexesHaveTypes w a × IndexHasType w b
+IndexesHaveTypes w (member e m) = IndexesHaveTypes w e
+IndexesHaveTypes w (arrow e m) = IndexesHaveTypes w e
+IndexesHaveTypes w _ = Unit {0}
+
+-- the declaration of this number is that of an object of this type, if it has one: the table has it, void where there is none, and the structs in it are listed
+pub record IsDeclared (w : World) (k : ℕ) (t : Option TyData) : Type 0 where
+  pub in_table : slice_get w.types k ≡ Some (type_or_void t)
+  pub are_listed : EachStructIn (IsListed w) t
+  pub no_void : IsNoVoid t
+
+-- What holds of names where no declaration is being read: each object is declared so, and each function is one of these
 pub record NamesAreDeclared (w : World) (functions : List ℕ) : Type 0 where
   pub objects : (x : Text) (k : ℕ) (global : Bool) (t : Option TyData)
       → look_up x w ≡ Some (object k global t) → IsDeclared w k t

@@ -11,7 +11,7 @@ use Rattle.ec_resolving.specs.Storage.{Storage}
 use Rattle.ec_resolving.specs.Expressions.{expr}
 use Rattle.ec_direct.specs.Statements.{Around, behind, reference_at}
 use Rattle.ec_argument_law.specs.Pointers.{value_of}
-use Rattle.ec_place_law.specs.References.{IsReference, variable_in}
+use Rattle.ec_place_law.specs.References.{IsReference, IndexesHaveTypes, variable_in}
 
 module _ (at : Place) (s : Storage) (w : World) where
   -- what a pointer is resolved to
@@ -21,6 +21,7 @@ module _ (at : Place) (s : Storage) (w : World) where
   -- The reference that comes next is this one: nothing is wrong with it, its first name is that of its variable, and it has this address
   pub record ReferenceIs (e : ExprData) (x : Around) : Type 0 where
     pub form : IsReference e
+    pub indexes : IndexesHaveTypes w e
     pub clean : (reference_rule at e w).found ≡ []
     pub variable : variable_of (take (names_count e) x.denoted)
         ≡ denoted_by (look_up (variable_in e) w)

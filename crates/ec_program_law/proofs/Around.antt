@@ -51,6 +51,13 @@ left_to_denoted (s ∷ ss) w = refl
 pub left_denoted : (w : World) → (left w).denoted ≡ w.denoted
 left_denoted w = left_to_denoted w.outer w
 
+left_to_types : (ss : List ScopeData) (w : World) → (left_to ss w).types ≡ w.types
+left_to_types [] w = refl
+left_to_types (s ∷ ss) w = refl
+
+pub left_types : (w : World) → (left w).types ≡ w.types
+left_types w = left_to_types w.outer w
+
 before_left_to : (ss : List ScopeData) (w z : World) → Grows (left_to ss w) z → Grows w z
 before_left_to [] w z h = record { written = h.written; defined = h.defined; types = h.types; denoted = h.denoted; closed = h.closed; structs = h.structs }
 before_left_to (s ∷ ss) w z h = record { written = h.written; defined = h.defined; types = h.types; denoted = h.denoted; closed = h.closed; structs = h.structs }

@@ -1,13 +1,13 @@
 -- Functions are copied wherever their parameters are alike and their bodies are copied.
 use Rattle.std.proofs.Common.{◌≡◌, ◌∙◌, ℕ, suc, Bool, true, false, not, ◌||◌, List, [], ◌∷◌, ◌++◌, length, map, Option, Some, None, refl, sym, subst, append_assoc}
 use Rattle.std.specs.Prelude.{is_some}
-use Rattle.ec_base.specs.declared.fault.FaultKind.TheVariants.{F10, F12}
+use Rattle.ec_base.specs.declared.fault.FaultKind.TheVariants.{F10, F12, F14}
 use Rattle.ec_base.specs.declared.line.Line.{Line}
 use Rattle.ec_ctypes.specs.trees.Types.{TyData}
 use Rattle.ec_ctypes.specs.trees.Embedded.{EmbData}
 use Rattle.ec_ctypes.specs.trees.Exprs.{BaseData}
 use Rattle.ec_ctypes.specs.trees.Stmts.{StmtKindData, StmtList}
-use Rattle.ec_ctypes.specs.trees.Units.{ParamData, FuncData}
+use Rattle.ec_ctypes.specs.trees.Units.{ParamData, FuncData, TopData, func_top}
 use Rattle.ec_language.specs.Letters.{Text}
 use Rattle.ec_bound_shape.specs.Numbers.{stmts_numbers, body_numbers}
 use Rattle.ec_expansion.specs.Declarations.{written_base}
@@ -17,7 +17,7 @@ use Rattle.ec_typing.specs.Known.{is_reserved}
 use Rattle.ec_typing.specs.Expressions as checked_parts
 use Rattle.ec_typing.specs.Operands.{declared_type}
 use Rattle.ec_typing.specs.Programs as programs
-use Rattle.ec_typing.specs.Programs.{is_done, may_follow, begin_function, know_function, result_rule}
+use Rattle.ec_typing.specs.Programs.{is_done, may_follow, may_be_result, begin_function, know_function, result_rule}
 use Rattle.ec_typing.specs.Statements as checked
 use Rattle.ec_typing.specs.Statements.{type_or_void, labels_in_all}
 use Rattle.ec_typing.specs.Worlds.{Place, EntryData, function, World, Out, Rule, chain as check_chain, pure as check_pure, ask as check_ask, change, note, demand, enter, leave, free_name, place, with_name, number_as, next_number}
@@ -36,15 +36,20 @@ use Rattle.ec_expression_law.specs.Known.{entered_alike, with_labels}
 use Rattle.ec_expression_law.specs.Rules.{some_found, none_before, none_behind, QuietAlike, CheckAlike, change_alike, demand_quietly, checks_alike, ask_alike}
 use Rattle.ec_growth_law.specs.Growth.{Grows}
 use Rattle.ec_growth_law.proofs.Rules.{leave_grows}
-use Rattle.ec_program_law.specs.Copied.{Whole, FindCopies, IsCopied, Any}
+use Rattle.ec_hosts.specs.Programs.{is_among}
+use Rattle.ec_sections.specs.Declared.{functions_of}
+use Rattle.ec_known_law.specs.Known.{Keeps}
+use Rattle.ec_known_law.specs.Laws.{WalkKeeps}
+use Rattle.ec_program_law.specs.Copied.{Whole, Ahead, in_function, at_top, FindCopies, IsCopied, Any}
 use Rattle.ec_program_law.specs.Declared.{PlainAreAlike, VarcharsAreAlike}
 use Rattle.ec_program_law.specs.Embedded.{inside, EmbeddedAreCopied}
 use Rattle.ec_program_law.specs.Shape.{BodyStands, ParamsHaveLengths}
 use Rattle.ec_program_law.proofs.Around.{left_alike}
-use Rattle.ec_program_law.proofs.Copying.{copied_chain, alike_first, copied_as, copied_then, pure_copied, alike_last, placed, copied_block}
+use Rattle.ec_program_law.proofs.Coming.{come_behind, come_stored, types_pass, ask_passes, ask_keeps}
+use Rattle.ec_program_law.proofs.Copying.{copied_chain, alike_passed, alike_first, copied_as, copied_then, pure_copied, alike_last, placed, copied_block, passed_behind}
 use Rattle.ec_program_law.proofs.CopiedStatements.{items_copied}
 use Rattle.ec_program_law.proofs.Declaring.{site_same}
-use Rattle.ec_program_law.proofs.DenotingRules.{ask_denotes, changed, enter_denotes, leave_denotes, number_denotes}
+use Rattle.ec_program_law.proofs.DenotingRules.{ask_denotes, changed, enter_denotes, leave_denotes}
 use Rattle.ec_program_law.proofs.DenotingExpressions.{base_denotes}
 use Rattle.ec_program_law.proofs.DenotingPrograms.{result_denotes, params_denote, know_denotes}
 use Rattle.ec_program_law.proofs.Names.{not_false, with_names, number_alike}
@@ -71,7 +76,7 @@ module _ (g : Whole) where
   -- ---- steps of a function
 
   -- what only tells a fault, and is not looked at by the walk
-  quiet_before : {A B : Type 0} {IsLike : A → B → Type 0} {ns ms : List ℕ} (c d e f : Rule (Unit {0})) {m : Resolving A} {n : Resolving B} → QuietAlike c d
+  quiet_before : {A B : Type 0} {IsLike : A → B → Type 0} {ns ms : Ahead} (c d e f : Rule (Unit {0})) {m : Resolving A} {n : Resolving B} → QuietAlike c d
       → IsCopied g IsLike ns ms e f m n → IsCopied g IsLike ns ms (check_chain c (λ _. e)) (check_chain d (λ _. f)) m n
   unfolding check_chain
   quiet_before {IsLike = R} {ms = ms} c d e f {m} {n} q p = record {
@@ -93,39 +98,18 @@ module _ (g : Whole) where
         };
   }
 
-  -- one place more for a declaration that is no object
-  site_first : {A B : Type 0} {IsLike : A → B → Type 0} {ns ms : List ℕ} {c d : Rule (Unit {0})} (k : Unit {0} → Resolving A) (l : Unit {0} → Resolving B)
-      → IsCopied g IsLike ns ms c d (k tt) (l tt) → IsCopied g IsLike ns ms c d (chain (arrange (with_site nowhere)) k) (chain (arrange (with_site nowhere)) l)
-  unfolding chain arrange
-  site_first {IsLike = R} {ms = ms} {c} {d} k l p = record {
-    finds = λ s t w v same alike here none more.
-        let x : FindCopies g R ms (with_site nowhere s) (with_site nowhere t) (c w) (d v) (k tt (with_site nowhere s) w) (l tt (with_site nowhere t) v) =
-        p.finds (with_site nowhere s) (with_site nowhere t) w v (site_same nowhere s t same) alike (record { in_order = here.in_order; denoted = here.denoted }) none more
-        in record {
-          worlds = x.worlds;
-          storages = x.storages;
-          to_come = x.to_come;
-          forms_grow = x.forms_grow;
-          calls_grow = x.calls_grow;
-          like = x.like;
-          functions = x.functions;
-          checked_world = x.checked_world;
-          checked_world_there = x.checked_world_there;
-          without_fault = x.without_fault;
-        };
-  }
-
   -- the name of a function stands for it before it is told whether it is reserved
-  by_free : {A B : Type 0} {IsLike : A → B → Type 0} {ns ms : List ℕ} (at there : Place) (name : Text) (entry : EntryData) (free : Bool) (e f : Unit {0} → Rule (Unit {0})) (k : Unit {0} → Resolving A) (l : Unit {0} → Resolving B)
-      → (free ≡ true → is_reserved name ≡ false) → (is_reserved name ≡ false → IsCopied g IsLike ns ms (e tt) (f tt) (k tt) (l tt))
-      → IsCopied g IsLike ns ms (check_chain (begin_function name entry) (λ _. check_chain (demand at F12 free) e)) (check_chain (begin_function name entry) (λ _. check_chain (demand there F12 free) f))
+  by_free : {A B : Type 0} {IsLike : A → B → Type 0} {ns : List ℕ} {tops : Option (List TopData)} {ms : Ahead} (at there : Place) (name : Text) (entry : EntryData) (free : Bool) (e f : Unit {0} → Rule (Unit {0})) (k : Unit {0} → Resolving A) (l : Unit {0} → Resolving B)
+      → Keeps g.source (checks (begin_function name entry)) → (free ≡ true → is_reserved name ≡ false) → (is_reserved name ≡ false → IsCopied g IsLike (in_function ns) ms (e tt) (f tt) (k tt) (l tt))
+      → IsCopied g IsLike (record { numbers = ns; tops = tops }) ms (check_chain (begin_function name entry) (λ _. check_chain (demand at F12 free) e)) (check_chain (begin_function name entry) (λ _. check_chain (demand there F12 free) f))
       (chain (checks (begin_function name entry)) k) (chain (checks (begin_function name entry)) l)
   unfolding chain check_chain checks begin_function change demand note check_pure
-  by_free at there name entry false e f k l h p = record { finds = λ s t w v same alike here none more. absurd (some_found none) }
-  by_free {IsLike = R} {ms = ms} at there name entry true e f k l h p = record {
+  by_free at there name entry false e f k l keeps h p = record { finds = λ s t w v same alike here none more. absurd (some_found none) }
+  by_free {IsLike = R} {ns} {tops} {ms} at there name entry true e f k l keeps h p = record {
     finds = λ s t w v same alike here none more.
         let x : FindCopies g R ms s t (e tt (with_name name entry w)) (f tt (with_name name entry v)) (k tt s (with_name name entry w)) (l tt t (with_name name entry v)) =
-        (p (h refl)).finds s t (with_name name entry w) (with_name name entry v) same (with_names w v alike name entry (h refl)) (record { in_order = here.in_order; denoted = here.denoted }) none more
+        (p (h refl)).finds s t (with_name name entry w) (with_name name entry v) same (with_names w v alike name entry (h refl))
+        (come_behind g (record { numbers = ns; tops = tops }) (in_function ns) s s w (with_name name entry w) here refl refl refl (keeps.known s w here.known) (keeps.grows s w) (keeps.sites s w) tt) none more
         in record {
           worlds = x.worlds;
           storages = x.storages;
@@ -140,15 +124,15 @@ module _ (g : Whole) where
         };
   }
 
-  begin_first : {A B : Type 0} {IsLike : A → B → Type 0} {ns ms : List ℕ} (at there : Place) (name : Text) (entry : EntryData) (e f : Unit {0} → Rule (Unit {0})) (k : Unit {0} → Resolving A) (l : Unit {0} → Resolving B)
-      → (is_reserved name ≡ false → IsCopied g IsLike ns ms (e tt) (f tt) (k tt) (l tt))
-      → IsCopied g IsLike ns ms (check_chain (begin_function name entry) (λ _. check_chain (free_name at name) e)) (check_chain (begin_function name entry) (λ _. check_chain (free_name there name) f))
+  begin_first : {A B : Type 0} {IsLike : A → B → Type 0} {ns : List ℕ} {tops : Option (List TopData)} {ms : Ahead} (at there : Place) (name : Text) (entry : EntryData) (e f : Unit {0} → Rule (Unit {0})) (k : Unit {0} → Resolving A) (l : Unit {0} → Resolving B)
+      → Keeps g.source (checks (begin_function name entry)) → (is_reserved name ≡ false → IsCopied g IsLike (in_function ns) ms (e tt) (f tt) (k tt) (l tt))
+      → IsCopied g IsLike (record { numbers = ns; tops = tops }) ms (check_chain (begin_function name entry) (λ _. check_chain (free_name at name) e)) (check_chain (begin_function name entry) (λ _. check_chain (free_name there name) f))
       (chain (checks (begin_function name entry)) k) (chain (checks (begin_function name entry)) l)
   unfolding free_name
-  begin_first at there name entry e f k l p = by_free at there name entry (not (is_reserved name)) e f k l (not_false (is_reserved name)) p
+  begin_first at there name entry e f k l keeps p = by_free at there name entry (not (is_reserved name)) e f k l keeps (not_false (is_reserved name)) p
 
   -- on whichever line
-  each_line : {ns ms : List ℕ} {c d : Rule (Unit {0})} {m n : Resolving Stms} → ((line : ℕ) → IsCopied g (AreCopies g.Stands line) ns ms c d m n)
+  each_line : {ns ms : Ahead} {c d : Rule (Unit {0})} {m n : Resolving Stms} → ((line : ℕ) → IsCopied g (AreCopies g.Stands line) ns ms c d m n)
       → IsCopied g (λ x y. (line : ℕ) → AreCopies g.Stands line x y) ns ms c d m n
   each_line {ms = ms} {c} {d} {m} {n} p = record {
     finds = λ s t w v same alike here none more.
@@ -168,7 +152,7 @@ module _ (g : Whole) where
   }
 
   -- a function more, once its body is copied
-  made_found : (name : Text) (ps : List (Option TyData)) {ms : List ℕ} (s t : Storage) (o p : Out (Unit {0})) (a b : Body) (u u' : Storage) (w v : World)
+  made_found : (name : Text) (ps : List (Option TyData)) {ms : Ahead} (s t : Storage) (o p : Out (Unit {0})) (a b : Body) (u u' : Storage) (w v : World)
       → FindCopies g (SameBody g.Stands) ms s t o p (reached a u w) (reached b u' v)
       → FindCopies g Any ms s t o p (function_made name ps a u w) (function_made name ps b u' v)
   unfolding pure arrange
@@ -196,10 +180,10 @@ module _ (g : Whole) where
     checked_world_there = x.checked_world_there;
     without_fault = x.without_fault;
   }
-  made_found name ps s t o p (Some a) None u u' w v x = record {
+  made_found name ps {ms} s t o p (Some a) None u u' w v x = record {
     worlds = x.worlds;
     storages = record { defined = x.storages.defined; before_literals = x.storages.before_literals; sites = x.storages.sites; globals = x.storages.globals; literals = x.storages.literals; block = x.storages.block };
-    to_come = record { in_order = x.to_come.in_order; denoted = x.to_come.denoted };
+    to_come = come_stored g ms u (function_made name ps (Some a) u w).storage w x.to_come refl refl;
     forms_grow = x.forms_grow;
     calls_grow = x.calls_grow;
     like = λ forms calls. tt;
@@ -208,10 +192,10 @@ module _ (g : Whole) where
     checked_world_there = x.checked_world_there;
     without_fault = x.without_fault;
   }
-  made_found name ps s t o p (Some a) (Some b) u u' w v x = record {
+  made_found name ps {ms} s t o p (Some a) (Some b) u u' w v x = record {
     worlds = x.worlds;
     storages = record { defined = x.storages.defined; before_literals = x.storages.before_literals; sites = x.storages.sites; globals = x.storages.globals; literals = x.storages.literals; block = x.storages.block };
-    to_come = record { in_order = x.to_come.in_order; denoted = x.to_come.denoted };
+    to_come = come_stored g ms u (function_made name ps (Some a) u w).storage w x.to_come refl refl;
     forms_grow = x.forms_grow;
     calls_grow = x.calls_grow;
     like = λ forms calls. tt;
@@ -222,7 +206,7 @@ module _ (g : Whole) where
     without_fault = x.without_fault;
   }
 
-  made_copied : (name : Text) (ps : List (Option TyData)) {ns ms : List ℕ} {c d : Rule (Unit {0})} {m n : Resolving Body} → IsCopied g (SameBody g.Stands) ns ms c d m n
+  made_copied : (name : Text) (ps : List (Option TyData)) {ns ms : Ahead} {c d : Rule (Unit {0})} {m n : Resolving Body} → IsCopied g (SameBody g.Stands) ns ms c d m n
       → IsCopied g Any ns ms c d (chain m (λ b. function_made name ps b)) (chain n (λ b. function_made name ps b))
   unfolding chain
   made_copied name ps {c = c} {d} {m} {n} p = record {
@@ -231,7 +215,7 @@ module _ (g : Whole) where
   }
 
   -- the checks leave the scope behind all of it
-  regrouped_function : {A B D E : Type 0} {IsLike : A → B → Type 0} {ns ms : List ℕ} (c : Rule D) (e f : D → Rule (Unit {0})) (h l : Rule (Unit {0})) (c' : Rule E) (e' f' : E → Rule (Unit {0})) (h' l' : Rule (Unit {0})) {m : Resolving A} {n : Resolving B}
+  regrouped_function : {A B D E : Type 0} {IsLike : A → B → Type 0} {ns ms : Ahead} (c : Rule D) (e f : D → Rule (Unit {0})) (h l : Rule (Unit {0})) (c' : Rule E) (e' f' : E → Rule (Unit {0})) (h' l' : Rule (Unit {0})) {m : Resolving A} {n : Resolving B}
       → IsCopied g IsLike ns ms (check_chain (check_chain c (λ a. check_chain (e a) (λ _. check_chain (f a) (λ _. h)))) (λ _. l)) (check_chain (check_chain c' (λ a. check_chain (e' a) (λ _. check_chain (f' a) (λ _. h')))) (λ _. l')) m n
       → IsCopied g IsLike ns ms (check_chain c (λ a. check_chain (e a) (λ _. check_chain (f a) (λ _. check_chain h (λ _. l))))) (check_chain c' (λ a. check_chain (e' a) (λ _. check_chain (f' a) (λ _. check_chain h' (λ _. l'))))) m n
   unfolding check_chain
@@ -260,6 +244,64 @@ module _ (g : Whole) where
           checked_world = x.checked_world;
           checked_world_there = x.checked_world_there;
           without_fault = sym (four_joined c2.found e2.found f2.found h2.found l2.found) ∙ x.without_fault;
+        };
+  }
+
+result_types : (at : Place) (o : Option TyData) (w : World) → (result_rule at o w).world.types ≡ w.types
+unfolding result_rule check_chain check_pure
+result_types at o w = λ i. ((demand_quietly at at F14 (may_be_result o) (may_be_result o) (λ e. e)).here w i).types
+
+module _ (g : Whole) (walk : WalkKeeps g.source) where
+  -- a declaration more that is no object, with its place
+  numbered_first : {A B : Type 0} {IsLike : A → B → Type 0} {ns : List ℕ} {ms : Ahead} (type : TyData) (e f : Rule (Unit {0})) (k : Unit {0} → Resolving A) (l : Unit {0} → Resolving B)
+      → IsCopied g IsLike (in_function ns) ms e f (k tt) (l tt)
+      → IsCopied g IsLike (in_function ns) ms (check_chain (number_as type) (λ _. e)) (check_chain (number_as type) (λ _. f))
+      (chain (checks (number_as type)) (λ _. chain (arrange (with_site nowhere)) k)) (chain (checks (number_as type)) (λ _. chain (arrange (with_site nowhere)) l))
+  unfolding chain check_chain checks arrange number_as change
+  numbered_first {IsLike = R} {ns} {ms} type e f k l p = record {
+    finds = λ s t w v same alike here none more.
+        let numbered : World = record w { types = w.types ++ type ∷ [] } in
+        let numbered_there : World = record v { types = v.types ++ type ∷ [] } in
+        let x : FindCopies g R ms (with_site nowhere s) (with_site nowhere t) (e numbered) (f numbered_there) (k tt (with_site nowhere s) numbered) (l tt (with_site nowhere t) numbered_there) =
+        p.finds (with_site nowhere s) (with_site nowhere t) numbered numbered_there (site_same nowhere s t same) ((number_alike type).finds w v alike refl).worlds
+        (come_behind g (in_function ns) (in_function ns) s (with_site nowhere s) w numbered here refl refl refl ((walk.numbers type).known s w here.known) ((walk.numbers type).grows s w) ((walk.numbers type).sites s w) tt) none more
+        in record {
+          worlds = x.worlds;
+          storages = x.storages;
+          to_come = x.to_come;
+          forms_grow = x.forms_grow;
+          calls_grow = x.calls_grow;
+          like = x.like;
+          functions = x.functions;
+          checked_world = x.checked_world;
+          checked_world_there = x.checked_world_there;
+          without_fault = x.without_fault;
+        };
+  }
+
+  -- a function that stands next has the number of one
+  number_first : {A B : Type 0} {IsLike : A → B → Type 0} {ns : List ℕ} {ms : Ahead} (func : FuncData) (ts : List TopData) (e f : ℕ → Rule (Unit {0})) (k : ℕ → Resolving A) (l : ℕ → Resolving B)
+      → ((n : ℕ) → is_among n (functions_of g.source) ≡ true → IsCopied g IsLike (at_top ns (func_top func ∷ ts)) ms (e n) (f n) (k n) (l n))
+      → IsCopied g IsLike (at_top ns (func_top func ∷ ts)) ms (check_chain (check_ask next_number) e) (check_chain (check_ask next_number) f) (chain (ask next_number) k) (chain (ask next_number) l)
+  unfolding chain check_chain ask check_ask
+  number_first {IsLike = R} {ns} {ms} func ts e f k l p = record {
+    finds = λ s t w v same alike here none more.
+        let n : ℕ = length w.types in
+        let x : FindCopies g R ms s t (e n w) (f n v) (k n s w) (l n t v) =
+        (p n (walk.functions_are_numbered g.source func ts w here.position)).finds s t w v same alike here none more
+        in let y : FindCopies g R ms s t (e n w) (f (length v.types) v) (k n s w) (l (length v.types) t v) =
+        subst (λ types. FindCopies g R ms s t (e n w) (f (length types) v) (k n s w) (l (length types) t v)) (sym alike.types) x
+        in record {
+          worlds = y.worlds;
+          storages = y.storages;
+          to_come = y.to_come;
+          forms_grow = y.forms_grow;
+          calls_grow = y.calls_grow;
+          like = y.like;
+          functions = y.functions;
+          checked_world = y.checked_world;
+          checked_world_there = y.checked_world_there;
+          without_fault = y.without_fault;
         };
   }
 
@@ -299,73 +341,77 @@ resolved_by line b stars name qs defined body =
     chain (in_block (length qs) (chain (params at defined qs) (λ ps. chain (checks (know_function name (function k (is_done before || defined) r (Some ps)))) (λ _. chain (body r) (λ b. function_made name ps b))))) (λ _.
     checks leave))))))))))
 
-module _ (g : Whole) (embedded : ℕ → Option StmtKindData) (types : TypesAreAlike) (lengths_alike : LengthsAreAlike) (n : ℕ) where
-  by_copied : (line : Line) (b : BaseData) (stars : ℕ) (name : Text) (qs : List ParamData) (defined : Bool) (ns ms : List ℕ)
+module _ (g : Whole) (walk : WalkKeeps g.source) (embedded : ℕ → Option StmtKindData) (types : TypesAreAlike) (lengths_alike : LengthsAreAlike) (n : ℕ) where
+  by_copied : (func : FuncData) (ts : List TopData) (line : Line) (b : BaseData) (stars : ℕ) (name : Text) (qs : List ParamData) (defined : Bool) (ns ms : List ℕ)
       (body body' : Option TyData → Rule (Unit {0})) (found found' : Option TyData → Resolving Body)
-      → BaseHasLengths b → ParamsHaveLengths qs → ((r : Option TyData) → IsCopied g (SameBody g.Stands) ns ms (body r) (body' r) (found r) (found' r))
-      → IsCopied g Any ns ms (checked_by line b stars name qs defined body) (checked_by line (written_base n b) stars name (map (written_param embedded n) qs) defined body')
+      → BaseHasLengths b → ParamsHaveLengths qs → ((r : Option TyData) → IsCopied g (SameBody g.Stands) (in_function ns) (in_function ms) (body r) (body' r) (found r) (found' r))
+      → IsCopied g Any (at_top ns (func_top func ∷ ts)) (in_function ms) (checked_by line b stars name qs defined body) (checked_by line (written_base n b) stars name (map (written_param embedded n) qs) defined body')
       (resolved_by line b stars name qs defined found) (resolved_by line (written_base n b) stars name (map (written_param embedded n) qs) defined found')
-  by_copied line b stars name qs defined ns ms body body' found found' h hs copied = placed g line line _ _ _ _ (λ at there.
-      alike_first g _ _ _ _ _ _ _ _ (types at there n b h) (base_denotes at b) (λ t _.
-      alike_first g _ _ _ _ _ _ _ _ (checks_alike _ _ (result_alike at there (declared_type t stars []))) (result_denotes at (declared_type t stars [])) (λ r _.
-      alike_first g _ _ _ _ _ _ _ _ (ask_alike {P = Nothing} next_number next_number (λ w v alike. λ i. length (alike.types i)) (λ w. tt)) (ask_denotes _) (λ k _.
-      alike_first g _ _ _ _ _ _ _ _ (ask_alike {P = Nothing} (λ w. find name w.here.names) (λ w. find name w.here.names) (λ w v alike. λ i. find name (alike.here i).names) (λ w. tt)) (ask_denotes _) (λ before _.
-      begin_first g at there name (function k (is_done before || defined) r None) _ _ _ _ (λ free.
-      alike_first g _ _ _ _ _ _ _ _ (checks_alike _ _ (number_alike (type_or_void r))) (number_denotes (type_or_void r)) (λ _ _.
-      site_first g _ _
-      (alike_first g _ _ _ _ _ _ _ _ (checks_alike _ _ enter_alike) enter_denotes (λ _ _.
+  by_copied func ts line b stars name qs defined ns ms body body' found found' h hs copied = placed g walk line line _ _ _ _ (λ at there.
+      alike_passed g {ns = ns} {tops = Some (func_top func ∷ ts)} {tops' = Some (func_top func ∷ ts)} _ _ _ _ _ _ _ _ (types at there n b h) (base_denotes at b) (walk.types at b)
+      (types_pass g.source (Some (func_top func ∷ ts)) (checked_parts.base at b) (λ w. walk.types_declare_none at b w)) (λ t _.
+      alike_passed g {ns = ns} {tops = Some (func_top func ∷ ts)} {tops' = Some (func_top func ∷ ts)} _ _ _ _ _ _ _ _ (checks_alike _ _ (result_alike at there (declared_type t stars []))) (result_denotes at (declared_type t stars [])) (walk.results at (declared_type t stars []))
+      (types_pass g.source (Some (func_top func ∷ ts)) (result_rule at (declared_type t stars [])) (λ w. result_types at (declared_type t stars []) w)) (λ r _.
+      number_first g walk {ns = ns} func ts _ _ _ _ (λ k is.
+      alike_passed g {ns = ns} {tops = Some (func_top func ∷ ts)} {tops' = Some (func_top func ∷ ts)} _ _ _ _ _ _ _ _ (ask_alike {P = Nothing} (λ w. find name w.here.names) (λ w. find name w.here.names) (λ w v alike. λ i. find name (alike.here i).names) (λ w. tt)) (ask_denotes _)
+      (ask_keeps g.source (λ w. find name w.here.names)) (ask_passes g.source (Some (func_top func ∷ ts)) (λ w. find name w.here.names)) (λ before _.
+      begin_first g {ns = ns} {tops = Some (func_top func ∷ ts)} at there name (function k (is_done before || defined) r None) _ _ _ _ (walk.beginnings name k (is_done before || defined) r is) (λ free.
+      numbered_first g walk {ns = ns} (type_or_void r) _ _ _ _
+      (alike_first g {ns = ns} _ _ _ _ _ _ _ _ (checks_alike _ _ enter_alike) enter_denotes walk.enters (λ _ _.
       regrouped_function g _ _ _ _ _ _ _ _ _ _
-      (copied_chain g _ _ _ _ _ _ _ _ (block_of at there r k before free) (λ w. leave_grows.grows w) (λ _ _.
-      copied_as g (alike_last g (checks_alike _ _ leave_alike) leave_denotes) (λ _ _ _ _. tt))))))))))))
+      (copied_chain g _ _ _ _ _ _ _ _ (block_of at there r k before free is) (λ w. leave_grows.grows w) (λ _ _.
+      copied_as g (alike_last g (checks_alike _ _ leave_alike) leave_denotes walk.leaves) (λ _ _ _ _. tt)))))))))))
     where
-      block_of : (at there : Place) (r : Option TyData) (k : ℕ) (before : Option EntryData) → is_reserved name ≡ false
-          → IsCopied g (λ x y. (y.0 ≡ x.0) × Any x.1 y.1) ns ms
+      block_of : (at there : Place) (r : Option TyData) (k : ℕ) (before : Option EntryData) → is_reserved name ≡ false → is_among k (functions_of g.source) ≡ true
+          → IsCopied g (λ x y. (y.0 ≡ x.0) × Any x.1 y.1) (in_function ns) (in_function ms)
           (check_chain (programs.params at defined qs) (λ ps. check_chain (know_function name (function k (is_done before || defined) r (Some ps))) (λ _. check_chain (demand at F10 (may_follow defined r ps before)) (λ _. body r))))
           (check_chain (programs.params there defined (map (written_param embedded n) qs)) (λ ps. check_chain (know_function name (function k (is_done before || defined) r (Some ps))) (λ _. check_chain (demand there F10 (may_follow defined r ps before)) (λ _. body' r))))
           (in_block (length qs) (chain (params at defined qs) (λ ps. chain (checks (know_function name (function k (is_done before || defined) r (Some ps)))) (λ _. chain (found r) (λ b. function_made name ps b)))))
           (in_block (length (map (written_param embedded n) qs)) (chain (params there defined (map (written_param embedded n) qs)) (λ ps. chain (checks (know_function name (function k (is_done before || defined) r (Some ps)))) (λ _. chain (found' r) (λ b. function_made name ps b)))))
-      block_of at there r k before free =
-          subst (λ count. IsCopied g (λ x y. (y.0 ≡ x.0) × Any x.1 y.1) ns ms
+      block_of at there r k before free is =
+          subst (λ count. IsCopied g (λ x y. (y.0 ≡ x.0) × Any x.1 y.1) (in_function ns) (in_function ms)
           (check_chain (programs.params at defined qs) (λ ps. check_chain (know_function name (function k (is_done before || defined) r (Some ps))) (λ _. check_chain (demand at F10 (may_follow defined r ps before)) (λ _. body r))))
           (check_chain (programs.params there defined (map (written_param embedded n) qs)) (λ ps. check_chain (know_function name (function k (is_done before || defined) r (Some ps))) (λ _. check_chain (demand there F10 (may_follow defined r ps before)) (λ _. body' r))))
           (in_block (length qs) (chain (params at defined qs) (λ ps. chain (checks (know_function name (function k (is_done before || defined) r (Some ps)))) (λ _. chain (found r) (λ b. function_made name ps b)))))
           (in_block count (chain (params there defined (map (written_param embedded n) qs)) (λ ps. chain (checks (know_function name (function k (is_done before || defined) r (Some ps)))) (λ _. chain (found' r) (λ b. function_made name ps b))))))
           (sym (mapped_length (written_param embedded n) qs))
           (copied_block g (length qs) _ _ _ _
-          (alike_first g _ _ _ _ _ _ _ _ (params_alike types lengths_alike embedded n at there defined qs hs) (params_denote at defined qs) (λ ps _.
-          alike_first g _ _ _ _ _ _ _ _ (checks_alike _ _ (know_alike name (function k (is_done before || defined) r (Some ps)) free)) (know_denotes name (function k (is_done before || defined) r (Some ps))) (λ _ _.
+          (alike_first g _ _ _ _ _ _ _ _ (params_alike types lengths_alike embedded n at there defined qs hs) (params_denote at defined qs) (walk.parameters at defined qs) (λ ps _.
+          alike_first g _ _ _ _ _ _ _ _ (checks_alike _ _ (know_alike name (function k (is_done before || defined) r (Some ps)) free)) (know_denotes name (function k (is_done before || defined) r (Some ps))) (walk.known_functions name k (is_done before || defined) r (Some ps) is) (λ _ _.
           quiet_before g _ _ _ _ (demand_quietly at there F10 (may_follow defined r ps before) (may_follow defined r ps before) (λ e. e)) (made_copied g name ps (copied r))))))
 
 -- ---- functions
 
-module _ (g : Whole) (es : List EmbData) (embedded : ℕ → Option StmtKindData) (are : EmbeddedAreCopied g es embedded)
+module _ (g : Whole) (walk : WalkKeeps g.source) (es : List EmbData) (embedded : ℕ → Option StmtKindData) (are : EmbeddedAreCopied g es embedded)
     (expressions : ExpressionsAreAlike) (types : TypesAreAlike) (lengths_alike : LengthsAreAlike) (plain : PlainAreAlike) (varchars : VarcharsAreAlike) where
   body_copied : (ss : StmtList) → BodyStands es (Some ss) → (r : Option TyData) (ns : List ℕ)
-      → IsCopied g (SameBody g.Stands) (stmts_numbers ss ns) ns (programs.body_rule es r (Some ss)) (programs.body_rule [] r (Some (written_items embedded ss)))
+      → IsCopied g (SameBody g.Stands) (in_function (stmts_numbers ss ns)) (in_function ns) (programs.body_rule es r (Some ss)) (programs.body_rule [] r (Some (written_items embedded ss)))
       (body_rule es r (Some ss)) (body_rule [] r (Some (written_items embedded ss)))
   body_copied ss h r ns =
-      alike_first g _ _ _ _ _ _ _ _ (checks_alike _ _ reset_alike) (changed _ (λ w. refl)) (λ _ _.
+      alike_first g _ _ _ _ _ _ _ _ (checks_alike _ _ reset_alike) (changed _ (λ w. refl)) walk.new_labels (λ _ _.
       copied_then g Some Some
-      (subst (λ ls. IsCopied g (λ x y. (y.0 ≡ x.0) × ((line : ℕ) → AreCopies g.Stands line x.1 y.1)) (stmts_numbers ss ns) ns
+      (subst (λ ls. IsCopied g (λ x y. (y.0 ≡ x.0) × ((line : ℕ) → AreCopies g.Stands line x.1 y.1)) (in_function (stmts_numbers ss ns)) (in_function ns)
       (checked.statements (inside es false false (labels_in_all ss []) r) ss) (checked.statements (inside [] false false ls r) (written_items embedded ss))
       (in_block (objects_in_all ss) (statements (around_of (inside es false false (labels_in_all ss []) r)) ss)) (in_block (objects_in_all (written_items embedded ss)) (statements (around_of (inside [] false false ls r)) (written_items embedded ss))))
       (sym (items_labels g es embedded are ss h []))
-      (subst (λ k. IsCopied g (λ x y. (y.0 ≡ x.0) × ((line : ℕ) → AreCopies g.Stands line x.1 y.1)) (stmts_numbers ss ns) ns
+      (subst (λ k. IsCopied g (λ x y. (y.0 ≡ x.0) × ((line : ℕ) → AreCopies g.Stands line x.1 y.1)) (in_function (stmts_numbers ss ns)) (in_function ns)
       (checked.statements (inside es false false (labels_in_all ss []) r) ss) (checked.statements (inside [] false false (labels_in_all ss []) r) (written_items embedded ss))
       (in_block (objects_in_all ss) (statements (around_of (inside es false false (labels_in_all ss []) r)) ss)) (in_block k (statements (around_of (inside [] false false (labels_in_all ss []) r)) (written_items embedded ss))))
       (sym (items_objects g es embedded are ss h))
-      (copied_block g (objects_in_all ss) _ _ _ _ (each_line g (λ line. items_copied g es embedded are expressions plain varchars false false (labels_in_all ss []) r ss h line ns)))))
+      (copied_block g (objects_in_all ss) _ _ _ _ (each_line g (λ line. items_copied g walk es embedded are expressions plain varchars false false (labels_in_all ss []) r ss h line ns)))))
       (λ x y q. q))
 
-  by_body : (f : FuncData) (body : Option StmtList) → BaseHasLengths f.base → ParamsHaveLengths f.params → BodyStands es body → (ns : List ℕ)
-      → IsCopied g Any (body_numbers body ns) ns
+  by_body : (f : FuncData) (body : Option StmtList) → BaseHasLengths f.base → ParamsHaveLengths f.params → BodyStands es body → (ns : List ℕ) (ts : List TopData)
+      → IsCopied g Any (at_top (body_numbers body ns) (func_top f ∷ ts)) (in_function ns)
       (checked_by f.line f.base f.stars f.name f.params (is_some body) (λ r. programs.body_rule es r body))
       (checked_by f.line (written_base f.line.0 f.base) f.stars f.name (map (written_param embedded f.line.0) f.params) (is_some (written_body embedded body)) (λ r. programs.body_rule [] r (written_body embedded body)))
       (resolved_by f.line f.base f.stars f.name f.params (is_some body) (λ r. body_rule es r body))
       (resolved_by f.line (written_base f.line.0 f.base) f.stars f.name (map (written_param embedded f.line.0) f.params) (is_some (written_body embedded body)) (λ r. body_rule [] r (written_body embedded body)))
-  by_body f None h hs hb ns = by_copied g embedded types lengths_alike f.line.0 f.line f.base f.stars f.name f.params false ns ns _ _ _ _ h hs (λ r. pure_copied g None None tt)
-  by_body f (Some ss) h hs hb ns = by_copied g embedded types lengths_alike f.line.0 f.line f.base f.stars f.name f.params true (stmts_numbers ss ns) ns _ _ _ _ h hs (λ r. body_copied ss hb r ns)
+  by_body f None h hs hb ns ts = by_copied g walk embedded types lengths_alike f.line.0 f ts f.line f.base f.stars f.name f.params false ns ns _ _ _ _ h hs (λ r. pure_copied g None None tt)
+  by_body f (Some ss) h hs hb ns ts = by_copied g walk embedded types lengths_alike f.line.0 f ts f.line f.base f.stars f.name f.params true (stmts_numbers ss ns) ns _ _ _ _ h hs (λ r. body_copied ss hb r ns)
 
-  pub function_copied : (f : FuncData) → BaseHasLengths f.base → ParamsHaveLengths f.params → BodyStands es f.body → (ns : List ℕ)
-      → IsCopied g Any (body_numbers f.body ns) ns (programs.function_rule es f) (programs.function_rule [] (written_func embedded f)) (function_rule es f) (function_rule [] (written_func embedded f))
-  function_copied f h hs hb ns = by_body f f.body h hs hb ns
+  pub function_copied : (f : FuncData) → BaseHasLengths f.base → ParamsHaveLengths f.params → BodyStands es f.body → (ns : List ℕ) (ts : List TopData)
+      → IsCopied g Any (at_top (body_numbers f.body ns) (func_top f ∷ ts)) (at_top ns ts) (programs.function_rule es f) (programs.function_rule [] (written_func embedded f)) (function_rule es f) (function_rule [] (written_func embedded f))
+  function_copied f h hs hb ns ts =
+      passed_behind g {ns = body_numbers f.body ns} {ms = ns} {tops = Some (func_top f ∷ ts)} {tops' = Some ts} {c = programs.function_rule es f}
+      (λ w before. walk.items_are_passed g.source es (func_top f) ts w before) (by_body f f.body h hs hb ns ts)

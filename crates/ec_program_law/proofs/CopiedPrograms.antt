@@ -34,12 +34,13 @@ use Rattle.ec_expression_law.specs.Rules.{some_found, none_before, none_behind}
 use Rattle.ec_growth_law.specs.Growth.{Grows}
 use Rattle.ec_growth_law.proofs.Rules.{Growing, chained as chained_grow, place_grows, demand_grows}
 use Rattle.ec_growth_law.proofs.Programs.{tops_grow}
-use Rattle.ec_program_law.specs.Copied.{Whole, FindCopies, IsCopied, Any}
+use Rattle.ec_known_law.specs.Laws.{WalkKeeps}
+use Rattle.ec_program_law.specs.Copied.{Whole, Ahead, at_top, FindCopies, IsCopied, Any}
 use Rattle.ec_program_law.specs.Declared.{declarations, checked_declarations, PlainAreAlike, VarcharsAreAlike, DeclarationsAreAlike}
 use Rattle.ec_program_law.specs.Embedded.{EmbeddedAreCopied}
 use Rattle.ec_program_law.specs.Programs.{written_of, whole_of, IsWrittenCopy}
 use Rattle.ec_program_law.specs.Shape.{IsDirective, TopsStand}
-use Rattle.ec_program_law.proofs.Copying.{begins_itself, copied_chain, alike_first, copied_as, pure_copied, placed_here, grouped_here, answered_here, checked_grouped_here, checked_answer_here, gone_first}
+use Rattle.ec_program_law.proofs.Copying.{begins_itself, copied_chain, alike_passed, copied_as, pure_copied, placed_here, grouped_here, answered_here, checked_grouped_here, checked_answer_here, gone_first, passed_before}
 use Rattle.ec_program_law.proofs.CopiedFunctions.{function_copied}
 use Rattle.ec_program_law.proofs.DenotingStatements.{declaration_denotes}
 
@@ -147,44 +148,49 @@ tops_resolved [] us t v = refl
 tops_resolved (d ∷ ds) us t v = tops_resolved ds us (declaration true d t v).storage (declaration true d t v).world
 
 -- what is written, in another form
-same_there : (g : Whole) {A B : Type 0} {IsLike : A → B → Type 0} {ns ms : List ℕ} {c d d' : Rule (Unit {0})} {m : Resolving A} {n n' : Resolving B}
+same_there : (g : Whole) {A B : Type 0} {IsLike : A → B → Type 0} {ns ms : Ahead} {c d d' : Rule (Unit {0})} {m : Resolving A} {n n' : Resolving B}
     → ((v : World) → d' v ≡ d v) → ((t : Storage) (v : World) → n' t v ≡ n t v) → IsCopied g IsLike ns ms c d m n → IsCopied g IsLike ns ms c d' m n'
 same_there g {IsLike = R} {ns} {ms} {c} {d} {d'} {m} {n} {n'} e f p =
     subst (λ k. IsCopied g R ns ms c d' m k) (λ i. λ t v. sym (f t v) i) (subst (λ k. IsCopied g R ns ms c k m n) (λ i. λ v. sym (e v) i) p)
 
 -- ---- the items of a program
 
-module _ (g : Whole) (es : List EmbData) (embedded : ℕ → Option StmtKindData) (are : EmbeddedAreCopied g es embedded)
+module _ (g : Whole) (walk : WalkKeeps g.source) (es : List EmbData) (embedded : ℕ → Option StmtKindData) (are : EmbeddedAreCopied g es embedded)
     (expressions : ExpressionsAreAlike) (types : TypesAreAlike) (lengths_alike : LengthsAreAlike) (plain : PlainAreAlike) (varchars : VarcharsAreAlike) (declared : DeclarationsAreAlike) where
   -- a directive
-  directive_copied : (n : ℕ) → IsDirective es n → (ts : List TopData) {ms ls : List ℕ} {d : Rule (Unit {0})} {m : Resolving (Unit {0})}
-      → IsCopied g Any ms ls (programs.tops_rule es ts) d (tops_rule es ts) m
-      → IsCopied g Any (n ∷ ms) ls (programs.tops_rule es (directive_top n ∷ ts)) d (tops_rule es (directive_top n ∷ ts)) m
+  directive_copied : (n : ℕ) → IsDirective es n → (ts : List TopData) {ms : List ℕ} {ls : Ahead} {d : Rule (Unit {0})} {m : Resolving (Unit {0})}
+      → IsCopied g Any (at_top ms ts) ls (programs.tops_rule es ts) d (tops_rule es ts) m
+      → IsCopied g Any (at_top (n ∷ ms) (directive_top n ∷ ts)) ls (programs.tops_rule es (directive_top n ∷ ts)) d (tops_rule es (directive_top n ∷ ts)) m
   directive_copied n h ts {ms} {ls} {d} {m} rest =
-      subst (λ o. IsCopied g Any (n ∷ ms) ls (check_chain (programs.directive_rule es n o) (λ _. programs.tops_rule es ts)) d (chain (directive_rule es n o) (λ _. tops_rule es ts)) m)
+      passed_before g {ns = n ∷ ms} {tops = Some (directive_top n ∷ ts)} {tops' = Some ts} (λ w h. h)
+      (subst (λ o. IsCopied g Any (at_top (n ∷ ms) ts) ls (check_chain (programs.directive_rule es n o) (λ _. programs.tops_rule es ts)) d (chain (directive_rule es n o) (λ _. tops_rule es ts)) m)
       (sym h.is)
-      (checked_grouped_here g (place h.emb.line) _ _ (grouped_here g (checks (place h.emb.line)) _ _ (placed_here g h.emb.line _ _ (λ at.
-      gone_first g _ _ _ _ ((are.directives n h.emb h.is h.directive).gone false false [] at ms) (λ w. (tops_grow es ts).grows w) rest))))
+      (checked_grouped_here g (place h.emb.line) _ _ (grouped_here g (checks (place h.emb.line)) _ _ (placed_here g walk h.emb.line _ _ (λ at.
+      gone_first g _ _ _ _ ((are.directives n h.emb h.is h.directive).gone false false [] at ms (Some ts)) (λ w. (tops_grow es ts).grows w) rest)))))
 
-  declared_copied : (n : ℕ) (d : DeclData) → DeclHasLengths d → (ts us : List TopData) {ms ls : List ℕ}
-      → IsCopied g Any ms ls (programs.tops_rule es ts) (programs.tops_rule [] us) (tops_rule es ts) (tops_rule [] us)
-      → IsCopied g Any ms ls (programs.tops_rule es (decl_top d ∷ ts)) (programs.tops_rule [] (map decl_top (written_decl n d) ++ us)) (tops_rule es (decl_top d ∷ ts)) (tops_rule [] (map decl_top (written_decl n d) ++ us))
-  declared_copied n d h ts us rest =
+  declared_copied : (n : ℕ) (d : DeclData) → DeclHasLengths d → (ts us : List TopData) {ms : List ℕ} {ls : Ahead}
+      → IsCopied g Any (at_top ms ts) ls (programs.tops_rule es ts) (programs.tops_rule [] us) (tops_rule es ts) (tops_rule [] us)
+      → IsCopied g Any (at_top ms (decl_top d ∷ ts)) ls (programs.tops_rule es (decl_top d ∷ ts)) (programs.tops_rule [] (map decl_top (written_decl n d) ++ us)) (tops_rule es (decl_top d ∷ ts)) (tops_rule [] (map decl_top (written_decl n d) ++ us))
+  declared_copied n d h ts us {ms} rest =
       same_there g (λ v. tops_checked (written_decl n d) us v) (λ t v. tops_resolved (written_decl n d) us t v)
       (grouped_here g (declaration true d) _ _
-      (alike_first g _ _ _ _ _ _ _ _ (declared true n d h) (declaration_denotes true d) (λ xs _. answered_here g tt _ rest)))
+      (alike_passed g {ns = ms} {tops = Some (decl_top d ∷ ts)} {tops' = Some ts} _ _ _ _ _ _ _ _ (declared true n d h) (declaration_denotes true d) (walk.declarations true d)
+      (λ w before. walk.items_are_passed g.source es (decl_top d) ts w before) (λ xs _. answered_here g tt _ rest)))
 
   pub tops_copied : (ts : List TopData) → TopsStand es ts → (ns : List ℕ)
-      → IsCopied g Any (tops_numbers ts ns) ns (programs.tops_rule es ts) (programs.tops_rule [] (written_tops embedded ts)) (tops_rule es ts) (tops_rule [] (written_tops embedded ts))
+      → IsCopied g Any (at_top (tops_numbers ts ns) ts) (at_top ns []) (programs.tops_rule es ts) (programs.tops_rule [] (written_tops embedded ts)) (tops_rule es ts) (tops_rule [] (written_tops embedded ts))
   tops_copied [] h ns = pure_copied g tt tt tt
   tops_copied (include_top bytes ∷ ts) h ns =
-      copied_chain g {IsLike = Any} _ _ _ _ _ _ _ _ (pure_copied g tt tt tt) (λ w. (tops_grow es ts).grows w) (λ _ _. copied_as g (tops_copied ts h.1 ns) (λ _ _ _ _. tt))
+      passed_before g {ns = tops_numbers ts ns} {tops = Some (include_top bytes ∷ ts)} {tops' = Some ts} (λ w h. h)
+      (copied_chain g {IsLike = Any} _ _ _ _ _ _ _ _ (pure_copied g tt tt tt) (λ w. (tops_grow es ts).grows w) (λ _ _. copied_as g (tops_copied ts h.1 ns) (λ _ _ _ _. tt)))
   tops_copied (directive_top n ∷ ts) h ns = directive_copied n h.0 ts (tops_copied ts h.1 ns)
   tops_copied (decl_top d ∷ ts) h ns = declared_copied (line_of d).0 d h.0 ts (written_tops embedded ts) (tops_copied ts h.1 ns)
   tops_copied (func_top f ∷ ts) h ns =
-      copied_chain g {IsLike = Any} _ _ _ _ _ _ _ _ (function_copied g es embedded are expressions types lengths_alike plain varchars f h.0.0 h.0.1 h.0.2 (tops_numbers ts ns))
+      copied_chain g {IsLike = Any} _ _ _ _ _ _ _ _ (function_copied g walk es embedded are expressions types lengths_alike plain varchars f h.0.0 h.0.1 h.0.2 (tops_numbers ts ns) ts)
       (λ w. (tops_grow es ts).grows w) (λ _ _. copied_as g (tops_copied ts h.1 ns) (λ _ _ _ _. tt))
-  tops_copied (mark_top opens line ∷ ts) h ns = checked_answer_here g tt _ (answered_here g tt _ (tops_copied ts h.1 ns))
+  tops_copied (mark_top opens line ∷ ts) h ns =
+      passed_before g {ns = tops_numbers ts ns} {tops = Some (mark_top opens line ∷ ts)} {tops' = Some ts} (λ w h. h)
+      (checked_answer_here g tt _ (answered_here g tt _ (tops_copied ts h.1 ns)))
 
 -- ---- programs
 
@@ -204,7 +210,7 @@ found_main at true w e = refl
 found_main at false w e = absurd (false≢true e)
 
 module _ (stands : ℕ → ℕ → Stm → Type 0) (embedded : ℕ → Option StmtKindData) (u : UnitData) (stand : TopsStand u.embs u.tops) (none : violations false u ≡ [])
-    (are : EmbeddedAreCopied (whole_of stands u (written_of embedded u)) u.embs embedded)
+    (walk : WalkKeeps u) (are : EmbeddedAreCopied (whole_of stands u (written_of embedded u)) u.embs embedded)
     (expressions : ExpressionsAreAlike) (types : TypesAreAlike) (lengths_alike : LengthsAreAlike) (plain : PlainAreAlike) (varchars : VarcharsAreAlike) (declared : DeclarationsAreAlike) where
   abbrev v : UnitData
   v = written_of embedded u
@@ -262,9 +268,9 @@ module _ (stands : ℕ → ℕ → Stm → Type 0) (embedded : ℕ → Option St
     block = refl;
   }
 
-  found : FindCopies (whole_of stands u v) Any [] (no_storage u) (no_storage v) source written (walked false u) (walked true v)
-  found = (tops_copied (whole_of stands u v) u.embs embedded are expressions types lengths_alike plain varchars declared u.tops stand []).finds
-      (no_storage u) (no_storage v) (start false u) (start true v) stored starts (record { in_order = refl; denoted = refl }) tops_none
+  found : FindCopies (whole_of stands u v) Any (at_top [] []) (no_storage u) (no_storage v) source written (walked false u) (walked true v)
+  found = (tops_copied (whole_of stands u v) walk u.embs embedded are expressions types lengths_alike plain varchars declared u.tops stand []).finds
+      (no_storage u) (no_storage v) (start false u) (start true v) stored starts (record { in_order = refl; denoted = refl; known = walk.start; found = tt; position = walk.starts_before_all false u }) tops_none
       (subst (λ z. Grows source.world z) (sym end_is) ((end_grows u).grows source.world))
 
   no_fault : violations true v ≡ []
@@ -281,6 +287,7 @@ module _ (stands : ℕ → ℕ → Stm → Type 0) (embedded : ℕ → Option St
   pub program_copied : IsWrittenCopy stands u v
   program_copied = record {
     without_fault = no_fault;
+    found = record { in_order = found.to_come.in_order; found = found.to_come.found };
     copy = subst (λ vs. IsProgramCopy stands (resolved_by vs (program_by (walked false u).storage)) (resolve true v)) (sym none)
         (subst (λ vs. IsProgramCopy stands (program_by (walked false u).storage) (resolved_by vs (program_by (walked true v).storage))) (sym no_fault) copy);
   }

@@ -1,17 +1,21 @@
 -- Rules that find copies, and how they are put together.
-use Rattle.std.proofs.Common.{◌≡◌, ◌∙◌, ℕ, ◌+◌, List, [], ◌++◌, length, map, refl, sym, subst, ap, append_assoc, append-nil}
+use Rattle.std.proofs.Common.{◌≡◌, ◌∙◌, ℕ, ◌+◌, List, [], ◌++◌, Option, None, refl, sym, subst, ap, append_assoc, append-nil}
+use Rattle.ec_ctypes.specs.trees.Units.{TopData}
 use Rattle.ec_base.specs.declared.line.Line.{Line}
 use Rattle.ec_typing.specs.Worlds.{Place, World, Rule, chain as check_chain, pure as check_pure, change, place, enter, leave, entered, left}
-use Rattle.ec_resolving.specs.Storage.{Resolving, chain, pure, checks, stored, arrange, in_block, inside_block}
+use Rattle.ec_resolving.specs.Storage.{Reached, Resolving, chain, pure, checks, stored, arrange, in_block, inside_block, back_in_block}
 use Rattle.ec_resolving.specs.Statements.{scoped}
 use Rattle.ec_growth_law.specs.Growth.{Begins, Grows, GrowsBy}
 use Rattle.ec_statement_law.specs.Copies.{AreFunctionCopies}
 use Rattle.ec_expression_law.specs.Alike.{FindAlike, IsAlike}
 use Rattle.ec_expression_law.specs.Known.{entered_alike}
 use Rattle.ec_expression_law.specs.Rules.{none_before, none_behind, QuietAlike}
-use Rattle.ec_program_law.specs.Copied.{Whole, FindCopies, IsCopied, FindNothing, IsGone}
+use Rattle.ec_known_law.specs.Known.{Keeps}
+use Rattle.ec_known_law.specs.Laws.{WalkKeeps}
+use Rattle.ec_program_law.specs.Copied.{Whole, Ahead, in_function, IsAt, FindCopies, IsCopied, FindNothing, IsGone}
+use Rattle.ec_program_law.proofs.Coming.{Passes, come_behind, come_still, come_at, come_stored}
 use Rattle.ec_program_law.proofs.DenotingRules.{DenotesNone}
-use Rattle.ec_program_law.proofs.Around.{with_places_here, with_places_there, left_alike, left_denoted, grows_before_left, inside_same, back_same}
+use Rattle.ec_program_law.proofs.Around.{with_places_here, with_places_there, left_alike, left_denoted, left_types, grows_before_left, inside_same, back_same}
 
 -- ---- what grows
 
@@ -41,7 +45,7 @@ module _ (g : Whole) where
   -- ---- one after the other
 
   pub copied_chain : {A B C D : Type 0} {IsLike : A → B → Type 0} {IsLike' : C → D → Type 0}
-      {ns ms ls : List ℕ} (c d e f : Rule (Unit {0})) (m : Resolving A) (n : Resolving B) (k : A → Resolving C) (l : B → Resolving D)
+      {ns ms ls : Ahead} (c d e f : Rule (Unit {0})) (m : Resolving A) (n : Resolving B) (k : A → Resolving C) (l : B → Resolving D)
       → IsCopied g IsLike ns ms c d m n → GrowsBy e
       → ((a : A) (b : B) → IsCopied g (λ x y. IsLike a b → IsLike' x y) ms ls e f (k a) (l b))
       → IsCopied g IsLike' ns ls (check_chain c (λ _. e)) (check_chain d (λ _. f)) (chain m k) (chain n l)
@@ -69,14 +73,14 @@ module _ (g : Whole) where
         };
   }
 
-  -- what is found alike first
-  pub alike_first : {A B C D : Type 0} {P : A → Type 0} {seen : A → B} {IsLike : C → D → Type 0} {ns ms : List ℕ}
+  -- what is found alike first, from where these items are to come to where those are
+  pub alike_passed : {A B C D : Type 0} {P : A → Type 0} {seen : A → B} {IsLike : C → D → Type 0} {ns : List ℕ} {tops tops' : Option (List TopData)} {ms : Ahead}
       (c d : Rule B) (e f : B → Rule (Unit {0})) (m n : Resolving A) (k : A → Resolving C) (l : A → Resolving D)
-      → IsAlike P seen c d m n → DenotesNone c
-      → ((a : A) → P a → IsCopied g IsLike ns ms (e (seen a)) (f (seen a)) (k a) (l a))
-      → IsCopied g IsLike ns ms (check_chain c e) (check_chain d f) (chain m k) (chain n l)
+      → IsAlike P seen c d m n → DenotesNone c → Keeps g.source m → Passes g.source tops tops' c
+      → ((a : A) → P a → IsCopied g IsLike (record { numbers = ns; tops = tops' }) ms (e (seen a)) (f (seen a)) (k a) (l a))
+      → IsCopied g IsLike (record { numbers = ns; tops = tops }) ms (check_chain c e) (check_chain d f) (chain m k) (chain n l)
   unfolding chain check_chain
-  alike_first {P = P} {seen = seen} {IsLike = R} {ns} {ms} c d e f m n k l p denotes q = record {
+  alike_passed {P = P} {seen = seen} {IsLike = R} {ns} {tops} {tops'} {ms} c d e f m n k l p denotes keeps passes q = record {
     finds = λ s t w v same alike here none more.
         let x : FindAlike P seen s t (c w) (d v) (m s w) (n t v) =
         p.finds s t w v same alike (none_before (c w).found (e (c w).answer (c w).world).found none)
@@ -84,10 +88,9 @@ module _ (g : Whole) where
         in let y : FindCopies g R ms (m s w).storage (n t v).storage (e (seen a) (m s w).world) (f (seen a) (n t v).world)
         (k a (m s w).storage (m s w).world) (l a (n t v).storage (n t v).world) =
         (q a x.silent).finds (m s w).storage (n t v).storage (m s w).world (n t v).world x.storages x.worlds
-        (record {
-          in_order = (λ i. map (λ f. f.number) (x.adds_none.statements i) ++ ns) ∙ here.in_order;
-          denoted = (λ i. length (x.checked_world i).denoted) ∙ (λ i. length (denotes.kept w i)) ∙ here.denoted ∙ (λ i. length (sym x.adds_none.statements i));
-        })
+        (come_behind g (record { numbers = ns; tops = tops }) (record { numbers = ns; tops = tops' }) s (m s w).storage w (m s w).world here refl x.adds_none.statements
+        ((λ i. (x.checked_world i).denoted) ∙ denotes.kept w) (keeps.known s w here.known) (keeps.grows s w) (keeps.sites s w)
+        (subst (λ u. IsAt g.source tops' u) (sym x.checked_world) (passes w here.position)))
         ((λ i. (e (x.checked i) (x.checked_world i)).found) ∙ none_behind (c w).found (e (c w).answer (c w).world).found none)
         (subst (λ u. Grows u g.world) (λ i. (e (sym x.checked i) (sym x.checked_world i)).world) more)
         in let z : FindCopies g R ms (m s w).storage (n t v).storage (e (seen a) (m s w).world) (f (seen a) (n t v).world)
@@ -110,8 +113,16 @@ module _ (g : Whole) where
         };
   }
 
+  -- in a function
+  pub alike_first : {A B C D : Type 0} {P : A → Type 0} {seen : A → B} {IsLike : C → D → Type 0} {ns : List ℕ} {ms : Ahead}
+      (c d : Rule B) (e f : B → Rule (Unit {0})) (m n : Resolving A) (k : A → Resolving C) (l : A → Resolving D)
+      → IsAlike P seen c d m n → DenotesNone c → Keeps g.source m
+      → ((a : A) → P a → IsCopied g IsLike (in_function ns) ms (e (seen a)) (f (seen a)) (k a) (l a))
+      → IsCopied g IsLike (in_function ns) ms (check_chain c e) (check_chain d f) (chain m k) (chain n l)
+  alike_first {ns = ns} c d e f m n k l p denotes keeps q = alike_passed {ns = ns} {tops = None} {tops' = None} c d e f m n k l p denotes keeps (λ w h. tt) q
+
   -- what is like, in another way
-  pub copied_as : {A B : Type 0} {IsLike IsLike' : A → B → Type 0} {ns ms : List ℕ} {c d : Rule (Unit {0})} {m : Resolving A} {n : Resolving B}
+  pub copied_as : {A B : Type 0} {IsLike IsLike' : A → B → Type 0} {ns ms : Ahead} {c d : Rule (Unit {0})} {m : Resolving A} {n : Resolving B}
       → IsCopied g IsLike ns ms c d m n → ((a : A) (b : B) → IsLike a b → IsLike' a b) → IsCopied g IsLike' ns ms c d m n
   copied_as {IsLike = R} {ms = ms} {c} {d} {m} {n} p q = record {
     finds = λ s t w v same alike here none more.
@@ -131,7 +142,7 @@ module _ (g : Whole) where
   }
 
   -- an answer made of what is found
-  pub copied_then : {A B C D : Type 0} {IsLike : A → B → Type 0} {IsLike' : C → D → Type 0} {ns ms : List ℕ} {c d : Rule (Unit {0})} {m : Resolving A} {n : Resolving B} (f : A → C) (h : B → D)
+  pub copied_then : {A B C D : Type 0} {IsLike : A → B → Type 0} {IsLike' : C → D → Type 0} {ns ms : Ahead} {c d : Rule (Unit {0})} {m : Resolving A} {n : Resolving B} (f : A → C) (h : B → D)
       → IsCopied g IsLike ns ms c d m n → ((a : A) (b : B) → IsLike a b → IsLike' (f a) (h b))
       → IsCopied g IsLike' ns ms c d (chain m (λ a. pure (f a))) (chain n (λ b. pure (h b)))
   unfolding chain pure
@@ -153,7 +164,7 @@ module _ (g : Whole) where
   }
 
   -- of what is found in the source alone
-  pub copied_then_here : {A B C : Type 0} {IsLike : A → B → Type 0} {IsLike' : C → B → Type 0} {ns ms : List ℕ} {c d : Rule (Unit {0})} {m : Resolving A} {n : Resolving B} (f : A → C)
+  pub copied_then_here : {A B C : Type 0} {IsLike : A → B → Type 0} {IsLike' : C → B → Type 0} {ns ms : Ahead} {c d : Rule (Unit {0})} {m : Resolving A} {n : Resolving B} (f : A → C)
       → IsCopied g IsLike ns ms c d m n → ((a : A) (b : B) → IsLike a b → IsLike' (f a) b)
       → IsCopied g IsLike' ns ms c d (chain m (λ a. pure (f a))) n
   unfolding chain pure
@@ -175,7 +186,7 @@ module _ (g : Whole) where
   }
 
   -- nothing is looked at
-  pub pure_copied : {A B : Type 0} {IsLike : A → B → Type 0} {ns : List ℕ} (a : A) (b : B) → IsLike a b
+  pub pure_copied : {A B : Type 0} {IsLike : A → B → Type 0} {ns : Ahead} (a : A) (b : B) → IsLike a b
       → IsCopied g IsLike ns ns (check_pure tt) (check_pure tt) (pure a) (pure b)
   unfolding pure check_pure
   pure_copied a b like = record {
@@ -195,17 +206,15 @@ module _ (g : Whole) where
 
   -- what is found alike and is the end of it
   pub alike_last : {A : Type 0} {P : A → Type 0} {seen : A → Unit {0}} {ns : List ℕ} {c d : Rule (Unit {0})} {m n : Resolving A}
-      → IsAlike P seen c d m n → DenotesNone c → IsCopied g (λ x y. (y ≡ x) × P x) ns ns c d m n
-  alike_last {P = P} {seen = seen} {ns} {c} {d} {m} {n} p denotes = record {
+      → IsAlike P seen c d m n → DenotesNone c → Keeps g.source m → IsCopied g (λ x y. (y ≡ x) × P x) (in_function ns) (in_function ns) c d m n
+  alike_last {P = P} {seen = seen} {ns} {c} {d} {m} {n} p denotes keeps = record {
     finds = λ s t w v same alike here none more.
         let x : FindAlike P seen s t (c w) (d v) (m s w) (n t v) = p.finds s t w v same alike none
         in record {
           worlds = x.worlds;
           storages = x.storages;
-          to_come = record {
-            in_order = (λ i. map (λ f. f.number) (x.adds_none.statements i) ++ ns) ∙ here.in_order;
-            denoted = (λ i. length (x.checked_world i).denoted) ∙ (λ i. length (denotes.kept w i)) ∙ here.denoted ∙ (λ i. length (sym x.adds_none.statements i));
-          };
+          to_come = come_behind g (in_function ns) (in_function ns) s (m s w).storage w (m s w).world here refl x.adds_none.statements
+              ((λ i. (x.checked_world i).denoted) ∙ denotes.kept w) (keeps.known s w here.known) (keeps.grows s w) (keeps.sites s w) tt;
           forms_grow = begins_same s.statements (m s w).storage.statements x.adds_none.statements;
           calls_grow = begins_same t.calls (n t v).storage.calls x.adds_none_there.calls;
           like = λ forms calls. (x.answer, x.silent);
@@ -218,32 +227,8 @@ module _ (g : Whole) where
         };
   }
 
-  -- a place in the source, and one in what is written
-  pub placed_here : {A B : Type 0} {IsLike : A → B → Type 0} {ns ms : List ℕ} (line : Line) (e : Place → Rule (Unit {0})) {d : Rule (Unit {0})} (k : Place → Resolving A) {n : Resolving B}
-      → ((at : Place) → IsCopied g IsLike ns ms (e at) d (k at) n)
-      → IsCopied g IsLike ns ms (check_chain (place line) e) d (chain (checks (place line)) k) n
-  unfolding chain check_chain checks place
-  placed_here {IsLike = R} {ms = ms} line e {d} k {n} p = record {
-    finds = λ s t w v same alike here none more.
-        let at : Place = record { number = w.places; line = line }
-        in let u : World = record w { places = w.places + 1 }
-        in let x : FindCopies g R ms s t (e at u) (d v) (k at s u) (n t v) =
-        (p at).finds s t u v same (with_places_here w v alike (w.places + 1)) (record { in_order = here.in_order; denoted = here.denoted }) none more
-        in record {
-          worlds = x.worlds;
-          storages = x.storages;
-          to_come = x.to_come;
-          forms_grow = x.forms_grow;
-          calls_grow = x.calls_grow;
-          like = x.like;
-          functions = x.functions;
-          checked_world = x.checked_world;
-          checked_world_there = x.checked_world_there;
-          without_fault = x.without_fault;
-        };
-  }
-
-  pub placed_there : {A B : Type 0} {IsLike : A → B → Type 0} {ns ms : List ℕ} (line : Line) {c : Rule (Unit {0})} (f : Place → Rule (Unit {0})) {m : Resolving A} (l : Place → Resolving B)
+  -- a place in what is written
+  pub placed_there : {A B : Type 0} {IsLike : A → B → Type 0} {ns ms : Ahead} (line : Line) {c : Rule (Unit {0})} (f : Place → Rule (Unit {0})) {m : Resolving A} (l : Place → Resolving B)
       → ((there : Place) → IsCopied g IsLike ns ms c (f there) m (l there))
       → IsCopied g IsLike ns ms c (check_chain (place line) f) m (chain (checks (place line)) l)
   unfolding chain check_chain checks place
@@ -267,34 +252,29 @@ module _ (g : Whole) where
         };
   }
 
-  pub placed : {A B : Type 0} {IsLike : A → B → Type 0} {ns ms : List ℕ} (line line' : Line) (e f : Place → Rule (Unit {0})) (k : Place → Resolving A) (l : Place → Resolving B)
-      → ((at there : Place) → IsCopied g IsLike ns ms (e at) (f there) (k at) (l there))
-      → IsCopied g IsLike ns ms (check_chain (place line) e) (check_chain (place line') f) (chain (checks (place line)) k) (chain (checks (place line')) l)
-  placed line line' e f k l p = placed_here line e k (λ at. placed_there line' f l (λ there. p at there))
-
   -- ---- what stands in another order
 
-  pub grouped_here : {A B C D : Type 0} {IsLike : D → B → Type 0} {ns ms : List ℕ} {c d : Rule (Unit {0})} (m : Resolving A) (k : A → Resolving C) (l : C → Resolving D) {n : Resolving B}
+  pub grouped_here : {A B C D : Type 0} {IsLike : D → B → Type 0} {ns ms : Ahead} {c d : Rule (Unit {0})} (m : Resolving A) (k : A → Resolving C) (l : C → Resolving D) {n : Resolving B}
       → IsCopied g IsLike ns ms c d (chain m (λ a. chain (k a) l)) n → IsCopied g IsLike ns ms c d (chain (chain m k) l) n
   unfolding chain
   grouped_here m k l p = record { finds = p.finds }
 
-  pub grouped_there : {A B C D : Type 0} {IsLike : B → D → Type 0} {ns ms : List ℕ} {c d : Rule (Unit {0})} {n : Resolving B} (m : Resolving A) (k : A → Resolving C) (l : C → Resolving D)
+  pub grouped_there : {A B C D : Type 0} {IsLike : B → D → Type 0} {ns ms : Ahead} {c d : Rule (Unit {0})} {n : Resolving B} (m : Resolving A) (k : A → Resolving C) (l : C → Resolving D)
       → IsCopied g IsLike ns ms c d n (chain m (λ a. chain (k a) l)) → IsCopied g IsLike ns ms c d n (chain (chain m k) l)
   unfolding chain
   grouped_there m k l p = record { finds = p.finds }
 
-  pub answered_here : {A B C : Type 0} {IsLike : C → B → Type 0} {ns ms : List ℕ} {c d : Rule (Unit {0})} (a : A) (k : A → Resolving C) {n : Resolving B}
+  pub answered_here : {A B C : Type 0} {IsLike : C → B → Type 0} {ns ms : Ahead} {c d : Rule (Unit {0})} (a : A) (k : A → Resolving C) {n : Resolving B}
       → IsCopied g IsLike ns ms c d (k a) n → IsCopied g IsLike ns ms c d (chain (pure a) k) n
   unfolding chain pure
   answered_here a k p = record { finds = p.finds }
 
-  pub answered_there : {A B C : Type 0} {IsLike : C → B → Type 0} {ns ms : List ℕ} {c d : Rule (Unit {0})} {m : Resolving C} (a : A) (k : A → Resolving B)
+  pub answered_there : {A B C : Type 0} {IsLike : C → B → Type 0} {ns ms : Ahead} {c d : Rule (Unit {0})} {m : Resolving C} (a : A) (k : A → Resolving B)
       → IsCopied g IsLike ns ms c d m (k a) → IsCopied g IsLike ns ms c d m (chain (pure a) k)
   unfolding chain pure
   answered_there a k p = record { finds = p.finds }
 
-  pub checked_grouped_here : {A B D E : Type 0} {IsLike : A → B → Type 0} {ns ms : List ℕ} (c : Rule D) (e : D → Rule E) (f : E → Rule (Unit {0})) {d : Rule (Unit {0})} {m : Resolving A} {n : Resolving B}
+  pub checked_grouped_here : {A B D E : Type 0} {IsLike : A → B → Type 0} {ns ms : Ahead} (c : Rule D) (e : D → Rule E) (f : E → Rule (Unit {0})) {d : Rule (Unit {0})} {m : Resolving A} {n : Resolving B}
       → IsCopied g IsLike ns ms (check_chain c (λ a. check_chain (e a) f)) d m n → IsCopied g IsLike ns ms (check_chain (check_chain c e) f) d m n
   unfolding check_chain
   checked_grouped_here {IsLike = R} {ms = ms} c e f {d} {m} {n} p = record {
@@ -315,7 +295,7 @@ module _ (g : Whole) where
         };
   }
 
-  pub checked_grouped_there : {A B D E : Type 0} {IsLike : A → B → Type 0} {ns ms : List ℕ} {d : Rule (Unit {0})} (c : Rule D) (e : D → Rule E) (f : E → Rule (Unit {0})) {m : Resolving A} {n : Resolving B}
+  pub checked_grouped_there : {A B D E : Type 0} {IsLike : A → B → Type 0} {ns ms : Ahead} {d : Rule (Unit {0})} (c : Rule D) (e : D → Rule E) (f : E → Rule (Unit {0})) {m : Resolving A} {n : Resolving B}
       → IsCopied g IsLike ns ms d (check_chain c (λ a. check_chain (e a) f)) m n → IsCopied g IsLike ns ms d (check_chain (check_chain c e) f) m n
   unfolding check_chain
   checked_grouped_there {IsLike = R} {ms = ms} {d} c e f {m} {n} p = record {
@@ -335,7 +315,7 @@ module _ (g : Whole) where
         };
   }
 
-  pub checked_answer_here : {A B D : Type 0} {IsLike : A → B → Type 0} {ns ms : List ℕ} (a : D) (e : D → Rule (Unit {0})) {d : Rule (Unit {0})} {m : Resolving A} {n : Resolving B}
+  pub checked_answer_here : {A B D : Type 0} {IsLike : A → B → Type 0} {ns ms : Ahead} (a : D) (e : D → Rule (Unit {0})) {d : Rule (Unit {0})} {m : Resolving A} {n : Resolving B}
       → IsCopied g IsLike ns ms (e a) d m n → IsCopied g IsLike ns ms (check_chain (check_pure a) e) d m n
   unfolding check_chain check_pure
   checked_answer_here {IsLike = R} {ms = ms} a e {d} {m} {n} p = record {
@@ -357,7 +337,7 @@ module _ (g : Whole) where
 
   -- ---- what nothing is written of
 
-  pub gone_copied : {A B : Type 0} {IsLike : A → B → Type 0} {ns ms : List ℕ} {c : Rule (Unit {0})} {m : Resolving (Unit {0})} (a : A) (b : B)
+  pub gone_copied : {A B : Type 0} {IsLike : A → B → Type 0} {ns ms : Ahead} {c : Rule (Unit {0})} {m : Resolving (Unit {0})} (a : A) (b : B)
       → IsGone g ns ms c m → IsLike a b → IsCopied g IsLike ns ms c (check_pure tt) (chain m (λ _. pure a)) (pure b)
   unfolding chain pure check_pure
   gone_copied {ms = ms} {c} {m} a b p like = record {
@@ -377,7 +357,7 @@ module _ (g : Whole) where
         };
   }
 
-  pub gone_first : {A B : Type 0} {IsLike : A → B → Type 0} {ns ms ls : List ℕ} (c e : Rule (Unit {0})) {d : Rule (Unit {0})} (m : Resolving (Unit {0})) (k : Resolving A) {n : Resolving B}
+  pub gone_first : {A B : Type 0} {IsLike : A → B → Type 0} {ns ms ls : Ahead} (c e : Rule (Unit {0})) {d : Rule (Unit {0})} (m : Resolving (Unit {0})) (k : Resolving A) {n : Resolving B}
       → IsGone g ns ms c m → GrowsBy e → IsCopied g IsLike ms ls e d k n
       → IsCopied g IsLike ns ls (check_chain c (λ _. e)) d (chain m (λ _. k)) n
   unfolding chain check_chain
@@ -403,46 +383,20 @@ module _ (g : Whole) where
         };
   }
 
-  -- ---- scopes and blocks
+  -- ---- blocks
 
-  pub copied_scoped : {A B : Type 0} {IsLike : A → B → Type 0} {ns ms : List ℕ} (c d : Rule (Unit {0})) (m : Resolving A) (n : Resolving B)
-      → IsCopied g IsLike ns ms c d m n
-      → IsCopied g IsLike ns ms (check_chain enter (λ _. check_chain c (λ _. leave))) (check_chain enter (λ _. check_chain d (λ _. leave))) (scoped m) (scoped n)
-  unfolding chain check_chain checks pure enter leave change
-  copied_scoped {IsLike = R} {ms = ms} c d m n p = record {
-    finds = λ s t w v same alike here none more.
-        let x : FindCopies g R ms s t (c (entered w)) (d (entered v)) (m s (entered w)) (n t (entered v)) =
-        p.finds s t (entered w) (entered v) same (entered_alike w v alike) (record { in_order = here.in_order; denoted = here.denoted })
-        (none_before (c (entered w)).found [] none) (grows_before_left (c (entered w)).world g.world more)
-        in record {
-          worlds = left_alike (m s (entered w)).world (n t (entered v)).world x.worlds;
-          storages = x.storages;
-          to_come = record {
-            in_order = x.to_come.in_order;
-            denoted = (λ i. length (left_denoted (m s (entered w)).world i)) ∙ x.to_come.denoted;
-          };
-          forms_grow = x.forms_grow;
-          calls_grow = x.calls_grow;
-          like = x.like;
-          functions = x.functions;
-          checked_world = λ i. left (x.checked_world i);
-          checked_world_there = λ i. left (x.checked_world_there i);
-          without_fault = append-nil (d (entered v)).found ∙ x.without_fault;
-        };
-  }
-
-  pub copied_block : {A B : Type 0} {IsLike : A → B → Type 0} {ns ms : List ℕ} (k : ℕ) (c d : Rule (Unit {0})) (m : Resolving A) (n : Resolving B)
+  pub copied_block : {A B : Type 0} {IsLike : A → B → Type 0} {ns ms : Ahead} (k : ℕ) (c d : Rule (Unit {0})) (m : Resolving A) (n : Resolving B)
       → IsCopied g IsLike ns ms c d m n
       → IsCopied g (λ x y. (y.0 ≡ x.0) × IsLike x.1 y.1) ns ms c d (in_block k m) (in_block k n)
   unfolding chain stored arrange pure
-  copied_block {IsLike = R} {ms = ms} k c d m n p = record {
+  copied_block {IsLike = R} {ns} {ms} k c d m n p = record {
     finds = λ s t w v same alike here none more.
         let x : FindCopies g R ms (inside_block k s) (inside_block k t) (c w) (d v) (m (inside_block k s) w) (n (inside_block k t) v) =
-        p.finds (inside_block k s) (inside_block k t) w v (inside_same k s t same) alike (record { in_order = here.in_order; denoted = here.denoted }) none more
+        p.finds (inside_block k s) (inside_block k t) w v (inside_same k s t same) alike (come_stored g ns s (inside_block k s) w here refl refl) none more
         in record {
           worlds = x.worlds;
           storages = back_same s.block t.block (m (inside_block k s) w).storage (n (inside_block k t) v).storage same.block x.storages;
-          to_come = record { in_order = x.to_come.in_order; denoted = x.to_come.denoted };
+          to_come = come_stored g ms (m (inside_block k s) w).storage (back_in_block s.block (m (inside_block k s) w).storage) (m (inside_block k s) w).world x.to_come refl refl;
           forms_grow = x.forms_grow;
           calls_grow = x.calls_grow;
           like = λ forms calls. ((λ i. (x.storages.block i).sizes), x.like forms calls);
@@ -454,7 +408,7 @@ module _ (g : Whole) where
   }
 
   -- what only tells a fault, where it tells none
-  pub quiet_copied : {A B : Type 0} {IsLike : A → B → Type 0} {ns : List ℕ} (c d : Rule (Unit {0})) (a : A) (b : B) → QuietAlike c d → IsLike a b
+  pub quiet_copied : {A B : Type 0} {IsLike : A → B → Type 0} {ns : Ahead} (c d : Rule (Unit {0})) (a : A) (b : B) → QuietAlike c d → IsLike a b
       → IsCopied g IsLike ns ns c d (pure a) (pure b)
   unfolding pure
   quiet_copied c d a b q like = record {
@@ -473,14 +427,104 @@ module _ (g : Whole) where
   }
 
   -- two answers one behind the other, made into another
-  pub paired_here : {A B C D : Type 0} {IsLike : D → B → Type 0} {ns ms : List ℕ} {c d : Rule (Unit {0})} (m : Resolving A) (h : A → A) (k : Resolving C) (f : A × C → D) {n : Resolving B}
+  pub paired_here : {A B C D : Type 0} {IsLike : D → B → Type 0} {ns ms : Ahead} {c d : Rule (Unit {0})} (m : Resolving A) (h : A → A) (k : Resolving C) (f : A × C → D) {n : Resolving B}
       → IsCopied g IsLike ns ms c d (chain {A = A × C} (chain m (λ more. chain k (λ rest. pure {A = A × C} (more, rest)))) (λ p. pure (f (h p.0, p.1)))) n
       → IsCopied g IsLike ns ms c d (chain (chain m (λ more. pure (h more))) (λ xs. chain k (λ rest. pure (f (xs, rest))))) n
   unfolding chain pure
   paired_here m h k f p = record { finds = p.finds }
 
-  pub answers_here : {A B C E F D : Type 0} {IsLike : D → B → Type 0} {ns ms : List ℕ} {c d : Rule (Unit {0})} (m : Resolving A) (k : Resolving C) (h : A → E) (j : E → F) (f : F → C → D) {n : Resolving B}
+  pub answers_here : {A B C E F D : Type 0} {IsLike : D → B → Type 0} {ns ms : Ahead} {c d : Rule (Unit {0})} (m : Resolving A) (k : Resolving C) (h : A → E) (j : E → F) (f : F → C → D) {n : Resolving B}
       → IsCopied g IsLike ns ms c d (chain {A = A × C} (chain m (λ more. chain k (λ rest. pure {A = A × C} (more, rest)))) (λ p. pure (f (j (h p.0)) p.1))) n
       → IsCopied g IsLike ns ms c d (chain m (λ xs. chain (pure (h xs)) (λ x. chain (pure (j x)) (λ y. chain k (λ rest. pure (f y rest)))))) n
   unfolding chain pure
   answers_here m k h j f p = record { finds = p.finds }
+
+  -- ---- where these items are to come
+
+  pub passed_before : {A B : Type 0} {IsLike : A → B → Type 0} {ns : List ℕ} {tops tops' : Option (List TopData)} {ms : Ahead} {c d : Rule (Unit {0})} {m : Resolving A} {n : Resolving B}
+      → ((w : World) → IsAt g.source tops w → IsAt g.source tops' w) → IsCopied g IsLike (record { numbers = ns; tops = tops' }) ms c d m n
+      → IsCopied g IsLike (record { numbers = ns; tops = tops }) ms c d m n
+  passed_before {ns = ns} {tops} {tops'} q p = record {
+    finds = λ s t w v same alike here none more.
+        p.finds s t w v same alike (come_at g (record { numbers = ns; tops = tops }) (record { numbers = ns; tops = tops' }) s w here refl (q w here.position)) none more;
+  }
+
+  pub passed_behind : {A B : Type 0} {IsLike : A → B → Type 0} {ns ms : List ℕ} {tops tops' : Option (List TopData)} {c d : Rule (Unit {0})} {m : Resolving A} {n : Resolving B}
+      → Passes g.source tops tops' c → IsCopied g IsLike (record { numbers = ns; tops = tops }) (in_function ms) c d m n
+      → IsCopied g IsLike (record { numbers = ns; tops = tops }) (record { numbers = ms; tops = tops' }) c d m n
+  passed_behind {IsLike = R} {ns} {ms} {tops} {tops'} {c} {d} {m} {n} q p = record {
+    finds = λ s t w v same alike here none more.
+        let x : FindCopies g R (in_function ms) s t (c w) (d v) (m s w) (n t v) = p.finds s t w v same alike here none more
+        in record {
+          worlds = x.worlds;
+          storages = x.storages;
+          to_come = come_at g (in_function ms) (record { numbers = ms; tops = tops' }) (m s w).storage (m s w).world x.to_come refl
+              (subst (λ u. IsAt g.source tops' u) (sym x.checked_world) (q w here.position));
+          forms_grow = x.forms_grow;
+          calls_grow = x.calls_grow;
+          like = x.like;
+          functions = x.functions;
+          checked_world = x.checked_world;
+          checked_world_there = x.checked_world_there;
+          without_fault = x.without_fault;
+        };
+  }
+
+module _ (g : Whole) (walk : WalkKeeps g.source) where
+  -- a place in the source, and one in what is written
+  pub placed_here : {A B : Type 0} {IsLike : A → B → Type 0} {ns ms : Ahead} (line : Line) (e : Place → Rule (Unit {0})) {d : Rule (Unit {0})} (k : Place → Resolving A) {n : Resolving B}
+      → ((at : Place) → IsCopied g IsLike ns ms (e at) d (k at) n)
+      → IsCopied g IsLike ns ms (check_chain (place line) e) d (chain (checks (place line)) k) n
+  unfolding chain check_chain checks place
+  placed_here {IsLike = R} {ns} {ms} line e {d} k {n} p = record {
+    finds = λ s t w v same alike here none more.
+        let at : Place = record { number = w.places; line = line }
+        in let u : World = record w { places = w.places + 1 }
+        in let x : FindCopies g R ms s t (e at u) (d v) (k at s u) (n t v) =
+        (p at).finds s t u v same (with_places_here w v alike (w.places + 1))
+        (come_still g ns s w u here refl refl ((walk.places line).known s w here.known) ((walk.places line).grows s w)) none more
+        in record {
+          worlds = x.worlds;
+          storages = x.storages;
+          to_come = x.to_come;
+          forms_grow = x.forms_grow;
+          calls_grow = x.calls_grow;
+          like = x.like;
+          functions = x.functions;
+          checked_world = x.checked_world;
+          checked_world_there = x.checked_world_there;
+          without_fault = x.without_fault;
+        };
+  }
+
+  pub placed : {A B : Type 0} {IsLike : A → B → Type 0} {ns ms : Ahead} (line line' : Line) (e f : Place → Rule (Unit {0})) (k : Place → Resolving A) (l : Place → Resolving B)
+      → ((at there : Place) → IsCopied g IsLike ns ms (e at) (f there) (k at) (l there))
+      → IsCopied g IsLike ns ms (check_chain (place line) e) (check_chain (place line') f) (chain (checks (place line)) k) (chain (checks (place line')) l)
+  placed line line' e f k l p = placed_here line e k (λ at. placed_there g line' f l (λ there. p at there))
+
+  -- ---- scopes
+
+  pub copied_scoped : {A B : Type 0} {IsLike : A → B → Type 0} {ns ms : Ahead} (c d : Rule (Unit {0})) (m : Resolving A) (n : Resolving B)
+      → IsCopied g IsLike ns ms c d m n
+      → IsCopied g IsLike ns ms (check_chain enter (λ _. check_chain c (λ _. leave))) (check_chain enter (λ _. check_chain d (λ _. leave))) (scoped m) (scoped n)
+  unfolding chain check_chain checks pure enter leave change
+  copied_scoped {IsLike = R} {ns} {ms} c d m n p = record {
+    finds = λ s t w v same alike here none more.
+        let x : FindCopies g R ms s t (c (entered w)) (d (entered v)) (m s (entered w)) (n t (entered v)) =
+        p.finds s t (entered w) (entered v) same (entered_alike w v alike) (come_still g ns s w (entered w) here refl refl (walk.enters.known s w here.known) (walk.enters.grows s w))
+        (none_before (c (entered w)).found [] none) (grows_before_left (c (entered w)).world g.world more)
+        in record {
+          worlds = left_alike (m s (entered w)).world (n t (entered v)).world x.worlds;
+          storages = x.storages;
+          to_come =
+              let r : Reached _ = m s (entered w)
+              in come_still g ms r.storage r.world (left r.world) x.to_come (left_denoted r.world) (left_types r.world) (walk.leaves.known r.storage r.world x.to_come.known) (walk.leaves.grows r.storage r.world);
+          forms_grow = x.forms_grow;
+          calls_grow = x.calls_grow;
+          like = x.like;
+          functions = x.functions;
+          checked_world = λ i. left (x.checked_world i);
+          checked_world_there = λ i. left (x.checked_world_there i);
+          without_fault = append-nil (d (entered v)).found ∙ x.without_fault;
+        };
+  }

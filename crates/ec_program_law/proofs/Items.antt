@@ -20,7 +20,8 @@ use Rattle.ec_statement_law.specs.Copies.{AreApart, ended, another, IsCopy, stan
 use Rattle.ec_expression_law.specs.Lengths.{BaseHasLengths, ItemsHaveLengths}
 use Rattle.ec_typing.specs.Expressions.{is_varchar}
 use Rattle.ec_growth_law.proofs.Statements.{statements_grow}
-use Rattle.ec_program_law.specs.Copied.{Whole, IsCopied}
+use Rattle.ec_known_law.specs.Laws.{WalkKeeps}
+use Rattle.ec_program_law.specs.Copied.{Whole, Ahead, in_function, IsCopied}
 use Rattle.ec_program_law.specs.Declared.{AllDeclare, DeclaresOne, PlainAreAlike, VarcharsAreAlike}
 use Rattle.ec_program_law.specs.Embedded.{inside, ExecutedIsCopied, DirectiveIsGone, EmbeddedAreCopied}
 use Rattle.ec_program_law.specs.Shape.{IsThere}
@@ -63,7 +64,7 @@ module _ (P : ℕ → ℕ → Stm → Type 0) where
   stand_copied : (line n : ℕ) (p : List Stm × Stms) (there : Stms) → StandApart line n p there → AreCopies P line (stms (on_line n (together p.0)) p.1) there
   stand_copied line n p there h = subst (λ b. AreCopies P line (stms (on_line n (together p.0)) p.1) b) (sym h.is) (apart_copied line n p.0 p.1 h.behind h.declare h.copies)
 
-module _ (g : Whole) (es : List EmbData) (body loop : Bool) (labels : Named (Unit {0})) (result : Option TyData) where
+module _ (g : Whole) (walk : WalkKeeps g.source) (es : List EmbData) (body loop : Bool) (labels : Named (Unit {0})) (result : Option TyData) where
   -- what stands round a statement, in the source and in what is written
   abbrev pub here : checked.Around
   here = inside es body loop labels result
@@ -72,7 +73,7 @@ module _ (g : Whole) (es : List EmbData) (body loop : Bool) (labels : Named (Uni
   there_too = inside [] body loop labels result
 
   -- an item that stands for one, and the items behind it
-  pub both_copied : (s s' : StmtData) (ss ss' : StmtList) {line : ℕ} {ns ms ls : List ℕ}
+  pub both_copied : (s s' : StmtData) (ss ss' : StmtList) {line : ℕ} {ns ms ls : Ahead}
       → IsCopied g (IsCopy g.Stands line) ns ms (checked.statement here s) (checked.statement there_too s') (statement (around_of here) s) (statement (around_of there_too) s')
       → IsCopied g (AreCopies g.Stands line) ms ls (checked.statements here ss) (checked.statements there_too ss') (statements (around_of here) ss) (statements (around_of there_too) ss')
       → IsCopied g (AreCopies g.Stands line) ns ls (checked.statements here (stmt_list s ss)) (checked.statements there_too (stmt_list s' ss'))
@@ -84,22 +85,22 @@ module _ (g : Whole) (es : List EmbData) (body loop : Bool) (labels : Named (Uni
 
   pub plain_copied : PlainAreAlike → (l : Line) (b : BaseData) (items : DeclaratorList) (section : Bool) (l0 : Line) → is_varchar b ≡ false → BaseHasLengths b → ItemsHaveLengths false items
       → (line : ℕ) (ns : List ℕ)
-      → IsCopied g (IsCopy g.Stands line) ns ns (checked.statement here (stmt l (decl_stmt (decl b items section l0))))
+      → IsCopied g (IsCopy g.Stands line) (in_function ns) (in_function ns) (checked.statement here (stmt l (decl_stmt (decl b items section l0))))
       (checked.statement there_too (stmt l (decl_stmt (decl (written_base l.0 b) (written_declarators l.0 items) false (at_line l.0)))))
       (statement (around_of here) (stmt l (decl_stmt (decl b items section l0))))
       (statement (around_of there_too) (stmt l (decl_stmt (decl (written_base l.0 b) (written_declarators l.0 items) false (at_line l.0)))))
-  plain_copied plain l b items section l0 is h hs line ns = placed g l l _ _ _ _ (λ at there. copied_then g (on_line l.0) (on_line l.0)
-      (copied_then g together together (alike_last g (plain false l.0 b items section l0 (at_line l.0) is h hs) (declaration_denotes false (decl b items section l0))) (λ xs ys q.
+  plain_copied plain l b items section l0 is h hs line ns = placed g walk l l _ _ _ _ (λ at there. copied_then g (on_line l.0) (on_line l.0)
+      (copied_then g together together (alike_last g (plain false l.0 b items section l0 (at_line l.0) is h hs) (declaration_denotes false (decl b items section l0)) (walk.declarations false (decl b items section l0))) (λ xs ys q.
       subst (λ zs. IsCopy g.Stands l.0 (together xs) (together zs)) (sym q.0) (together_copied g.Stands l.0 xs q.1)))
       (λ x y c. standing l.0 c))
 
-  module _ (varchars : VarcharsAreAlike) (l : Line) (line : ℕ) (ms ls : List ℕ) (ss ss' : StmtList)
-      (rest : IsCopied g (AreCopies g.Stands line) ms ls (checked.statements here ss) (checked.statements there_too ss') (statements (around_of here) ss) (statements (around_of there_too) ss')) where
+  module _ (varchars : VarcharsAreAlike) (l : Line) (line : ℕ) (ms : List ℕ) (ls : Ahead) (ss ss' : StmtList)
+      (rest : IsCopied g (AreCopies g.Stands line) (in_function ms) ls (checked.statements here ss) (checked.statements there_too ss') (statements (around_of here) ss) (statements (around_of there_too) ss')) where
     one_copied : (at : Place) (ds : DeclaratorList) (vs : StmtList) (first : List Stm) → DeclaresOne false first
-        → IsCopied g (StandApart g.Stands line l.0) ms ls
+        → IsCopied g (StandApart g.Stands line l.0) (in_function ms) ls
         (check_chain (checked.object_items at false true None ds) (λ _. checked.statements here ss)) (checked.statements there_too vs)
         (chain (object_items at false true None ds) (λ xs. chain (statements (around_of here) ss) (λ more. pure (xs, more)))) (statements (around_of there_too) vs)
-        → IsCopied g (StandApart g.Stands line l.0) ms ls
+        → IsCopied g (StandApart g.Stands line l.0) (in_function ms) ls
         (check_chain (checked.object_items at false true None ds) (λ _. checked.statements here ss)) (checked.statements there_too vs)
         (chain (chain (object_items at false true None ds) (λ more. pure (first ++ more))) (λ xs. chain (statements (around_of here) ss) (λ more. pure (xs, more))))
         (chain (pure (together first)) (λ s. chain (pure (on_line l.0 s)) (λ x. chain (statements (around_of there_too) vs) (λ xs. pure (stms x xs)))))
@@ -116,7 +117,7 @@ module _ (g : Whole) (es : List EmbData) (body loop : Bool) (labels : Named (Uni
     one_copied at ds vs (x ∷ y ∷ xs) one p = absurd one
 
     varchars_copied : (at : Place) (ds : DeclaratorList) → ItemsHaveLengths true ds
-        → IsCopied g (StandApart g.Stands line l.0) ms ls
+        → IsCopied g (StandApart g.Stands line l.0) (in_function ms) ls
         (check_chain (checked.object_items at false true None ds) (λ _. checked.statements here ss)) (checked.statements there_too (before_stmts (decl_stmts l (varchar_objects l.0 ds)) ss'))
         (chain (object_items at false true None ds) (λ xs. chain (statements (around_of here) ss) (λ more. pure (xs, more))))
         (statements (around_of there_too) (before_stmts (decl_stmts l (varchar_objects l.0 ds)) ss'))
@@ -126,16 +127,16 @@ module _ (g : Whole) (es : List EmbData) (body loop : Bool) (labels : Named (Uni
         checked_grouped_here g _ _ _ (grouped_here g _ _ _
         (checked_grouped_there g (place l) _ _ (grouped_there g (checks (place l)) _ _ (placed_there g l _ _ (λ there.
         grouped_there g _ _ _ (grouped_there g _ _ _
-        (alike_first g _ _ _ _ _ _ _ _ (varchars at false l.0 d h.0) (item_denotes at false true None d) (λ first one.
+        (alike_first g _ _ _ _ _ _ _ _ (varchars at false l.0 d h.0) (item_denotes at false true None d) (walk.declarators at false true None d) (λ first one.
         one_copied at ds (before_stmts (decl_stmts l (varchar_objects l.0 ds)) ss') first one (varchars_copied at ds h.1)))))))))
 
     pub varchar_copied : (ds : DeclaratorList) (section : Bool) (l0 : Line) → ItemsHaveLengths true ds
-        → IsCopied g (AreCopies g.Stands line) ms ls
+        → IsCopied g (AreCopies g.Stands line) (in_function ms) ls
         (checked.statements here (stmt_list (stmt l (decl_stmt (decl varchar ds section l0))) ss)) (checked.statements there_too (before_stmts (decl_stmts l (varchar_objects l.0 ds)) ss'))
         (statements (around_of here) (stmt_list (stmt l (decl_stmt (decl varchar ds section l0))) ss)) (statements (around_of there_too) (before_stmts (decl_stmts l (varchar_objects l.0 ds)) ss'))
     varchar_copied ds section l0 h =
-        checked_grouped_here g (place l) _ _ (grouped_here g (checks (place l)) _ _ (placed_here g l _ _ (λ at.
-        checked_grouped_here g (place l0) _ _ (grouped_here g _ _ _ (grouped_here g _ _ _ (grouped_here g (checks (place l0)) _ _ (placed_here g l0 _ _ (λ inner.
+        checked_grouped_here g (place l) _ _ (grouped_here g (checks (place l)) _ _ (placed_here g walk l _ _ (λ at.
+        checked_grouped_here g (place l0) _ _ (grouped_here g _ _ _ (grouped_here g _ _ _ (grouped_here g (checks (place l0)) _ _ (placed_here g walk l0 _ _ (λ inner.
         checked_grouped_here g (check_pure None) _ _ (checked_answer_here g None _
         (grouped_here g (pure None) _ _ (answered_here g None _
         (answers_here g (object_items inner false true None ds) (statements (around_of here) ss) together (on_line l.0) stms
@@ -143,11 +144,11 @@ module _ (g : Whole) (es : List EmbData) (body loop : Bool) (labels : Named (Uni
 
   -- ---- marks
 
-  pub mark_copied : (l : Line) (opens : Bool) (ss : StmtList) {line : ℕ} {ms ls : List ℕ} {d : Rule (Unit {0})} {n : Resolving Stms}
+  pub mark_copied : (l : Line) (opens : Bool) (ss : StmtList) {line : ℕ} {ms ls : Ahead} {d : Rule (Unit {0})} {n : Resolving Stms}
       → IsCopied g (AreCopies g.Stands line) ms ls (checked.statements here ss) d (statements (around_of here) ss) n
       → IsCopied g (AreCopies g.Stands line) ms ls (checked.statements here (stmt_list (stmt l (mark_stmt opens)) ss)) d (statements (around_of here) (stmt_list (stmt l (mark_stmt opens)) ss)) n
   mark_copied l opens ss rest =
-      checked_grouped_here g (place l) _ _ (grouped_here g (checks (place l)) _ _ (placed_here g l _ _ (λ at.
+      checked_grouped_here g (place l) _ _ (grouped_here g (checks (place l)) _ _ (placed_here g walk l _ _ (λ at.
       checked_answer_here g tt _ (grouped_here g _ _ _ (answered_here g nothing _ (answered_here g (on_line l.0 nothing) _
       (copied_then_here g (λ xs. stms (on_line l.0 nothing) xs) rest (λ xs ys c. gone l.0 c))))))))
 
@@ -155,74 +156,74 @@ module _ (g : Whole) (es : List EmbData) (body loop : Bool) (labels : Named (Uni
 
   module _ (embedded_kind : ℕ → Option StmtKindData) (are : EmbeddedAreCopied g es embedded_kind) where
     executed_copied : (l : Line) (n : ℕ) (e : EmbData) → e.line ≡ l → ExecutedIsCopied g es embedded_kind n e → (at there : Place) (ns : List ℕ)
-        → IsCopied g (IsCopy g.Stands l.0) (n ∷ ns) ns (checked.embedded_at here at n (Some e)) (checked.statement_kind there_too there (or_empty (embedded_kind n)))
+        → IsCopied g (IsCopy g.Stands l.0) (in_function (n ∷ ns)) (in_function ns) (checked.embedded_at here at n (Some e)) (checked.statement_kind there_too there (or_empty (embedded_kind n)))
         (chain (embedded_at (around_of here) at n (Some e)) (λ _. pure (embedded_statement n))) (statement_kind (around_of there_too) there (or_empty (embedded_kind n)))
     executed_copied l n e on x at there ns =
-        subst (λ k. IsCopied g (IsCopy g.Stands l.0) (n ∷ ns) ns (checked.embedded_at here at n (Some e)) (checked.statement_kind there_too there (or_empty k))
+        subst (λ k. IsCopied g (IsCopy g.Stands l.0) (in_function (n ∷ ns)) (in_function ns) (checked.embedded_at here at n (Some e)) (checked.statement_kind there_too there (or_empty k))
         (chain (embedded_at (around_of here) at n (Some e)) (λ _. pure (embedded_statement n))) (statement_kind (around_of there_too) there (or_empty k)))
         (sym x.is_written)
         (copied_then_here g (λ _. embedded_statement n) (x.copied body loop labels result at there ns) (λ _ y q. embedded n (subst (λ k. g.Stands k.0 n y) on q)))
 
     directive_copied : (l : Line) (n : ℕ) (e : EmbData) → DirectiveIsGone g es embedded_kind n e → (at there : Place) (ns : List ℕ)
-        → IsCopied g (IsCopy g.Stands l.0) (n ∷ ns) ns (checked.embedded_at here at n (Some e)) (checked.statement_kind there_too there (or_empty (embedded_kind n)))
+        → IsCopied g (IsCopy g.Stands l.0) (in_function (n ∷ ns)) (in_function ns) (checked.embedded_at here at n (Some e)) (checked.statement_kind there_too there (or_empty (embedded_kind n)))
         (chain (embedded_at (around_of here) at n (Some e)) (λ _. pure nothing)) (statement_kind (around_of there_too) there (or_empty (embedded_kind n)))
     directive_copied l n e x at there ns =
-        subst (λ k. IsCopied g (IsCopy g.Stands l.0) (n ∷ ns) ns (checked.embedded_at here at n (Some e)) (checked.statement_kind there_too there (or_empty k))
+        subst (λ k. IsCopied g (IsCopy g.Stands l.0) (in_function (n ∷ ns)) (in_function ns) (checked.embedded_at here at n (Some e)) (checked.statement_kind there_too there (or_empty k))
         (chain (embedded_at (around_of here) at n (Some e)) (λ _. pure nothing)) (statement_kind (around_of there_too) there (or_empty k)))
         (sym x.is_written)
-        (gone_copied g nothing nothing (x.gone body loop labels at ns) empty)
+        (gone_copied g nothing nothing (x.gone body loop labels at ns None) empty)
 
     -- by whether it is a directive
     either_copied : (l : Line) (n : ℕ) (e : EmbData) → slice_get es n ≡ Some e → e.line ≡ l → (directive : Bool) → is_directive e ≡ directive → (at there : Place) (ns : List ℕ)
-        → IsCopied g (IsCopy g.Stands l.0) (n ∷ ns) ns (checked.embedded_at here at n (Some e)) (checked.statement_kind there_too there (or_empty (embedded_kind n)))
+        → IsCopied g (IsCopy g.Stands l.0) (in_function (n ∷ ns)) (in_function ns) (checked.embedded_at here at n (Some e)) (checked.statement_kind there_too there (or_empty (embedded_kind n)))
         (chain (embedded_at (around_of here) at n (Some e)) (λ _. pure (if directive then nothing else embedded_statement n))) (statement_kind (around_of there_too) there (or_empty (embedded_kind n)))
     either_copied l n e is on true directive at there ns = directive_copied l n e (are.directives n e is directive) at there ns
     either_copied l n e is on false executed at there ns = executed_copied l n e on (are.executed n e is executed) at there ns
 
     pub embedded_copied : (l : Line) (n : ℕ) → IsThere es l n → (at there : Place) (ns : List ℕ)
-        → IsCopied g (IsCopy g.Stands l.0) (n ∷ ns) ns (checked.statement_kind here at (emb_stmt n)) (checked.statement_kind there_too there (or_empty (embedded_kind n)))
+        → IsCopied g (IsCopy g.Stands l.0) (in_function (n ∷ ns)) (in_function ns) (checked.statement_kind here at (emb_stmt n)) (checked.statement_kind there_too there (or_empty (embedded_kind n)))
         (statement_kind (around_of here) at (emb_stmt n)) (statement_kind (around_of there_too) there (or_empty (embedded_kind n)))
     embedded_copied l n h at there ns =
-        subst (λ o. IsCopied g (IsCopy g.Stands l.0) (n ∷ ns) ns (checked.embedded_at here at n o) (checked.statement_kind there_too there (or_empty (embedded_kind n)))
+        subst (λ o. IsCopied g (IsCopy g.Stands l.0) (in_function (n ∷ ns)) (in_function ns) (checked.embedded_at here at n o) (checked.statement_kind there_too there (or_empty (embedded_kind n)))
         (chain (embedded_at (around_of here) at n o) (λ _. pure (embedded_by n o))) (statement_kind (around_of there_too) there (or_empty (embedded_kind n))))
         (sym h.is) (either_copied l n h.emb h.is h.on (is_directive h.emb) refl at there ns)
 
     -- a directive as an item
-    directive_item : (l : Line) (n : ℕ) (e : EmbData) → slice_get es n ≡ Some e → is_directive e ≡ true → (ss : StmtList) {line : ℕ} {ms ls : List ℕ} {d : Rule (Unit {0})} {m : Resolving Stms}
-        → IsCopied g (AreCopies g.Stands line) ms ls (checked.statements here ss) d (statements (around_of here) ss) m
-        → IsCopied g (AreCopies g.Stands line) (n ∷ ms) ls (checked.statements here (stmt_list (stmt l (emb_stmt n)) ss)) d (statements (around_of here) (stmt_list (stmt l (emb_stmt n)) ss)) m
+    directive_item : (l : Line) (n : ℕ) (e : EmbData) → slice_get es n ≡ Some e → is_directive e ≡ true → (ss : StmtList) {line : ℕ} {ms : List ℕ} {ls : Ahead} {d : Rule (Unit {0})} {m : Resolving Stms}
+        → IsCopied g (AreCopies g.Stands line) (in_function ms) ls (checked.statements here ss) d (statements (around_of here) ss) m
+        → IsCopied g (AreCopies g.Stands line) (in_function (n ∷ ms)) ls (checked.statements here (stmt_list (stmt l (emb_stmt n)) ss)) d (statements (around_of here) (stmt_list (stmt l (emb_stmt n)) ss)) m
     directive_item l n e is directive ss {line} {ms} {ls} {d} {m} rest =
-        subst (λ o. IsCopied g (AreCopies g.Stands line) (n ∷ ms) ls (check_chain (check_chain (place l) (λ at. checked.embedded_at here at n o)) (λ _. checked.statements here ss)) d
+        subst (λ o. IsCopied g (AreCopies g.Stands line) (in_function (n ∷ ms)) ls (check_chain (check_chain (place l) (λ at. checked.embedded_at here at n o)) (λ _. checked.statements here ss)) d
         (chain (chain (checks (place l)) (λ at. chain (chain (embedded_at (around_of here) at n o) (λ _. pure (embedded_by n o))) (λ s. pure (on_line l.0 s)))) (λ x. chain (statements (around_of here) ss) (λ xs. pure (stms x xs)))) m)
         (sym is)
-        (checked_grouped_here g (place l) _ _ (grouped_here g (checks (place l)) _ _ (placed_here g l _ _ (λ at.
+        (checked_grouped_here g (place l) _ _ (grouped_here g (checks (place l)) _ _ (placed_here g walk l _ _ (λ at.
         grouped_here g _ _ _ (grouped_here g _ _ _
-        (gone_first g _ _ _ _ ((are.directives n e is directive).gone body loop labels at ms) (λ w. (statements_grow here ss).grows w)
+        (gone_first g _ _ _ _ ((are.directives n e is directive).gone body loop labels at ms None) (λ w. (statements_grow here ss).grows w)
         (answered_here g (embedded_by n (Some e)) _ (answered_here g (on_line l.0 (embedded_by n (Some e))) _
         (copied_then_here g (λ xs. stms (on_line l.0 (embedded_by n (Some e))) xs) rest (λ xs ys c.
         subst (λ b. AreCopies g.Stands line (stms (on_line l.0 (if b then nothing else embedded_statement n)) xs) ys) (sym directive) (gone l.0 c)))))))))))
 
-    pub embedded_item : (l : Line) (n : ℕ) → IsThere es l n → (ss ss' : StmtList) {line : ℕ} {ms ls : List ℕ}
-        → IsCopied g (IsCopy g.Stands line) (n ∷ ms) ms (checked.statement here (stmt l (emb_stmt n))) (checked.statement there_too (stmt l (or_empty (embedded_kind n))))
+    pub embedded_item : (l : Line) (n : ℕ) → IsThere es l n → (ss ss' : StmtList) {line : ℕ} {ms : List ℕ} {ls : Ahead}
+        → IsCopied g (IsCopy g.Stands line) (in_function (n ∷ ms)) (in_function ms) (checked.statement here (stmt l (emb_stmt n))) (checked.statement there_too (stmt l (or_empty (embedded_kind n))))
         (statement (around_of here) (stmt l (emb_stmt n))) (statement (around_of there_too) (stmt l (or_empty (embedded_kind n))))
-        → IsCopied g (AreCopies g.Stands line) ms ls (checked.statements here ss) (checked.statements there_too ss') (statements (around_of here) ss) (statements (around_of there_too) ss')
-        → IsCopied g (AreCopies g.Stands line) (n ∷ ms) ls (checked.statements here (stmt_list (stmt l (emb_stmt n)) ss)) (checked.statements there_too (before_stmts (optional_stmt l (embedded_kind n)) ss'))
+        → IsCopied g (AreCopies g.Stands line) (in_function ms) ls (checked.statements here ss) (checked.statements there_too ss') (statements (around_of here) ss) (statements (around_of there_too) ss')
+        → IsCopied g (AreCopies g.Stands line) (in_function (n ∷ ms)) ls (checked.statements here (stmt_list (stmt l (emb_stmt n)) ss)) (checked.statements there_too (before_stmts (optional_stmt l (embedded_kind n)) ss'))
         (statements (around_of here) (stmt_list (stmt l (emb_stmt n)) ss)) (statements (around_of there_too) (before_stmts (optional_stmt l (embedded_kind n)) ss'))
     embedded_item l n h ss ss' {line} {ms} {ls} alone rest = by_kind (is_directive h.emb) refl
       where
         by_kind : (b : Bool) → is_directive h.emb ≡ b
-            → IsCopied g (AreCopies g.Stands line) (n ∷ ms) ls (checked.statements here (stmt_list (stmt l (emb_stmt n)) ss)) (checked.statements there_too (before_stmts (optional_stmt l (embedded_kind n)) ss'))
+            → IsCopied g (AreCopies g.Stands line) (in_function (n ∷ ms)) ls (checked.statements here (stmt_list (stmt l (emb_stmt n)) ss)) (checked.statements there_too (before_stmts (optional_stmt l (embedded_kind n)) ss'))
             (statements (around_of here) (stmt_list (stmt l (emb_stmt n)) ss)) (statements (around_of there_too) (before_stmts (optional_stmt l (embedded_kind n)) ss'))
         by_kind true e =
-            subst (λ k. IsCopied g (AreCopies g.Stands line) (n ∷ ms) ls (checked.statements here (stmt_list (stmt l (emb_stmt n)) ss)) (checked.statements there_too (before_stmts (optional_stmt l k) ss'))
+            subst (λ k. IsCopied g (AreCopies g.Stands line) (in_function (n ∷ ms)) ls (checked.statements here (stmt_list (stmt l (emb_stmt n)) ss)) (checked.statements there_too (before_stmts (optional_stmt l k) ss'))
             (statements (around_of here) (stmt_list (stmt l (emb_stmt n)) ss)) (statements (around_of there_too) (before_stmts (optional_stmt l k) ss')))
             (sym (are.directives n h.emb h.is e).is_written) (directive_item l n h.emb h.is e ss rest)
         by_kind false e =
             let x : ExecutedIsCopied g es embedded_kind n h.emb = are.executed n h.emb h.is e in
-            subst (λ k. IsCopied g (AreCopies g.Stands line) (n ∷ ms) ls (checked.statements here (stmt_list (stmt l (emb_stmt n)) ss)) (checked.statements there_too (before_stmts (optional_stmt l k) ss'))
+            subst (λ k. IsCopied g (AreCopies g.Stands line) (in_function (n ∷ ms)) ls (checked.statements here (stmt_list (stmt l (emb_stmt n)) ss)) (checked.statements there_too (before_stmts (optional_stmt l k) ss'))
             (statements (around_of here) (stmt_list (stmt l (emb_stmt n)) ss)) (statements (around_of there_too) (before_stmts (optional_stmt l k) ss')))
             (sym x.is_written)
             (both_copied (stmt l (emb_stmt n)) (stmt l x.kind) ss ss'
-            (subst (λ k. IsCopied g (IsCopy g.Stands line) (n ∷ ms) ms (checked.statement here (stmt l (emb_stmt n))) (checked.statement there_too (stmt l (or_empty k)))
+            (subst (λ k. IsCopied g (IsCopy g.Stands line) (in_function (n ∷ ms)) (in_function ms) (checked.statement here (stmt l (emb_stmt n))) (checked.statement there_too (stmt l (or_empty k)))
             (statement (around_of here) (stmt l (emb_stmt n))) (statement (around_of there_too) (stmt l (or_empty k)))) x.is_written alone)
             rest)

@@ -1,4 +1,5 @@
 mod Around
+pub mod Coming
 mod Conditions
 mod CopiedFunctions
 mod CopiedPrograms

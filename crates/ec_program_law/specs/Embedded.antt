@@ -3,6 +3,7 @@ use Rattle.std.specs.Prelude.{◌≡◌, ℕ, Bool, true, false, List, [], ◌�
 use Rattle.ec_ctypes.specs.trees.Embedded.{EmbData}
 use Rattle.ec_ctypes.specs.trees.Stmts.{StmtKindData}
 use Rattle.ec_ctypes.specs.trees.Types.{TyData}
+use Rattle.ec_ctypes.specs.trees.Units.{TopData}
 use Rattle.ec_statement_parts.specs.Handlers.{is_directive}
 use Rattle.ec_typing.specs.Tables.{Named}
 use Rattle.ec_typing.specs.Worlds.{Place}
@@ -12,7 +13,7 @@ use Rattle.ec_typing.specs.Statements.{Around, labels_in_kind}
 use Rattle.ec_resolving.specs.Embedded.{embedded_rule}
 use Rattle.ec_resolving.specs.Statements.{objects_in_kind, statement_kind}
 use Rattle.ec_resolving.specs.Agreement.{around_of}
-use Rattle.ec_program_law.specs.Copied.{Whole, IsCopied, IsGone}
+use Rattle.ec_program_law.specs.Copied.{Whole, in_function, IsCopied, IsGone}
 
 -- what stands round a statement of a program with these embedded statements
 abbrev pub inside : List EmbData → Bool → Bool → Named (Unit {0}) → Option TyData → Around
@@ -29,7 +30,7 @@ module _ (g : Whole) (es : List EmbData) (embedded : ℕ → Option StmtKindData
     pub no_objects : objects_in_kind kind ≡ 0
     pub copied : (body loop : Bool) (labels : Named (Unit {0})) (result : Option TyData)
         (at there : Place) (behind : List ℕ)
-        → IsCopied g (λ x y. g.Stands e.line.0 n y) (n ∷ behind) behind
+        → IsCopied g (λ x y. g.Stands e.line.0 n y) (in_function (n ∷ behind)) (in_function behind)
         (checked_embedded.embedded_rule es body loop labels at n e)
         (checked.statement_kind (inside [] body loop labels result) there kind)
         (embedded_rule es labels at n e)
@@ -39,7 +40,9 @@ module _ (g : Whole) (es : List EmbData) (embedded : ℕ → Option StmtKindData
   pub record DirectiveIsGone (n : ℕ) (e : EmbData) : Type 0 where
     pub is_written : embedded n ≡ None
     pub gone : (body loop : Bool) (labels : Named (Unit {0})) (at : Place) (behind : List ℕ)
-        → IsGone g (n ∷ behind) behind
+        (tops : Option (List TopData))
+        → IsGone g (record { numbers = n ∷ behind; tops = tops })
+        (record { numbers = behind; tops = tops })
         (checked_embedded.embedded_rule es body loop labels at n e) (embedded_rule es labels at n e)
 
   pub record EmbeddedAreCopied : Type 0 where

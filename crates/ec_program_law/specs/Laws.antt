@@ -1,9 +1,9 @@
 -- That statements, functions and the items of programs are copied.
-use Rattle.std.specs.Prelude.{ℕ, Bool, List, [], Option}
+use Rattle.std.specs.Prelude.{ℕ, Bool, List, [], ◌∷◌, Option}
 use Rattle.ec_ctypes.specs.trees.Embedded.{EmbData}
 use Rattle.ec_ctypes.specs.trees.Stmts.{StmtData, StmtKindData, StmtList}
 use Rattle.ec_ctypes.specs.trees.Types.{TyData}
-use Rattle.ec_ctypes.specs.trees.Units.{FuncData, TopData}
+use Rattle.ec_ctypes.specs.trees.Units.{FuncData, TopData, func_top}
 use Rattle.ec_bound_shape.specs.Numbers.{stmt_numbers, stmts_numbers, body_numbers, tops_numbers}
 use Rattle.ec_expansion.specs.Statements.{written_stmt, written_items, written_func, written_tops}
 use Rattle.ec_typing.specs.Tables.{Named}
@@ -16,7 +16,7 @@ use Rattle.ec_statement_law.specs.Copies.{IsCopy, AreCopies}
 use Rattle.ec_expression_law.specs.Laws.{ExpressionsAreAlike, TypesAreAlike, LengthsAreAlike, InitializersAreAlike}
 use Rattle.ec_expression_law.specs.Lengths.{BaseHasLengths}
 use Rattle.ec_expression_law.specs.Varchars.{VarcharObjectsAreAlike, OuterLengthsAreAlike}
-use Rattle.ec_program_law.specs.Copied.{Whole, IsCopied, Any}
+use Rattle.ec_program_law.specs.Copied.{Whole, in_function, at_top, IsCopied, Any}
 use Rattle.ec_program_law.specs.Embedded.{inside}
 use Rattle.ec_program_law.specs.Shape.{StandsAlone, ItemsStand, ParamsHaveLengths, BodyStands, TopsStand}
 
@@ -34,7 +34,8 @@ module _ (g : Whole) (es : List EmbData) (embedded : ℕ → Option StmtKindData
   abbrev pub StatementsAreCopied : Type 0
   StatementsAreCopied = (body loop : Bool) (labels : Named (Unit {0})) (result : Option TyData)
       (s : StmtData) → StandsAlone es s → (line : ℕ) (behind : List ℕ)
-      → IsCopied g (IsCopy g.Stands line) (stmt_numbers s behind) behind
+      → IsCopied g (IsCopy g.Stands line) (in_function (stmt_numbers s behind))
+      (in_function behind)
       (checked.statement (inside es body loop labels result) s)
       (checked.statement (inside [] body loop labels result) (written_stmt embedded s))
       (statement (around_of (inside es body loop labels result)) s)
@@ -44,7 +45,8 @@ module _ (g : Whole) (es : List EmbData) (embedded : ℕ → Option StmtKindData
   abbrev pub ItemsAreCopied : Type 0
   ItemsAreCopied = (body loop : Bool) (labels : Named (Unit {0})) (result : Option TyData)
       (ss : StmtList) → ItemsStand es ss → (line : ℕ) (behind : List ℕ)
-      → IsCopied g (AreCopies g.Stands line) (stmts_numbers ss behind) behind
+      → IsCopied g (AreCopies g.Stands line) (in_function (stmts_numbers ss behind))
+      (in_function behind)
       (checked.statements (inside es body loop labels result) ss)
       (checked.statements (inside [] body loop labels result) (written_items embedded ss))
       (statements (around_of (inside es body loop labels result)) ss)
@@ -52,13 +54,15 @@ module _ (g : Whole) (es : List EmbData) (embedded : ℕ → Option StmtKindData
 
   abbrev pub FunctionsAreCopied : Type 0
   FunctionsAreCopied = (f : FuncData) → BaseHasLengths f.base → ParamsHaveLengths f.params
-      → BodyStands es f.body → (behind : List ℕ)
-      → IsCopied g Any (body_numbers f.body behind) behind (checked_programs.function_rule es f)
+      → BodyStands es f.body → (behind : List ℕ) (ts : List TopData)
+      → IsCopied g Any (at_top (body_numbers f.body behind) (func_top f ∷ ts)) (at_top behind ts)
+      (checked_programs.function_rule es f)
       (checked_programs.function_rule [] (written_func embedded f))
       (function_rule es f) (function_rule [] (written_func embedded f))
 
   abbrev pub TopsAreCopied : Type 0
   TopsAreCopied = (ts : List TopData) → TopsStand es ts → (behind : List ℕ)
-      → IsCopied g Any (tops_numbers ts behind) behind (checked_programs.tops_rule es ts)
+      → IsCopied g Any (at_top (tops_numbers ts behind) ts) (at_top behind [])
+      (checked_programs.tops_rule es ts)
       (checked_programs.tops_rule [] (written_tops embedded ts))
       (tops_rule es ts) (tops_rule [] (written_tops embedded ts))

@@ -1,5 +1,5 @@
 -- Whole programs, and what is written of them.
-use Rattle.std.specs.Prelude.{◌≡◌, ℕ, true, false, List, [], Option}
+use Rattle.std.specs.Prelude.{◌≡◌, ℕ, true, false, List, [], ◌++◌, Option, map}
 use Rattle.ec_ctypes.specs.trees.Checked.{TypedData}
 use Rattle.ec_ctypes.specs.trees.Stmts.{StmtKindData}
 use Rattle.ec_ctypes.specs.trees.Units.{UnitData}
@@ -9,10 +9,11 @@ use Rattle.ec_expansion.specs.Statements.{written_tops}
 use Rattle.ec_typing.specs.Answers.{checked, violations}
 use Rattle.ec_typing.specs.Worlds.{World}
 use Rattle.ec_resolved.specs.Resolved.{Stm}
-use Rattle.ec_resolving.specs.Programs.{resolve, embedded_statements_of, library_calls_of}
+use Rattle.ec_resolving.specs.Programs.{walked, resolve, embedded_statements_of, library_calls_of}
 use Rattle.ec_resolving.specs.Storage.{LibraryCall, StatementForm}
 use Rattle.ec_statement_law.specs.Copies.{IsProgramCopy}
 use Rattle.ec_statement_law.specs.Whole.{IsWrittenAt}
+use Rattle.ec_known_law.specs.Known.{AreFound}
 use Rattle.ec_program_law.specs.Copied.{Whole}
 
 -- the program that is written for one, by what is written in the place of each embedded statement
@@ -26,13 +27,22 @@ whole_of stands u v = record {
   forms = embedded_statements_of false u;
   calls = library_calls_of true v;
   numbers = tops_numbers u.tops [];
+  source = u;
   world = (checked false u).world;
 }
 
--- nothing is wrong with what is written, and it is resolved to a copy
+-- Each embedded statement of a program was met on the walk through it, in the order of the text: its references are those that it had where it stood
+pub record AreAllFound (u : UnitData) : Type 0 where
+  pub in_order : map (λ f. f.number) (walked false u).storage.statements ++ []
+      ≡ tops_numbers u.tops []
+  pub found : AreFound u (walked false u).storage (walked false u).world
+      (walked false u).storage.statements (walked false u).world.denoted
+
+-- nothing is wrong with what is written, it is resolved to a copy, and each embedded statement of the source was found
 pub record IsWrittenCopy (stands : ℕ → ℕ → Stm → Type 0) (u v : UnitData) : Type 0 where
   pub without_fault : violations true v ≡ []
   pub copy : IsProgramCopy stands (resolve false u) (resolve true v)
+  pub found : AreAllFound u
 
 -- where the block of an embedded statement stands, with these forms and calls
 abbrev pub blocks_of : TypedData → List StatementForm → List LibraryCall → ℕ → ℕ → Stm → Type 0
@@ -44,6 +54,7 @@ whole_by t forms calls numbers world = record {
   forms = forms;
   calls = calls;
   numbers = numbers;
+  source = t.unit;
   world = world;
 }
 

@@ -6,8 +6,8 @@ use Rattle.ec_program_law.proofs.functions.written_functions_are_copied.Goals as
 
 pub returns : goal.returns
 returns c = record {
-  functions = λ t forms calls numbers w es embedded h are f based sized stands behind.
-      function_copied (whole_by t forms calls numbers w) es embedded are h.expressions h.types h.lengths (plain_of h) (varchars_of h) f based sized stands behind;
-  tops = λ t forms calls numbers w es embedded h are ts stand behind.
-      tops_copied (whole_by t forms calls numbers w) es embedded are h.expressions h.types h.lengths (plain_of h) (varchars_of h) (declarations_of h) ts stand behind;
+  functions = λ t forms calls numbers w es embedded h walk are f based sized stands behind ts.
+      function_copied (whole_by t forms calls numbers w) walk es embedded are h.expressions h.types h.lengths (plain_of h) (varchars_of h) f based sized stands behind ts;
+  tops = λ t forms calls numbers w es embedded h walk are ts stand behind.
+      tops_copied (whole_by t forms calls numbers w) walk es embedded are h.expressions h.types h.lengths (plain_of h) (varchars_of h) (declarations_of h) ts stand behind;
 }

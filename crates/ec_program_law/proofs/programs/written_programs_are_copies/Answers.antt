@@ -4,5 +4,5 @@ use Rattle.ec_program_law.specs.Programs.{written_of, blocks_in}
 use Rattle.ec_program_law.proofs.programs.written_programs_are_copies.Goals as goal
 
 pub returns : goal.returns
-returns c = λ t embedded stand none h are.
-    program_copied (blocks_in t (written_of embedded t.unit)) embedded t.unit stand none are h.expressions h.types h.lengths (plain_of h) (varchars_of h) (declarations_of h)
+returns c = λ t embedded stand none h walk are.
+    program_copied (blocks_in t (written_of embedded t.unit)) embedded t.unit stand none walk are h.expressions h.types h.lengths (plain_of h) (varchars_of h) (declarations_of h)

@@ -5,8 +5,8 @@ use Rattle.ec_program_law.proofs.statements.written_statements_are_copied.Goals 
 
 pub returns : goal.returns
 returns c = record {
-  alone = λ t forms calls numbers w es embedded h are body loop labels result s stands line behind.
-      statement_copied (whole_by t forms calls numbers w) es embedded are h.expressions (plain_of h) (varchars_of h) body loop labels result s stands line behind;
-  items = λ t forms calls numbers w es embedded h are body loop labels result ss stand line behind.
-      items_copied (whole_by t forms calls numbers w) es embedded are h.expressions (plain_of h) (varchars_of h) body loop labels result ss stand line behind;
+  alone = λ t forms calls numbers w es embedded h walk are body loop labels result s stands line behind.
+      statement_copied (whole_by t forms calls numbers w) walk es embedded are h.expressions (plain_of h) (varchars_of h) body loop labels result s stands line behind;
+  items = λ t forms calls numbers w es embedded h walk are body loop labels result ss stand line behind.
+      items_copied (whole_by t forms calls numbers w) walk es embedded are h.expressions (plain_of h) (varchars_of h) body loop labels result ss stand line behind;
 }

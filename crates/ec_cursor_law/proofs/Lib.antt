@@ -1,0 +1,4 @@
+mod Again
+mod Both
+mod Growing
+mod Names

@@ -1,0 +1,90 @@
+-- An accepted source means what is written of it means.
+use Rattle.std.proofs.Common.{◌≡◌, ◌∙◌, ℕ, true, false, List, [], length, refl, sym, subst, ap, Option, Ok, Result, Err}
+use Rattle.ec_base.specs.declared.stop.Stop.{Stop}
+use Rattle.ec_ctypes.specs.trees.Checked.{TypedData, BoundData}
+use Rattle.ec_ctypes.specs.trees.Embedded.{EmbData}
+use Rattle.ec_ctypes.specs.trees.Stmts.{StmtKindData}
+use Rattle.ec_ctypes.specs.trees.Units.{UnitData}
+use Rattle.ec_language.specs.Letters.{Text, each}
+use Rattle.ec_bound_shape.specs.Numbers.{tops_numbers, numbers_from}
+use Rattle.ec_expansion.specs.Programs.{embedded, written_program}
+use Rattle.ec_phases.specs.Sources.{ReadsTree, bound_from, BoundProgram, ReadsSource}
+use Rattle.ec_sections.specs.Answers.{hosts_answer}
+use Rattle.ec_source_shape.specs.Includes.{DeclaredIncludesStartNothing}
+use Rattle.ec_source_shape.specs.SourceShape.{is_source_shape}
+use Rattle.ec_statement_parts.specs.Handlers.{marks_in}
+use Rattle.ec_typing.specs.Answers.{checked, violations, typed_of}
+use Rattle.ec_whenever.specs.Tables.{table_of, are_in_order}
+use Rattle.ec_writing.specs.Shapes.{is_byte}
+use Rattle.ec_resolved.specs.Programs.{Program}
+use Rattle.ec_resolving.specs.Programs.{resolve, embedded_statements_of, library_calls_of}
+use Rattle.ec_resolving.specs.Storage.{LibraryCall}
+use Rattle.ec_evaluation.specs.State.{Answer}
+use Rattle.ec_evaluation.specs.Whole.{Observed, program_meaning}
+use Rattle.ec_calls.specs.Steps.{library_step}
+use Rattle.ec_direct.specs.Direct.{direct_meaning}
+use Rattle.ec_simulation.specs.Written.{meaning_by, meaning_of_written}
+use Rattle.ec_statement_law.specs.Copies.{IsProgramCopy}
+use Rattle.ec_closing_law.specs.Closing.{HaveTypes}
+use Rattle.ec_known_law.specs.Laws.{WalkKeeps}
+use Rattle.ec_table_law.specs.Laws.{TablesAreSound}
+use Rattle.ec_program_law.specs.Embedded.{EmbeddedAreCopied}
+use Rattle.ec_program_law.specs.Laws.{PartsAreAlike}
+use Rattle.ec_program_law.specs.Programs.{written_of, whole_of, blocks_of, blocks_in, IsWrittenCopy}
+use Rattle.ec_program_law.specs.Shape.{TopsStand}
+use Rattle.ec_shape_law.specs.Shapes.{AllAreRead, StatementsAreRead}
+use Rattle.ec_block_law.specs.Accepted.{IsAccepted, StatementLaws, StatementsAreCopied}
+use Rattle.ec_meaning_law.specs.Meanings.{IsAcceptedText, MeanTheSame}
+use Rattle.ec_meaning_law.proofs.Accepted.{OfTree, OfSource, of_source, no_violation}
+
+same_program : (t : TypedData) (u : UnitData) (hosts : List ℕ) → t ≡ typed_of u hosts (table_of (marks_in u.embs)) (checked false u).world → t ≡ typed_of u t.hosts t.handlers (checked false u).world
+same_program t u hosts e = e ∙ (λ i. typed_of u (sym e i).hosts (sym e i).handlers (checked false u).world)
+
+module _ (numbers_of : (text : Text) (v : UnitData) → ReadsTree text (Ok v) → tops_numbers v.tops [] ≡ numbers_from 0 (length v.embs))
+    (shape_of : (text : Text) (v : UnitData) → each is_byte text ≡ true → DeclaredIncludesStartNothing text → ReadsTree text (Ok v) → is_source_shape v ≡ true)
+    (in_order : (text : Text) (u : UnitData) → ReadsTree text (Ok u) → are_in_order u.embs ≡ true)
+    (read : StatementsAreRead) (sound : TablesAreSound) (walk : (u : UnitData) → WalkKeeps u) (parts : PartsAreAlike)
+    (stand : (text : Text) (u : UnitData) (hosts : List ℕ) → ReadsTree text (Ok u) → hosts_answer u ≡ Ok hosts → is_source_shape u ≡ true → TopsStand u.embs u.tops)
+    (laws : StatementLaws) (copied : StatementsAreCopied)
+    (copies : (t : TypedData) (embedded : ℕ → Option StmtKindData) → TopsStand t.unit.embs t.unit.tops → violations false t.unit ≡ [] → PartsAreAlike → WalkKeeps t.unit
+    → EmbeddedAreCopied (whole_of (blocks_in t (written_of embedded t.unit)) t.unit (written_of embedded t.unit)) t.unit.embs embedded
+    → IsWrittenCopy (blocks_in t (written_of embedded t.unit)) t.unit (written_of embedded t.unit))
+    (mean : (t : TypedData) (calls : List LibraryCall) (q : Program) → IsProgramCopy (blocks_of t (embedded_statements_of false t.unit) calls) (resolve false t.unit) q
+    → (turns : ℕ) (ready : Option (ℕ × List ℕ)) (answers : List Answer) → direct_meaning t turns ready answers ≡ program_meaning (library_step calls) q turns ready answers) where
+  accepted : (text : Text) (p : BoundProgram) (h : IsAcceptedText text p) → IsAccepted p.program p.bounds
+  accepted text p h =
+      let s = of_source text p h.reads in
+      let none = no_violation p.program.unit s.made.without_stop in
+      record {
+        is = same_program p.program p.program.unit s.made.hosts s.made.is;
+        handlers = ap (λ (t : TypedData). t.handlers) s.made.is;
+        without_violation = none;
+        bound = s.bound;
+        numbers = numbers_of text p.program.unit s.tree;
+        read = read text p.program.unit s.tree;
+        indexes = h.indexes;
+        cursors = h.cursors;
+        in_order = in_order text p.program.unit s.tree;
+        sound = sound p.program.unit (shape_of text p.program.unit h.bytes h.includes s.tree) none h.have_types;
+      }
+
+  copy : (text : Text) (p : BoundProgram) (h : IsAcceptedText text p)
+      → let v = written_program p.program p.bounds in IsWrittenCopy (blocks_in p.program v) p.program.unit v
+  copy text p h =
+      let s = of_source text p h.reads in
+      let a = accepted text p h in
+      copies p.program (embedded p.program.handlers p.program.unit.embs p.bounds)
+      (stand text p.program.unit s.made.hosts s.tree s.made.sections (shape_of text p.program.unit h.bytes h.includes s.tree))
+      a.without_violation parts (walk p.program.unit) (copied laws p.program p.bounds a)
+
+  pub without_violation : (text : Text) (p : BoundProgram) → IsAcceptedText text p → violations true (written_program p.program p.bounds) ≡ []
+  without_violation text p h = (copy text p h).without_fault
+
+  by_bounds : (t : TypedData) (bs : Result (List BoundData) Stop) (bounds : List BoundData) → bs ≡ Ok bounds → (turns : ℕ) (ready : Option (ℕ × List ℕ)) (answers : List Answer)
+      → meaning_by t turns ready answers bs ≡ meaning_by t turns ready answers (Ok bounds)
+  by_bounds t bs bounds e turns ready answers = ap (meaning_by t turns ready answers) e
+
+  pub means : (text : Text) (p : BoundProgram) → IsAcceptedText text p → MeanTheSame p.program
+  means text p h = λ turns ready answers.
+      mean p.program (library_calls_of true (written_program p.program p.bounds)) (resolve true (written_program p.program p.bounds)) (copy text p h).copy turns ready answers
+      ∙ sym (by_bounds p.program (bound_from p.program 0 p.program.unit.embs) p.bounds (accepted text p h).bound turns ready answers)

@@ -1,0 +1,12 @@
+pub mod Basics
+pub mod Clean
+pub mod Forms
+pub mod Kept
+pub mod Pointed
+pub mod Pointing
+pub mod Stand
+pub mod Taken
+pub mod Targets
+pub mod UsesStand
+pub mod Values
+pub mod Walk

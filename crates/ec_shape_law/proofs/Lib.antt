@@ -1,0 +1,4 @@
+mod Forms
+mod Parts
+mod SentParts
+mod StatementsRead
