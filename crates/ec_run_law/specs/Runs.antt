@@ -1,0 +1,26 @@
+-- What is written of an accepted source, as a text, and as what it is run.
+use Rattle.std.specs.Prelude.{◌≡◌, ◌⊎◌, ℕ, List, Option, Some, Result, Ok, Err}
+use Rattle.ec_base.specs.declared.fault.FaultKind.TheVariants.{F16}
+use Rattle.ec_base.specs.declared.fault.LimitKind.TheVariants.{L2, L3, L6}
+use Rattle.ec_base.specs.declared.stop.Stop.{Stop}
+use Rattle.ec_base.specs.declared.stop.Stop.TheVariants.{Refused, Limit, OutOfMemory}
+use Rattle.ec_direct.specs.Direct.{direct_meaning}
+use Rattle.ec_evaluation.specs.State.{Answer}
+use Rattle.ec_execution.specs.Programs.{Executable, executable, meaning}
+use Rattle.ec_expansion.specs.Programs.{written_program}
+use Rattle.ec_library_calls.specs.LibraryCalls.{first_unmade_call}
+use Rattle.ec_phases.specs.Sources.{BoundProgram}
+
+-- the program that is written means what the source means
+pub record MeansSource (p : BoundProgram) (x : Executable) : Type 0 where
+  pub is : x ≡ executable (written_program p.program p.bounds)
+  pub means : (turns : ℕ) (ready : Option (ℕ × List ℕ)) (answers : List Answer)
+      → meaning x turns ready answers ≡ direct_meaning p.program turns ready answers
+
+-- What its text is run as: that program, unless it passes a limit of texts, of tokens or of nesting, or makes a call that the library doesn't make yet
+abbrev pub IsRunOf : BoundProgram → Result Executable Stop → Type 0
+IsRunOf p (Ok x) = MeansSource p x
+IsRunOf p (Err (Refused kind line)) =
+    (kind ≡ F16) × (first_unmade_call (written_program p.program p.bounds) ≡ Some line)
+IsRunOf p (Err (Limit limit)) = (limit ≡ L2) ⊎ (limit ≡ L3) ⊎ (limit ≡ L6)
+IsRunOf p (Err OutOfMemory) = ⊥

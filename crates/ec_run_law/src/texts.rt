@@ -1,0 +1,30 @@
+//! What holds of the text that is written of an accepted source.
+
+ghost use Rattle.std.specs.Prelude.{◌≡◌, true, Result};
+ghost use Rattle.ec_base.specs.declared.stop.Stop.{Stop};
+ghost use Rattle.ec_bound_shape.specs.Counts.{are_counted};
+ghost use Rattle.ec_execution.specs.Programs.{Executable, IsProgram};
+ghost use Rattle.ec_language.specs.Letters.{Text};
+ghost use Rattle.ec_phases.specs.Sources.{BoundProgram};
+ghost use Rattle.ec_translation.specs.Translations.{text_of_program};
+ghost use Rattle.ec_meaning_law.specs.Meanings.{IsAcceptedText};
+ghost use Rattle.ec_run_law.specs.Runs.{IsRunOf};
+
+use ec_meaning_law::sources_mean_what_is_written;
+use ec_readback::written_programs_are_read_back;
+use ec_section_law::written_programs_have_no_sections;
+use ec_written_sources::sources_are_written_in_shape;
+
+/// The text that is written of an accepted source is run as the program that is written, which means what the source means;
+/// unless it passes a limit, or makes a call that the library doesn't make yet.
+#[tactic(none)]
+pub fn written_texts_are_run()
+    ensures { (text : Text) (p : BoundProgram) → IsAcceptedText text p
+        → are_counted p.bounds ≡ true → (x : Result Executable Stop)
+        → IsProgram (text_of_program p) x → IsRunOf p x }
+{
+    sources_mean_what_is_written();
+    written_programs_are_read_back();
+    written_programs_have_no_sections();
+    sources_are_written_in_shape();
+}
