@@ -25,13 +25,17 @@ use Rattle.ec_calls.specs.Steps.{library_step}
 use Rattle.ec_direct.specs.Direct.{direct_meaning}
 use Rattle.ec_simulation.specs.Written.{meaning_by, meaning_of_written}
 use Rattle.ec_statement_law.specs.Copies.{IsProgramCopy}
-use Rattle.ec_closing_law.specs.Closing.{HaveTypes}
 use Rattle.ec_known_law.specs.Laws.{WalkKeeps}
 use Rattle.ec_table_law.specs.Laws.{TablesAreSound}
 use Rattle.ec_program_law.specs.Embedded.{EmbeddedAreCopied}
 use Rattle.ec_program_law.specs.Laws.{PartsAreAlike}
 use Rattle.ec_program_law.specs.Programs.{written_of, whole_of, blocks_of, blocks_in, IsWrittenCopy}
 use Rattle.ec_program_law.specs.Shape.{TopsStand}
+use Rattle.ec_reference_law.specs.Rows.{IndexesAreTyped}
+use Rattle.ec_type_law.specs.Types.{HasAllTypes, SourcesHaveTypes}
+use Rattle.ec_flat_law.specs.Laws.{SourcesAreFlat, SourcesAreShallow}
+use Rattle.ec_bound_shape.specs.Counts.{are_counted}
+use Rattle.ec_count_law.specs.Counted.{StatementsAreCounted, SourcesAreCounted}
 use Rattle.ec_shape_law.specs.Shapes.{AllAreRead, StatementsAreRead}
 use Rattle.ec_block_law.specs.Accepted.{IsAccepted, StatementLaws, StatementsAreCopied}
 use Rattle.ec_meaning_law.specs.Meanings.{IsAcceptedText, MeanTheSame}
@@ -45,12 +49,22 @@ module _ (numbers_of : (text : Text) (v : UnitData) → ReadsTree text (Ok v) �
     (in_order : (text : Text) (u : UnitData) → ReadsTree text (Ok u) → are_in_order u.embs ≡ true)
     (read : StatementsAreRead) (sound : TablesAreSound) (walk : (u : UnitData) → WalkKeeps u) (parts : PartsAreAlike)
     (stand : (text : Text) (u : UnitData) (hosts : List ℕ) → ReadsTree text (Ok u) → hosts_answer u ≡ Ok hosts → is_source_shape u ≡ true → TopsStand u.embs u.tops)
+    (types : SourcesHaveTypes) (flat : SourcesAreFlat) (shallow : SourcesAreShallow)
     (laws : StatementLaws) (copied : StatementsAreCopied)
     (copies : (t : TypedData) (embedded : ℕ → Option StmtKindData) → TopsStand t.unit.embs t.unit.tops → violations false t.unit ≡ [] → PartsAreAlike → WalkKeeps t.unit
     → EmbeddedAreCopied (whole_of (blocks_in t (written_of embedded t.unit)) t.unit (written_of embedded t.unit)) t.unit.embs embedded
     → IsWrittenCopy (blocks_in t (written_of embedded t.unit)) t.unit (written_of embedded t.unit))
     (mean : (t : TypedData) (calls : List LibraryCall) (q : Program) → IsProgramCopy (blocks_of t (embedded_statements_of false t.unit) calls) (resolve false t.unit) q
     → (turns : ℕ) (ready : Option (ℕ × List ℕ)) (answers : List Answer) → direct_meaning t turns ready answers ≡ program_meaning (library_step calls) q turns ready answers) where
+  typed : (text : Text) (p : BoundProgram) (h : IsAcceptedText text p) → HasAllTypes p.program.unit (of_source text p h.reads).made.hosts (table_of (marks_in p.program.unit.embs))
+  typed text p h =
+      let s = of_source text p h.reads in
+      let are = read text p.program.unit s.tree in
+      let none = no_violation p.program.unit s.made.without_stop in
+      types p.program.unit s.made.hosts (table_of (marks_in p.program.unit.embs)) s.made.sections none (shape_of text p.program.unit h.bytes h.includes s.tree) (numbers_of text p.program.unit s.tree)
+      (λ n e i. record { are_references = (are n e i).are_references; actions = (are n e i).actions })
+      (flat text p.program.unit s.tree) (shallow text p.program.unit s.tree none)
+
   accepted : (text : Text) (p : BoundProgram) (h : IsAcceptedText text p) → IsAccepted p.program p.bounds
   accepted text p h =
       let s = of_source text p h.reads in
@@ -62,10 +76,10 @@ module _ (numbers_of : (text : Text) (v : UnitData) → ReadsTree text (Ok v) �
         bound = s.bound;
         numbers = numbers_of text p.program.unit s.tree;
         read = read text p.program.unit s.tree;
-        indexes = h.indexes;
+        indexes = subst IndexesAreTyped (sym s.made.is) (typed text p h).indexes;
         cursors = h.cursors;
         in_order = in_order text p.program.unit s.tree;
-        sound = sound p.program.unit (shape_of text p.program.unit h.bytes h.includes s.tree) none h.have_types;
+        sound = sound p.program.unit (shape_of text p.program.unit h.bytes h.includes s.tree) none (typed text p h).structs;
       }
 
   copy : (text : Text) (p : BoundProgram) (h : IsAcceptedText text p)
@@ -88,3 +102,6 @@ module _ (numbers_of : (text : Text) (v : UnitData) → ReadsTree text (Ok v) �
   means text p h = λ turns ready answers.
       mean p.program (library_calls_of true (written_program p.program p.bounds)) (resolve true (written_program p.program p.bounds)) (copy text p h).copy turns ready answers
       ∙ sym (by_bounds p.program (bound_from p.program 0 p.program.unit.embs) p.bounds (accepted text p h).bound turns ready answers)
+
+  pub counted : StatementsAreCounted → SourcesAreCounted → (text : Text) (p : BoundProgram) → IsAcceptedText text p → are_counted p.bounds ≡ true
+  counted one all text p h = all laws one p.program p.bounds (accepted text p h) (copy text p h).found

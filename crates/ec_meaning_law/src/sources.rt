@@ -1,6 +1,7 @@
 //! What holds of all accepted sources.
 
 ghost use Rattle.std.specs.Prelude.{◌≡◌, true, []};
+ghost use Rattle.ec_bound_shape.specs.Counts.{are_counted};
 ghost use Rattle.ec_expansion.specs.Programs.{written_program};
 ghost use Rattle.ec_language.specs.Letters.{Text};
 ghost use Rattle.ec_phases.specs.Sources.{BoundProgram};
@@ -9,8 +10,10 @@ ghost use Rattle.ec_meaning_law.specs.Meanings.{IsAcceptedText, MeanTheSame};
 
 use ec_block_law::embedded_statements_are_copied;
 use ec_bound_shape::all_statements_stand_in_trees;
+use ec_count_law::{sources_are_counted, statements_are_counted};
 use ec_cursor_law::references_are_found_again;
 use ec_fit_law::hosts_fit_their_calls;
+use ec_flat_law::{structs_are_shallow, trees_are_flat};
 use ec_host_law::{parts_lead_to_their_places, statements_lead_to_their_places};
 use ec_known_law::what_is_known_is_kept;
 use ec_phases::statements_have_places;
@@ -23,15 +26,18 @@ use ec_standing_law::sources_stand;
 use ec_statement_law::copies_do_what_sources_do;
 use ec_table_law::tables_are_sound;
 use ec_test_law::{tests_are_resolved, the_area_is_known};
+use ec_type_law::sources_have_types;
 
 /// The C that is written of an accepted source means what the source means: run over the library, it asks the same, prints the
-/// same bytes, leaves the same in every object and ends the same as the source by its embedded statements. The checks of written C find nothing wrong in it.
+/// same bytes, leaves the same in every object and ends the same as the source by its embedded statements. The checks of written C find nothing wrong in it, and the sizes and counts of its hosts are of type long.
 #[tactic(none)]
 pub fn sources_mean_what_is_written()
     ensures meanings { (text : Text) (p : BoundProgram) → IsAcceptedText text p
         → MeanTheSame p.program }
     ensures checks { (text : Text) (p : BoundProgram) → IsAcceptedText text p
         → violations true (written_program p.program p.bounds) ≡ [] }
+    ensures counted { (text : Text) (p : BoundProgram) → IsAcceptedText text p
+        → are_counted p.bounds ≡ true }
 {
     all_statements_stand_in_trees();
     sources_have_source_shape();
@@ -43,6 +49,11 @@ pub fn sources_mean_what_is_written()
     written_parts_are_alike();
     written_programs_are_copies();
     sources_stand();
+    sources_have_types();
+    trees_are_flat();
+    structs_are_shallow();
+    statements_are_counted();
+    sources_are_counted();
     references_are_found();
     references_are_there();
     known_names_are_declared();

@@ -1,8 +1,7 @@
 //! What holds of the text that is written of an accepted source.
 
-ghost use Rattle.std.specs.Prelude.{◌≡◌, true, Result};
+ghost use Rattle.std.specs.Prelude.{Result};
 ghost use Rattle.ec_base.specs.declared.stop.Stop.{Stop};
-ghost use Rattle.ec_bound_shape.specs.Counts.{are_counted};
 ghost use Rattle.ec_execution.specs.Programs.{Executable, IsProgram};
 ghost use Rattle.ec_language.specs.Letters.{Text};
 ghost use Rattle.ec_phases.specs.Sources.{BoundProgram};
@@ -20,8 +19,7 @@ use ec_written_sources::sources_are_written_in_shape;
 #[tactic(none)]
 pub fn written_texts_are_run()
     ensures { (text : Text) (p : BoundProgram) → IsAcceptedText text p
-        → are_counted p.bounds ≡ true → (x : Result Executable Stop)
-        → IsProgram (text_of_program p) x → IsRunOf p x }
+        → (x : Result Executable Stop) → IsProgram (text_of_program p) x → IsRunOf p x }
 {
     sources_mean_what_is_written();
     written_programs_are_read_back();

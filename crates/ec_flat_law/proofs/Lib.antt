@@ -1,0 +1,13 @@
+pub mod CountedTrees
+pub mod Counts
+pub mod Derived
+pub mod FirstEmbedded
+pub mod FirstExpressions
+pub mod FirstInitializers
+pub mod FirstMembers
+pub mod FirstPrograms
+pub mod FirstRules
+pub mod FirstStatements
+pub mod FlatSources
+pub mod FlatTrees
+pub mod TokenCounts
