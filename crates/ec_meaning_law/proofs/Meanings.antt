@@ -33,6 +33,7 @@ use Rattle.ec_program_law.specs.Programs.{written_of, whole_of, blocks_of, block
 use Rattle.ec_program_law.specs.Shape.{TopsStand}
 use Rattle.ec_reference_law.specs.Rows.{IndexesAreTyped}
 use Rattle.ec_type_law.specs.Types.{HasAllTypes, SourcesHaveTypes}
+use Rattle.ec_object_law.specs.Objects.{CursorsAreOfObjects}
 use Rattle.ec_flat_law.specs.Laws.{SourcesAreFlat, SourcesAreShallow}
 use Rattle.ec_bound_shape.specs.Counts.{are_counted}
 use Rattle.ec_count_law.specs.Counted.{StatementsAreCounted, SourcesAreCounted}
@@ -49,7 +50,7 @@ module _ (numbers_of : (text : Text) (v : UnitData) → ReadsTree text (Ok v) �
     (in_order : (text : Text) (u : UnitData) → ReadsTree text (Ok u) → are_in_order u.embs ≡ true)
     (read : StatementsAreRead) (sound : TablesAreSound) (walk : (u : UnitData) → WalkKeeps u) (parts : PartsAreAlike)
     (stand : (text : Text) (u : UnitData) (hosts : List ℕ) → ReadsTree text (Ok u) → hosts_answer u ≡ Ok hosts → is_source_shape u ≡ true → TopsStand u.embs u.tops)
-    (types : SourcesHaveTypes) (flat : SourcesAreFlat) (shallow : SourcesAreShallow)
+    (types : SourcesHaveTypes) (flat : SourcesAreFlat) (shallow : SourcesAreShallow) (objects : CursorsAreOfObjects)
     (laws : StatementLaws) (copied : StatementsAreCopied)
     (copies : (t : TypedData) (embedded : ℕ → Option StmtKindData) → TopsStand t.unit.embs t.unit.tops → violations false t.unit ≡ [] → PartsAreAlike → WalkKeeps t.unit
     → EmbeddedAreCopied (whole_of (blocks_in t (written_of embedded t.unit)) t.unit (written_of embedded t.unit)) t.unit.embs embedded
@@ -77,7 +78,7 @@ module _ (numbers_of : (text : Text) (v : UnitData) → ReadsTree text (Ok v) �
         numbers = numbers_of text p.program.unit s.tree;
         read = read text p.program.unit s.tree;
         indexes = subst IndexesAreTyped (sym s.made.is) (typed text p h).indexes;
-        cursors = h.cursors;
+        cursors = objects p.program p.bounds (same_program p.program p.program.unit s.made.hosts s.made.is) none s.bound (numbers_of text p.program.unit s.tree) (read text p.program.unit s.tree);
         in_order = in_order text p.program.unit s.tree;
         sound = sound p.program.unit (shape_of text p.program.unit h.bytes h.includes s.tree) none (typed text p h).structs;
       }

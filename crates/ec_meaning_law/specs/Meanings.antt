@@ -6,16 +6,14 @@ use Rattle.ec_phases.specs.Sources.{BoundProgram, ReadsSource}
 use Rattle.ec_source_shape.specs.Includes.{DeclaredIncludesStartNothing}
 use Rattle.ec_writing.specs.Shapes.{is_byte}
 use Rattle.ec_evaluation.specs.State.{Answer}
-use Rattle.ec_block_law.specs.Accepted.{CursorsHaveNoFunctions}
 use Rattle.ec_direct.specs.Direct.{direct_meaning}
 use Rattle.ec_simulation.specs.Written.{meaning_of_written}
 
--- A source of bytes that is accepted, whose declarations after EXEC SQL have no `#include` line in which an embedded piece would start, and in which no host of a cursor is a function
+-- A source of bytes that is accepted, whose declarations after EXEC SQL have no `#include` line in which an embedded piece would start
 pub record IsAcceptedText (text : Text) (p : BoundProgram) : Type 0 where
   pub bytes : each is_byte text ≡ true
   pub reads : ReadsSource text (Ok p)
   pub includes : DeclaredIncludesStartNothing text
-  pub cursors : CursorsHaveNoFunctions p.program
 
 -- Both are asked the same, print the same, leave the same in every object and end the same, for every number of turns, each connection that is ready and all answers
 abbrev pub MeanTheSame : TypedData → Type 0

@@ -16,6 +16,7 @@ use ec_fit_law::hosts_fit_their_calls;
 use ec_flat_law::{structs_are_shallow, trees_are_flat};
 use ec_host_law::{parts_lead_to_their_places, statements_lead_to_their_places};
 use ec_known_law::what_is_known_is_kept;
+use ec_object_law::cursors_are_of_objects;
 use ec_phases::statements_have_places;
 use ec_pointer_law::{rules_are_kept, statements_have_targets, written_calls_stand};
 use ec_program_law::{written_parts_are_alike, written_programs_are_copies};
@@ -52,6 +53,7 @@ pub fn sources_mean_what_is_written()
     sources_have_types();
     trees_are_flat();
     structs_are_shallow();
+    cursors_are_of_objects();
     statements_are_counted();
     sources_are_counted();
     references_are_found();

@@ -1,0 +1,2 @@
+mod StartNothing
+mod Search

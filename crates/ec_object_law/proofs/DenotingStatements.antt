@@ -1,0 +1,73 @@
+-- Nothing is denoted by the parts of declarations and statements.
+use Rattle.std.proofs.Common.{ℕ, Bool, true, false, Option, Some, None}
+use Rattle.ec_ctypes.specs.trees.Types.{TyData}
+use Rattle.ec_ctypes.specs.trees.Exprs.{ExprData, BaseData, words, varchar, tagged, struct_base, DimList, InitOption, no_init, some_init, DeclaratorList, no_declarators, declarators}
+use Rattle.ec_language.specs.Letters.{Text}
+use Rattle.ec_typing.specs.Operands.{OperandData}
+use Rattle.ec_typing.specs.Worlds.{Place, unlisted}
+use Rattle.ec_typing.specs.Statements.{object_rule, initial, object_type, declared_tag, tag_alone, specifier, condition_rule, condition, optional, optional_condition, return_rule, return_nothing, return_by}
+use Rattle.ec_object_law.proofs.DenotingRules.{DenotesNone, chained, asked, pure_denotes, demand_denotes, chosen, if_some, free_tag_denotes}
+use Rattle.ec_object_law.proofs.DenotingOperands.{elements_denotes, complete_denotes}
+use Rattle.ec_object_law.proofs.DenotingExpressions.{tagged_denotes, varchar_object_denotes, valued, expr_denotes, base_denotes, lengths_denote, last_denotes, outer_denote}
+use Rattle.ec_object_law.proofs.DenotingInitializers.{initializer_denotes}
+
+-- ---- declarations
+
+pub object_denotes : (at : Place) (has : Bool) (t : Option TyData) → DenotesNone (object_rule at has t)
+unfolding object_rule
+object_denotes at has None = pure_denotes _
+object_denotes at has (Some t) = asked _ _ (λ known. chosen _ (pure_denotes _) (complete_denotes at (Some t)))
+
+pub initial_denotes : (at : Place) (global : Bool) (t : Option TyData) (i : InitOption) → DenotesNone (initial at global t i)
+initial_denotes at global t no_init = pure_denotes _
+initial_denotes at global t (some_init i) = initializer_denotes at global t i
+
+pub type_denotes : (at : Place) (v : Bool) (t : Option TyData) (stars : ℕ) (name : Text) (ns : DimList) → DenotesNone (object_type at v t stars name ns)
+type_denotes at false t stars name ns = chained (lengths_denote at ns) (λ sizes. chained (elements_denotes at t stars sizes) (λ a. pure_denotes _))
+type_denotes at true t stars name ns = chained (last_denotes at ns) (λ n. chained (varchar_object_denotes at name n) (λ own. chained (outer_denote at ns) (λ sizes. chained (elements_denotes at own stars sizes) (λ a. pure_denotes _))))
+
+declared_denotes : (tag : Text) (k : Option ℕ) → DenotesNone (declared_tag tag k)
+declared_denotes tag None = chained (tagged_denotes tag unlisted) (λ a. pure_denotes _)
+declared_denotes tag (Some k) = pure_denotes _
+
+alone_denotes : (at : Place) (tag : Text) → DenotesNone (tag_alone at tag)
+unfolding tag_alone
+alone_denotes at tag = chained (free_tag_denotes at tag) (λ a. asked _ _ (λ known. declared_denotes tag _))
+
+pub specifier_denotes : (at : Place) (b : BaseData) (ds : DeclaratorList) → DenotesNone (specifier at b ds)
+specifier_denotes at (tagged tag) no_declarators = alone_denotes at tag
+specifier_denotes at (tagged tag) (declarators d ds) = base_denotes at (tagged tag)
+specifier_denotes at (words ws) ds = base_denotes at (words ws)
+specifier_denotes at varchar ds = base_denotes at varchar
+specifier_denotes at (struct_base t ms) ds = base_denotes at (struct_base t ms)
+
+-- ---- statements
+
+scalar_denotes : (at : Place) (o : OperandData) → DenotesNone (condition_rule at o)
+unfolding condition_rule
+scalar_denotes at o = if_some o.type (pure_denotes _) (λ t. demand_denotes _ _ _)
+
+pub condition_denotes : (at : Place) (e : ExprData) → DenotesNone (condition at e)
+condition_denotes at e = chained (valued at (expr_denotes at e)) (λ o. scalar_denotes at o)
+
+pub optional_denotes : (at : Place) (e : Option ExprData) → DenotesNone (optional at e)
+optional_denotes at None = pure_denotes _
+optional_denotes at (Some e) = chained (expr_denotes at e) (λ o. pure_denotes _)
+
+pub optional_condition_denotes : (at : Place) (e : Option ExprData) → DenotesNone (optional_condition at e)
+optional_condition_denotes at None = pure_denotes _
+optional_condition_denotes at (Some e) = condition_denotes at e
+
+value_denotes : (at : Place) (r : Option TyData) (o : OperandData) → DenotesNone (return_rule at r o)
+unfolding return_rule
+value_denotes at None o = pure_denotes _
+value_denotes at (Some s) o = if_some o.type (pure_denotes _) (λ t. demand_denotes _ _ _)
+
+nothing_denotes : (at : Place) (r : Option TyData) → DenotesNone (return_nothing at r)
+unfolding return_nothing
+nothing_denotes at None = pure_denotes _
+nothing_denotes at (Some s) = demand_denotes _ _ _
+
+pub return_denotes : (at : Place) (r : Option TyData) (e : Option ExprData) → DenotesNone (return_by at r e)
+return_denotes at r None = nothing_denotes at r
+return_denotes at r (Some e) = chained (valued at (expr_denotes at e)) (λ o. value_denotes at r o)

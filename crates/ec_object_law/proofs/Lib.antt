@@ -1,0 +1,14 @@
+mod Cursors
+mod Declares
+mod DenotingEmbedded
+mod DenotingExpressions
+mod DenotingInitializers
+mod DenotingOperands
+mod DenotingPrograms
+mod DenotingRules
+mod DenotingStatements
+mod Hosts
+mod Indexes
+mod Walking
+mod WalkingPrograms
+mod WalkingStatements
