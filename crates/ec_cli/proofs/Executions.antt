@@ -1,5 +1,5 @@
--- From the run of a program to what is promised of a call that runs written C.
-use Rattle.std.proofs.Common.{◌≡◌, ℕ, ◌+◌, ◌≤◌, ◌<◌, ◌^◌, List, [], ◌++◌, length, refl, ap, sym, ◌∙◌, subst, arith, Option, None, Some, inl, inr, Result, Ok, Err}
+-- From the run of a program to what is promised of a call that runs a source or written C.
+use Rattle.std.proofs.Common.{◌≡◌, ℕ, ◌≤◌, ◌^◌, List, [], ◌++◌, length, refl, ap, sym, ◌∙◌, subst, arith, Option, Some, inl, inr, Result, Ok, Err}
 use Rattle.std.specs.Prelude.{◌⊎◌, ◌↔◌}
 use Rattle.std.specs.declared.alloc.Global.{Global as Allocator}
 use Rattle.std.specs.declared.dyn_box.DynBox.{DynBox}
@@ -15,10 +15,8 @@ use Rattle.ec_base.specs.Causes.{Rose}
 use Rattle.ec_base.specs.Reading.{ReadsAll, ReadsPart}
 use Rattle.ec_base.proofs.Transfers.{Reads-none, ReadsAll-text, ReadsPart-long}
 use Rattle.ec_link.proofs.Runs.{growth_of-grown}
-use Rattle.ec_link.specs.declared.connection.Conn.{Conn}
 use Rattle.ec_link.specs.declared.logged.Logged.{Logged}
 use Rattle.ec_link.specs.declared.rack.Rack.{Rack}
-use Rattle.ec_link.specs.declared.slot.Slot.{Slot}
 use Rattle.ec_link.specs.Logged.{Talk}
 use Rattle.ec_link.specs.Rack.{slots_of, log_of}
 use Rattle.ec_link.specs.Slot.{states, talk_at}
@@ -28,17 +26,21 @@ use Rattle.ec_observed.specs.Headline.{IsRead, RefusesAt, ReadsWithin}
 use Rattle.ec_observed.specs.Observed.{answers_in}
 use Rattle.ec_evaluation.specs.State as evaluation
 use Rattle.ec_evaluation.specs.State.{Answer}
-use Rattle.ec_execution.specs.Programs.{Executable, IsProgram, meaning}
+use Rattle.ec_execution.specs.Programs.{Executable, meaning}
 use Rattle.ec_execution.specs.Runs.{Runs, RunsPart}
 use Rattle.ec_execute.specs.declared.running.RunEnd.{RunEnd}
 use Rattle.ec_execute.specs.declared.running.RunEnd.TheVariants as ends
+use Rattle.ec_execute.specs.declared.executable.Executable as execute
 use Rattle.ec_execute.specs.Answers.{TellsProgram}
 use Rattle.ec_execute.specs.Ends.{Performs}
-use Rattle.ec_execute.specs.Runs.{Connects, Ran, Takes}
-use Rattle.ec_runtime.specs.Calling.{GivesFirst, MayAsk as Asked}
-use Rattle.ec_cli.specs.Answers.{IsCrowded, grown}
-use Rattle.ec_cli.specs.Executing.{IsOfProgram, IsOfCarried, IsOfExecution, EndsAs, ending_of_program, limit_of, text_refusal, IsRefusedWritten, PassesWritten, DecidesExecution, meaning_over, Untouched, CarriedOut, CarriedPart, Carries, RefusesText, ExecutesText, ExecutesWhole, ExecutesPart, MayExecute, Executes}
-use Rattle.ec_cli.specs.Machine.{MayAsk, RunsOver}
+use Rattle.ec_execute.specs.Executables.{executable_view}
+use Rattle.ec_execute.specs.Runs.{Connects, Ran}
+use Rattle.ec_cli.specs.Answers.{IsCrowded, RunsOver, grown}
+use Rattle.ec_cli.specs.Executing.{IsOfProgram, IsOfCarried, IsOfExecution, EndsAs, ending_of_program, limit_of, text_refusal, IsRefusedAs, PassesAs, DecidesExecution, meaning_over, Untouched, CarriedOut, CarriedPart, Carries, RefusesText, ExecutesText, Executes}
+use Rattle.ec_cli.specs.Forms.{Program, IsRunAs, Meaning, meaning_as, RunsText, TellsRun}
+use Rattle.ec_cli.specs.declared.form.Form.{Form}
+use Rattle.ec_cli.specs.declared.form.Form.TheVariants.{Source, Written}
+use Rattle.ec_run.specs.Answers.{TellsRunnable}
 use Rattle.ec_cli.specs.declared.ending.Ending.{Ending}
 use Rattle.ec_cli.specs.declared.ending.Ending.TheVariants.{Wrote, Exited, Trapped, TurnsSpent, Usage, Refused, Limit, ReadFault, WriteFault, OutOfMemory}
 use Rattle.ec_cli.proofs.SameRack.{same_log, same_talks, same_dropped}
@@ -89,59 +91,77 @@ limit_same L6 h = refl
 limit_same L7 h = absurd (h refl)
 limit_same L8 h = refl
 
+-- ---- a text that is read
+
+pub source_told : (text : List ℕ) (answer : Result execute.Executable Stop) → TellsRunnable text answer → TellsRun Source text answer
+source_told text (Ok executable) r = record { program = r.program; is = r.is; means = r.means }
+source_told text (Err (stops.Refused kind line)) h = h
+source_told text (Err (stops.Limit kind)) h = h
+source_told text (Err stops.OutOfMemory) h = h
+
+pub written_told : (text : List ℕ) (answer : Result execute.Executable Stop) → TellsProgram text answer → TellsRun Written text answer
+written_told text (Ok executable) h = record { program = executable_view executable; is = h; means = λ turns ready answers. refl }
+written_told text (Err (stops.Refused kind line)) h = h
+written_told text (Err (stops.Limit kind)) h = h
+written_told text (Err stops.OutOfMemory) h = h
+
 -- ---- a text that is refused
 
-limited : (text : List ℕ) (kind : LimitKind) → IsProgram text (Err (stops.Limit kind)) → RefusesText text (limit_of kind)
-limited text L1 h = (λ e. cc (e), h)
-limited text L2 h = (λ e. cc (e), h)
-limited text L3 h = (λ e. cc (e), h)
-limited text L4 h = (λ e. cc (e), h)
-limited text L5 h = (λ e. cc (e), h)
-limited text L6 h = (λ e. cc (e), h)
-limited text L7 h = tt
-limited text L8 h = (λ e. cc (e), h)
+limited : (form : Form) (text : List ℕ) (kind : LimitKind) → IsRunAs form text (Err (stops.Limit kind)) → RefusesText form text (limit_of kind)
+limited form text L1 h = (λ e. cc (e), h)
+limited form text L2 h = (λ e. cc (e), h)
+limited form text L3 h = (λ e. cc (e), h)
+limited form text L4 h = (λ e. cc (e), h)
+limited form text L5 h = (λ e. cc (e), h)
+limited form text L6 h = (λ e. cc (e), h)
+limited form text L7 h = tt
+limited form text L8 h = (λ e. cc (e), h)
 
-pub refuses : (text : List ℕ) (stop : Stop) → TellsProgram text (Err stop) → RefusesText text (text_refusal stop)
-refuses text (stops.Refused kind line) h = h
-refuses text (stops.Limit kind) h = limited text kind h
-refuses text stops.OutOfMemory h = tt
+pub refuses : (form : Form) (text : List ℕ) (stop : Stop) → TellsRun form text (Err stop) → RefusesText form text (text_refusal stop)
+refuses form text (stops.Refused kind line) h = h
+refuses form text (stops.Limit kind) h = limited form text kind h
+refuses form text stops.OutOfMemory h = tt
 
-refused_not_run : (text : List ℕ) (ending : Ending) → RefusesText text ending → IsOfProgram ending → ⊥
-refused_not_run text (Exited status) h k = h
-refused_not_run text (Trapped trap line) h k = h
-refused_not_run text TurnsSpent h k = h
-refused_not_run text Wrote h k = k
-refused_not_run text Usage h k = k
-refused_not_run text (Refused kind line) h k = k
-refused_not_run text (Limit kind) h k = k
-refused_not_run text ReadFault h k = k
-refused_not_run text WriteFault h k = k
-refused_not_run text OutOfMemory h k = k
+refused_not_run : (form : Form) (text : List ℕ) (ending : Ending) → RefusesText form text ending → IsOfProgram ending → ⊥
+refused_not_run form text (Exited status) h k = h
+refused_not_run form text (Trapped trap line) h k = h
+refused_not_run form text TurnsSpent h k = h
+refused_not_run form text Wrote h k = k
+refused_not_run form text Usage h k = k
+refused_not_run form text (Refused kind line) h k = k
+refused_not_run form text (Limit kind) h k = k
+refused_not_run form text ReadFault h k = k
+refused_not_run form text WriteFault h k = k
+refused_not_run form text OutOfMemory h k = k
 
-refused_is_own : (text : List ℕ) (ending : Ending) → RefusesText text ending → IsOfExecution ending
-refused_is_own text (Exited status) h = tt
-refused_is_own text (Trapped trap line) h = tt
-refused_is_own text TurnsSpent h = tt
-refused_is_own text Wrote h = absurd h
-refused_is_own text Usage h = absurd h
-refused_is_own text (Refused kind line) h = tt
-refused_is_own text (Limit kind) h = tt
-refused_is_own text ReadFault h = tt
-refused_is_own text WriteFault h = tt
-refused_is_own text OutOfMemory h = tt
+refused_is_own : (form : Form) (text : List ℕ) (ending : Ending) → RefusesText form text ending → IsOfExecution ending
+refused_is_own form text (Exited status) h = tt
+refused_is_own form text (Trapped trap line) h = tt
+refused_is_own form text TurnsSpent h = tt
+refused_is_own form text Wrote h = absurd h
+refused_is_own form text Usage h = absurd h
+refused_is_own form text (Refused kind line) h = tt
+refused_is_own form text (Limit kind) h = tt
+refused_is_own form text ReadFault h = tt
+refused_is_own form text WriteFault h = tt
+refused_is_own form text OutOfMemory h = tt
 
-refused_decides : (turns : ℕ) (ready : Option (ℕ × List ℕ)) (answers : List Answer) (text : List ℕ) (ending : Ending) → length text ≤ 2 ^ 24 → RefusesText text ending
-    → DecidesExecution turns ready answers text ending
-refused_decides turns ready answers text (Refused kind line) small h = inr (inr (small, (Err (stops.Refused kind line), h, refl)))
-refused_decides turns ready answers text (Limit kind) small h = inr (inr (small, (Err (stops.Limit kind), h.1, limit_same kind h.0)))
-refused_decides turns ready answers text OutOfMemory small h = inl refl
-refused_decides turns ready answers text (Exited status) small h = absurd h
-refused_decides turns ready answers text (Trapped trap line) small h = absurd h
-refused_decides turns ready answers text TurnsSpent small h = absurd h
-refused_decides turns ready answers text Wrote small h = absurd h
-refused_decides turns ready answers text Usage small h = absurd h
-refused_decides turns ready answers text ReadFault small h = absurd h
-refused_decides turns ready answers text WriteFault small h = absurd h
+refused_decides : (form : Form) (turns : ℕ) (ready : Option (ℕ × List ℕ)) (answers : List Answer) (text : List ℕ) (ending : Ending) → length text ≤ 2 ^ 24 → RefusesText form text ending
+    → DecidesExecution form turns ready answers text ending
+refused_decides form turns ready answers text (Refused kind line) small h = inr (inr (small, (Err (stops.Refused kind line), h, refl)))
+refused_decides form turns ready answers text (Limit kind) small h = inr (inr (small, (Err (stops.Limit kind), h.1, limit_same kind h.0)))
+refused_decides form turns ready answers text OutOfMemory small h = inl refl
+refused_decides form turns ready answers text (Exited status) small h = absurd h
+refused_decides form turns ready answers text (Trapped trap line) small h = absurd h
+refused_decides form turns ready answers text TurnsSpent small h = absurd h
+refused_decides form turns ready answers text Wrote small h = absurd h
+refused_decides form turns ready answers text Usage small h = absurd h
+refused_decides form turns ready answers text ReadFault small h = absurd h
+refused_decides form turns ready answers text WriteFault small h = absurd h
+
+-- an input that was not read
+pub unread_within : {I : Type 0} (left : I → Option (List ℕ)) (reads : I → ℕ) (input input' : I) → input' ≡ input → ReadsWithin (left input) (left input')
+unread_within left reads input input' same = subst (λ i. ReadsWithin (left input) (left i)) (sym same) (record { bytes = []; taken = (Reads-none {left = left} {faults = reads} input).taken; bounded = omega arith })
 
 -- the ending where reading the input stopped
 abbrev pub stopped_ending : InputStop → Ending
@@ -154,64 +174,41 @@ module _ {O E X : Type 0} {F : X → Type 0} (held : O → Option (List ℕ)) (p
 
   module _ (faults : DynBox X Allocator F → ℕ) (x : Executable) (turns : ℕ) (out out' : O) (err err' : E) (rack rack' : Rack X F) where
     module _ (growth : List Logged) (c : Connects talk faults rack rack' growth) where
-      taken_there : (was : Option (Conn X F)) (after : List (Slot X F)) → Takes (slots_of rack) was after → session.Takes talk faults (slots_of rack) after was
-      taken_there None after t = t
-      taken_there (Some conn) after t = t
-
-      given_there : (now : Option (Conn X F)) (before : List (Slot X F)) → GivesFirst before now (slots_of rack') → session.Gives talk faults before (slots_of rack') now
-      given_there None before g = g
-      given_there (Some conn) before g = g
-
-      asked_there : (old new : Rack X F) (was now : Option (Conn X F)) → Asked talk faults old was new now growth → MayAsk talk faults old was new now growth
-      asked_there old new None None a = a
-      asked_there old new None (Some now) a = absurd a
-      asked_there old new (Some was) None a = absurd a
-      asked_there old new (Some was) (Some now) a = a
-
-      taken : session.Takes talk faults (slots_of rack) (slots_of c.opened) c.was
-      taken = taken_there c.was (slots_of c.opened) c.taken
-
-      asked : MayAsk talk faults c.opened c.was c.given_back.closing c.given_back.now growth
-      asked = asked_there c.opened c.given_back.closing c.was c.given_back.now c.given_back.asked
-
-      given : session.Gives talk faults (slots_of c.given_back.closing) (slots_of rack') c.given_back.now
-      given = given_there c.given_back.now (slots_of c.given_back.closing) c.given_back.given
-
       log_grown : log_of rack' ≡ log_of rack ++ growth
-      log_grown = session.run_logged talk faults rack c.opened c.given_back.closing rack' c.was c.given_back.now growth c.logged asked c.given_back.logged
+      log_grown = session.run_logged talk faults rack c.opened c.given_back.closing rack' c.was c.given_back.now growth c.logged c.given_back.asked c.given_back.logged
 
       same : growth ≡ grown rack rack'
       same = sym (growth_of-grown (log_of rack) (log_of rack') growth log_grown)
 
       over_slots : RunsOver (slots_of rack) (grown rack rack') (slots_of rack')
       over_slots = subst (λ w. RunsOver (slots_of rack) w (slots_of rack')) same
-          (session.RunsOver-run talk faults rack c.opened c.given_back.closing rack' c.was c.given_back.now growth taken asked given)
+          (session.RunsOver-run talk faults rack c.opened c.given_back.closing rack' c.was c.given_back.now growth c.taken c.given_back.asked c.given_back.given)
 
       talks_kept : KeepsTalks (talk_at talk (slots_of rack)) (talk_at talk (slots_of rack')) (grown rack rack')
       talks_kept = subst (λ w. KeepsTalks (talk_at talk (slots_of rack)) (talk_at talk (slots_of rack')) w) same
-          (session.KeepsTalks-session talk faults rack c.opened c.given_back.closing rack' c.was c.given_back.now growth taken asked given)
+          (session.KeepsTalks-session talk faults rack c.opened c.given_back.closing rack' c.was c.given_back.now growth c.taken c.given_back.asked c.given_back.given)
 
       dropped_spared : SparesDropped (states (slots_of rack)) (states (slots_of rack')) (grown rack rack')
       dropped_spared = subst (λ w. SparesDropped (states (slots_of rack)) (states (slots_of rack')) w) same
-          (session.SparesDropped-session talk faults rack c.opened c.given_back.closing rack' c.was c.given_back.now growth taken asked given)
+          (session.SparesDropped-session talk faults rack c.opened c.given_back.closing rack' c.was c.given_back.now growth c.taken c.given_back.asked c.given_back.given)
 
       log_logged : log_of rack' ≡ log_of rack ++ grown rack rack'
       log_logged = log_grown ∙ ap (λ w. log_of rack ++ w) same
 
     -- over the answers that the log got in this call
-    here : (end : RunEnd) (r : Ran talk faults held puts told tells x turns out out' err err' rack rack' end) → Performs held puts told tells (meaning_over x turns rack rack') (grown rack rack') out out' err err' end
+    here : (end : RunEnd) (r : Ran talk faults held puts told tells x turns out out' err err' rack rack' end) → Performs held puts told tells (meaning_over (meaning x) turns rack rack') (grown rack rack') out out' err err' end
     here end r = subst (λ w. Performs held puts told tells (meaning x turns (ready_slot (states (slots_of rack))) (answers_in w)) w out out' err err' end) (same r.growth r.connects) r.performs
 
     module _ (growth : List Logged) (c : Connects talk faults rack rack' growth) where
-      carried_out : (e : evaluation.Ending) (ending : Ending) → EndsAs e ending → Runs held puts told tells (meaning_over x turns rack rack') (grown rack rack') e out out' err err'
-          → CarriedOut held puts told tells talk x turns out out' err err' rack rack' ending
+      carried_out : (e : evaluation.Ending) (ending : Ending) → EndsAs e ending → Runs held puts told tells (meaning_over (meaning x) turns rack rack') (grown rack rack') e out out' err err'
+          → CarriedOut held puts told tells talk (meaning x) turns out out' err err' rack rack' ending
       carried_out e ending agrees r = record { ended = e; ends = agrees; runs = r; slots = over_slots growth c }
 
-      carried_part : RunsPart held puts told tells (meaning_over x turns rack rack') (grown rack rack') out out' err err' → CarriedPart held puts told tells talk x turns out out' err err' rack rack'
+      carried_part : RunsPart held puts told tells (meaning_over (meaning x) turns rack rack') (grown rack rack') out out' err err' → CarriedPart held puts told tells talk (meaning x) turns out out' err err' rack rack'
       carried_part r = record { part = r; slots = over_slots growth c }
 
       ran : (e : evaluation.Ending) (ending : Ending) → EndsAs e ending → IsOfCarried ending → (ending ≡ WriteFault → ⊥) → (ending ≡ OutOfMemory → ⊥)
-          → Runs held puts told tells (meaning_over x turns rack rack') (grown rack rack') e out out' err err' → Carries held puts told tells talk x turns out out' err err' rack rack' ending
+          → Runs held puts told tells (meaning_over (meaning x) turns rack rack') (grown rack rack') e out out' err err' → Carries held puts told tells talk (meaning x) turns out out' err err' rack rack' ending
       ran e ending agrees own calm room r = record {
         whole = λ h. carried_out e ending agrees r;
         part = λ h. absurd (either calm room h);
@@ -223,8 +220,8 @@ module _ {O E X : Type 0} {F : X → Type 0} (held : O → Option (List ℕ)) (p
         steady = λ h. (r.output.steady, r.errors.steady);
       }
 
-      performed : (end : RunEnd) → Performs held puts told tells (meaning_over x turns rack rack') (grown rack rack') out out' err err' end
-          → Carries held puts told tells talk x turns out out' err err' rack rack' (ending_of_program end)
+      performed : (end : RunEnd) → Performs held puts told tells (meaning_over (meaning x) turns rack rack') (grown rack rack') out out' err err' end
+          → Carries held puts told tells talk (meaning x) turns out out' err err' rack rack' (ending_of_program end)
       performed (ends.Exited status) done = ran (evaluation.exited status) (Exited status) refl tt (λ e. cc (e)) (λ e. cc (e)) done
       performed (ends.Trapped trap line) done = ran (evaluation.trapped trap line.0) (Trapped trap line) refl tt (λ e. cc (e)) (λ e. cc (e)) done
       performed ends.TurnsSpent done = ran evaluation.turns_spent TurnsSpent refl tt (λ e. cc (e)) (λ e. cc (e)) done
@@ -251,26 +248,62 @@ module _ {O E X : Type 0} {F : X → Type 0} (held : O → Option (List ℕ)) (p
 
     -- with the ending of the run
     pub carries_by : (end : RunEnd) (ending : Ending) → ending ≡ ending_of_program end → Ran talk faults held puts told tells x turns out out' err err' rack rack' end
-        → Carries held puts told tells talk x turns out out' err err' rack rack' ending
+        → Carries held puts told tells talk (meaning x) turns out out' err err' rack rack' ending
     carries_by end ending e r =
-        subst (λ w. Carries held puts told tells talk x turns out out' err err' rack rack' w) (sym e) (performed r.growth r.connects end (here end r))
+        subst (λ w. Carries held puts told tells talk (meaning x) turns out out' err err' rack rack' w) (sym e) (performed r.growth r.connects end (here end r))
+
+  -- ---- a program that means the same
+
+  module _ (m m' : Meaning) (turns : ℕ) (out out' : O) (err err' : E) (rack rack' : Rack X F) (same : (ready : Option (ℕ × List ℕ)) (answers : List Answer) → m turns ready answers ≡ m' turns ready answers) where
+    over : meaning_over m turns rack rack' ≡ meaning_over m' turns rack rack'
+    over = same (ready_slot (states (slots_of rack))) (answers_in (grown rack rack'))
+
+    out_as : (ending : Ending) → CarriedOut held puts told tells talk m turns out out' err err' rack rack' ending → CarriedOut held puts told tells talk m' turns out out' err err' rack rack' ending
+    out_as ending c = record {
+      ended = c.ended;
+      ends = c.ends;
+      runs = subst (λ w. Runs held puts told tells w (grown rack rack') c.ended out out' err err') over c.runs;
+      slots = c.slots;
+    }
+
+    part_as : CarriedPart held puts told tells talk m turns out out' err err' rack rack' → CarriedPart held puts told tells talk m' turns out out' err err' rack rack'
+    part_as c = record { part = subst (λ w. RunsPart held puts told tells w (grown rack rack') out out' err err') over c.part; slots = c.slots }
+
+    carries_as : (ending : Ending) → Carries held puts told tells talk m turns out out' err err' rack rack' ending → Carries held puts told tells talk m' turns out out' err err' rack rack' ending
+    carries_as ending c = record {
+      whole = λ h. out_as ending (c.whole h);
+      part = λ h. part_as (c.part h);
+      ends = c.ends;
+      talks = c.talks;
+      dropped = c.dropped;
+      logged = c.logged;
+      fault = c.fault;
+      steady = c.steady;
+    }
+
+  -- the executable of a text was run
+  pub text_carried : (form : Form) (text : List ℕ) (executable : execute.Executable) (turns : ℕ) (out out' : O) (err err' : E) (rack rack' : Rack X F) (ending : Ending)
+      → RunsText form text executable → Carries held puts told tells talk (meaning (executable_view executable)) turns out out' err err' rack rack' ending
+      → ExecutesText held puts told tells talk form turns text out out' err err' rack rack' ending
+  text_carried form text executable turns out out' err err' rack rack' ending r c =
+      inl (r.program, r.is, carries_as (meaning (executable_view executable)) (meaning_as form r.program) turns out out' err err' rack rack' (r.means turns) ending c)
 
   -- ---- a call
 
-  module _ {I : Type 0} (left : I → Option (List ℕ)) (reads : I → ℕ) (turns : ℕ) (input input' : I) (out out' : O) (err err' : E) (rack rack' : Rack X F) where
+  module _ {I : Type 0} (left : I → Option (List ℕ)) (reads : I → ℕ) (form : Form) (turns : ℕ) (input input' : I) (out out' : O) (err err' : E) (rack rack' : Rack X F) where
     abbrev Done : Ending → Type 0
-    Done ending = Executes held puts told tells talk left reads turns input input' out out' err err' rack rack' ending
+    Done ending = Executes held puts told tells talk left reads form turns input input' out out' err err' rack rack' ending
 
     abbrev Decided : Ending → Type 0
     Decided ending = (text : List ℕ) → (IsCrowded rack → ⊥) → left input ≡ Some text
         → (Rose (reads input) (reads input') → ⊥) → (Rose (puts out) (puts out') → ⊥) → (Rose (tells err) (tells err') → ⊥)
-        → DecidesExecution turns (ready_slot (states (slots_of rack))) (answers_in (grown rack rack')) text ending
+        → DecidesExecution form turns (ready_slot (states (slots_of rack))) (answers_in (grown rack rack')) text ending
 
     abbrev Refusing : Ending → Type 0
-    Refusing ending = (kind : FaultKind) (line : Line) → ending ≡ Refused kind line → RefusesAt IsRefusedWritten (left input) (left input') kind line.0
+    Refusing ending = (kind : FaultKind) (line : Line) → ending ≡ Refused kind line → RefusesAt (IsRefusedAs form) (left input) (left input') kind line.0
 
     abbrev Limiting : Ending → Type 0
-    Limiting ending = (kind : LimitKind) → (kind ≡ L7 → ⊥) → ending ≡ Limit kind → PassesWritten (left input) (left input') kind
+    Limiting ending = (kind : LimitKind) → (kind ≡ L7 → ⊥) → ending ≡ Limit kind → PassesAs form (left input) (left input') kind
 
     read_of : (text : List ℕ) → ReadsAll left reads input input' (2 ^ 24) text → IsRead (left input) (left input') text
     read_of text r = record { taken = r.reads.taken; ended = r.ended; within = r.within }
@@ -303,23 +336,23 @@ module _ {O E X : Type 0} {F : X → Type 0} (held : O → Option (List ℕ)) (p
     }
 
     -- the text was refused
-    text_refused : (ending : Ending) (text : List ℕ) → (IsCrowded rack → ⊥) → ReadsAll left reads input input' (2 ^ 24) text → RefusesText text ending
+    text_refused : (ending : Ending) (text : List ℕ) → (IsCrowded rack → ⊥) → ReadsAll left reads input input' (2 ^ 24) text → RefusesText form text ending
         → Untouched held puts told tells talk out out' err err' rack rack' → Done ending
     text_refused ending text room r h u =
-        idle ending u (refused_not_run text ending h) (λ e. subst (RefusesText text) e h) (refused_is_own text ending h)
-        ((λ e. absurd ((subst (RefusesText text) e h).0 refl)), (λ full. absurd (room full)))
-        (λ e. absurd ((subst (RefusesText text) e h).0 refl))
-        (λ kind line e. record { text = text; read = read_of text r; fault = subst (RefusesText text) e h })
-        (λ kind other e. inr (record { text = text; read = read_of text r; limit = (subst (RefusesText text) e h).1 }))
-        (λ e. absurd (subst (RefusesText text) e h))
+        idle ending u (refused_not_run form text ending h) (λ e. subst (RefusesText form text) e h) (refused_is_own form text ending h)
+        ((λ e. absurd ((subst (RefusesText form text) e h).0 refl)), (λ full. absurd (room full)))
+        (λ e. absurd ((subst (RefusesText form text) e h).0 refl))
+        (λ kind line e. record { text = text; read = read_of text r; fault = subst (RefusesText form text) e h })
+        (λ kind other e. inr (record { text = text; read = read_of text r; limit = (subst (RefusesText form text) e h).1 }))
+        (λ e. absurd (subst (RefusesText form text) e h))
         (record { bytes = text; taken = r.reads.taken; bounded = omega (arith, r.within) })
         (λ e. r.reads.steady)
-        (λ told none e calm calm' calm''. subst (λ w. DecidesExecution turns (ready_slot (states (slots_of rack))) (answers_in (grown rack rack')) w ending) (ReadsAll-text e r)
-        (refused_decides turns _ _ text ending r.within h))
+        (λ told none e calm calm' calm''. subst (λ w. DecidesExecution form turns (ready_slot (states (slots_of rack))) (answers_in (grown rack rack')) w ending) (ReadsAll-text e r)
+        (refused_decides form turns _ _ text ending r.within h))
 
     -- a program that was carried out ends as it means to
-    concluded : (ending : Ending) (text : List ℕ) (p : Executable) → length text ≤ 2 ^ 24 → IsProgram text (Ok p) → Carries held puts told tells talk p turns out out' err err' rack rack' ending
-        → (Rose (puts out) (puts out') → ⊥) → (Rose (tells err) (tells err') → ⊥) → Sorted ending → DecidesExecution turns (ready_slot (states (slots_of rack))) (answers_in (grown rack rack')) text ending
+    concluded : (ending : Ending) (text : List ℕ) (p : Program form) → length text ≤ 2 ^ 24 → IsRunAs form text (Ok p) → Carries held puts told tells talk (meaning_as form p) turns out out' err err' rack rack' ending
+        → (Rose (puts out) (puts out') → ⊥) → (Rose (tells err) (tells err') → ⊥) → Sorted ending → DecidesExecution form turns (ready_slot (states (slots_of rack))) (answers_in (grown rack rack')) text ending
     concluded ending text p small is c calm calm' (inl h) =
         let w = c.whole h in inr (inr (small, (Ok p, is, subst (λ e. EndsAs e ending) (sym w.runs.ends) w.ends)))
     concluded ending text p small is c calm calm' (inr (inl e)) = absurd (either calm calm' (c.fault e))
@@ -331,8 +364,8 @@ module _ {O E X : Type 0} {F : X → Type 0} (held : O → Option (List ℕ)) (p
     other_of ending (inr (inr e)) = inr (inr (inl e))
 
     -- its program was run
-    text_run : (ending : Ending) (text : List ℕ) (p : Executable) → (IsCrowded rack → ⊥) → ReadsAll left reads input input' (2 ^ 24) text → IsProgram text (Ok p)
-        → Carries held puts told tells talk p turns out out' err err' rack rack' ending → Done ending
+    text_run : (ending : Ending) (text : List ℕ) (p : Program form) → (IsCrowded rack → ⊥) → ReadsAll left reads input input' (2 ^ 24) text → IsRunAs form text (Ok p)
+        → Carries held puts told tells talk (meaning_as form p) turns out out' err err' rack rack' ending → Done ending
     text_run ending text p room r is c = record {
       whole = λ h. record { text = text; read = read_of text r; program = p; is = is; carried = c.whole h };
       part = λ h. record { text = text; read = read_of text r; program = p; is = is; carried = c.part (inl h) };
@@ -352,13 +385,13 @@ module _ {O E X : Type 0} {F : X → Type 0} (held : O → Option (List ℕ)) (p
       reads_steady = λ e. r.reads.steady;
       puts_steady = λ h. (c.steady h).0;
       tells_steady = λ h. (c.steady h).1;
-      decides = λ told none e calm calm' calm''. subst (λ w. DecidesExecution turns (ready_slot (states (slots_of rack))) (answers_in (grown rack rack')) w ending) (ReadsAll-text e r)
+      decides = λ told none e calm calm' calm''. subst (λ w. DecidesExecution form turns (ready_slot (states (slots_of rack))) (answers_in (grown rack rack')) w ending) (ReadsAll-text e r)
           (concluded ending text p r.within is c calm' calm'' (sorted ending c.ends));
     }
 
     -- the input was read to its end
     pub executes : (ending : Ending) (text : List ℕ) → (IsCrowded rack → ⊥) → ReadsAll left reads input input' (2 ^ 24) text
-        → ExecutesText held puts told tells talk turns text out out' err err' rack rack' ending → Done ending
+        → ExecutesText held puts told tells talk form turns text out out' err err' rack rack' ending → Done ending
     executes ending text room r (inl ran) = text_run ending text ran.0 room r ran.1 ran.2
     executes ending text room r (inr h) = text_refused ending text room r h.0 h.1
 
@@ -382,13 +415,9 @@ module _ {O E X : Type 0} {F : X → Type 0} (held : O → Option (List ℕ)) (p
         (record { bytes = r.bytes; taken = r.taken; bounded = r.reason.1 })
         (λ e. r.reason.0) (λ text none e calm calm' calm''. inl refl)
 
-    -- an input that was not read
-    unread_within : input' ≡ input → ReadsWithin (left input) (left input')
-    unread_within same = subst (λ i. ReadsWithin (left input) (left i)) (sym same) (record { bytes = []; taken = (Reads-none {left = left} {faults = reads} input).taken; bounded = omega arith })
-
     -- the rack has too many slots
     pub full : IsCrowded rack → input' ≡ input → Untouched held puts told tells talk out out' err err' rack rack' → Done (Limit L7)
     full crowded same u =
         idle (Limit L7) u (λ h. h) (λ e. cc (e)) tt ((λ e. crowded), (λ h. refl)) (λ e. same)
         (λ kind line e. absurd (cc (e))) (λ kind but e. absurd (but (cc (e)))) (λ e. absurd (cc (e)))
-        (unread_within same) (λ e. ap reads same) (λ text none e calm calm' calm''. absurd (none crowded))
+        (unread_within left reads input input' same) (λ e. ap reads same) (λ text none e calm calm' calm''. absurd (none crowded))

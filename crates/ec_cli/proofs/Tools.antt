@@ -1,109 +1,32 @@
 -- From what was done to the clauses of the top call.
-use Rattle.std.proofs.Common.{◌≡◌, ◌≢◌, ℕ, Bool, true, false, ◌&&◌, ◌==◌, nat_eq, if◌then◌else◌, List, [], ◌∷◌, ◌++◌, refl, ap, sym, ◌∙◌, subst, Option, Some, None, inl, inr, map, append-nil, arith}
-use Rattle.std.specs.Prelude.{◌⊎◌, ◌↔◌, ◌≤◌, IsTrue, is_some, option_map, codes, String, Result, Ok, Err, OnOk, OnErr}
-use Rattle.std.specs.Cmp.Lexicographic.{pointwise}
-use Rattle.std.specs.String.{string_bytes}
+use Rattle.std.proofs.Common.{◌≡◌, ℕ, List, ◌++◌, ap, subst, Option, Some, inl, inr, arith}
+use Rattle.std.specs.Prelude.{◌⊎◌, ◌↔◌, ◌≤◌, String, Result, Ok, Err, OnOk, OnErr}
 use Rattle.std.specs.declared.alloc.Global.{Global as Allocator}
 use Rattle.std.specs.declared.dyn_box.DynBox.{DynBox}
-use Rattle.std.proofs.lemmas.Bool.{and_parts}
-use Rattle.std.proofs.lemmas.Bool.Decides.{nat_tests}
 use Rattle.ec_base.specs.declared.fault.FaultKind.{FaultKind}
 use Rattle.ec_base.specs.declared.fault.LimitKind.{LimitKind}
-use Rattle.ec_base.specs.declared.fault.LimitKind.TheVariants.{L6, L7}
+use Rattle.ec_base.specs.declared.fault.LimitKind.TheVariants.{L7}
 use Rattle.ec_base.specs.declared.line.Line.{Line}
 use Rattle.ec_base.specs.Causes.{Rose}
 use Rattle.ec_link.specs.declared.rack.Rack.{Rack}
-use Rattle.ec_link.specs.Logged.{Talk, growth_of}
+use Rattle.ec_link.specs.Logged.{Talk}
 use Rattle.ec_link.specs.Rack.{slots_of, log_of}
 use Rattle.ec_link.specs.Slot.{states, talk_at}
 use Rattle.ec_link.specs.Told.{KeepsTalks, SparesDropped}
-use Rattle.ec_link.specs.declared.logged.Logged.{Logged}
 use Rattle.ec_link.specs.SlotState.{ready_slot}
 use Rattle.ec_observed.specs.Observed.{answers_in}
-use Rattle.ec_observed.specs.Headline.{RunsWhole, RefusesAt, IsTooLong, ReadsWithin}
-use Rattle.ec_firstpath.specs.Direct.{direct_meaning}
-use Rattle.ec_firstpath.specs.Faults.{IsFault}
-use Rattle.ec_firstpath.specs.Source.{IsSource}
+use Rattle.ec_observed.specs.Headline.{RefusesAt, ReadsWithin}
 use Rattle.ec_cli.specs.declared.ending.Ending.{Ending}
 use Rattle.ec_cli.specs.declared.ending.Ending.TheVariants.{Wrote, Exited, Trapped, TurnsSpent, Usage, Refused, Limit, ReadFault, WriteFault, OutOfMemory}
-use Rattle.ec_cli.specs.Machine.{RunsOver}
-use Rattle.ec_cli.specs.Tools.{HasTranslated, HasExecuted, HasRun, Does}
-use Rattle.ec_cli.specs.Executing.{IsExecuting, HasTurns, IsOfProgram, IsOfExecution, IsRefusedWritten, PassesWritten, DecidesExecution, BeforeLine, ExecutesWhole, ExecutesPart, MayExecute, Executes, Untouched}
-use Rattle.ec_cli.proofs.SameRack.{same_log, same_talks, same_dropped}
-use Rattle.ec_words.specs.Words.{Word, is_word, RunWords, words_of, execution_of, run_words, names_translation, is_nothing, sayings, anything}
-use Rattle.ec_cli.specs.Answers.{IsRun, IsCrowded, IsRefusal, IsOwn, Decides, RanPart, Announces, grown}
+use Rattle.ec_cli.specs.declared.form.Form.{Form}
+use Rattle.ec_cli.specs.Tools.{HasTranslated, HasExecuted, Does}
+use Rattle.ec_cli.specs.Executing.{IsOfProgram, IsOfExecution, IsRefusedAs, PassesAs, DecidesExecution, BeforeLine, ExecutesWhole, ExecutesPart, MayExecute, Executes, Untouched}
+use Rattle.ec_cli.specs.Forms.{IsRunning, HasTurns}
+use Rattle.ec_cli.specs.Answers.{IsCrowded, IsRefusal, Announces, grown}
 use Rattle.ec_cli.specs.Translating.{IsTranslating, IsOfTranslation, IsRefused, PassesLimit, WritesWhole, WritesPart, DecidesTranslation}
-
-run_or_translate : (w : Word) → is_word w (codes "run") ≡ true → is_word w (codes "translate") ≡ true → ⊥
-run_or_translate [] h k = absurd (cc (h))
-run_or_translate (b ∷ w) h k =
-    let r = (and_parts (nat_eq b 114) (pointwise nat_eq w (codes "un")) h).0 in
-    let t = (and_parts (nat_eq b 116) (pointwise nat_eq w (codes "ranslate")) k).0 in
-    grind (arith, nat_tests, r, t)
-
-run_or_exec : (w : Word) → is_word w (codes "run") ≡ true → is_word w (codes "exec") ≡ true → ⊥
-run_or_exec [] h k = absurd (cc (h))
-run_or_exec (b ∷ w) h k =
-    let r = (and_parts (nat_eq b 114) (pointwise nat_eq w (codes "un")) h).0 in
-    let t = (and_parts (nat_eq b 101) (pointwise nat_eq w (codes "xec")) k).0 in
-    grind (arith, nat_tests, r, t)
-
-exec_or_translate : (w : Word) → is_word w (codes "exec") ≡ true → is_word w (codes "translate") ≡ true → ⊥
-exec_or_translate [] h k = absurd (cc (h))
-exec_or_translate (b ∷ w) h k =
-    let r = (and_parts (nat_eq b 101) (pointwise nat_eq w (codes "xec")) h).0 in
-    let t = (and_parts (nat_eq b 116) (pointwise nat_eq w (codes "ranslate")) k).0 in
-    grind (arith, nat_tests, r, t)
-
--- a word that is one of two commands names both
-named : (ws : List Word) (a : Bool) → IsTrue (is_some (if a then run_words ws else None)) → a ≡ true
-named ws true h = refl
-named ws false h = absurd (cc (h))
-
-translates : (ws : List Word) (b : Bool) → (if b then is_nothing (sayings anything ws) else false) ≡ true → b ≡ true
-translates ws true h = refl
-translates ws false h = absurd (cc (h))
-
-run_and_translate : (ws : List Word) → IsTrue (is_some (words_of ws)) → names_translation ws ≡ true → ⊥
-run_and_translate [] h k = absurd (cc (h))
-run_and_translate (w ∷ ws) h k = run_or_translate w (named ws (is_word w (codes "run")) h) (translates ws (is_word w (codes "translate")) k)
-
-run_and_exec : (ws : List Word) → IsTrue (is_some (words_of ws)) → IsTrue (is_some (execution_of ws)) → ⊥
-run_and_exec [] h k = absurd (cc (h))
-run_and_exec (w ∷ ws) h k = run_or_exec w (named ws (is_word w (codes "run")) h) (named ws (is_word w (codes "exec")) k)
-
-exec_and_translate : (ws : List Word) → IsTrue (is_some (execution_of ws)) → names_translation ws ≡ true → ⊥
-exec_and_translate [] h k = absurd (cc (h))
-exec_and_translate (w ∷ ws) h k = exec_or_translate w (named ws (is_word w (codes "exec")) h) (translates ws (is_word w (codes "translate")) k)
-
-pub never_both : (words : List (String Allocator)) → IsRun words → IsTranslating words → ⊥
-never_both words h k = run_and_translate (map string_bytes words) h k
-
-runs_or_executes : (words : List (String Allocator)) → IsRun words → IsExecuting words → ⊥
-runs_or_executes words h k = run_and_exec (map string_bytes words) h k
-
-executes_or_translates : (words : List (String Allocator)) → IsExecuting words → IsTranslating words → ⊥
-executes_or_translates words h k = exec_and_translate (map string_bytes words) h k
-
-runs_no_source : (words : List (String Allocator)) → IsRun words ⊎ IsExecuting words → IsTranslating words → ⊥
-runs_no_source words (inl h) k = never_both words h k
-runs_no_source words (inr h) k = executes_or_translates words h k
-
--- words that name so many turns name a run of written C
-some_of : (o : Option RunWords) (n : ℕ) → option_map (λ it. it.turns) o ≡ Some n → IsTrue (is_some o)
-some_of None n e = absurd (cc (e))
-some_of (Some r) n e = refl
-
-pub is_executing : (words : List (String Allocator)) (n : ℕ) → HasTurns words n → IsExecuting words
-is_executing words n h = some_of (execution_of (map string_bytes words)) n h
-
--- where no number of turns is named, no run of written C is
-pub unexecuted : (o : Option RunWords) → None ≡ option_map (λ it. it.turns) o → IsTrue (is_some o) → ⊥
-unexecuted None e h = cc (h)
-unexecuted (Some r) e h = cc (e)
-
-same_turns : (o : Option ℕ) (a b : ℕ) → o ≡ Some a → o ≡ Some b → a ≡ b
-same_turns o a b e f = cc (e, f)
+use Rattle.ec_cli.proofs.Executions.{unread_within}
+use Rattle.ec_cli.proofs.SameRack.{same_log, same_talks, same_dropped}
+use Rattle.ec_cli.proofs.Words.{never_both, is_running, one_form, as_named}
 
 -- an ending that isn't of a translation
 not_of : (a b : Ending) → a ≡ b → IsOfTranslation a → (IsOfTranslation b → ⊥) → ⊥
@@ -133,7 +56,7 @@ module _ {O E : Type 0} (puts : O → ℕ) {told : E → Option (List ℕ)} (tel
   risen (inr r) = inr (rose_later _ _ _ r (later err' last line a))
 
 module _ {O E X : Type 0} {F : X → Type 0} {held : O → Option (List ℕ)} {puts : O → ℕ} {told : E → Option (List ℕ)} {tells : E → ℕ} {talk : DynBox X Allocator F → Option Talk} where
-  -- a refusal of written C touches nothing
+  -- a refused run touches nothing
   idle_by : {out out' : O} {err err' : E} {rack rack' : Rack X F} (ending : Ending) → IsOfProgram ending ⊎ (ending ≡ WriteFault) ⊎ (ending ≡ OutOfMemory) ⊎ Untouched held puts told tells talk out out' err err' rack rack'
       → IsRefusal ending → Untouched held puts told tells talk out out' err err' rack rack'
   idle_by Usage (inl h) k = absurd h
@@ -151,55 +74,21 @@ module _ {O E X : Type 0} {F : X → Type 0} {held : O → Option (List ℕ)} {p
   idle_by e (inr (inr (inr u))) k = u
 
 module _ {I O E X : Type 0} {F : X → Type 0} {left : I → Option (List ℕ)} {reads : I → ℕ} {held : O → Option (List ℕ)} {puts : O → ℕ} {told : E → Option (List ℕ)} {tells : E → ℕ} {talk : DynBox X Allocator F → Option Talk} where
-  idle : {turns : ℕ} {input input' : I} {out out' : O} {err err' : E} {rack rack' : Rack X F} {ending : Ending} → Executes held puts told tells talk left reads turns input input' out out' err err' rack rack' ending → IsRefusal ending → Untouched held puts told tells talk out out' err err' rack rack'
+  idle : {form : Form} {turns : ℕ} {input input' : I} {out out' : O} {err err' : E} {rack rack' : Rack X F} {ending : Ending} → Executes held puts told tells talk left reads form turns input input' out out' err err' rack rack' ending → IsRefusal ending → Untouched held puts told tells talk out out' err err' rack rack'
   idle {ending} x h = idle_by ending x.other h
 
 module _ {I O E X : Type 0} {F : X → Type 0} {left : I → Option (List ℕ)} {reads : I → ℕ} {held : O → Option (List ℕ)} {puts : O → ℕ} {told : E → Option (List ℕ)} {tells : E → ℕ} {talk : DynBox X Allocator F → Option Talk} {words : List (String Allocator)} {input input' : I} {out out' : O} {err err' : E} {rack rack' : Rack X F} {ending : Ending} where
-  -- ---- what a run owes
-
-  run_of : Does left reads held puts told tells talk words input input' out out' err err' rack rack' ending → IsRun words → HasRun left reads held puts told tells talk words input input' out out' err err' rack rack' ending
-  run_of (inl t) h = absurd (never_both words h t.named)
-  run_of (inr (inl x)) h = absurd (runs_or_executes words h (is_executing words x.turns x.named))
-  run_of (inr (inr r)) h = r
-
-  pub whole : Does left reads held puts told tells talk words input input' out out' err err' rack rack' ending → (status : ℕ) → IsRun words → ending ≡ Exited status → RunsWhole IsSource direct_meaning (left input) (left input') (held out) (held out') (states (slots_of rack)) (grown rack rack') status
-  whole d status h = (run_of d h).answers.whole status
-
-  pub slots : Does left reads held puts told tells talk words input input' out out' err err' rack rack' ending → (status : ℕ) → IsRun words → ending ≡ Exited status → RunsOver (slots_of rack) (grown rack rack') (slots_of rack')
-  slots d status h = (run_of d h).answers.slots status
-
-  pub part : Does left reads held puts told tells talk words input input' out out' err err' rack rack' ending → IsRun words → ending ≡ WriteFault → RanPart left reads held puts talk input input' out out' rack rack'
-  part d h = (run_of d h).answers.part
-
-  pub want : Does left reads held puts told tells talk words input input' out out' err err' rack rack' ending → IsRun words → ending ≡ OutOfMemory → ((rack' ≡ rack) × (out' ≡ out)) ⊎ RanPart left reads held puts talk input input' out out' rack rack'
-  want d h = (run_of d h).answers.want
-
-  pub own : Does left reads held puts told tells talk words input input' out out' err err' rack rack' ending → IsRun words → IsOwn ending
-  own d h = (run_of d h).answers.own
-
-  pub crowded : Does left reads held puts told tells talk words input input' out out' err err' rack rack' ending → IsRun words → ((ending ≡ Limit L7) ↔ IsCrowded rack)
-  crowded d h = let r = run_of d h in (λ e. (r.answers.crowded e).1, λ full. r.answers.full h full)
-
-  pub refused : Does left reads held puts told tells talk words input input' out out' err err' rack rack' ending → (kind : FaultKind) (line : Line) → IsRun words → ending ≡ Refused kind line → RefusesAt IsFault (left input) (left input') kind line.0
-  refused d kind line h = (run_of d h).answers.refused kind line
-
-  pub limit : Does left reads held puts told tells talk words input input' out out' err err' rack rack' ending → IsRun words → ending ≡ Limit L6 → IsTooLong (left input) (left input')
-  limit d h = (run_of d h).answers.limit
-
-  pub decides : Does left reads held puts told tells talk words input input' out out' err err' rack rack' ending → (text : List ℕ) → IsRun words → (IsCrowded rack → ⊥) → left input ≡ Some text → (Rose (reads input) (reads input') → ⊥) → (Rose (puts out) (puts out') → ⊥) → Decides text ending
-  decides d text h = (run_of d h).answers.decides text h
-
   -- ---- what a translation owes
 
   translation_of : Does left reads held puts told tells talk words input input' out out' err err' rack rack' ending → IsTranslating words → HasTranslated left reads held puts told tells talk words input input' out out' err err' rack rack' ending
   translation_of (inl t) h = t
-  translation_of (inr (inl x)) h = absurd (executes_or_translates words (is_executing words x.turns x.named) h)
+  translation_of (inr (inl x)) h = absurd (never_both words x.form (is_running words x.form x.turns x.named) h)
   translation_of (inr (inr r)) h = absurd (r.other h)
 
   pub wrote : Does left reads held puts told tells talk words input input' out out' err err' rack rack' ending → ending ≡ Wrote → WritesWhole (left input) (left input') (held out) (held out')
   wrote (inl t) e = t.translates.wrote e
   wrote (inr (inl x)) e = absurd (subst IsOfExecution e x.executes.ends)
-  wrote (inr (inr r)) e = absurd (subst IsOwn e r.answers.own)
+  wrote (inr (inr r)) e = absurd (cc (e, r.usage))
 
   pub written_part : Does left reads held puts told tells talk words input input' out out' err err' rack rack' ending → IsTranslating words → ending ≡ WriteFault → WritesPart left reads held puts input input' out out'
   written_part d h = (translation_of d h).translates.part
@@ -219,63 +108,82 @@ module _ {I O E X : Type 0} {F : X → Type 0} {left : I → Option (List ℕ)} 
   pub source_limit : Does left reads held puts told tells talk words input input' out out' err err' rack rack' ending → (kind : LimitKind) → IsTranslating words → ending ≡ Limit kind → PassesLimit (left input) (left input') kind
   source_limit d kind h = (translation_of d h).translates.limit kind
 
+  pub write_fault : Does left reads held puts told tells talk words input input' out out' err err' rack rack' ending → IsTranslating words → ending ≡ WriteFault → Rose (puts out) (puts out')
+  write_fault d h = (translation_of d h).translates.write_fault
+
   pub decides_translation : Does left reads held puts told tells talk words input input' out out' err err' rack rack' ending → (text : List ℕ) → IsTranslating words → left input ≡ Some text → (Rose (reads input) (reads input') → ⊥) → (Rose (puts out) (puts out') → ⊥) → DecidesTranslation text ending
   decides_translation d text h = (translation_of d h).translates.decides text
 
-  -- ---- what a run of written C owes
+  -- ---- what a run owes
 
-  execution_of_words : Does left reads held puts told tells talk words input input' out out' err err' rack rack' ending → IsExecuting words → HasExecuted left reads held puts told tells talk words input input' out out' err err' rack rack' ending
-  execution_of_words (inl t) h = absurd (executes_or_translates words h t.named)
-  execution_of_words (inr (inl x)) h = x
-  execution_of_words (inr (inr r)) h = absurd (r.unexecuted h)
+  executed_of : Does left reads held puts told tells talk words input input' out out' err err' rack rack' ending → (form : Form) → IsRunning words form → HasExecuted left reads held puts told tells talk words input input' out out' err err' rack rack' ending
+  executed_of (inl t) form h = absurd (never_both words form h t.named)
+  executed_of (inr (inl x)) form h = x
+  executed_of (inr (inr r)) form h = absurd (r.unnamed form h)
 
-  pub executes : Does left reads held puts told tells talk words input input' out out' err err' rack rack' ending → (turns : ℕ) → HasTurns words turns → Executes held puts told tells talk left reads turns input input' out out' err err' rack rack' ending
-  executes d turns h =
-      let x = execution_of_words d (is_executing words turns h) in
-      subst (λ n. Executes held puts told tells talk left reads n input input' out out' err err' rack rack' ending) (same_turns _ x.turns turns x.named h) x.executes
+  -- with the form and the turns that the words name
+  executes : Does left reads held puts told tells talk words input input' out out' err err' rack rack' ending → (form : Form) (turns : ℕ) → HasTurns words form turns → Executes held puts told tells talk left reads form turns input input' out out' err err' rack rack' ending
+  executes d form turns h =
+      let x = executed_of d form (is_running words form turns h) in
+      as_named words (λ f n. Executes held puts told tells talk left reads f n input input' out out' err err' rack rack' ending) x.form form x.turns turns x.named h x.executes
 
-  pub own_execution : Does left reads held puts told tells talk words input input' out out' err err' rack rack' ending → IsExecuting words → IsOfExecution ending
-  own_execution d h = (execution_of_words d h).executes.ends
+  -- with the form that they name
+  executes_as : Does left reads held puts told tells talk words input input' out out' err err' rack rack' ending → (form : Form) → IsRunning words form → (turns : ℕ) × Executes held puts told tells talk left reads form turns input input' out out' err err' rack rack' ending
+  executes_as d form h =
+      let x = executed_of d form h in
+      (x.turns, subst (λ f. Executes held puts told tells talk left reads f x.turns input input' out out' err err' rack rack' ending) (one_form words x.form form (is_running words x.form x.turns x.named) h) x.executes)
 
-  pub crowded_execution : Does left reads held puts told tells talk words input input' out out' err err' rack rack' ending → IsExecuting words → ((ending ≡ Limit L7) ↔ IsCrowded rack)
-  crowded_execution d h = (execution_of_words d h).executes.crowded
+  pub own : Does left reads held puts told tells talk words input input' out out' err err' rack rack' ending → (form : Form) → IsRunning words form → IsOfExecution ending
+  own d form h = (executes_as d form h).1.ends
 
-  pub written_refused : Does left reads held puts told tells talk words input input' out out' err err' rack rack' ending → (kind : FaultKind) (line : Line) → IsExecuting words → ending ≡ Refused kind line → RefusesAt IsRefusedWritten (left input) (left input') kind line.0
-  written_refused d kind line h = (execution_of_words d h).executes.refused kind line
+  pub crowded : Does left reads held puts told tells talk words input input' out out' err err' rack rack' ending → (form : Form) → IsRunning words form → ((ending ≡ Limit L7) ↔ IsCrowded rack)
+  crowded d form h = (executes_as d form h).1.crowded
 
-  pub written_limit : Does left reads held puts told tells talk words input input' out out' err err' rack rack' ending → (kind : LimitKind) → IsExecuting words → (kind ≡ L7 → ⊥) → ending ≡ Limit kind → PassesWritten (left input) (left input') kind
-  written_limit d kind h = (execution_of_words d h).executes.limit kind
+  pub refused : Does left reads held puts told tells talk words input input' out out' err err' rack rack' ending → (form : Form) (kind : FaultKind) (line : Line) → IsRunning words form → ending ≡ Refused kind line → RefusesAt (IsRefusedAs form) (left input) (left input') kind line.0
+  refused d form kind line h = (executes_as d form h).1.refused kind line
+
+  pub limit : Does left reads held puts told tells talk words input input' out out' err err' rack rack' ending → (form : Form) (kind : LimitKind) → IsRunning words form → (kind ≡ L7 → ⊥) → ending ≡ Limit kind → PassesAs form (left input) (left input') kind
+  limit d form kind h = (executes_as d form h).1.limit kind
 
   module _ (last : E) (line : List ℕ) (a : Announces told tells err' last line) where
-    pub executed : Does left reads held puts told tells talk words input input' out out' err err' rack rack' ending → (turns : ℕ) → HasTurns words turns → IsOfProgram ending → BeforeLine told tells last line (λ between. ExecutesWhole held puts told tells talk left turns input input' out out' err between rack rack' ending)
-    executed d turns h e = record { between = err'; done = (executes d turns h).whole e; announced = a }
+    pub whole : Does left reads held puts told tells talk words input input' out out' err err' rack rack' ending → (form : Form) (turns : ℕ) → HasTurns words form turns → IsOfProgram ending
+        → BeforeLine told tells last line (λ between. ExecutesWhole held puts told tells talk left form turns input input' out out' err between rack rack' ending)
+    whole d form turns h e = record { between = err'; done = (executes d form turns h).whole e; announced = a }
 
-    pub executed_part : Does left reads held puts told tells talk words input input' out out' err err' rack rack' ending → (turns : ℕ) → HasTurns words turns → ending ≡ WriteFault → BeforeLine told tells last line (λ between. ExecutesPart held puts told tells talk left turns input input' out out' err between rack rack')
-    executed_part d turns h e = record { between = err'; done = (executes d turns h).part e; announced = a }
+    pub part : Does left reads held puts told tells talk words input input' out out' err err' rack rack' ending → (form : Form) (turns : ℕ) → HasTurns words form turns → ending ≡ WriteFault
+        → BeforeLine told tells last line (λ between. ExecutesPart held puts told tells talk left form turns input input' out out' err between rack rack')
+    part d form turns h e = record { between = err'; done = (executes d form turns h).part e; announced = a }
 
-    pub executed_want : Does left reads held puts told tells talk words input input' out out' err err' rack rack' ending → (turns : ℕ) → HasTurns words turns → ending ≡ OutOfMemory → BeforeLine told tells last line (λ between. MayExecute held puts told tells talk left turns input input' out out' err between rack rack')
-    executed_want d turns h e = record { between = err'; done = (executes d turns h).want e; announced = a }
+    pub want : Does left reads held puts told tells talk words input input' out out' err err' rack rack' ending → (form : Form) (turns : ℕ) → HasTurns words form turns → ending ≡ OutOfMemory
+        → BeforeLine told tells last line (λ between. MayExecute held puts told tells talk left form turns input input' out out' err between rack rack')
+    want d form turns h e = record { between = err'; done = (executes d form turns h).want e; announced = a }
 
-    pub executed_steady : Does left reads held puts told tells talk words input input' out out' err err' rack rack' ending → (turns : ℕ) → HasTurns words turns → (ending ≡ WriteFault → ⊥) → BeforeLine told tells last line (λ between. tells between ≡ tells err)
-    executed_steady d turns h e = record { between = err'; done = (executes d turns h).tells_steady e; announced = a }
-
-    pub either_fault : Does left reads held puts told tells talk words input input' out out' err err' rack rack' ending → IsExecuting words → ending ≡ WriteFault → Rose (puts out) (puts out') ⊎ Rose (tells err) (tells last)
-    either_fault d h e = risen puts tells out out' err err' last line a ((execution_of_words d h).executes.write_fault e)
-
-    pub decides_execution : Does left reads held puts told tells talk words input input' out out' err err' rack rack' ending → (turns : ℕ) (text : List ℕ) → HasTurns words turns → (IsCrowded rack → ⊥) → left input ≡ Some text
+    pub decides : Does left reads held puts told tells talk words input input' out out' err err' rack rack' ending → (form : Form) (turns : ℕ) (text : List ℕ) → HasTurns words form turns → (IsCrowded rack → ⊥) → left input ≡ Some text
         → (Rose (reads input) (reads input') → ⊥) → (Rose (puts out) (puts out') → ⊥) → (Rose (tells err) (tells last) → ⊥)
-        → DecidesExecution turns (ready_slot (states (slots_of rack))) (answers_in (grown rack rack')) text ending
-    decides_execution d turns text h room e calm calm' calm'' =
-        (executes d turns h).decides text room e calm calm' (λ r. calm'' (rose_later _ _ _ r (later err' last line a)))
+        → DecidesExecution form turns (ready_slot (states (slots_of rack))) (answers_in (grown rack rack')) text ending
+    decides d form turns text h room e calm calm' calm'' =
+        (executes d form turns h).decides text room e calm calm' (λ r. calm'' (rose_later _ _ _ r (later err' last line a)))
+
+    -- ---- what all owe to standard error
+
+    pub errors_steady : Does left reads held puts told tells talk words input input' out out' err err' rack rack' ending → (ending ≡ WriteFault → ⊥) → BeforeLine told tells last line (λ between. tells between ≡ tells err)
+    errors_steady (inl t) calm = record { between = err'; done = ap tells t.silent; announced = a }
+    errors_steady (inr (inl x)) calm = record { between = err'; done = x.executes.tells_steady calm; announced = a }
+    errors_steady (inr (inr r)) calm = record { between = err'; done = ap tells r.untouched.errors; announced = a }
+
+    pub either_fault : Does left reads held puts told tells talk words input input' out out' err err' rack rack' ending → ending ≡ WriteFault → Rose (puts out) (puts out') ⊎ Rose (tells err) (tells last)
+    either_fault (inl t) e = inl (t.translates.write_fault e)
+    either_fault (inr (inl x)) e = risen puts tells out out' err err' last line a (x.executes.write_fault e)
+    either_fault (inr (inr r)) e = absurd (cc (e, r.usage))
 
     -- only a program puts something before the last line
-    silent : Does left reads held puts told tells talk words input input' out out' err err' rack rack' ending → (IsExecuting words → ⊥) ⊎ IsRefusal ending → err' ≡ err
+    silent : Does left reads held puts told tells talk words input input' out out' err err' rack rack' ending → IsTranslating words ⊎ IsRefusal ending → err' ≡ err
     silent (inl t) h = t.silent
-    silent (inr (inr r)) h = r.silent
-    silent (inr (inl x)) (inl other) = absurd (other (is_executing words x.turns x.named))
+    silent (inr (inr r)) h = r.untouched.errors
+    silent (inr (inl x)) (inl h) = absurd (never_both words x.form (is_running words x.form x.turns x.named) h)
     silent (inr (inl x)) (inr refusal) = (idle x.executes refusal).errors
 
-    pub last_line : Does left reads held puts told tells talk words input input' out out' err err' rack rack' ending → (IsExecuting words → ⊥) ⊎ IsRefusal ending → Announces told tells err last line
+    pub last_line : Does left reads held puts told tells talk words input input' out out' err err' rack rack' ending → IsTranslating words ⊎ IsRefusal ending → Announces told tells err last line
     last_line d h = subst (λ e. Announces told tells e last line) (silent d h) a
 
   -- ---- what all owe
@@ -283,57 +191,51 @@ module _ {I O E X : Type 0} {F : X → Type 0} {left : I → Option (List ℕ)} 
   pub untouched : Does left reads held puts told tells talk words input input' out out' err err' rack rack' ending → IsRefusal ending → (rack' ≡ rack) × (out' ≡ out)
   untouched (inl t) h = let but = no_refusal_but ending h in (t.unlinked, t.translates.untouched but.0 but.1)
   untouched (inr (inl x)) h = let u = idle x.executes h in (u.links, u.output)
-  untouched (inr (inr r)) h = r.answers.untouched h
+  untouched (inr (inr r)) h = (r.untouched.links, r.untouched.output)
 
-  pub usage : Does left reads held puts told tells talk words input input' out out' err err' rack rack' ending → ((ending ≡ Usage) ↔ ((IsRun words → ⊥) × (IsTranslating words → ⊥) × (IsExecuting words → ⊥)))
-  usage (inl t) = (λ e. absurd (not_of ending Usage e t.translates.ends (λ h. h)), λ neither. absurd (neither.1 t.named))
-  usage (inr (inl x)) = (λ e. absurd (subst IsOfExecution e x.executes.ends), λ neither. absurd (neither.2 (is_executing words x.turns x.named)))
-  usage (inr (inr r)) = (λ e. (r.answers.usage e, r.other, r.unexecuted), λ neither. r.answers.run neither.0)
+  pub usage : Does left reads held puts told tells talk words input input' out out' err err' rack rack' ending → ((ending ≡ Usage) ↔ ((IsTranslating words → ⊥) × ((form : Form) → IsRunning words form → ⊥)))
+  usage (inl t) = (λ e. absurd (not_of ending Usage e t.translates.ends (λ h. h)), λ neither. absurd (neither.0 t.named))
+  usage (inr (inl x)) = (λ e. absurd (subst IsOfExecution e x.executes.ends), λ neither. absurd (neither.1 x.form (is_running words x.form x.turns x.named)))
+  usage (inr (inr r)) = (λ e. (r.other, r.unnamed), λ neither. r.usage)
 
-  pub unread : Does left reads held puts told tells talk words input input' out out' err err' rack rack' ending → (ending ≡ Usage) ⊎ ((IsRun words ⊎ IsExecuting words) × (ending ≡ Limit L7)) → input' ≡ input
+  pub unread : Does left reads held puts told tells talk words input input' out out' err err' rack rack' ending → (ending ≡ Usage) ⊎ ((form : Form) × IsRunning words form × (ending ≡ Limit L7)) → input' ≡ input
   unread (inl t) (inl e) = absurd (not_of ending Usage e t.translates.ends (λ h. h))
-  unread (inl t) (inr h) = absurd (runs_no_source words h.0 t.named)
+  unread (inl t) (inr h) = absurd (never_both words h.0 h.1 t.named)
   unread (inr (inl x)) (inl e) = absurd (subst IsOfExecution e x.executes.ends)
-  unread (inr (inl x)) (inr h) = x.executes.unread h.1
-  unread (inr (inr r)) (inl e) = r.answers.unread e
-  unread (inr (inr r)) (inr h) = (r.answers.crowded h.1).2
+  unread (inr (inl x)) (inr h) = x.executes.unread h.2
+  unread (inr (inr r)) h = r.unread
 
   pub within : Does left reads held puts told tells talk words input input' out out' err err' rack rack' ending → ReadsWithin (left input) (left input')
   within (inl t) = t.translates.within
   within (inr (inl x)) = x.executes.within
-  within (inr (inr r)) = r.answers.within
+  within (inr (inr r)) = unread_within left reads input input' r.unread
 
   pub read_fault : Does left reads held puts told tells talk words input input' out out' err err' rack rack' ending → ending ≡ ReadFault → Rose (reads input) (reads input')
   read_fault (inl t) = t.translates.read_fault
   read_fault (inr (inl x)) = x.executes.read_fault
-  read_fault (inr (inr r)) = r.answers.read_fault
-
-  pub write_fault : Does left reads held puts told tells talk words input input' out out' err err' rack rack' ending → (IsExecuting words → ⊥) → ending ≡ WriteFault → Rose (puts out) (puts out')
-  write_fault (inl t) other = t.translates.write_fault
-  write_fault (inr (inl x)) other = absurd (other (is_executing words x.turns x.named))
-  write_fault (inr (inr r)) other = r.answers.write_fault
+  read_fault (inr (inr r)) = λ e. absurd (cc (e, r.usage))
 
   pub read_steady : Does left reads held puts told tells talk words input input' out out' err err' rack rack' ending → (ending ≡ ReadFault → ⊥) → reads input' ≡ reads input
   read_steady (inl t) = t.translates.reads_steady
   read_steady (inr (inl x)) = x.executes.reads_steady
-  read_steady (inr (inr r)) = r.answers.reads_steady
+  read_steady (inr (inr r)) = λ calm. ap reads r.unread
 
   pub write_steady : Does left reads held puts told tells talk words input input' out out' err err' rack rack' ending → (ending ≡ WriteFault → ⊥) → puts out' ≡ puts out
   write_steady (inl t) = t.translates.puts_steady
   write_steady (inr (inl x)) = x.executes.puts_steady
-  write_steady (inr (inr r)) = r.answers.puts_steady
+  write_steady (inr (inr r)) = λ calm. ap puts r.untouched.output
 
   pub talks : Does left reads held puts told tells talk words input input' out out' err err' rack rack' ending → KeepsTalks (talk_at talk (slots_of rack)) (talk_at talk (slots_of rack')) (grown rack rack')
   talks (inl t) = same_talks talk rack rack' t.unlinked
   talks (inr (inl x)) = x.executes.talks
-  talks (inr (inr r)) = r.answers.talks
+  talks (inr (inr r)) = same_talks talk rack rack' r.untouched.links
 
   pub dropped : Does left reads held puts told tells talk words input input' out out' err err' rack rack' ending → SparesDropped (states (slots_of rack)) (states (slots_of rack')) (grown rack rack')
   dropped (inl t) = same_dropped rack rack' t.unlinked
   dropped (inr (inl x)) = x.executes.dropped
-  dropped (inr (inr r)) = r.answers.dropped
+  dropped (inr (inr r)) = same_dropped rack rack' r.untouched.links
 
   pub logged : Does left reads held puts told tells talk words input input' out out' err err' rack rack' ending → log_of rack' ≡ log_of rack ++ grown rack rack'
   logged (inl t) = same_log rack rack' t.unlinked
   logged (inr (inl x)) = x.executes.logged
-  logged (inr (inr r)) = r.answers.logged
+  logged (inr (inr r)) = same_log rack rack' r.untouched.links

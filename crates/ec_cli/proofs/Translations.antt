@@ -1,24 +1,15 @@
 -- From a text that is translated to what is promised of the call.
-use Rattle.std.proofs.Common.{◌≡◌, ℕ, ◌+◌, ◌≤◌, ◌<◌, ◌^◌, List, length, refl, ap, subst, arith, Option, Some, inl, inr, Result, Ok, Err}
-use Rattle.std.specs.Prelude.{◌⊎◌}
-use Rattle.ec_base.specs.declared.line.Line.{Line}
-use Rattle.ec_base.specs.declared.fault.FaultKind.{FaultKind}
-use Rattle.ec_base.specs.declared.fault.LimitKind.{LimitKind}
-use Rattle.ec_base.specs.declared.fault.LimitKind.TheVariants.{L6}
-use Rattle.ec_base.specs.declared.stop.InputStop.{InputStop}
-use Rattle.ec_base.specs.declared.stop.InputStop.TheVariants as input_stop
+use Rattle.std.proofs.Common.{◌≡◌, ℕ, ◌≤◌, ◌^◌, List, length, refl, ap, subst, arith, Option, inl, inr, Ok, Err}
 use Rattle.ec_base.specs.declared.stop.Stop.{Stop}
 use Rattle.ec_base.specs.declared.stop.Stop.TheVariants as stops
 use Rattle.ec_base.specs.Causes.{Rose}
-use Rattle.ec_base.specs.Putting.{Puts, PutsPart}
-use Rattle.ec_base.specs.Reading.{ReadsAll, ReadsPart}
-use Rattle.ec_base.proofs.Transfers.{ReadsAll-text, ReadsPart-long}
+use Rattle.ec_base.specs.Reading.{ReadsAll}
+use Rattle.ec_base.proofs.Transfers.{ReadsAll-text}
 use Rattle.ec_observed.specs.Headline.{IsRead}
 use Rattle.ec_translate.specs.Answers.{TellsTranslation}
 use Rattle.ec_cli.specs.declared.ending.Ending.{Ending}
 use Rattle.ec_cli.specs.declared.ending.Ending.TheVariants.{Wrote, Exited, Trapped, TurnsSpent, Usage, Refused, Limit, ReadFault, WriteFault, OutOfMemory}
-use Rattle.ec_cli.specs.Answers.{refusal_of}
-use Rattle.ec_cli.specs.Translating.{IsOfTranslation, TranslatesText, Translates, DecidesTranslation}
+use Rattle.ec_cli.specs.Translating.{refusal_of, IsOfTranslation, TranslatesText, Translates, DecidesTranslation}
 
 -- where a text is refused
 pub text_refused : {O : Type 0} (held : O → Option (List ℕ)) (puts : O → ℕ) (text : List ℕ) (out : O) (stop : Stop) → TellsTranslation text (Err stop) → TranslatesText held puts text out out (refusal_of stop)

@@ -1,11 +1,10 @@
--- What a call that runs written C answers, and what it leaves.
-use Rattle.std.specs.Prelude.{◌≡◌, ℕ, ◌^◌, ◌<◌, ◌≤◌, ◌⊎◌, ◌↔◌, List, ◌++◌, map, length, option_map, is_some, IsTrue, Option, Some, Result, Ok, Err, String}
-use Rattle.std.specs.String.{string_bytes}
+-- What a call that runs a source or written C answers, and what it leaves.
+use Rattle.std.specs.Prelude.{◌≡◌, ℕ, ◌^◌, ◌<◌, ◌≤◌, ◌⊎◌, ◌↔◌, List, ◌++◌, length, Option, Some, Result, Ok, Err}
 use Rattle.std.specs.declared.alloc.Global.{Global as Allocator}
 use Rattle.std.specs.declared.dyn_box.DynBox.{DynBox}
 use Rattle.ec_base.specs.declared.fault.FaultKind.{FaultKind}
 use Rattle.ec_base.specs.declared.fault.LimitKind.{LimitKind}
-use Rattle.ec_base.specs.declared.fault.LimitKind.TheVariants.{L1, L2, L3, L4, L5, L6, L7, L8}
+use Rattle.ec_base.specs.declared.fault.LimitKind.TheVariants.{L6, L7}
 use Rattle.ec_base.specs.declared.line.Line.{Line}
 use Rattle.ec_base.specs.declared.stop.Stop.{Stop}
 use Rattle.ec_base.specs.declared.stop.Stop.TheVariants as stops
@@ -21,23 +20,14 @@ use Rattle.ec_observed.specs.Observed.{answers_in}
 use Rattle.ec_evaluation.specs.State as evaluation
 use Rattle.ec_evaluation.specs.State.{Answer}
 use Rattle.ec_evaluation.specs.Whole.{Observed}
-use Rattle.ec_execution.specs.Programs.{Executable, IsProgram, meaning}
 use Rattle.ec_execution.specs.Runs.{Runs, RunsPart}
 use Rattle.ec_execute.specs.declared.running.RunEnd.{RunEnd}
 use Rattle.ec_execute.specs.declared.running.RunEnd.TheVariants as ends
-use Rattle.ec_words.specs.Words.{execution_of}
-use Rattle.ec_cli.specs.Answers.{IsCrowded, Announces, grown}
-use Rattle.ec_cli.specs.Machine.{RunsOver}
+use Rattle.ec_cli.specs.Answers.{IsCrowded, Announces, RunsOver, grown}
+use Rattle.ec_cli.specs.Forms.{Program, IsRunAs, Meaning, meaning_as}
+use Rattle.ec_cli.specs.declared.form.Form.{Form}
 use Rattle.ec_cli.specs.declared.ending.Ending.{Ending}
 use Rattle.ec_cli.specs.declared.ending.Ending.TheVariants.{Wrote, Exited, Trapped, TurnsSpent, Usage, Refused, Limit, ReadFault, WriteFault, OutOfMemory}
-
--- the words name a run of written C, and one of so many turns
-abbrev pub IsExecuting : List (String Allocator) → Type 0
-IsExecuting words = IsTrue (is_some (execution_of (map string_bytes words)))
-
-abbrev pub HasTurns : List (String Allocator) → ℕ → Type 0
-HasTurns words turns =
-    option_map (λ it. it.turns) (execution_of (map string_bytes words)) ≡ Some turns
 
 -- ---- endings
 
@@ -109,60 +99,65 @@ text_refusal stops.OutOfMemory = OutOfMemory
 
 -- ---- what a text decides
 
--- the text is refused for this fault at this line, as written C
-abbrev pub IsRefusedWritten : List ℕ → FaultKind → ℕ → Type 0
-IsRefusedWritten text kind line = IsProgram text (Err (stops.Refused kind (record { 0 = line })))
+-- the text is refused for this fault at this line
+abbrev pub IsRefusedAs : Form → List ℕ → FaultKind → ℕ → Type 0
+IsRefusedAs form text kind line =
+    IsRunAs form text (Err (stops.Refused kind (record { 0 = line })))
 
 -- the input was read to its end and passes this limit, or more than 2^24 bytes came
-pub record LimitsWritten (input input' : Option (List ℕ)) (kind : LimitKind) : Type 0 where
+pub record LimitsRun (form : Form) (input input' : Option (List ℕ))
+    (kind : LimitKind) : Type 0 where
   pub text : List ℕ
   pub read : IsRead input input' text
-  pub limit : IsProgram text (Err (stops.Limit kind))
+  pub limit : IsRunAs form text (Err (stops.Limit kind))
 
-abbrev pub PassesWritten : Option (List ℕ) → Option (List ℕ) → LimitKind → Type 0
-PassesWritten input input' kind =
-    ((kind ≡ L6) × IsTooLong input input') ⊎ LimitsWritten input input' kind
+abbrev pub PassesAs : Form → Option (List ℕ) → Option (List ℕ) → LimitKind → Type 0
+PassesAs form input input' kind =
+    ((kind ≡ L6) × IsTooLong input input') ⊎ LimitsRun form input input' kind
 
 -- a text is refused, or there was no memory for it
-abbrev pub RefusesText : List ℕ → Ending → Type 0
-RefusesText text (Refused kind line) = IsProgram text (Err (stops.Refused kind line))
-RefusesText text (Limit kind) = (kind ≡ L7 → ⊥) × IsProgram text (Err (stops.Limit kind))
-RefusesText text OutOfMemory = Unit {0}
-RefusesText text (Exited status) = ⊥
-RefusesText text (Trapped trap line) = ⊥
-RefusesText text TurnsSpent = ⊥
-RefusesText text Wrote = ⊥
-RefusesText text Usage = ⊥
-RefusesText text ReadFault = ⊥
-RefusesText text WriteFault = ⊥
+abbrev pub RefusesText : Form → List ℕ → Ending → Type 0
+RefusesText form text (Refused kind line) = IsRunAs form text (Err (stops.Refused kind line))
+RefusesText form text (Limit kind) =
+    (kind ≡ L7 → ⊥) × IsRunAs form text (Err (stops.Limit kind))
+RefusesText form text OutOfMemory = Unit {0}
+RefusesText form text (Exited status) = ⊥
+RefusesText form text (Trapped trap line) = ⊥
+RefusesText form text TurnsSpent = ⊥
+RefusesText form text Wrote = ⊥
+RefusesText form text Usage = ⊥
+RefusesText form text ReadFault = ⊥
+RefusesText form text WriteFault = ⊥
 
 -- what the call ends with, where the text is run as this program or refused for this
-abbrev pub Concludes : ℕ → Option (ℕ × List ℕ) → List Answer → Result Executable Stop → Ending →
+abbrev pub Concludes : (form : Form) → ℕ → Option (ℕ × List ℕ) → List Answer →
+    Result (Program form) Stop → Ending → Type 0
+Concludes form turns ready answers (Ok program) ending =
+    EndsAs (meaning_as form program turns ready answers).ending ending
+Concludes form turns ready answers (Err stop) ending = ending ≡ text_refusal stop
+
+abbrev pub AnswersProgram : Form → ℕ → Option (ℕ × List ℕ) → List Answer → List ℕ → Ending →
     Type 0
-Concludes turns ready answers (Ok program) ending =
-    EndsAs (meaning program turns ready answers).ending ending
-Concludes turns ready answers (Err stop) ending = ending ≡ text_refusal stop
+AnswersProgram form turns ready answers text ending =
+    (answer : Result (Program form) Stop) × IsRunAs form text answer
+    × Concludes form turns ready answers answer ending
 
-abbrev pub AnswersProgram : ℕ → Option (ℕ × List ℕ) → List Answer → List ℕ → Ending → Type 0
-AnswersProgram turns ready answers text ending =
-    (answer : Result Executable Stop) × IsProgram text answer
-    × Concludes turns ready answers answer ending
-
--- What a text decides, where nothing fails: more than 2^24 bytes pass the limit; any other text is refused as the phases of
--- written C say, or ends as its program does. Want of memory may come at any point.
-abbrev pub DecidesExecution : ℕ → Option (ℕ × List ℕ) → List Answer → List ℕ → Ending → Type 0
-DecidesExecution turns ready answers text ending =
+-- What a text decides, where nothing fails: more than 2^24 bytes pass the limit; any other text is refused as its phases
+-- say, or ends as its program does. Want of memory may come at any point.
+abbrev pub DecidesExecution : Form → ℕ → Option (ℕ × List ℕ) → List Answer → List ℕ → Ending →
+    Type 0
+DecidesExecution form turns ready answers text ending =
     (ending ≡ OutOfMemory)
     ⊎ ((2 ^ 24 < length text) × (ending ≡ Limit L6))
-    ⊎ ((length text ≤ 2 ^ 24) × AnswersProgram turns ready answers text ending)
+    ⊎ ((length text ≤ 2 ^ 24) × AnswersProgram form turns ready answers text ending)
 
 -- ---- runs
 
--- what a program means over the slots and the log of a rack
+-- a meaning over the slots and the log of a rack
 abbrev pub meaning_over : {X : Type 0} {F : X → Type 0} →
-    Executable → ℕ → Rack X F → Rack X F → Observed
-meaning_over program turns rack rack' =
-    meaning program turns (ready_slot (states (slots_of rack))) (answers_in (grown rack rack'))
+    Meaning → ℕ → Rack X F → Rack X F → Observed
+meaning_over meaning turns rack rack' =
+    meaning turns (ready_slot (states (slots_of rack))) (answers_in (grown rack rack'))
 
 -- the last line was put behind what was done
 pub record BeforeLine {E : Type 0} (told : E → Option (List ℕ))
@@ -179,28 +174,28 @@ module _ {O E X : Type 0} {F : X → Type 0} (held : O → Option (List ℕ)) (p
     pub errors : err' ≡ err
     pub links : rack' ≡ rack
 
-  -- the whole of what the program means was carried out, and the slot that was ready is free
-  pub record CarriedOut (program : Executable) (turns : ℕ) (out out' : O)
+  -- the whole of what a program means was carried out, and the slot that was ready is free
+  pub record CarriedOut (meaning : Meaning) (turns : ℕ) (out out' : O)
       (err err' : E) (rack rack' : Rack X F) (ending : Ending) : Type 0 where
     pub ended : evaluation.Ending
     pub ends : EndsAs ended ending
-    pub runs : Runs held puts told tells (meaning_over program turns rack rack')
+    pub runs : Runs held puts told tells (meaning_over meaning turns rack rack')
         (grown rack rack') ended out out' err err'
     pub slots : RunsOver (slots_of rack) (grown rack rack') (slots_of rack')
 
   -- a part of it was
-  pub record CarriedPart (program : Executable) (turns : ℕ) (out out' : O)
+  pub record CarriedPart (meaning : Meaning) (turns : ℕ) (out out' : O)
       (err err' : E) (rack rack' : Rack X F) : Type 0 where
     pub part : RunsPart held puts told tells
-        (meaning_over program turns rack rack') (grown rack rack') out out' err err'
+        (meaning_over meaning turns rack rack') (grown rack rack') out out' err err'
     pub slots : RunsOver (slots_of rack) (grown rack rack') (slots_of rack')
 
-  -- what carrying a program out does, by its ending
-  pub record Carries (program : Executable) (turns : ℕ) (out out' : O)
+  -- what carrying it out does, by its ending
+  pub record Carries (meaning : Meaning) (turns : ℕ) (out out' : O)
       (err err' : E) (rack rack' : Rack X F) (ending : Ending) : Type 0 where
-    pub whole : IsOfProgram ending → CarriedOut program turns out out' err err' rack rack' ending
+    pub whole : IsOfProgram ending → CarriedOut meaning turns out out' err err' rack rack' ending
     pub part : (ending ≡ WriteFault) ⊎ (ending ≡ OutOfMemory) →
-        CarriedPart program turns out out' err err' rack rack'
+        CarriedPart meaning turns out out' err err' rack rack'
     pub ends : IsOfCarried ending
     pub talks : KeepsTalks (talk_at talk (slots_of rack))
         (talk_at talk (slots_of rack')) (grown rack rack')
@@ -211,44 +206,47 @@ module _ {O E X : Type 0} {F : X → Type 0} (held : O → Option (List ℕ)) (p
     pub steady : (ending ≡ WriteFault → ⊥) → (puts out' ≡ puts out) × (tells err' ≡ tells err)
 
   -- what a text leads to
-  abbrev pub ExecutesText : ℕ → List ℕ → O → O → E → E → Rack X F → Rack X F → Ending → Type 0
-  ExecutesText turns text out out' err err' rack rack' ending =
-      ((program : Executable) × IsProgram text (Ok program)
-      × Carries program turns out out' err err' rack rack' ending)
-      ⊎ (RefusesText text ending × Untouched out out' err err' rack rack')
+  abbrev pub ExecutesText : Form → ℕ → List ℕ → O → O → E → E → Rack X F → Rack X F → Ending →
+      Type 0
+  ExecutesText form turns text out out' err err' rack rack' ending =
+      ((program : Program form) × IsRunAs form text (Ok program)
+      × Carries (meaning_as form program) turns out out' err err' rack rack' ending)
+      ⊎ (RefusesText form text ending × Untouched out out' err err' rack rack')
 
   module _ {I : Type 0} (left : I → Option (List ℕ)) where
     -- the input was read to its end, and the whole of what its program means was carried out
-    pub record ExecutesWhole (turns : ℕ) (input input' : I) (out out' : O)
+    pub record ExecutesWhole (form : Form) (turns : ℕ) (input input' : I) (out out' : O)
         (err err' : E) (rack rack' : Rack X F) (ending : Ending) : Type 0 where
       pub text : List ℕ
       pub read : IsRead (left input) (left input') text
-      pub program : Executable
-      pub is : IsProgram text (Ok program)
-      pub carried : CarriedOut program turns out out' err err' rack rack' ending
+      pub program : Program form
+      pub is : IsRunAs form text (Ok program)
+      pub carried : CarriedOut (meaning_as form program) turns out out' err err' rack rack' ending
 
     -- a part of it was
-    pub record ExecutesPart (turns : ℕ) (input input' : I) (out out' : O)
+    pub record ExecutesPart (form : Form) (turns : ℕ) (input input' : I) (out out' : O)
         (err err' : E) (rack rack' : Rack X F) : Type 0 where
       pub text : List ℕ
       pub read : IsRead (left input) (left input') text
-      pub program : Executable
-      pub is : IsProgram text (Ok program)
-      pub carried : CarriedPart program turns out out' err err' rack rack'
+      pub program : Program form
+      pub is : IsRunAs form text (Ok program)
+      pub carried : CarriedPart (meaning_as form program) turns out out' err err' rack rack'
 
     -- nothing was run, or a part
-    abbrev pub MayExecute : ℕ → I → I → O → O → E → E → Rack X F → Rack X F → Type 0
-    MayExecute turns input input' out out' err err' rack rack' =
+    abbrev pub MayExecute : Form → ℕ → I → I → O → O → E → E → Rack X F → Rack X F → Type 0
+    MayExecute form turns input input' out out' err err' rack rack' =
         Untouched out out' err err' rack rack'
-        ⊎ ExecutesPart turns input input' out out' err err' rack rack'
+        ⊎ ExecutesPart form turns input input' out out' err err' rack rack'
 
-    -- everything that is promised of a call that runs written C, but of the last line
-    pub record Executes (reads : I → ℕ) (turns : ℕ) (input input' : I) (out out' : O)
+    -- everything that is promised of a call that runs a text, but of the last line
+    pub record Executes (reads : I → ℕ) (form : Form) (turns : ℕ) (input input' : I) (out out' : O)
         (err err' : E) (rack rack' : Rack X F) (ending : Ending) : Type 0 where
       pub whole : IsOfProgram ending →
-          ExecutesWhole turns input input' out out' err err' rack rack' ending
-      pub part : ending ≡ WriteFault → ExecutesPart turns input input' out out' err err' rack rack'
-      pub want : ending ≡ OutOfMemory → MayExecute turns input input' out out' err err' rack rack'
+          ExecutesWhole form turns input input' out out' err err' rack rack' ending
+      pub part : ending ≡ WriteFault →
+          ExecutesPart form turns input input' out out' err err' rack rack'
+      pub want : ending ≡ OutOfMemory →
+          MayExecute form turns input input' out out' err err' rack rack'
       pub other : IsOfProgram ending ⊎ (ending ≡ WriteFault)
           ⊎ (ending ≡ OutOfMemory) ⊎ Untouched out out' err err' rack rack'
       pub ends : IsOfExecution ending
@@ -260,9 +258,9 @@ module _ {O E X : Type 0} {F : X → Type 0} (held : O → Option (List ℕ)) (p
           (states (slots_of rack')) (grown rack rack')
       pub logged : log_of rack' ≡ log_of rack ++ grown rack rack'
       pub refused : (kind : FaultKind) (line : Line) → ending ≡ Refused kind line →
-          RefusesAt IsRefusedWritten (left input) (left input') kind line.0
+          RefusesAt (IsRefusedAs form) (left input) (left input') kind line.0
       pub limit : (kind : LimitKind) → (kind ≡ L7 → ⊥) →
-          ending ≡ Limit kind → PassesWritten (left input) (left input') kind
+          ending ≡ Limit kind → PassesAs form (left input) (left input') kind
       pub read_fault : ending ≡ ReadFault → Rose (reads input) (reads input')
       pub write_fault : ending ≡ WriteFault →
           Rose (puts out) (puts out') ⊎ Rose (tells err) (tells err')
@@ -273,5 +271,5 @@ module _ {O E X : Type 0} {F : X → Type 0} (held : O → Option (List ℕ)) (p
       pub decides : (text : List ℕ) → (IsCrowded rack → ⊥) → left input ≡ Some text
           → (Rose (reads input) (reads input') → ⊥) →
           (Rose (puts out) (puts out') → ⊥) → (Rose (tells err) (tells err') → ⊥)
-          → DecidesExecution turns (ready_slot (states (slots_of rack)))
+          → DecidesExecution form turns (ready_slot (states (slots_of rack)))
           (answers_in (grown rack rack')) text ending

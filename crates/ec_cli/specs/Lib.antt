@@ -1,14 +1,6 @@
 pub mod Answers
 pub mod Ending
 pub mod Executing
-pub mod Fronts
-pub mod Machine
-pub mod PartTexts
-pub mod Readable
-pub mod Reads
-pub mod Refusals
-pub mod SourceBuilder
-pub mod SourceLines
-pub mod Statements
+pub mod Forms
 pub mod Tools
 pub mod Translating

@@ -1,13 +1,15 @@
--- What a call of the tool does, the last line on standard error aside: a translation, a run of written
--- C, or what the words of a run of a source name.
+-- What a call of the tool does, the last line on standard error aside: a translation, a run of a source or of written C, or
+-- nothing, where the words name neither.
 use Rattle.std.specs.Prelude.{◌≡◌, ℕ, ◌⊎◌, List, Option, String}
 use Rattle.std.specs.declared.alloc.Global.{Global as Allocator}
 use Rattle.std.specs.declared.dyn_box.DynBox.{DynBox}
 use Rattle.ec_link.specs.declared.rack.Rack.{Rack}
 use Rattle.ec_link.specs.Logged.{Talk}
 use Rattle.ec_cli.specs.declared.ending.Ending.{Ending}
-use Rattle.ec_cli.specs.Answers.{Answers}
-use Rattle.ec_cli.specs.Executing.{IsExecuting, HasTurns, Executes}
+use Rattle.ec_cli.specs.declared.ending.Ending.TheVariants.{Usage}
+use Rattle.ec_cli.specs.declared.form.Form.{Form}
+use Rattle.ec_cli.specs.Executing.{Executes, Untouched}
+use Rattle.ec_cli.specs.Forms.{IsRunning, HasTurns}
 use Rattle.ec_cli.specs.Translating.{IsTranslating, Translates}
 
 module _ {I O E X : Type 0} {F : X → Type 0} (left : I → Option (List ℕ)) (reads : I → ℕ)
@@ -23,21 +25,23 @@ module _ {I O E X : Type 0} {F : X → Type 0} (left : I → Option (List ℕ)) 
 
   pub record HasExecuted (words : List (String Allocator)) (input input' : I) (out out' : O)
       (err err' : E) (rack rack' : Rack X F) (ending : Ending) : Type 0 where
+    pub form : Form
     pub turns : ℕ
-    pub named : HasTurns words turns
-    pub executes : Executes held puts told tells talk left reads turns
+    pub named : HasTurns words form turns
+    pub executes : Executes held puts told tells talk left reads form turns
         input input' out out' err err' rack rack' ending
 
-  pub record HasRun (words : List (String Allocator)) (input input' : I) (out out' : O)
+  pub record HasDeclined (words : List (String Allocator)) (input input' : I) (out out' : O)
       (err err' : E) (rack rack' : Rack X F) (ending : Ending) : Type 0 where
     pub other : IsTranslating words → ⊥
-    pub unexecuted : IsExecuting words → ⊥
-    pub silent : err' ≡ err
-    pub answers : Answers left reads held puts talk words input input' out out' rack rack' ending
+    pub unnamed : (form : Form) → IsRunning words form → ⊥
+    pub usage : ending ≡ Usage
+    pub unread : input' ≡ input
+    pub untouched : Untouched held puts told tells talk out out' err err' rack rack'
 
   abbrev pub Does : List (String Allocator) → I → I → O → O → E → E → Rack X F → Rack X F → Ending
       → Type 0
   Does words input input' out out' err err' rack rack' ending =
       HasTranslated words input input' out out' err err' rack rack' ending
       ⊎ HasExecuted words input input' out out' err err' rack rack' ending
-      ⊎ HasRun words input input' out out' err err' rack rack' ending
+      ⊎ HasDeclined words input input' out out' err err' rack rack' ending

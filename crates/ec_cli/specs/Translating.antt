@@ -14,7 +14,6 @@ use Rattle.ec_base.specs.Putting.{Puts, PutsPart}
 use Rattle.ec_observed.specs.Headline.{IsRead, RefusesAt, IsTooLong, ReadsWithin}
 use Rattle.ec_translation.specs.Translations.{IsTranslation}
 use Rattle.ec_words.specs.Words.{names_translation}
-use Rattle.ec_cli.specs.Answers.{refusal_of}
 use Rattle.ec_cli.specs.declared.ending.Ending.{Ending}
 use Rattle.ec_cli.specs.declared.ending.Ending.TheVariants.{Wrote, Exited, Trapped, TurnsSpent, Usage, Refused, Limit, ReadFault, WriteFault, OutOfMemory}
 
@@ -34,6 +33,12 @@ IsOfTranslation (Exited status) = ⊥
 IsOfTranslation (Trapped trap line) = ⊥
 IsOfTranslation TurnsSpent = ⊥
 IsOfTranslation Usage = ⊥
+
+-- the ending of a text that is refused
+abbrev pub refusal_of : Stop → Ending
+refusal_of (stops.Refused kind line) = Refused kind line
+refusal_of (stops.Limit kind) = Limit kind
+refusal_of stops.OutOfMemory = OutOfMemory
 
 -- the text is refused for this fault at this line
 abbrev pub IsRefused : List ℕ → FaultKind → ℕ → Type 0

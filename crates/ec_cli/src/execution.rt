@@ -1,15 +1,19 @@
-//! The command `exec`: written C is read, and run.
+//! The commands `run` and `exec`: a source or written C is read, and run.
 ghost use Rattle.std.specs.Prelude.{◌≡◌};
 ghost use Rattle.ec_execute.specs.Executables.{executable_view};
 ghost use Rattle.ec_link.specs.Links.{talk_by};
 ghost use Rattle.ec_cli.specs.Answers.{IsCrowded};
+ghost use Rattle.ec_execution.specs.Programs.{meaning};
 ghost use Rattle.ec_cli.specs.Executing.{ending_of_program, text_refusal, Carries, ExecutesText, Executes};
+ghost use Rattle.ec_cli.specs.Forms.{TellsRun};
 
-use crate::command::{INPUT_LIMIT, is_crowded};
 use crate::ending::Ending;
+use crate::form::Form;
+use crate::limits::{INPUT_LIMIT, is_crowded};
 use ec_base::{Bytes, InputStop, LimitKind, Sink, Source as Input, Stop, read_all};
 use ec_execute::{Executable, RunEnd, read_program, run};
 use ec_link::{Link, Rack};
+use ec_run::read_source;
 use std::alloc::Global;
 
 // The ending of a run.
@@ -47,15 +51,26 @@ fn run_over<O: Sink, E: Sink>(
 ) -> Ending
     requires { IsCrowded rack.old → ⊥ }
     ensures { Carries O.held O.faults E.held E.faults (talk_by ⟦<dyn Link as Link>⟧)
-        (executable_view executable.now) turns out.old out.new err.old err.new rack.old rack.new
-        result }
+        (meaning (executable_view executable.now)) turns
+        out.old out.new err.old err.new rack.old rack.new result }
 {
     ended(run(alloc, executable, turns, rack, out, err))
+}
+
+// Reads a text to run it.
+fn read_text(alloc: Global, form: Form, text: &[u8]) -> Result<Executable, Stop>
+    ensures { TellsRun form text.now result }
+{
+    match form {
+        Form::Source => read_source(alloc, text),
+        Form::Written => read_program(alloc, text),
+    }
 }
 
 // Runs the program in a text, which is let go.
 fn execute_text<O: Sink, E: Sink>(
     alloc: Global,
+    form: Form,
     turns: u64,
     text: Bytes,
     out: &mut O,
@@ -64,17 +79,18 @@ fn execute_text<O: Sink, E: Sink>(
 ) -> Ending
     requires { IsCrowded rack.old → ⊥ }
     ensures { ExecutesText O.held O.faults E.held E.faults (talk_by ⟦<dyn Link as Link>⟧)
-        turns text out.old out.new err.old err.new rack.old rack.new result }
+        form turns text out.old out.new err.old err.new rack.old rack.new result }
 {
-    match read_program(alloc, text.as_slice()) {
+    match read_text(alloc, form, text.as_slice()) {
         Ok(executable) => run_over(alloc, &executable, turns, out, err, rack),
         Err(stop) => refused(stop),
     }
 }
 
-/// Runs the written C that the input gives, with so many turns. What it prints is passed on before the ending is decided.
+/// Runs the text that the input gives, with so many turns. What it prints is passed on before the ending is decided.
 pub fn execute<I: Input, O: Sink, E: Sink>(
     alloc: Global,
+    form: Form,
     turns: u64,
     input: &mut I,
     out: &mut O,
@@ -82,14 +98,14 @@ pub fn execute<I: Input, O: Sink, E: Sink>(
     rack: &mut Rack,
 ) -> Ending
     ensures { Executes O.held O.faults E.held E.faults (talk_by ⟦<dyn Link as Link>⟧)
-        I.left I.faults turns
+        I.left I.faults form turns
         input.old input.new out.old out.new err.old err.new rack.old rack.new result }
 {
     if is_crowded(rack) {
         return Ending::Limit(LimitKind::L7);
     }
     match read_all(alloc, input, INPUT_LIMIT) {
-        Ok(text) => execute_text(alloc, turns, text, out, err, rack),
+        Ok(text) => execute_text(alloc, form, turns, text, out, err, rack),
         Err(InputStop::Fault) => Ending::ReadFault,
         Err(InputStop::TooLong) => Ending::Limit(LimitKind::L6),
         Err(InputStop::OutOfMemory) => Ending::OutOfMemory,

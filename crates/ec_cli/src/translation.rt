@@ -1,11 +1,13 @@
 //! The command `translate`: a source is read, and the C that is written of it is put.
 ghost use Rattle.std.specs.Prelude.{◌≡◌, ◌≤◌, ◌^◌, length, OnOk, OnErr};
 ghost use Rattle.ec_base.specs.Putting.{Puts, PutsPart};
-ghost use Rattle.ec_cli.specs.Translating.{TranslatesText, Translates};
+ghost use Rattle.ec_cli.specs.Translating.{refusal_of, TranslatesText, Translates};
 
-use crate::command::{INPUT_LIMIT, refusal};
 use crate::ending::Ending;
-use ec_base::{Bytes, Failed, InputStop, LimitKind, Sink, Source as Input, put_all, read_all};
+use crate::limits::INPUT_LIMIT;
+use ec_base::{
+    Bytes, Failed, InputStop, LimitKind, Sink, Source as Input, Stop, put_all, read_all,
+};
 use ec_translate::translate;
 use std::alloc::Global;
 
@@ -17,6 +19,17 @@ fn put_text<O: Sink>(out: &mut O, text: &[u8]) -> Result<(), Failed>
 {
     put_all(out, text)?;
     out.flush()
+}
+
+// The ending of a text that is refused.
+fn refusal(stop: Stop) -> Ending
+    ensures { result ≡ refusal_of stop }
+{
+    match stop {
+        Stop::Refused(kind, line) => Ending::Refused(kind, line),
+        Stop::Limit(kind) => Ending::Limit(kind),
+        Stop::OutOfMemory => Ending::OutOfMemory,
+    }
 }
 
 // Puts what is written of the source in a text, which is let go.

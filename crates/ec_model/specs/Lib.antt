@@ -13,13 +13,6 @@ pub use Rattle.ec_evaluation.specs.Expanded
 pub use Rattle.ec_evaluation.specs.Results
 pub use Rattle.ec_evaluation.specs.State
 pub use Rattle.ec_evaluation.specs.Whole
-pub use Rattle.ec_firstpath.specs.Direct
-pub use Rattle.ec_firstpath.specs.Faults
-pub use Rattle.ec_firstpath.specs.Simulation
-pub use Rattle.ec_firstpath.specs.Source
-pub use Rattle.ec_firstpath.specs.Written
-pub use Rattle.ec_firstpath.specs.WrittenMeaning
-pub use Rattle.ec_firstpath.specs.WrittenText
 pub use Rattle.ec_functions.specs.Formats
 pub use Rattle.ec_functions.specs.Functions
 pub use Rattle.ec_functions.specs.Printing

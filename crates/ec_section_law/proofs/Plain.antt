@@ -200,9 +200,10 @@ mutual
       let q = both (is_written_option line.0 a && (is_written_option line.0 b && is_written_option line.0 c)) (is_written_stmt s) h in
       let r = both (is_written_option line.0 a) (is_written_option line.0 b && is_written_option line.0 c) q.0 in
       let t = both (is_written_option line.0 b) (is_written_option line.0 c) r.1 in
-      let x = option_plain line.0 a r.0 in let y = option_plain line.0 b t.0 in let z = option_plain line.0 c t.1 in
-      ((λ i. x.uses i & (y.uses i & z.uses i)),
-      all_hold (of_option a) (of_option b ++ (of_option c ++ of_stmt s)) x.places (all_hold (of_option b) (of_option c ++ of_stmt s) y.places (all_hold (of_option c) (of_stmt s) z.places (stmt_holds s q.1))))
+      let x = option_plain line.0 a r.0 in let y = option_plain line.0 b t.0 in let z = option_plain line.0 c t.1 in (
+        (λ i. x.uses i & (y.uses i & z.uses i)),
+        all_hold (of_option a) (of_option b ++ (of_option c ++ of_stmt s)) x.places (all_hold (of_option b) (of_option c ++ of_stmt s) y.places (all_hold (of_option c) (of_stmt s) z.places (stmt_holds s q.1))),
+      )
   kind_holds line break_stmt h = (refl, tt)
   kind_holds line continue_stmt h = (refl, tt)
   kind_holds line (return_stmt e) h = let p = option_plain line.0 e h in (p.uses, p.places)
@@ -278,9 +279,10 @@ function_holds f h =
     let r = both (is_written_base n f.base && is_plain_name f.name) ((are_written_params n f.params && not (is_void_list f.params)) && is_written_body f.body) q.1 in
     let b = both (is_written_base n f.base) (is_plain_name f.name) r.0 in
     let t = both (are_written_params n f.params && not (is_void_list f.params)) (is_written_body f.body) r.1 in
-    let ps = params_plain n f.params (both (are_written_params n f.params) (not (is_void_list f.params)) t.0).0 in
-    ((λ i. (no_varchar n f.base b.0).type f.stars i & ps.uses i),
-    all_hold (of_base f.base) (of_params f.params ++ of_body f.body) (base_holds n f.base b.0) (all_hold (of_params f.params) (of_body f.body) ps.places (body_holds f.body t.1)))
+    let ps = params_plain n f.params (both (are_written_params n f.params) (not (is_void_list f.params)) t.0).0 in (
+      (λ i. (no_varchar n f.base b.0).type f.stars i & ps.uses i),
+      all_hold (of_base f.base) (of_params f.params ++ of_body f.body) (base_holds n f.base b.0) (all_hold (of_params f.params) (of_body f.body) ps.places (body_holds f.body t.1)),
+    )
 
 top_holds : (t : TopData) → is_written_top t ≡ true → AllHold (of_top t)
 top_holds (include_top bytes) h = tt

@@ -157,16 +157,17 @@ abbrev pub run_words : List Word → Option RunWords
 run_words words = run_with (is_right (sayings anything words))
     (turns_in (sayings anything words)) (links_in (sayings anything words))
 
--- What the words ask of a run, or none where they name another command, or none.
-abbrev pub words_of : List Word → Option RunWords
-words_of [] = None
-words_of (first ∷ words) = if is_word first (codes "run") then run_words words else None
+-- What the words ask of a run by this command, or none where they name another command, or none. `run` takes a source, and
+-- `exec` takes written C. They have the same options and links.
+abbrev pub asked_by : Word → List Word → Option RunWords
+asked_by command [] = None
+asked_by command (first ∷ words) = if is_word first command then run_words words else None
 
--- What the words ask of the run of written C, which has the same options and links; or none where they name another
--- command, or none.
+abbrev pub words_of : List Word → Option RunWords
+words_of = asked_by (codes "run")
+
 abbrev pub execution_of : List Word → Option RunWords
-execution_of [] = None
-execution_of (first ∷ words) = if is_word first (codes "exec") then run_words words else None
+execution_of = asked_by (codes "exec")
 
 -- what is asked of either of the two
 abbrev pub asked : List Word → Option RunWords

@@ -7,4 +7,4 @@ mod words;
 
 pub use examples::word_examples;
 pub use links::{LinkSpec, links_named};
-pub use words::{names_translation, read_execution, read_words};
+pub use words::{names_translation, read_words};

@@ -1,6 +1,6 @@
 //! What the words behind the program's name ask for.
 ghost use Rattle.std.specs.Prelude.{◌≡◌, ◌==◌, ◌||◌, None, codes, map, option_map, position, string_bytes, MatchOption};
-ghost use Rattle.ec_words.specs.Words.{text_behind, number_from, turns_of, is_word, link_of, unmarked_link, named_link, file_of, said_turns, said_link, joined_or_link, reads, at_end, sayings, anything, is_nothing, run_words, words_of, execution_of, asked};
+ghost use Rattle.ec_words.specs.Words.{text_behind, number_from, turns_of, is_word, link_of, unmarked_link, named_link, file_of, said_turns, said_link, joined_or_link, reads, at_end, sayings, anything, is_nothing, run_words, asked_by, asked};
 ghost use Rattle.ec_words.specs.Words as spec;
 ghost use Rattle.ec_words.specs.Reading.{spec_of, said_of, expected_of, tally_with, tallied_over};
 
@@ -290,22 +290,13 @@ pub fn names_translation(words: &[String]) -> bool
     }
 }
 
-/// How many turns the run of written C has that the words ask for, or none where they name none. It takes no memory.
-pub fn read_execution(words: &[String]) -> Option<u64>
-    ensures { result ≡ option_map (λ it. it.turns) (execution_of (map string_bytes words.now)) }
+/// How many turns the run by this command has that the words ask for, or none where they don't name it. It takes no memory.
+pub fn read_words(command: &[u8], words: &[String]) -> Option<u64>
+    ensures { result ≡ option_map (λ it. it.turns)
+        (asked_by command.now (map string_bytes words.now)) }
 {
     match words {
-        [first, rest @ ..] if is_word(first.as_bytes(), b"exec") => run_turns(rest),
-        _ => None,
-    }
-}
-
-/// How many turns the run has that the words ask for, or none where they name no run. It takes no memory.
-pub fn read_words(words: &[String]) -> Option<u64>
-    ensures { result ≡ option_map (λ it. it.turns) (words_of (map string_bytes words.now)) }
-{
-    match words {
-        [first, rest @ ..] if is_word(first.as_bytes(), b"run") => run_turns(rest),
+        [first, rest @ ..] if is_word(first.as_bytes(), command) => run_turns(rest),
         _ => None,
     }
 }

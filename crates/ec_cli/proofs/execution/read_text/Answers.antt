@@ -1,0 +1,12 @@
+use Rattle.std.proofs.Common.{subst, sym}
+use Rattle.ec_cli.specs.Forms.{TellsRun}
+use Rattle.ec_cli.proofs.Executions.{source_told, written_told}
+use Rattle.ec_cli.proofs.execution.read_text.Goals as goal
+
+pub returns-in-Source : goal.returns-in-Source
+returns-in-Source c =
+    subst (λ f. TellsRun f c.args.text.now c.read_source.result) (sym c.in-Source.is) (source_told c.args.text.now c.read_source.result c.read_source.ensures)
+
+pub returns-in-Written : goal.returns-in-Written
+returns-in-Written c =
+    subst (λ f. TellsRun f c.args.text.now c.read_program.result) (sym c.in-Written.is) (written_told c.args.text.now c.read_program.result c.read_program.ensures.answer)

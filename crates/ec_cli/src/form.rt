@@ -1,0 +1,8 @@
+/// What a text is that is run.
+#[derive(Clone, Copy, Debug, PartialEq, Eq)]
+pub enum Form {
+    /// A source, by `run`.
+    Source,
+    /// Written C, by `exec`.
+    Written,
+}
