@@ -1,4 +1,4 @@
-"""Random programs of written C that call ECPGdo, with what the server answers, as rows (call_rows.py).
+"""Random programs of written C that call the library, with what the server answers, as rows (call_rows.py).
 
 A program is run by the second evaluator before it is done: each reply is made when it is asked for, so that it mostly fits the
 outputs of its call, and behind that run it is known which cells are set, so that the program can print them all at its end.
@@ -30,6 +30,8 @@ STATEMENTS = [
     '"select a,b from \\042T x\\042 where c=$1::int and s=\'a  b\'"', '"SELECT \\"q\\"" " AND 2"', '"a\\\\b\\n\\tc"',
     '"\\303\\251 \\x41\\377?"', '"UPDATE t SET a=$1 -- no\\n"', '"E\'\\\\\'\'"', '"z\\000behind"',
 ]
+CONTROLS = ['"COMMIT"', '"ROLLBACK"', '"BEGIN WORK"', '"SAVEPOINT " "s"', '""']
+SWITCHES = ['"off"', '"off"', '"off"', '"on"', '"o\\156"']
 MOST_PRINTED = 48  # cells of a variable
 STATES = ["23505", "21000", "42P01", "XX000", "00000", "02000", "08006", "2350x"]
 LITERALS = ['"12"', '""', '"it\'s"', '"a\\042b"', '"-5"', '"\\377\\001"', '"x" "y"', '"n\\000ul"']
@@ -81,11 +83,11 @@ class Answers(Link):
         super().__init__([], breaks)
         self.rng, self.made = rng, []
 
-    def answer(self, call):
+    def answer(self, outputs):
         self.asks += 1
         if self.asks - 1 in self.breaks:
             return ("broken",)
-        self.made.append(self.reply(call.outputs))
+        self.made.append(self.reply(outputs))
         return self.made[-1]
 
     def reply(self, outputs):
@@ -379,13 +381,19 @@ class Programs:
     def connection(self):
         return self.pick(["NULL"] * 22 + ['"db"', '"d" "b"', '"d\\142"', '"no"', '""', "connection", "(unsigned char *)connection"])
 
+    def line_told(self):
+        return self.number if self.is_lined and self.chance(0.8) else self.pick([1, 7, 42, 1000, 2147483647, "0x1f", 0])
+
     def call(self):
         """The text of a call."""
+        if self.chance(0.15):
+            return f"ECPGtrans({self.line_told()}, {self.connection()}, {self.pick(CONTROLS)})"
+        if self.chance(0.18):
+            return f"ECPGsetcommit({self.line_told()}, {self.pick(SWITCHES)}, {self.connection()})"
         inputs = [self.constant() if self.chance(0.12) else self.member(True, 1) for _ in range(self.pick([0, 0, 0, 1, 1, 2, 3, 6]))]
         most = self.pick([1, 1, 2, 3, 4])
         outputs = [self.member(False, most) for _ in range(self.pick([0, 1, 1, 1, 2, 2, 3, 4, 6]))]
-        line = self.number if self.is_lined and self.chance(0.8) else self.pick([1, 7, 42, 1000, 2147483647, "0x1f", 0])
-        parts = [str(line), self.connection(), "ECPGst_normal", self.pick(STATEMENTS), *inputs, "ECPGt_EOIT", *outputs, "ECPGt_EORT"]
+        parts = [str(self.line_told()), self.connection(), "ECPGst_normal", self.pick(STATEMENTS), *inputs, "ECPGt_EOIT", *outputs, "ECPGt_EORT"]
         gap = ",\n" if self.chance(0.1) else ", "
         return f"ECPGdo({gap.join(parts)})"
 
@@ -598,7 +606,7 @@ def tampered(rng, text):
         ("ECPGt_short", "ECPGt_unsigned_short"), ("2L", "16777217L"), ("NULL, 0L, 0L, 0L", "NULL, 0L, 1L, 0L"), ("NULL", "0"),
         ("ECPGt_EOIT", "ECPGt_descriptor, \"d\", 1L, 1L, 1L, ECPGt_NO_INDICATOR, NULL, 0L, 0L, 0L, ECPGt_EOIT"),
         ("ECPGt_EOIT", "ECPGt_char, strcpy(sqlca.sqlerrm.sqlerrmc, \"x\"), 5L, 1L, 5L, ECPGt_NO_INDICATOR, NULL, 0L, 0L, 0L, ECPGt_EOIT"),
-        ("ECPGdo(", "ECPGdisconnect(1, \"db\");\nECPGdo("), ("ECPGdo(", "ECPGtrans(1, NULL, \"commit\");\nECPGdo("),
+        ("ECPGdo(", "ECPGdisconnect(1, \"db\");\nECPGdo("), ("ECPGdo(", "ECPGsetconn(1, \"db\");\nECPGdo("),
     ])
     return text[:at] + text[at:].replace(*change, 1)
 

@@ -1,10 +1,10 @@
 #!/usr/bin/env python3
-"""Calls of ECPGdo for the second evaluator, from docs/CALLS.md, docs/STORING.md and docs/RUNNING.md alone.
+"""Calls of the library for the second evaluator, from docs/CALLS.md, docs/STORING.md and docs/RUNNING.md alone.
 
     compare/calls_made.py TURNS FILE
 
-runs a program of written C without a connection. A call sends its text over the one connection that is ready, whose link has
-a script of replies. A reply is a tuple: its kind, and what docs/ROWS.md says behind it, as bytes and numbers:
+runs a program of written C without a connection. A call goes over the one connection that is ready, whose link has a script
+of replies. A reply is a tuple: its kind, and what docs/ROWS.md says behind it, as bytes and numbers:
 ("rows", "I", [(name, code)], [[field]]), ("done", "I", count), ("refused", "I", state, message), ("connected",),
 ("notarget",) and ("broken",). A field and a parameter are bytes, or None for NULL.
 """
@@ -22,6 +22,7 @@ FINDINGS = {
     -203: ("21000", "too many rows"), -204: ("42804", "not a number of type int"),
     -205: ("42804", "not a number of an unsigned type"), -211: ("42804", "not a bool"),
     -213: ("22002", "null value without indicator"), -220: ("08003", "no such connection"),
+    -401: ("08007", "transaction control refused"),
 }
 BROKEN, OUT_OF_PLACE = (-400, b"08006", b"connection broken"), (-400, b"08P01", b"reply out of place")
 SERVER_CODES = {b"23505": -403, b"21000": -404}
@@ -114,19 +115,29 @@ def members(arguments, end):
 
 
 class Call:
-    """ECPGdo with a text that is sent."""
+    """A call that is made: the text that it sends, and what it is given and gives. ECPGsetcommit has none of these."""
 
-    def __init__(self, arguments):
-        self.arguments = arguments
-        self.line, self.connection, self.text = arguments[0].constant(), arguments[1], arguments[3].literal
-        self.inputs, rest = members(arguments[4:], "ECPGt_EOIT")
-        self.outputs, _ = members(rest, "ECPGt_EORT")
+    def __init__(self, name, arguments):
+        self.name, self.arguments, self.line = name, arguments, arguments[0].constant()
+        self.text, self.inputs, self.outputs = None, [], []
+        if name == "ECPGsetcommit":
+            self.is_on, self.connection = arguments[1].literal == b"on", arguments[2]
+        elif name == "ECPGtrans":
+            self.connection, self.text = arguments[1:3]
+        else:
+            self.connection, self.text = arguments[1], arguments[3]
+            self.inputs, rest = members(arguments[4:], "ECPGt_EOIT")
+            self.outputs, _ = members(rest, "ECPGt_EORT")
+
+
+SENT = ("ECPGst_normal",)
 
 
 def is_made(name, arguments):
     """Whether the library makes this call already."""
-    return (name == "ECPGdo" and arguments[2].word == "ECPGst_normal"
-            and not any(a.word == "ECPGt_descriptor" or a.calls for a in arguments))
+    if any(a.word == "ECPGt_descriptor" or a.calls for a in arguments):
+        return False
+    return name in ("ECPGtrans", "ECPGsetcommit") or name == "ECPGdo" and arguments[2].word in SENT
 
 
 def lines_told(text):
@@ -197,7 +208,7 @@ class WrittenParser(evaluator.Parser):
         elif not is_made(name, arguments):
             self.not_made.append(started)
         else:
-            return Node("library", VOID, Call(arguments))
+            return Node("library", VOID, Call(name, arguments))
         return Node("library", VOID, None)
 
     def argument(self):
@@ -218,7 +229,8 @@ class Link:
     def __init__(self, replies, breaks=()):
         self.replies, self.breaks, self.asks = list(replies), set(breaks), 0
 
-    def answer(self, call):
+    def answer(self, outputs):
+        """The reply to a request whose rows go into these."""
         self.asks += 1
         if self.asks - 1 in self.breaks or not self.replies:
             return ("broken",)
@@ -248,6 +260,7 @@ class CallingMachine(evaluator.Machine):
         super().__init__(program, turns)
         self.exchanges = []
         self.connection = next(((n, slot) for n, slot in enumerate(slots) if slot.is_ready), None)
+        self.autocommit, self.told = True, "I"
 
     def opened(self):
         super().opened()
@@ -270,14 +283,37 @@ class CallingMachine(evaluator.Machine):
 
     def made_call(self, call):
         name = self.text_of(call.connection)
+        text = None if call.text is None else self.text_of(call.text)
         parameters = [self.parameter(m) for m in call.inputs]
         storing.reset(self.objects[1])
         try:
-            self.settled(call, self.answered(call, name, parameters))
+            self.find(name)
+            self.carry(call, text, parameters)
         except Told as told:
             storing.raise_code(self.objects[1], *told.args, call.line)
         except storing.Code as code:
             storing.raise_code(self.objects[1], *finding(code.args[0]).args, call.line)
+
+    def find(self, name):
+        """The connection of this name, or the current one."""
+        if self.connection is None or name not in (None, self.connection[1].name):
+            raise finding(-220)
+
+    def carry(self, call, text, parameters):
+        if call.name == "ECPGtrans":
+            self.control(text)
+        elif call.name == "ECPGsetcommit":
+            if call.is_on and not self.autocommit and self.told != "I":
+                self.control(b"commit")
+            self.autocommit = call.is_on
+        else:
+            if not self.autocommit and self.told == "I":
+                self.control(b"begin transaction")
+            self.settled(call, self.asked(text, parameters, call.outputs))
+
+    def control(self, text):
+        if self.asked(text, [], [])[0] not in ("rows", "done"):
+            raise finding(-401)
 
     def text_of(self, argument):
         """A text, or None where it isn't given."""
@@ -288,13 +324,13 @@ class CallingMachine(evaluator.Machine):
     def parameter(self, member):
         return member.at.literal if member.symbol == "const" else storing.to_text(self.objects, member.host())
 
-    def answered(self, call, name, parameters):
-        """The reply to the text, over the connection of this name or the current one."""
-        if self.connection is None or name not in (None, self.connection[1].name):
-            raise finding(-220)
+    def asked(self, text, parameters, outputs):
+        """The reply to a text, and what it tells of the transaction."""
         number, slot = self.connection
-        reply = slot.link.answer(call)
-        self.exchanges.append((number, call.text, parameters, reply))
+        reply = slot.link.answer(outputs)
+        if reply[0] in ("rows", "done", "refused"):
+            self.told = reply[1]
+        self.exchanges.append((number, text, parameters, reply))
         return reply
 
     def settled(self, call, reply):

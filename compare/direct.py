@@ -433,7 +433,7 @@ class DirectMachine(evaluator.Machine):
         if self.connection is None or name not in (None, self.connection[1].name):
             raise code(-220)
         number, slot = self.connection
-        reply = slot.link.answer(step)
+        reply = slot.link.answer(step.outputs)
         self.exchanges.append((number, step.text, parameters, reply))
         return reply
 

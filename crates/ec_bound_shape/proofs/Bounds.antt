@@ -35,7 +35,6 @@ use Rattle.ec_typing.specs.Worlds.{MembersData, unlisted, begun, listed, StructI
 use Rattle.ec_whenever.specs.Tables.{table_of, AnswersFor}
 use Rattle.ec_whenever.proofs.Tables.{table_answers}
 use Rattle.ec_writing.specs.Shapes.{is_byte}
-use Rattle.ec_source_shape.specs.Includes.{DeclareNoPiece, DeclaredIncludesStartNothing}
 use Rattle.ec_source_shape.specs.SourceShape.{are_source_tokens, are_source_tops, is_source_shape}
 use Rattle.ec_written_shape.specs.Bounds.{is_written_action_option, are_written_actions, is_written_bound}
 use Rattle.ec_bound_shape.specs.Counts.{is_counted, are_counted}
@@ -307,13 +306,13 @@ of_reading text v (statements pieces ts u es answer l c x is r e) =
     record { pieces = pieces; ts = ts; tree = u; cut = c; lexed = x; derived = is; short = l; read = subst (ReadsStatements pieces (statement_places ts)) s.list r; tops = s.tops }
 
 module _
-    (tokens_are : (text : Text) (pieces : List Piece) (ts : List TokenData) → each is_byte text ≡ true → length text ≤ max_text → Pieces text pieces → DeclareNoPiece pieces → Tokens false pieces ts → are_source_tokens ts ≡ true)
+    (tokens_are : (text : Text) (pieces : List Piece) (ts : List TokenData) → each is_byte text ≡ true → length text ≤ max_text → Pieces text pieces → Tokens false pieces ts → are_source_tokens ts ≡ true)
     (derived_shape : (ts : List TokenData) (u : UnitData) → are_source_tokens ts ≡ true → TreeOrStop ts (Ok u) → is_source_shape u ≡ true)
   where
-    unit_written : (text : Text) (v : UnitData) (t : TypedData) (bs : List BoundData) → each is_byte text ≡ true → DeclaredIncludesStartNothing text → ReadsTree text (Ok v) → OfTree v t → bound_from t 0 t.unit.embs ≡ Ok bs → are_counted bs ≡ true → have_written_hosts t.handlers t.unit.embs bs ≡ true
-    unit_written text v t bs b q r made bound c =
+    unit_written : (text : Text) (v : UnitData) (t : TypedData) (bs : List BoundData) → each is_byte text ≡ true → ReadsTree text (Ok v) → OfTree v t → bound_from t 0 t.unit.embs ≡ Ok bs → are_counted bs ≡ true → have_written_hosts t.handlers t.unit.embs bs ≡ true
+    unit_written text v t bs b r made bound c =
         let reading = of_reading text v r in
-        let shape = derived_shape reading.ts reading.tree (tokens_are text reading.pieces reading.ts b reading.short reading.cut (q reading.pieces reading.cut) reading.lexed) reading.derived in
+        let shape = derived_shape reading.ts reading.tree (tokens_are text reading.pieces reading.ts b reading.short reading.cut reading.lexed) reading.derived in
         let source = source_statements text v b r in
         let simple = are_simple_statements v.embs source in
         let table = table_of (marks_in v.embs) in
@@ -324,9 +323,9 @@ module _
         subst (λ (x : TypedData). have_written_hosts x.handlers x.unit.embs bs ≡ true) same
         (program_written (typed_of v made.hosts table (checked false v).world) (structs_plain (checked false v).world known.0) table (table_answers v.embs (stand_in_order text v r)) simple bs here source (subst (AllOf (IsKnown v.embs)) stand known.1) c)
 
-    pub accepted_written : (text : Text) (p : BoundProgram) → each is_byte text ≡ true → DeclaredIncludesStartNothing text → ReadsSource text (Ok p) → are_counted p.bounds ≡ true → are_hosts_written p ≡ true
-    accepted_written text p b q r c =
+    pub accepted_written : (text : Text) (p : BoundProgram) → each is_byte text ≡ true → ReadsSource text (Ok p) → are_counted p.bounds ≡ true → are_hosts_written p ≡ true
+    accepted_written text p b r c =
         let bound = of_bound r.0 p (sym r.2) in
         let tree = of_checked r.1.0 bound.typed (sym r.1.2 ∙ bound.is) in
         subst (λ (x : TypedData). have_written_hosts x.handlers x.unit.embs p.bounds ≡ true) bound.made.same
-        (unit_written text tree.unit bound.typed p.bounds b q (subst (ReadsTree text) tree.is r.1.1) tree.made bound.made.bound c)
+        (unit_written text tree.unit bound.typed p.bounds b (subst (ReadsTree text) tree.is r.1.1) tree.made bound.made.bound c)

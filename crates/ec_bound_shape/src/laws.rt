@@ -13,7 +13,6 @@ ghost use Rattle.ec_language.specs.Letters.{Text, each};
 ghost use Rattle.ec_language.specs.Syntax.{TreeOrStop};
 ghost use Rattle.ec_language.specs.Tokens.{Tokens};
 ghost use Rattle.ec_phases.specs.Sources.{BoundProgram, ReadsSource, ReadsStatements};
-ghost use Rattle.ec_source_shape.specs.Includes.{DeclaredIncludesStartNothing};
 ghost use Rattle.ec_writing.specs.Shapes.{is_byte};
 
 use ec_source_shape::{derived_trees_have_source_shape, sources_have_source_shape};
@@ -28,12 +27,11 @@ pub fn all_statements_stand_in_trees()
 
 /// The hosts of the statements of an accepted source and the actions that hold at them can be written, if their sizes and
 /// counts can: names are names of C that an expression can begin with, members and labels have plain names, and texts are
-/// bytes. It is said of sources whose declarations after EXEC SQL have no `#include` line in which an embedded piece would
-/// start.
+/// bytes.
 #[tactic(none)]
 pub fn accepted_hosts_can_be_written()
     ensures { (text : Text) (p : BoundProgram) → each is_byte text ≡ true
-        → DeclaredIncludesStartNothing text → ReadsSource text (Ok p)
+        → ReadsSource text (Ok p)
         → are_counted p.bounds ≡ true → are_hosts_written p ≡ true }
 {
     sources_have_source_shape();

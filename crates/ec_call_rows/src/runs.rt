@@ -10,7 +10,7 @@ use ec_convert::HostPlace;
 use ec_ctypes::Sym;
 use ec_link::{MemLink, Rack, Reply};
 use ec_memory::Store;
-use ec_runtime::{Call, Host, Input, Library, TextArg};
+use ec_runtime::{Call, Host, Input, Kind, Library, Statement, TextArg};
 use std::alloc::Global;
 
 // An int at the front of an object.
@@ -35,12 +35,11 @@ fn select(alloc: Global) -> Result<Call, OutOfMemory> {
     if let Some(host) = int_at(2) {
         outs.push(host)?;
     }
+    let text = Bytes::from_slice(alloc, b"SELECT a FROM t WHERE b = $1")?;
     Ok(Call {
         line: Line(3),
         connection: TextArg::Absent,
-        text: Bytes::from_slice(alloc, b"SELECT a FROM t WHERE b = $1")?,
-        ins,
-        outs,
+        kind: Kind::Run(Statement { text, ins, outs }),
     })
 }
 

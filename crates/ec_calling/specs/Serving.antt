@@ -7,6 +7,8 @@ use Rattle.ec_cut.specs.declared.arguments.Cut.{Cut}
 use Rattle.ec_cut.specs.declared.arguments.Member.{Member}
 use Rattle.ec_cut.specs.declared.arguments.Statement.{Statement}
 use Rattle.ec_cut.specs.declared.arguments.Text.{Text}
+use Rattle.ec_runtime.specs.declared.call.Kind.{Kind}
+use Rattle.ec_runtime.specs.Statements.{kind_view}
 use Rattle.ec_calling.specs.declared.address.Address.{Address}
 use Rattle.ec_calling.specs.Giving.{bytes_of, number_of}
 
@@ -43,3 +45,8 @@ run_seen line connection statement ins outs =
       line = line;
       call = spec.run (text_seen connection) statement (members_seen ins) (members_seen outs);
     }
+
+-- a call of a kind that the library makes, on a line and over a connection
+abbrev pub call_seen : ℕ → GivenText → Kind → spec.Cut ℕ
+call_seen line connection kind =
+    record { line = line; call = kind_view (text_seen connection) kind }

@@ -1,23 +1,24 @@
-//! Calls that are cut, as the library is given them: those of ECPGdo with a text, over hosts and
-//! constants.
+//! Calls that are cut, as the library is given them: transaction control, autocommit, and ECPGdo
+//! with a text, over hosts and constants.
 
 ghost use Rattle.std.specs.Prelude.{◌≡◌, IfSome, map, option_map};
 ghost use Rattle.ec_arguments.specs.Arguments.{normal};
 ghost use Rattle.ec_cut.specs.Views.{indicators_view, place_view};
+ghost use Rattle.ec_runtime.specs.declared.call.Kind.TheVariants as kinds;
 ghost use Rattle.ec_runtime.specs.Places as places;
 ghost use Rattle.ec_runtime.specs.Reading.{input_view, text_view};
 ghost use Rattle.ec_runtime.specs.Statements.{cut_view, target_view};
 ghost use Rattle.ec_runtime.specs.Views.{host_view};
 ghost use Rattle.ec_calling.specs.Giving.{number_of};
-ghost use Rattle.ec_calling.specs.Serving.{cut_seen, member_seen, members_seen, run_seen, statement_seen, text_seen};
+ghost use Rattle.ec_calling.specs.Serving.{call_seen, cut_seen, member_seen, members_seen, run_seen, statement_seen, text_seen};
 
 use crate::address::Address;
 use ec_base::{Bytes, Line, List};
 use ec_bytes::Ptr;
 use ec_convert::HostPlace;
 use ec_ctypes::Sym;
-use ec_cut::{Call as CutCall, Cut, Indicator, Member, Place, Statement, Text};
-use ec_runtime::{Call, Host, Input, TextArg};
+use ec_cut::{Call as CutCall, Cut, Indicator, Member, Place, Statement as Asked, Text};
+use ec_runtime::{Call, Host, Input, Kind, Statement, TextArg};
 use std::alloc::Global;
 
 // A text.
@@ -165,12 +166,11 @@ fn made_of(
     let Some(outs) = outputs_of(alloc, outs) else {
         return None;
     };
+    let kind = Kind::Run(Statement { text, ins, outs });
     Some(Call {
         line,
         connection,
-        text,
-        ins,
-        outs,
+        kind,
     })
 }
 
@@ -179,7 +179,7 @@ fn run_of(
     alloc: Global,
     line: u64,
     connection: Text<&[u8], Address>,
-    statement: Statement<&[u8], Address>,
+    statement: Asked<&[u8], Address>,
     ins: &[Member<&[u8], Address>],
     outs: &[Member<&[u8], Address>],
 ) -> Option<Call>
@@ -187,10 +187,37 @@ fn run_of(
         ≡ run_seen line connection.entry (statement_seen statement.entry) ins.now outs.now) }
 {
     match statement {
-        Statement::Normal(text) => made_of(alloc, line, connection, text, ins, outs),
-        Statement::Prepared(_) => None,
-        Statement::Immediate(_) => None,
-        Statement::Opening(_, _) => None,
+        Asked::Normal(text) => made_of(alloc, line, connection, text, ins, outs),
+        Asked::Prepared(_) => None,
+        Asked::Immediate(_) => None,
+        Asked::Opening(_, _) => None,
+    }
+}
+
+// A call of this kind.
+fn call_of(alloc: Global, line: u64, connection: Text<&[u8], Address>, kind: Kind) -> Option<Call>
+    ensures { IfSome result (λ made. cut_view made ≡ call_seen line connection.entry kind) }
+{
+    let Some(line) = line_of(line) else {
+        return None;
+    };
+    let Some(connection) = text_of(alloc, connection) else {
+        return None;
+    };
+    Some(Call {
+        line,
+        connection,
+        kind,
+    })
+}
+
+// Transaction control.
+fn control_of(alloc: Global, text: &[u8]) -> Option<Kind>
+    ensures { IfSome result (λ made. made ≡ kinds.Control text.now) }
+{
+    match Bytes::from_slice(alloc, text) {
+        Ok(text) => Some(Kind::Control(text)),
+        Err(_) => None,
     }
 }
 
@@ -208,6 +235,13 @@ pub(crate) fn served(alloc: Global, cut: &Cut<&[u8], Address>) -> Option<Call>
             ins.as_slice(),
             outs.as_slice(),
         ),
+        CutCall::SetAutocommit(on, connection) => {
+            call_of(alloc, cut.line, *connection, Kind::Autocommit(*on))
+        }
+        CutCall::Control(connection, text) => match control_of(alloc, text) {
+            Some(kind) => call_of(alloc, cut.line, *connection, kind),
+            None => None,
+        },
         _ => None,
     }
 }

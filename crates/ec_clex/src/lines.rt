@@ -10,6 +10,7 @@ ghost use Rattle.ec_split.specs.Places.{text_from};
 use crate::numbers::digits_value;
 use ec_split::scanning::bytes::{ByteClass, begins_two, behind_all, is_blank, is_digit};
 use ec_split::scanning::ends::End;
+use ec_split::scanning::fronts::starts_piece;
 use ec_split::scanning::units::c_end;
 
 /// Whether the text begins with these bytes at the index.
@@ -46,7 +47,7 @@ pub fn fresh_after(fresh: bool, bytes: &[u8]) -> bool
     fresh
 }
 
-/// Whether an `#include` line ends at the index.
+/// Whether an `#include` line ends at the index: with its line, or before a comment or an embedded piece.
 pub fn ends_include(text: &[u8], at: usize) -> bool
     requires { at ≤ length text.now }
     ensures { result ≡ read.ends_include (drop at text.now) }
@@ -55,6 +56,7 @@ pub fn ends_include(text: &[u8], at: usize) -> bool
         || text[at] == b'\n'
         || begins_two(text, at, b'/', b'*')
         || begins_two(text, at, b'/', b'/')
+        || starts_piece(text, at)
 }
 
 /// The index behind an `#include` line that goes on at the index.

@@ -46,7 +46,7 @@ module _ {I O : Type 0} (left : I → Option (List ℕ)) (reads : I → ℕ) (he
   untouched_of text out out' ReadFault h a b = absurd h
 
   calm_of : (text : List ℕ) (out out' : O) (ending : Ending) → TranslatesText held puts text out out' ending → (ending ≡ WriteFault → ⊥) → puts out' ≡ puts out
-  calm_of text out out' Wrote h b = h.2.steady
+  calm_of text out out' Wrote h b = h.3.steady
   calm_of text out out' WriteFault h b = absurd (b refl)
   calm_of text out out' (Refused kind line) h b = ap puts h.1
   calm_of text out out' (Limit kind) h b = ap puts h.1
@@ -73,7 +73,7 @@ module _ {I O : Type 0} (left : I → Option (List ℕ)) (reads : I → ℕ) (he
   pub translates : (input input' : I) (out out' : O) (ending : Ending) (text : List ℕ) → ReadsAll left reads input input' (2 ^ 24) text → TranslatesText held puts text out out' ending
       → Translates left reads held puts input input' out out' ending
   translates input input' out out' ending text r t = record {
-    wrote = λ h. (let w = subst (TranslatesText held puts text out out') h t in record { text = text; read = read_of input input' text r; written = w.0; is = w.1; put = w.2.taken });
+    wrote = λ h. (let w = subst (TranslatesText held puts text out out') h t in record { text = text; read = read_of input input' text r; written = w.0; is = w.1; means = w.2; put = w.3.taken });
     part = λ h. (let w = subst (TranslatesText held puts text out out') h t in record { text = text; read = read_of input input' text r; written = w.0; is = w.1; put = w.2 });
     untouched = untouched_of text out out' ending t;
     ends = ends_of text out out' ending t;

@@ -12,6 +12,7 @@ use Rattle.ec_base.specs.declared.stop.Stop.TheVariants as stops
 use Rattle.ec_base.specs.Causes.{Rose}
 use Rattle.ec_base.specs.Putting.{Puts, PutsPart}
 use Rattle.ec_observed.specs.Headline.{IsRead, RefusesAt, IsTooLong, ReadsWithin}
+use Rattle.ec_run.specs.Meanings.{KeepsMeaning}
 use Rattle.ec_translation.specs.Translations.{IsTranslation}
 use Rattle.ec_words.specs.Words.{names_translation}
 use Rattle.ec_cli.specs.declared.ending.Ending.{Ending}
@@ -62,12 +63,14 @@ DecidesTranslation text ending =
     ⊎ ((2 ^ 24 < length text) × (ending ≡ Limit L6))
     ⊎ ((length text ≤ 2 ^ 24) × AnswersTranslation text ending)
 
--- the input was read to its end, and the whole of what is written of it was put
+-- the input was read to its end, and the whole of what is written of it was put, which means what
+-- the source means, if that is run
 pub record WritesWhole (input input' output output' : Option (List ℕ)) : Type 0 where
   pub text : List ℕ
   pub read : IsRead input input' text
   pub written : List ℕ
   pub is : IsTranslation text (Ok written)
+  pub means : KeepsMeaning text written
   pub put : Appends output output' written
 
 -- the input was read to its end and passes this limit, or more than 2^24 bytes came
@@ -84,7 +87,8 @@ module _ {O : Type 0} (held : O → Option (List ℕ)) (puts : O → ℕ) where
   -- what a text is translated to was put, or a front of it; a text that is refused leaves the output
   abbrev pub TranslatesText : List ℕ → O → O → Ending → Type 0
   TranslatesText text out out' Wrote =
-      (written : List ℕ) × IsTranslation text (Ok written) × Puts held puts out out' written
+      (written : List ℕ) × IsTranslation text (Ok written) × KeepsMeaning text written
+      × Puts held puts out out' written
   TranslatesText text out out' WriteFault =
       (written : List ℕ) × IsTranslation text (Ok written) × PutsPart held puts out out' written
   TranslatesText text out out' (Refused kind line) =

@@ -84,7 +84,8 @@ pub fn ec_main<I: Source, O: Sink, E: Sink>(
     err: &mut E,
     rack: &mut Rack,
 ) -> Ending
-    // The whole of what is written of the source was put, or a front of it. A translation leaves the rack as it was.
+    // The whole of what is written of the source was put, which means what the source means, or a front of it. A translation
+    // leaves the rack as it was.
     ensures wrote { result ≡ Ending.Wrote → WritesWhole (I.left input.old) (I.left input.new)
         (O.held out.old) (O.held out.new) }
     ensures written_part { IsTranslating words.now → result ≡ Ending.WriteFault →

@@ -8,7 +8,7 @@ use crate::limits::INPUT_LIMIT;
 use ec_base::{
     Bytes, Failed, InputStop, LimitKind, Sink, Source as Input, Stop, put_all, read_all,
 };
-use ec_translate::translate;
+use ec_run::translate_source;
 use std::alloc::Global;
 
 // Puts a text, and passes on what was kept back.
@@ -37,7 +37,7 @@ fn translate_text<O: Sink>(alloc: Global, text: Bytes, out: &mut O) -> Ending
     requires { length text ≤ 2 ^ 24 }
     ensures { TranslatesText O.held O.faults text out.old out.new result }
 {
-    match translate(alloc, text.as_slice()) {
+    match translate_source(alloc, text.as_slice()) {
         Ok(written) => match put_text(out, written.as_slice()) {
             Ok(()) => Ending::Wrote,
             Err(Failed) => Ending::WriteFault,

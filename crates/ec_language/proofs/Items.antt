@@ -39,6 +39,7 @@ found_include written text x e (Some rest) g i h =
         free = tail.free;
         begin = subst (λ u. begins_with (codes "#include") u ≡ true) (sym unit) (starts tail e g);
         inside = tail.inside;
+        none = tail.none;
         ends = tail.ends;
       });
     })
@@ -167,7 +168,7 @@ complete_include written u rest line =
     let whole = begins_split (codes "#include") u line.begin in
     let end : include_end (suc (length (u ++ rest))) (u ++ rest) ≡ Some rest =
     ap (λ v. include_end (suc (length (v ++ rest))) (v ++ rest)) line.whole
-    ∙ include_complete (suc (length (concat line.units ++ rest))) line.units rest line.free line.inside line.ends (omega arith) in
+    ∙ include_complete (suc (length (concat line.units ++ rest))) line.units rest line.free line.inside line.none line.ends (omega arith) in
     subst (λ v. read_item written true (v ++ rest) ≡ read_hash written (v ++ rest)) (sym whole) refl
     ∙ (λ i. elim (begins_more (codes "#include") u rest line.begin i) [
       | true ↦ option_map (include_item (u ++ rest)) (end i)

@@ -7,6 +7,7 @@ use Rattle.ec_ctypes.specs.Texts.{punct_text}
 use Rattle.ec_language.specs.Letters.{Text, newline, single_quote, is_blank, is_digit, is_empty, begins, begins_with, each, same_text, is_among}
 use Rattle.ec_language.specs.CText.{is_word, is_number, is_quoted, is_block_comment, is_line_comment, CUnits}
 use Rattle.ec_language.specs.Constants.{digits_value}
+use Rattle.ec_language.specs.Pieces.{NoneStarts, starts_piece}
 
 -- ---- classes, each a test of the bytes of one token
 
@@ -68,15 +69,16 @@ abbrev pub is_fresh_after : Bool → Text → Bool
 is_fresh_after fresh [] = fresh
 is_fresh_after fresh (b ∷ bs) = is_fresh_after (b == newline || (fresh && is_blank b)) bs
 
--- An `#include` line (6.10.2): to the end of the line, or to a comment that begins on it. A comment doesn't begin in quotes.
+-- An `#include` line (6.10.2): to the end of the line, or to a comment or an embedded piece that begins on it. Neither begins in quotes.
 pub record IncludeLine (text rest : Text) : Type 0 where
   pub units : List Text
   pub whole : text ≡ concat units
   pub free : CUnits units rest
   pub begin : begins_with (codes "#include") text ≡ true
   pub inside : list_all (λ u. not (is_comment u || begins_with (newline ∷ []) u)) units ≡ true
+  pub none : NoneStarts units rest
   pub ends : (is_empty rest || begins_with (newline ∷ []) rest || begins_with (codes "/*") rest
-      || begins_with (codes "//") rest) ≡ true
+      || begins_with (codes "//") rest || starts_piece rest) ≡ true
 
 -- decimal digits, one to nine, without a leading zero
 abbrev pub is_line_number : Text → Bool

@@ -12,7 +12,7 @@ use Rattle.ec_language.specs.Letters.{Text, newline, single_quote, is_blank, is_
 use Rattle.ec_language.specs.Line.{newlines}
 use Rattle.ec_language.specs.Lexemes.{Class, word, number, character, string, punct, left_out, comment, punct_of, is_left_out_mark, is_fresh_after, is_line_directive, directive_number}
 use Rattle.ec_language.specs.SqlTokens.{first_bad_line, is_executable}
-use Rattle.ec_language.specs.Pieces.{behind_start}
+use Rattle.ec_language.specs.Pieces.{behind_start, starts_piece}
 use Rattle.ec_language.specs.Tokens.{Part, token_of, Step, counted, numbered_line, line_behind, part_at, bad_byte, fault_at, lines_before, statements_behind, join_strings, without_head, numbered}
 use Rattle.ec_language.specs.ReadPieces.{passed, cut, endless, behind_all, comment_end, quote_end, c_end, sql_end, front, begins_semicolon, gap_stop}
 
@@ -83,11 +83,11 @@ pub record ReadItem : Type 0 where
   pub step : Step
   pub rest : Text
 
--- where an `#include` line ends: with its line, or before a comment
+-- where an `#include` line ends: with its line, or before a comment or an embedded piece
 abbrev pub ends_include : Text → Bool
 ends_include text =
     is_empty text || begins_with (newline ∷ []) text || begins_with (codes "/*") text
-    || begins_with (codes "//") text
+    || begins_with (codes "//") text || starts_piece text
 
 -- the text behind an `#include` line that goes on with this text, which has no more units than this
 abbrev pub include_end : ℕ → Text → Option Text

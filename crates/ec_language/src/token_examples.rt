@@ -169,6 +169,11 @@ pub fn source_examples()
     ensures statements { SourceGives (codes "EXEC SQL COMMIT\n;EXEC SQL DECLARE c CURSOR FOR x;")
         (tokens_are
         (on_line 1 (emb_token 0 true ∷ []) ++ on_line 2 (emb_token 1 false ∷ end_token ∷ []))) }
+    ensures line_before_start { SourceGives (codes "EXEC SQL int\n#include EXEC SQL\nx;")
+        (tokens_are
+        (on_line 1 (section_start ∷ name "int" ∷ [])
+        ++ on_line 2 (included "#include " ∷ name "EXEC" ∷ name "SQL" ∷ [])
+        ++ on_line 3 (name "x" ∷ sign mark.Semicolon ∷ section_end ∷ end_token ∷ []))) }
     ensures first_fault { SourceGives (codes "EXEC SQL $1;\nint a = 08;")
         (refused F4 1) }
 {}

@@ -45,10 +45,12 @@ abbrev pub has_descriptor : ExprList → Bool
 has_descriptor no_exprs = false
 has_descriptor (exprs e es) = is_symbol symbol.Descriptor e || has_descriptor es
 
--- The calls that the library makes: a text is sent, over hosts and constants, and no function is
--- called for an argument.
+-- The calls that the library makes: transaction control; autocommit; a text that is sent, over hosts
+-- and constants. No function is called for an argument.
 abbrev pub is_made : LibName → ExprList → Bool
 is_made library.Do es = is_normal es && not (has_descriptor es) && not (any_calls_function es)
+is_made library.Trans es = not (any_calls_function es)
+is_made library.SetCommit es = not (any_calls_function es)
 is_made _ es = false
 
 abbrev pub unmade : Option LibName → ExprList → Bool

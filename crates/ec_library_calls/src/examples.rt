@@ -4,8 +4,9 @@
 ghost use Rattle.std.specs.Prelude.{◌≡◌};
 ghost use Rattle.ec_library_calls.specs.Examples.{unmade_in, nowhere, on_line};
 
-/// A call over hosts and constants is made; one over a descriptor, of a prepared statement, with a function called for an
-/// argument, or of another function of the library isn't yet. The first such call in the text counts.
+/// A call over hosts and constants is made, and so are transaction control and autocommit; one over a descriptor, of a
+/// prepared statement, with a function called for an argument, or of another function of the library isn't yet. The first
+/// such call in the text counts.
 pub fn worked_examples()
     ensures no_call { unmade_in "f();"
         ≡ nowhere }
@@ -24,10 +25,19 @@ pub fn worked_examples()
     ensures prepared { unmade_in
         "ECPGdo(2, NULL, ECPGst_execute, \"s\", ECPGt_EOIT, ECPGt_EORT);"
         ≡ on_line 2 }
-    ensures other_function { unmade_in
+    ensures control { unmade_in
         "ECPGtrans(2, NULL, \"commit\");"
+        ≡ nowhere }
+    ensures autocommit { unmade_in
+        "ECPGsetcommit(2, \"off\", NULL);"
+        ≡ nowhere }
+    ensures function_called_for_connection { unmade_in
+        "ECPGtrans(2, &a[f()], \"commit\");"
+        ≡ on_line 2 }
+    ensures other_function { unmade_in
+        "ECPGdisconnect(2, \"CURRENT\");"
         ≡ on_line 2 }
     ensures behind_others { unmade_in
-        "ECPGdo(2, NULL, ECPGst_normal, \"s\", ECPGt_EOIT, ECPGt_EORT);\nif (f()) ECPGtrans(3, NULL, \"commit\");\nECPGdisconnect(4, \"CURRENT\");"
+        "ECPGdo(2, NULL, ECPGst_normal, \"s\", ECPGt_EOIT, ECPGt_EORT);\nif (f()) ECPGsetconn(3, \"c\");\nECPGdisconnect(4, \"CURRENT\");"
         ≡ on_line 3 }
 {}

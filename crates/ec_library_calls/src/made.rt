@@ -80,6 +80,7 @@ fn is_made(call: LibName, es: &[Expr]) -> bool
 {
     match call {
         LibName::Do => is_normal(es) && !has_descriptor(es) && !any_calls_function(es),
+        LibName::Trans | LibName::SetCommit => !any_calls_function(es),
         _ => false,
     }
 }

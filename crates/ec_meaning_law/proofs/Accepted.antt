@@ -15,7 +15,6 @@ use Rattle.ec_bound_shape.specs.Numbers.{tops_numbers, numbers_from}
 use Rattle.ec_hosts.specs.Examples.{statement_places, with_statements}
 use Rattle.ec_phases.specs.Sources.{ReadsStatements, ReadsTree, statements, checked_with, checked_tree, bound_from, BoundProgram, program_with, bound_program, ReadsSource}
 use Rattle.ec_sections.specs.Answers.{hosts_answer}
-use Rattle.ec_source_shape.specs.Includes.{DeclaredIncludesStartNothing, DeclareNoPiece}
 use Rattle.ec_source_shape.specs.SourceShape.{are_source_tokens, is_source_shape}
 use Rattle.ec_statement_parts.specs.Handlers.{marks_in}
 use Rattle.ec_typing.specs.Answers.{checked, violations, stop_of_unit, typed_of, answer_by, check_answer}
@@ -149,14 +148,14 @@ no_violation u e = none_first (violations false u) e
 -- Statements stand in its tree in their order, and it has the shape of a source
 module _ (numbered : (pieces : List Piece) (ts : List TokenData) (u : UnitData) (es : List EmbData) → Tokens false pieces ts → TreeOrStop ts (Ok u) → ReadsStatements pieces (statement_places ts) (Ok es)
     → tops_numbers u.tops [] ≡ numbers_from 0 (length es))
-    (source_tokens : (text : Text) (pieces : List Piece) (ts : List TokenData) → each is_byte text ≡ true → length text ≤ max_text → Pieces text pieces → DeclareNoPiece pieces → Tokens false pieces ts → are_source_tokens ts ≡ true)
+    (source_tokens : (text : Text) (pieces : List Piece) (ts : List TokenData) → each is_byte text ≡ true → length text ≤ max_text → Pieces text pieces → Tokens false pieces ts → are_source_tokens ts ≡ true)
     (derived_shape : (ts : List TokenData) (u : UnitData) → are_source_tokens ts ≡ true → TreeOrStop ts (Ok u) → is_source_shape u ≡ true) where
   pub numbers_of : (text : Text) (v : UnitData) → ReadsTree text (Ok v) → tops_numbers v.tops [] ≡ numbers_from 0 (length v.embs)
   numbers_of text v r =
       let x = read_tree text v r
       in ap (λ (u : UnitData). tops_numbers u.tops []) x.same ∙ numbered x.pieces x.tokens x.unit v.embs x.in_tokens x.derived x.statements
 
-  pub shape_of : (text : Text) (v : UnitData) → each is_byte text ≡ true → DeclaredIncludesStartNothing text → ReadsTree text (Ok v) → is_source_shape v ≡ true
-  shape_of text v b q r =
+  pub shape_of : (text : Text) (v : UnitData) → each is_byte text ≡ true → ReadsTree text (Ok v) → is_source_shape v ≡ true
+  shape_of text v b r =
       let x = read_tree text v r
-      in ap is_source_shape x.same ∙ derived_shape x.tokens x.unit (source_tokens text x.pieces x.tokens b x.short x.in_pieces (q x.pieces x.in_pieces) x.in_tokens) x.derived
+      in ap is_source_shape x.same ∙ derived_shape x.tokens x.unit (source_tokens text x.pieces x.tokens b x.short x.in_pieces x.in_tokens) x.derived

@@ -10,7 +10,6 @@ use Rattle.ec_bound_shape.specs.Numbers.{tops_numbers, numbers_from}
 use Rattle.ec_expansion.specs.Programs.{embedded, written_program}
 use Rattle.ec_phases.specs.Sources.{ReadsTree, bound_from, BoundProgram, ReadsSource}
 use Rattle.ec_sections.specs.Answers.{hosts_answer}
-use Rattle.ec_source_shape.specs.Includes.{DeclaredIncludesStartNothing}
 use Rattle.ec_source_shape.specs.SourceShape.{is_source_shape}
 use Rattle.ec_statement_parts.specs.Handlers.{marks_in}
 use Rattle.ec_typing.specs.Answers.{checked, violations, typed_of}
@@ -39,14 +38,15 @@ use Rattle.ec_bound_shape.specs.Counts.{are_counted}
 use Rattle.ec_count_law.specs.Counted.{StatementsAreCounted, SourcesAreCounted}
 use Rattle.ec_shape_law.specs.Shapes.{AllAreRead, StatementsAreRead}
 use Rattle.ec_block_law.specs.Accepted.{IsAccepted, StatementLaws, StatementsAreCopied}
-use Rattle.ec_meaning_law.specs.Meanings.{IsAcceptedText, MeanTheSame}
+use Rattle.ec_translation.specs.Accepted.{IsAcceptedText}
+use Rattle.ec_meaning_law.specs.Meanings.{MeanTheSame}
 use Rattle.ec_meaning_law.proofs.Accepted.{OfTree, OfSource, of_source, no_violation}
 
 same_program : (t : TypedData) (u : UnitData) (hosts : List ℕ) → t ≡ typed_of u hosts (table_of (marks_in u.embs)) (checked false u).world → t ≡ typed_of u t.hosts t.handlers (checked false u).world
 same_program t u hosts e = e ∙ (λ i. typed_of u (sym e i).hosts (sym e i).handlers (checked false u).world)
 
 module _ (numbers_of : (text : Text) (v : UnitData) → ReadsTree text (Ok v) → tops_numbers v.tops [] ≡ numbers_from 0 (length v.embs))
-    (shape_of : (text : Text) (v : UnitData) → each is_byte text ≡ true → DeclaredIncludesStartNothing text → ReadsTree text (Ok v) → is_source_shape v ≡ true)
+    (shape_of : (text : Text) (v : UnitData) → each is_byte text ≡ true → ReadsTree text (Ok v) → is_source_shape v ≡ true)
     (in_order : (text : Text) (u : UnitData) → ReadsTree text (Ok u) → are_in_order u.embs ≡ true)
     (read : StatementsAreRead) (sound : TablesAreSound) (walk : (u : UnitData) → WalkKeeps u) (parts : PartsAreAlike)
     (stand : (text : Text) (u : UnitData) (hosts : List ℕ) → ReadsTree text (Ok u) → hosts_answer u ≡ Ok hosts → is_source_shape u ≡ true → TopsStand u.embs u.tops)
@@ -62,7 +62,7 @@ module _ (numbers_of : (text : Text) (v : UnitData) → ReadsTree text (Ok v) �
       let s = of_source text p h.reads in
       let are = read text p.program.unit s.tree in
       let none = no_violation p.program.unit s.made.without_stop in
-      types p.program.unit s.made.hosts (table_of (marks_in p.program.unit.embs)) s.made.sections none (shape_of text p.program.unit h.bytes h.includes s.tree) (numbers_of text p.program.unit s.tree)
+      types p.program.unit s.made.hosts (table_of (marks_in p.program.unit.embs)) s.made.sections none (shape_of text p.program.unit h.bytes s.tree) (numbers_of text p.program.unit s.tree)
       (λ n e i. record { are_references = (are n e i).are_references; actions = (are n e i).actions })
       (flat text p.program.unit s.tree) (shallow text p.program.unit s.tree none)
 
@@ -80,7 +80,7 @@ module _ (numbers_of : (text : Text) (v : UnitData) → ReadsTree text (Ok v) �
         indexes = subst IndexesAreTyped (sym s.made.is) (typed text p h).indexes;
         cursors = objects p.program p.bounds (same_program p.program p.program.unit s.made.hosts s.made.is) none s.bound (numbers_of text p.program.unit s.tree) (read text p.program.unit s.tree);
         in_order = in_order text p.program.unit s.tree;
-        sound = sound p.program.unit (shape_of text p.program.unit h.bytes h.includes s.tree) none (typed text p h).structs;
+        sound = sound p.program.unit (shape_of text p.program.unit h.bytes s.tree) none (typed text p h).structs;
       }
 
   copy : (text : Text) (p : BoundProgram) (h : IsAcceptedText text p)
@@ -89,7 +89,7 @@ module _ (numbers_of : (text : Text) (v : UnitData) → ReadsTree text (Ok v) �
       let s = of_source text p h.reads in
       let a = accepted text p h in
       copies p.program (embedded p.program.handlers p.program.unit.embs p.bounds)
-      (stand text p.program.unit s.made.hosts s.tree s.made.sections (shape_of text p.program.unit h.bytes h.includes s.tree))
+      (stand text p.program.unit s.made.hosts s.tree s.made.sections (shape_of text p.program.unit h.bytes s.tree))
       a.without_violation parts (walk p.program.unit) (copied laws p.program p.bounds a)
 
   pub without_violation : (text : Text) (p : BoundProgram) → IsAcceptedText text p → violations true (written_program p.program p.bounds) ≡ []

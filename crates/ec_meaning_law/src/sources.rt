@@ -6,7 +6,8 @@ ghost use Rattle.ec_expansion.specs.Programs.{written_program};
 ghost use Rattle.ec_language.specs.Letters.{Text};
 ghost use Rattle.ec_phases.specs.Sources.{BoundProgram};
 ghost use Rattle.ec_typing.specs.Answers.{violations};
-ghost use Rattle.ec_meaning_law.specs.Meanings.{IsAcceptedText, MeanTheSame};
+ghost use Rattle.ec_translation.specs.Accepted.{IsAcceptedText};
+ghost use Rattle.ec_meaning_law.specs.Meanings.{MeanTheSame};
 
 use ec_block_law::embedded_statements_are_copied;
 use ec_bound_shape::all_statements_stand_in_trees;

@@ -1,12 +1,6 @@
 mod Cursors
 mod Declares
 mod DenotingEmbedded
-mod DenotingExpressions
-mod DenotingInitializers
-mod DenotingOperands
-mod DenotingPrograms
-mod DenotingRules
-mod DenotingStatements
 mod Hosts
 mod Indexes
 mod Walking

@@ -18,8 +18,8 @@ use Rattle.ec_closing_law.proofs.Lists.{none_not}
 use Rattle.ec_known_law.proofs.EntriesTables.{find_put}
 use Rattle.ec_known_law.proofs.NamesRules as names
 use Rattle.ec_known_law.proofs.NamesRules.{Staying}
-use Rattle.ec_object_law.proofs.DenotingRules as denoting
-use Rattle.ec_object_law.proofs.DenotingRules.{DenotesNone}
+use Rattle.ec_program_law.proofs.DenotingRules as denoting
+use Rattle.ec_program_law.proofs.DenotingRules.{DenotesNone}
 
 -- ---- lists of declarations
 

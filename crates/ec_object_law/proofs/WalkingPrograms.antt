@@ -18,10 +18,10 @@ use Rattle.ec_known_law.proofs.NamesRules.{Staying, demand_stays, place_stays, f
 use Rattle.ec_known_law.proofs.NamesOperands.{elements_stays}
 use Rattle.ec_known_law.proofs.NamesExpressions.{base_stays, lengths_stay}
 use Rattle.ec_known_law.proofs.NamesStatements.{result_stays, param_type_stays, new_labels_stay}
-use Rattle.ec_object_law.proofs.DenotingRules.{DenotesNone, demand_denotes, place_denotes, free_name_denotes, changed}
-use Rattle.ec_object_law.proofs.DenotingOperands.{elements_denotes}
-use Rattle.ec_object_law.proofs.DenotingExpressions.{base_denotes, lengths_denote}
-use Rattle.ec_object_law.proofs.DenotingPrograms.{result_denotes, type_denotes}
+use Rattle.ec_program_law.proofs.DenotingRules.{DenotesNone, demand_denotes, place_denotes, free_name_denotes, changed}
+use Rattle.ec_program_law.proofs.DenotingOperands.{elements_denotes}
+use Rattle.ec_program_law.proofs.DenotingExpressions.{base_denotes, lengths_denote}
+use Rattle.ec_program_law.proofs.DenotingPrograms.{result_denotes, type_denotes}
 use Rattle.ec_object_law.proofs.Walking.{Known, Walking, one_longer, one_passed, still_known, both, behind, before, none, asked, pure_walks, number_walks, enter_walks, leave_walks, begin_walks, know_walks}
 use Rattle.ec_object_law.proofs.WalkingStatements.{AllAreReferences, declared_world, object_more, declaration_walks, embedded_walks, none_walks, statements_walk}
 

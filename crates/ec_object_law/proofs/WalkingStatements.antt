@@ -29,10 +29,10 @@ use Rattle.ec_known_law.proofs.NamesExpressions.{expr_stays}
 use Rattle.ec_known_law.proofs.NamesEmbedded.{references_stays, handlers_stays}
 use Rattle.ec_known_law.proofs.NamesStatements.{object_stays, initial_stays, type_stays, specifier_stays, condition_stays, optional_stays, optional_condition_stays, return_stays}
 use Rattle.ec_reference_law.specs.Found.{AreReferences}
-use Rattle.ec_object_law.proofs.DenotingRules.{demand_denotes, place_denotes, label_denotes}
-use Rattle.ec_object_law.proofs.DenotingOperands.{within_denotes}
-use Rattle.ec_object_law.proofs.DenotingExpressions.{expr_denotes}
-use Rattle.ec_object_law.proofs.DenotingStatements.{object_denotes, initial_denotes, type_denotes, specifier_denotes, condition_denotes, optional_denotes, optional_condition_denotes, return_denotes}
+use Rattle.ec_program_law.proofs.DenotingRules.{demand_denotes, place_denotes, label_denotes}
+use Rattle.ec_program_law.proofs.DenotingOperands.{within_denotes}
+use Rattle.ec_program_law.proofs.DenotingExpressions.{expr_denotes}
+use Rattle.ec_program_law.proofs.DenotingStatements.{object_denotes, initial_denotes, type_denotes, specifier_denotes, condition_denotes, optional_denotes, optional_condition_denotes, return_denotes}
 use Rattle.ec_object_law.proofs.DenotingEmbedded.{references_denote, handlers_denote}
 use Rattle.ec_object_law.proofs.Declares.{opens_none}
 use Rattle.ec_object_law.proofs.Indexes.{AllNoFunctions, references_clean, all_no_functions_stay, row_fine}

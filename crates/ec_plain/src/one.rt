@@ -51,7 +51,7 @@ fn member(store: &Store, offset: u64, value: Word) -> Outcome
 
 /// The value at a place.
 #[inline(always)]
-fn load(store: &Store, kind: Kind, value: Word) -> Outcome
+pub(crate) fn load(store: &Store, kind: Kind, value: Word) -> Outcome
     ensures { (line : ℕ) (s : State) → one_on line (of.Load kind) (word_view value) (at s store.now)
         ≡ answered line (outcome_view result) (at s store.now) }
 {

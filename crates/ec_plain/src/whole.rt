@@ -11,10 +11,10 @@ ghost use Rattle.ec_plain.specs.Outcomes.{outcome_view};
 ghost use Rattle.ec_plain.specs.Steps.{step_on};
 
 use crate::both::{Ready, finish, prepare};
-use crate::one::unary;
+use crate::one::{load, unary};
 use crate::outcome::Outcome;
 use ec_bytes::Ptr;
-use ec_code::{Binary, Leaf, Plain, PlainStep};
+use ec_code::{Binary, Leaf, Plain, PlainStep, Unary};
 use ec_memory::Store;
 use ec_values::{Stop, Word};
 
@@ -40,7 +40,7 @@ pub fn evaluate(store: &mut Store, scope: &[Ptr], expression: &Plain) -> Outcome
     Outcome::value(value)
 }
 
-/// The same, where the expression may well be a leaf.
+/// The same, where the expression may well be a leaf, or the value at a place.
 #[cycle(evaluation)]
 #[inline(always)]
 fn operand(store: &mut Store, scope: &[Ptr], expression: &Plain) -> Outcome
@@ -48,10 +48,13 @@ fn operand(store: &mut Store, scope: &[Ptr], expression: &Plain) -> Outcome
         → eval knowing w (context line scope.now first) (plain_view expression.now) (at s store.old)
         ≡ answered line (outcome_view result) (at s store.new) }
 {
-    if expression.steps.is_empty() {
-        Outcome::of(begin(scope, expression.leaf))
-    } else {
-        evaluate(store, scope, expression)
+    match expression.steps.as_slice() {
+        [] => Outcome::of(begin(scope, expression.leaf)),
+        [PlainStep::One(Unary::Load(kind))] => match begin(scope, expression.leaf) {
+            Ok(place) => load(store, *kind, place),
+            Err(stop) => Outcome::stopped(stop),
+        },
+        _ => evaluate(store, scope, expression),
     }
 }
 
@@ -83,6 +86,7 @@ fn take_step(store: &mut Store, scope: &[Ptr], step: &PlainStep, value: Word) ->
         ≡ answered line (outcome_view result) (at s store.new) }
 {
     match step {
+        PlainStep::One(Unary::Load(kind)) => load(store, *kind, value),
         PlainStep::One(step) => unary(store, step, value),
         PlainStep::Two(step, right) => match prepare(store, *step, value) {
             Ok(Ready::Done(done)) => Outcome::value(done),

@@ -22,7 +22,7 @@ plain_denotes at t = chained (demand_denotes _ _ _) (λ a. pure_denotes _)
 array_denotes : (at : Place) (t : Option TyData) → DenotesNone (array_param at t)
 array_denotes at t = chained (within_denotes at t) (λ a. chained (complete_denotes at t) (λ b. pure_denotes _))
 
-type_denotes : (at : Place) (t : Option TyData) (stars : ℕ) (ns : List (Option ℕ)) → DenotesNone (param_type at t stars ns)
+pub type_denotes : (at : Place) (t : Option TyData) (stars : ℕ) (ns : List (Option ℕ)) → DenotesNone (param_type at t stars ns)
 type_denotes at t stars [] = plain_denotes at _
 type_denotes at t stars (n ∷ ns) = array_denotes at _
 

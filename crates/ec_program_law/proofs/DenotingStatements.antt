@@ -14,16 +14,16 @@ use Rattle.ec_program_law.proofs.DenotingInitializers.{initializer_denotes}
 
 -- ---- declarations
 
-object_denotes : (at : Place) (has : Bool) (t : Option TyData) → DenotesNone (object_rule at has t)
+pub object_denotes : (at : Place) (has : Bool) (t : Option TyData) → DenotesNone (object_rule at has t)
 unfolding object_rule
 object_denotes at has None = pure_denotes _
 object_denotes at has (Some t) = asked _ _ (λ known. chosen _ (pure_denotes _) (complete_denotes at (Some t)))
 
-initial_denotes : (at : Place) (global : Bool) (t : Option TyData) (i : InitOption) → DenotesNone (initial at global t i)
+pub initial_denotes : (at : Place) (global : Bool) (t : Option TyData) (i : InitOption) → DenotesNone (initial at global t i)
 initial_denotes at global t no_init = pure_denotes _
 initial_denotes at global t (some_init i) = initializer_denotes at global t i
 
-type_denotes : (at : Place) (v : Bool) (t : Option TyData) (stars : ℕ) (name : Text) (ns : DimList) → DenotesNone (object_type at v t stars name ns)
+pub type_denotes : (at : Place) (v : Bool) (t : Option TyData) (stars : ℕ) (name : Text) (ns : DimList) → DenotesNone (object_type at v t stars name ns)
 type_denotes at false t stars name ns = chained (lengths_denote at ns) (λ sizes. chained (elements_denotes at t stars sizes) (λ a. pure_denotes _))
 type_denotes at true t stars name ns = chained (last_denotes at ns) (λ n. chained (varchar_object_denotes at name n) (λ own. chained (outer_denote at ns) (λ sizes. chained (elements_denotes at own stars sizes) (λ a. pure_denotes _))))
 
@@ -44,7 +44,7 @@ alone_denotes : (at : Place) (tag : Text) → DenotesNone (tag_alone at tag)
 unfolding tag_alone
 alone_denotes at tag = chained (free_tag_denotes at tag) (λ a. asked _ _ (λ known. declared_denotes tag _))
 
-specifier_denotes : (at : Place) (b : BaseData) (ds : DeclaratorList) → DenotesNone (specifier at b ds)
+pub specifier_denotes : (at : Place) (b : BaseData) (ds : DeclaratorList) → DenotesNone (specifier at b ds)
 specifier_denotes at (tagged tag) no_declarators = alone_denotes at tag
 specifier_denotes at (tagged tag) (declarators d ds) = base_denotes at (tagged tag)
 specifier_denotes at (words ws) ds = base_denotes at (words ws)

@@ -7,12 +7,12 @@ mod CopiedStatements
 mod Copying
 mod DeclaredVarchars
 mod Declaring
-mod DenotingExpressions
-mod DenotingInitializers
-mod DenotingOperands
-mod DenotingPrograms
-mod DenotingRules
-mod DenotingStatements
+pub mod DenotingExpressions
+pub mod DenotingInitializers
+pub mod DenotingOperands
+pub mod DenotingPrograms
+pub mod DenotingRules
+pub mod DenotingStatements
 mod Items
 mod Names
 mod Params

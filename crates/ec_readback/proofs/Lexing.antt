@@ -357,7 +357,7 @@ include_lexed bytes (b ∷ r) f =
         let tail : IncludeTail (bytes ++ newline ∷ []) (newline ∷ []) = subst (IncludeTail (bytes ++ newline ∷ [])) same (include_sound (suc (length (bytes ++ newline ∷ []))) (bytes ++ newline ∷ []) rest g) in
         let whole : bytes ≡ concat tail.units = cut_last bytes (concat tail.units) newline tail.whole in
         record {
-          item = λ fresh e. include fresh bytes (newline ∷ r) (e refl) (record { units = tail.units; whole = whole; free = units_before tail.units r tail.free; begin = a; inside = tail.inside; ends = refl });
+          item = λ fresh e. include fresh bytes (newline ∷ r) (e refl) (record { units = tail.units; whole = whole; free = units_before tail.units r tail.free; begin = a; inside = tail.inside; none = none_in_line tail.units r d tail.free (subst (λ t. has_no_piece t ≡ true) whole s); ends = refl });
           flat = each_flat is_not_newline plain bytes n;
           units = record {
             units = tail.units;

@@ -70,6 +70,7 @@ include_first rest = record {
   free = (unit.single (codes "#") _ refl, (unit.word (codes "include") _ refl refl, (unit.single (codes " ") _ refl, (unit.single (codes "<") _ refl, (unit.word (codes "ecpglib") _ refl refl, (unit.single (codes ".") _ refl, (unit.word (codes "h") _ refl refl, (unit.single (codes ">") _ refl, tt))))))));
   begin = refl;
   inside = refl;
+  none = (refl, (refl, (refl, (refl, (refl, (refl, (refl, (refl, tt))))))));
   ends = refl;
 }
 
@@ -80,6 +81,7 @@ include_second rest = record {
   free = (unit.single (codes "#") _ refl, (unit.word (codes "include") _ refl refl, (unit.single (codes " ") _ refl, (unit.single (codes "<") _ refl, (unit.word (codes "sqlca") _ refl refl, (unit.single (codes ".") _ refl, (unit.word (codes "h") _ refl refl, (unit.single (codes ">") _ refl, tt))))))));
   begin = refl;
   inside = refl;
+  none = (refl, (refl, (refl, (refl, (refl, (refl, (refl, (refl, tt))))))));
   ends = refl;
 }
 

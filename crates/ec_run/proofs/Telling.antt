@@ -1,28 +1,23 @@
 -- What the parts of reading a source tell of it.
-use Rattle.std.proofs.Common.{◌≡◌, ◌∙◌, ◌<◌, ◌≤◌, ℕ, zero, suc, true, ◌&&◌, List, [], ◌∷◌, length, refl, sym, ap, subst, Option, Some, None, Result, Ok, Err, arith}
+use Rattle.std.proofs.Common.{◌≡◌, ◌∙◌, ◌<◌, ℕ, suc, true, ◌&&◌, [], ◌∷◌, refl, sym, ap, subst, Result, Ok, Err}
 use Rattle.std.proofs.lemmas.Bool.{lt-ltb}
 use Rattle.std.specs.Prelude.{get_or}
-use Rattle.ec_base.specs.declared.fault.FaultKind.TheVariants.{F9}
-use Rattle.ec_base.specs.declared.line.Line.{Line}
 use Rattle.ec_base.specs.declared.stop.Stop.{Stop}
 use Rattle.ec_base.specs.declared.stop.Stop.TheVariants.{Refused, Limit, OutOfMemory}
-use Rattle.ec_declared_includes.specs.Includes.{DeclaresInclude, WithoutIncludesStartNothing}
 use Rattle.ec_execute.specs.declared.executable.Executable.{Executable}
 use Rattle.ec_execute.specs.Executables.{executable_view}
 use Rattle.ec_execute.specs.Answers.{TellsProgram}
 use Rattle.ec_execution.specs.Programs as written
 use Rattle.ec_execution.specs.Programs.{IsProgram}
-use Rattle.ec_language.specs.First.{max_text}
 use Rattle.ec_language.specs.Letters.{Text, each}
 use Rattle.ec_phases.specs.Sources.{BoundProgram, ReadsSource}
 use Rattle.ec_translate.specs.Answers.{TellsTranslation}
 use Rattle.ec_translation.specs.Translations.{text_of_program, translated, IsTranslation, translation}
 use Rattle.ec_writing.specs.Shapes.{is_byte}
-use Rattle.ec_meaning_law.proofs.Accepted.{of_source, read_tree}
-use Rattle.ec_meaning_law.specs.Meanings.{IsAcceptedText}
+use Rattle.ec_translation.specs.Accepted.{IsAcceptedText}
 use Rattle.ec_run_law.specs.Runs.{IsRunOf}
 use Rattle.ec_run.specs.Answers.{TellsRunnable}
-use Rattle.ec_run.specs.Runnable.{of_written, refused, included, accepted}
+use Rattle.ec_run.specs.Runnable.{of_written, refused, accepted}
 
 -- ---- the text
 
@@ -62,9 +57,6 @@ refused_reading text stop (Err s) r e = subst (λ x. ReadsSource text (Err x)) (
 refused_of : (text : Text) (stop : Stop) → IsTranslation text (Err stop) → ReadsSource text (Err stop)
 refused_of text stop (translation source r e) = refused_reading text stop source r e
 
-pub short : (text w : Text) → IsTranslation text (Ok w) → length text ≤ max_text
-short text w h = let s = of_translation text w h in (read_tree text s.program.program.unit (of_source text s.program s.reads).tree).short
-
 -- ---- answers
 
 pub not_translated : (text : Text) (stop : Stop) → TellsTranslation text (Err stop) → TellsRunnable text (Err stop)
@@ -72,17 +64,13 @@ not_translated text (Refused kind line) h = refused (Refused kind line) (refused
 not_translated text (Limit limit) h = refused (Limit limit) (refused_of text (Limit limit) h) refl
 not_translated text OutOfMemory h = tt
 
-pub with_include : (text w : Text) (line : Line) → IsTranslation text (Ok w) → DeclaresInclude text (Some line) → TellsRunnable text (Err (Refused F9 line))
-with_include text w line h d = let s = of_translation text w h in included s.program line s.reads d refl
-
-module _ (starts_nothing : WithoutIncludesStartNothing)
-    (runs : (text : Text) (p : BoundProgram) → IsAcceptedText text p → (x : Result written.Executable Stop) → IsProgram (text_of_program p) x → IsRunOf p x)
-    (text w : Text) (bytes : each is_byte text ≡ true) (h : IsTranslation text (Ok w)) (d : DeclaresInclude text None) where
+module _ (runs : (text : Text) (p : BoundProgram) → IsAcceptedText text p → (x : Result written.Executable Stop) → IsProgram (text_of_program p) x → IsRunOf p x)
+    (text w : Text) (bytes : each is_byte text ≡ true) (h : IsTranslation text (Ok w)) where
   s : IsOf text w
   s = of_translation text w h
 
   accepted_is : IsAcceptedText text s.program
-  accepted_is = record { bytes = bytes; reads = s.reads; includes = starts_nothing text d }
+  accepted_is = record { bytes = bytes; reads = s.reads }
 
   here : (x : Result written.Executable Stop) → IsProgram w x → IsProgram (text_of_program s.program) x
   here x is = subst (λ t. IsProgram t x) s.is is
@@ -92,11 +80,11 @@ module _ (starts_nothing : WithoutIncludesStartNothing)
       let x = Ok (executable_view executable) in
       record {
         program = s.program;
-        is = accepted s.program x s.reads d (here x is) refl;
+        is = accepted s.program x s.reads (here x is) refl;
         means = (runs text s.program accepted_is x (here x is)).means;
       }
 
   pub told_on : (stop : Stop) → TellsProgram w (Err stop) → TellsRunnable text (Err (of_written stop))
-  told_on (Refused kind line) is = accepted s.program (Err (Refused kind line)) s.reads d (here (Err (Refused kind line)) is) refl
-  told_on (Limit limit) is = accepted s.program (Err (Limit limit)) s.reads d (here (Err (Limit limit)) is) refl
+  told_on (Refused kind line) is = accepted s.program (Err (Refused kind line)) s.reads (here (Err (Refused kind line)) is) refl
+  told_on (Limit limit) is = accepted s.program (Err (Limit limit)) s.reads (here (Err (Limit limit)) is) refl
   told_on OutOfMemory is = tt

@@ -1,10 +1,8 @@
 -- What a source is run as: the program that it is read as, or why it is refused; and what that means.
-use Rattle.std.specs.Prelude.{◌≡◌, ℕ, List, Option, Some, None, Result, Ok, Err}
+use Rattle.std.specs.Prelude.{◌≡◌, ℕ, List, Option, Result, Ok, Err}
 use Rattle.ec_base.specs.declared.fault.FaultKind.TheVariants.{F9}
-use Rattle.ec_base.specs.declared.line.Line.{Line}
 use Rattle.ec_base.specs.declared.stop.Stop.{Stop}
 use Rattle.ec_base.specs.declared.stop.Stop.TheVariants.{Refused, Limit, OutOfMemory}
-use Rattle.ec_declared_includes.specs.Includes.{DeclaresInclude}
 use Rattle.ec_evaluation.specs.State.{Answer}
 use Rattle.ec_evaluation.specs.Whole.{Observed}
 use Rattle.ec_execution.specs.Programs as written
@@ -25,16 +23,12 @@ abbrev pub run_as : BoundProgram → Result written.Executable Stop → Result B
 run_as p (Ok x) = Ok p
 run_as p (Err stop) = Err (of_written stop)
 
--- What a text is run as, or what it is refused for. A source with `#include` in a declaration after EXEC SQL isn't run yet: F9 where the first such declaration begins
+-- what a text is run as, or what it is refused for
 pub data IsRunnable (text : Text) (answer : Result BoundProgram Stop) : Type 0 where
   refused : (stop : Stop) → ReadsSource text (Err stop) → answer ≡ Err stop
       → IsRunnable text answer
-  included : (p : BoundProgram) (line : Line) → ReadsSource text (Ok p)
-      → DeclaresInclude text (Some line) → answer ≡ Err (Refused F9 line)
-      → IsRunnable text answer
   accepted : (p : BoundProgram) (x : Result written.Executable Stop) → ReadsSource text (Ok p)
-      → DeclaresInclude text None → IsProgram (text_of_program p) x → answer ≡ run_as p x
-      → IsRunnable text answer
+      → IsProgram (text_of_program p) x → answer ≡ run_as p x → IsRunnable text answer
 
 -- What a source means that runs for so many turns, with a slot and a name that are connected, or none, over these answers: what its embedded statements do where they stand
 abbrev pub source_meaning : BoundProgram → ℕ → Option (ℕ × List ℕ) → List Answer → Observed

@@ -1,13 +1,11 @@
 //! The executable of a source.
 
-ghost use Rattle.std.specs.Prelude.{◌≡◌, None, Ok};
-ghost use Rattle.ec_declared_includes.specs.Includes.{DeclaresInclude};
+ghost use Rattle.std.specs.Prelude.{◌≡◌, Ok};
 ghost use Rattle.ec_translation.specs.Translations.{IsTranslation};
 ghost use Rattle.ec_run.specs.Answers.{TellsRunnable};
 ghost use Rattle.ec_run.specs.Runnable as runnable;
 
 use ec_base::{FaultKind, Stop};
-use ec_declared_includes::{first_declared_include, without_includes_start_nothing};
 use ec_execute::{Executable, read_program};
 use ec_run_law::written_texts_are_run;
 use ec_translate::translate;
@@ -26,27 +24,13 @@ fn of_written(stop: Stop) -> Stop
 
 // The executable of the C that is written of a source. It is the source that is refused where what is written isn't run.
 fn read_back(alloc: Global, text: &[u8], written: &[u8]) -> Result<Executable, Stop>
-    requires translated { IsTranslation text.now (Ok written.now) }
-    requires plain { DeclaresInclude text.now None }
-    ensures { TellsRunnable text.now result }
-{
-    written_texts_are_run();
-    without_includes_start_nothing();
-    match read_program(alloc, written) {
-        Ok(executable) => Ok(executable),
-        Err(stop) => Err(of_written(stop)),
-    }
-}
-
-// The executable of a source of which this is written.
-fn read_translated(alloc: Global, text: &[u8], written: &[u8]) -> Result<Executable, Stop>
     requires { IsTranslation text.now (Ok written.now) }
     ensures { TellsRunnable text.now result }
 {
-    match first_declared_include(alloc, text) {
-        Ok(None) => read_back(alloc, text, written),
-        Ok(Some(line)) => Err(Stop::Refused(FaultKind::F9, line)),
-        Err(_) => Err(Stop::OutOfMemory),
+    written_texts_are_run();
+    match read_program(alloc, written) {
+        Ok(executable) => Ok(executable),
+        Err(stop) => Err(of_written(stop)),
     }
 }
 
@@ -54,14 +38,13 @@ fn read_translated(alloc: Global, text: &[u8], written: &[u8]) -> Result<Executa
 ///
 /// # Errors
 ///
-/// What `translate` refuses the source for. Of a source that is accepted: F9 at the first declaration after EXEC SQL in which
-/// `#include` stands, which isn't run yet; F9 on the line of the first statement whose call the library doesn't make yet;
+/// What `translate` refuses the source for. Of a source that is accepted: F9 on the line of the first statement whose call the library doesn't make yet;
 /// and the limits L2, L3 and L6 where the C that is written passes one.
 pub fn read_source(alloc: Global, text: &[u8]) -> Result<Executable, Stop>
     ensures { TellsRunnable text.now result }
 {
     match translate(alloc, text) {
-        Ok(written) => read_translated(alloc, text, written.as_slice()),
+        Ok(written) => read_back(alloc, text, written.as_slice()),
         Err(stop) => Err(stop),
     }
 }

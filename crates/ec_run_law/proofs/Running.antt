@@ -26,7 +26,7 @@ use Rattle.ec_writing.specs.Programs.{written_text}
 use Rattle.ec_writing.specs.Shapes.{is_written_shape}
 use Rattle.ec_written.specs.Written.{plain, checked_with, checked_plain, checked_written, ReadsWritten}
 use Rattle.ec_meaning_law.specs.Meanings.{MeanTheSame}
-use Rattle.ec_run_law.specs.Runs.{MeansSource, IsRunOf}
+use Rattle.ec_run_law.specs.Runs.{IsReadAs, KeepsItsMeaning, MeansSource, IsRunOf}
 
 -- ---- the checks of what is read back
 
@@ -43,6 +43,20 @@ limited : (limit : LimitKind) → checked_written (Err (Limit limit)) ≡ Err (L
 unfolding checked_written
 limited limit = refl
 
+-- ---- what it is read as
+
+pub read_as : (v : UnitData) → violations true v ≡ [] → hosts_answer v ≡ Ok (hosts_of v) → v.embs ≡ [] → (tree : Result UnitData Stop)
+    → (tree ≡ Ok v) ⊎ (tree ≡ Err (Limit L2)) ⊎ (tree ≡ Err (Limit L3)) ⊎ (tree ≡ Err (Limit L6)) → IsReadAs v (checked_written tree)
+read_as v none hosts plain tree (inl is) = subst (IsReadAs v) (sym (read_again v tree plain is ∙ checked_is v (hosts_of v) hosts none)) refl
+read_as v none hosts plain tree (inr (inl is)) = subst (λ t. IsReadAs v (checked_written t)) (sym is) (subst (IsReadAs v) (sym (limited L2)) (inl refl))
+read_as v none hosts plain tree (inr (inr (inl is))) = subst (λ t. IsReadAs v (checked_written t)) (sym is) (subst (IsReadAs v) (sym (limited L3)) (inr (inl refl)))
+read_as v none hosts plain tree (inr (inr (inr is))) = subst (λ t. IsReadAs v (checked_written t)) (sym is) (subst (IsReadAs v) (sym (limited L6)) (inr (inr refl)))
+
+-- ---- what it means
+
+pub keeps_its_meaning : (p : BoundProgram) → MeanTheSame p.program → bound_from p.program 0 p.program.unit.embs ≡ Ok p.bounds → KeepsItsMeaning p
+keeps_its_meaning p same bound turns ready answers = sym (same turns ready answers ∙ ap (meaning_by p.program turns ready answers) bound)
+
 -- ---- what it is run as
 
 by_call : (p : BoundProgram) (v : UnitData) (found : Option Line) → v ≡ written_program p.program p.bounds → first_unmade_call v ≡ found
@@ -54,7 +68,7 @@ by_call p v (Some line) same e m = (refl, ap first_unmade_call (sym same) ∙ e)
 meant : (p : BoundProgram) → MeanTheSame p.program → bound_from p.program 0 p.program.unit.embs ≡ Ok p.bounds → (turns : ℕ) (ready : Option (ℕ × List ℕ)) (answers : List Answer)
     → meaning (executable (written_program p.program p.bounds)) turns ready answers ≡ direct_meaning p.program turns ready answers
 unfolding meaning
-meant p same bound turns ready answers = sym (same turns ready answers ∙ ap (meaning_by p.program turns ready answers) bound)
+meant p same bound turns ready answers = keeps_its_meaning p same bound turns ready answers
 
 pub run_of : (p : BoundProgram) → MeanTheSame p.program → bound_from p.program 0 p.program.unit.embs ≡ Ok p.bounds
     → violations true (written_program p.program p.bounds) ≡ [] → hosts_answer (written_program p.program p.bounds) ≡ Ok (hosts_of (written_program p.program p.bounds))

@@ -3,4 +3,4 @@
 
 mod texts;
 
-pub use texts::written_texts_are_run;
+pub use texts::{written_texts_are_run, written_texts_mean_the_same};

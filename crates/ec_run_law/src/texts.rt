@@ -6,8 +6,8 @@ ghost use Rattle.ec_execution.specs.Programs.{Executable, IsProgram};
 ghost use Rattle.ec_language.specs.Letters.{Text};
 ghost use Rattle.ec_phases.specs.Sources.{BoundProgram};
 ghost use Rattle.ec_translation.specs.Translations.{text_of_program};
-ghost use Rattle.ec_meaning_law.specs.Meanings.{IsAcceptedText};
-ghost use Rattle.ec_run_law.specs.Runs.{IsRunOf};
+ghost use Rattle.ec_translation.specs.Accepted.{IsAcceptedText};
+ghost use Rattle.ec_run_law.specs.Runs.{IsReadBackAs, IsRunOf, KeepsItsMeaning};
 
 use ec_meaning_law::sources_mean_what_is_written;
 use ec_readback::written_programs_are_read_back;
@@ -20,6 +20,20 @@ use ec_written_sources::sources_are_written_in_shape;
 pub fn written_texts_are_run()
     ensures { (text : Text) (p : BoundProgram) → IsAcceptedText text p
         → (x : Result Executable Stop) → IsProgram (text_of_program p) x → IsRunOf p x }
+{
+    sources_mean_what_is_written();
+    written_programs_are_read_back();
+    written_programs_have_no_sections();
+    sources_are_written_in_shape();
+}
+
+/// The text that is written of an accepted source is read back as the program that is written, without a fault, unless it passes a
+/// limit; and that program means what the source means, run over the definition of the library with all its calls.
+#[tactic(none)]
+pub fn written_texts_mean_the_same()
+    ensures read { (text : Text) (p : BoundProgram) → IsAcceptedText text p
+        → IsReadBackAs p (text_of_program p) }
+    ensures means { (text : Text) (p : BoundProgram) → IsAcceptedText text p → KeepsItsMeaning p }
 {
     sources_mean_what_is_written();
     written_programs_are_read_back();

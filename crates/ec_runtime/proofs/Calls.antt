@@ -1,22 +1,20 @@
 -- A whole call, from its parts.
-use Rattle.std.proofs.Common.{◌≡◌, ℕ, List, [], ◌++◌, map, Option, Some, None, Result, Ok, Err, refl, sym, subst, ap, ◌∙◌}
+use Rattle.std.proofs.Common.{◌≡◌, ℕ, Bool, List, [], ◌++◌, Option, Some, None, Result, Ok, Err, refl, sym, subst}
 use Rattle.std.specs.declared.alloc.Global.{Global}
 use Rattle.std.specs.declared.dyn_box.DynBox.{DynBox}
-use Rattle.ec_base.specs.declared.stop.Trap.{Trap}
-use Rattle.ec_arguments.specs.Arguments.{TextArg as TextData}
 use Rattle.ec_link.specs.declared.logged.Logged.{Logged}
 use Rattle.ec_link.specs.declared.rack.Rack.{Rack}
 use Rattle.ec_link.specs.Logged.{Talk}
 use Rattle.ec_objects.specs.Memory.{Memory}
 use Rattle.ec_observed.specs.Observed.{answers_in}
-use Rattle.ec_transfer.specs.declared.finding.Finding.TheVariants as found
-use Rattle.ec_transfer.specs.Codes.{code_of, state_of, text_of_finding}
-use Rattle.ec_evaluation.specs.State.{Answer, State}
-use Rattle.ec_calls.specs.Outcomes.{Text, Field, trapped, Outcome, over, with_memory, fresh_area, told_area, raised}
+use Rattle.ec_evaluation.specs.State.{Answer, Connection, State}
+use Rattle.ec_calls.specs.Autocommit.{autocommit_set}
+use Rattle.ec_calls.specs.Connections.{control_sent}
+use Rattle.ec_calls.specs.Outcomes.{Text, Outcome}
 use Rattle.ec_calls.specs.Steps.{settled}
-use Rattle.ec_calls.specs.Inputs.{text_read}
-use Rattle.ec_runtime.specs.declared.host.Host.{Host}
-use Rattle.ec_runtime.specs.declared.inputs.Input.{Input}
+use Rattle.ec_runtime.specs.declared.call.Kind.{Kind}
+use Rattle.ec_runtime.specs.declared.call.Kind.TheVariants as kinds
+use Rattle.ec_runtime.specs.declared.call.Statement.{Statement}
 use Rattle.ec_runtime.specs.declared.library.Library.{Library}
 use Rattle.ec_runtime.specs.declared.open.Open.{Open}
 use Rattle.ec_runtime.specs.declared.stop.Stop.{Stop}
@@ -24,12 +22,11 @@ use Rattle.ec_runtime.specs.declared.stop.Stop.TheVariants as stops
 use Rattle.ec_runtime.specs.declared.stop.CallStop.{CallStop}
 use Rattle.ec_runtime.specs.Calling.{called_by, Answers, Stopped, Carries, bare, Closed, Called}
 use Rattle.ec_runtime.specs.Does.{Seen, placed, saying, Left, Does, Over}
-use Rattle.ec_runtime.specs.Reading.{input_view, values_read, TextIs}
-use Rattle.ec_runtime.specs.Says.{Says, Quiet}
-use Rattle.ec_runtime.specs.Statements.{started, read_then}
-use Rattle.ec_runtime.proofs.Grows.{same_front}
-use Rattle.ec_runtime.proofs.Joining.{quiet, and_next, and_stop, same_action}
-use Rattle.ec_runtime.proofs.Starting.{started_grows, values_grow, whole, name_read, name_traps}
+use Rattle.ec_runtime.specs.Says.{Says}
+use Rattle.ec_runtime.specs.Statements.{reached, ran, kind_done}
+use Rattle.ec_runtime.proofs.Grows.{control_grows}
+use Rattle.ec_runtime.proofs.Joining.{and_stop}
+use Rattle.ec_runtime.proofs.Switching.{set_grows}
 
 -- what a call answers, by how its parts end
 answers_as : (r : Result (Unit {0}) Stop) (o : Outcome (Unit {0})) (s : State) → Says r o s → Answers (called_by r) o s
@@ -76,34 +73,19 @@ module _ {X : Type 0} {F : X → Type 0} (talk : DynBox X Global F → Option Ta
 
 -- ---- without a connection
 
-module _ (line : ℕ) (named : TextData ℕ) (bytes : Text) (ins : List Input) (hs : List Host) (m : Memory) where
-  pub closed_trapped : (trap : Trap) → ((s : State) → text_read named (with_memory m s) ≡ over (trapped trap) (with_memory m s)) → Closed (whole line named bytes ins hs) m m (Err (stops.Trapped trap))
-  closed_trapped trap is =
-      same_action (whole line named bytes ins hs) (λ s. over (trapped trap) s) (bare m) (bare m) (bare m) [] (Err (stops.Trapped trap))
-      (λ s answers. name_traps line named bytes ins hs m trap is (placed (bare m) answers s))
-      (quiet (λ s. over (trapped trap) s) (bare m) m (Err (stops.Trapped trap)) (λ s. same_front s.conversation) (λ s. refl))
+module _ (line : ℕ) (kind : Kind) (name : Option Text) (m : Memory) where
+  abbrev Ends : Kind → Memory → Stop → Type 0
+  Ends k m' stop = Closed (kind_done line k name) m m' (Err stop)
 
-  pub closed_stopped : (name : Option Text) (stop : Stop) → TextIs named m name → Quiet {A = List Field} (Err stop) (values_read (map input_view ins)) m m → Closed (whole line named bytes ins hs) m m (Err stop)
-  closed_stopped name stop is q =
-      same_action (whole line named bytes ins hs) (read_then line bytes (map input_view ins) hs name) (bare m) (bare m) (bare m) [] (Err stop)
-      (λ s answers. name_read line named bytes ins hs m name is (placed (bare m) answers s))
-      (and_stop (values_read (map input_view ins)) (λ params t. started line bytes hs name params t) (bare m) (bare m) [] stop (started_grows line bytes hs name)
-      (quiet (values_read (map input_view ins)) (bare m) m (Err stop) (values_grow (map input_view ins)) q))
+  pub run_closed : (it : Statement) (m' : Memory) (r : Result (Unit {0}) Stop) → kind ≡ kinds.Run it → Closed (ran line it name) m m' r → Closed (kind_done line kind name) m m' r
+  run_closed it m' r e p = subst (λ k. Closed (kind_done line k name) m m' r) (sym e) p
 
-  nowhere : (name : Option Text) (params : List Field) (s : State) (answers : List Answer)
-      → started line bytes hs name params (placed (bare m) answers s) ≡ raised {A = Unit {0}} line found.NoConnection (placed (bare (fresh_area m)) answers s)
-  nowhere None params s answers = refl
-  nowhere (Some name) params s answers = refl
+  pub control_closed : (text : Text) (m' : Memory) (stop : Stop) → kind ≡ kinds.Control text → Does {A = Connection} (reached line name) (bare m) (bare m') [] (Err stop) → Ends kind m' stop
+  control_closed text m' stop e p =
+      subst (λ k. Ends k m' stop) (sym e)
+      (and_stop (reached line name) (λ c t. control_sent line c text t) (bare m) (bare m') [] stop (λ c. control_grows line c text) p)
 
-  pub closed_ended : (name : Option Text) (params : List Field) (m1 m' : Memory) (stop : Stop) → TextIs named m name → Quiet (Ok params) (values_read (map input_view ins)) m m
-      → m1 ≡ fresh_area m → m' ≡ told_area (code_of found.NoConnection) (state_of found.NoConnection) (text_of_finding found.NoConnection) line m1 → stop ≡ stops.Finished
-      → Closed (whole line named bytes ins hs) m m' (Err stop)
-  closed_ended name params m1 m' stop is q area told e =
-      subst (λ x. Closed (whole line named bytes ins hs) m m' (Err x)) (sym e)
-      (subst (λ a. Closed (whole line named bytes ins hs) m a (Err stops.Finished)) (sym (told ∙ ap (told_area (code_of found.NoConnection) (state_of found.NoConnection) (text_of_finding found.NoConnection) line) area))
-      (same_action (whole line named bytes ins hs) (read_then line bytes (map input_view ins) hs name) (bare m) (bare m) (bare _) [] (Err stops.Finished)
-      (λ s answers. name_read line named bytes ins hs m name is (placed (bare m) answers s))
-      (and_next (values_read (map input_view ins)) (λ given t. started line bytes hs name given t) (bare m) (bare m) (bare _) params [] [] (Err stops.Finished)
-      (quiet (values_read (map input_view ins)) (bare m) m (Ok params) (values_grow (map input_view ins)) q)
-      (same_action (started line bytes hs name params) (raised line found.NoConnection) (bare m) (bare (fresh_area m)) (bare _) [] (Err stops.Finished) (nowhere name params)
-      (quiet (raised line found.NoConnection) (bare (fresh_area m)) _ (Err stops.Finished) (λ s. same_front s.conversation) (λ s. refl))))))
+  pub autocommit_closed : (on : Bool) (m' : Memory) (stop : Stop) → kind ≡ kinds.Autocommit on → Does {A = Connection} (reached line name) (bare m) (bare m') [] (Err stop) → Ends kind m' stop
+  autocommit_closed on m' stop e p =
+      subst (λ k. Ends k m' stop) (sym e)
+      (and_stop (reached line name) (λ c t. autocommit_set line on c t) (bare m) (bare m') [] stop (λ c. set_grows line on c) p)

@@ -73,11 +73,14 @@ controlled_grows line Connected s = same_front s.conversation
 controlled_grows line NoTarget s = same_front s.conversation
 controlled_grows line Broken s = same_front s.conversation
 
+pub control_grows : (line : ℕ) (c : Connection) (text : Text) → Grows (control_sent line c text)
+control_grows line c text = next_grows (asked c.slot _) (λ reply t. controlled line reply t) (asked_grows c.slot _) (λ r. controlled_grows line r)
+
 pub begun_grows : (line : ℕ) (c : Connection) → Grows (begun line c)
 begun_grows line c s = go (begins c)
   where
     go : (b : Bool) → IsFront s.conversation (state_of {A = Unit {0}} (elim b [ true ↦ control_sent line c begin_text s | false ↦ gives tt s ])).conversation
-    go true = next_grows (asked c.slot _) (λ reply t. controlled line reply t) (asked_grows c.slot _) (λ r. controlled_grows line r) s
+    go true = control_grows line c begin_text s
     go false = same_front s.conversation
 
 found_grows : (line : ℕ) (o : Option Connection) → Grows (found_connection line o)

@@ -197,16 +197,20 @@ module _ {X : Type 0} {F : X → Type 0} (talk : DynBox X Global F → Option Ta
     does = and_stop first go (seen m1 o1) (seen m2 o2) p.growth stop grows p.does;
   }
 
-  -- ---- `begin transaction`
+  -- ---- transaction control
 
-  pub begun_over : (line : ℕ) (m m' : Memory) (old : Rack X F) (was : Open X F) (new : Rack X F) (now : Open X F) (r : Result (Unit {0}) Stop) (text : Text) (params : List (Option Text))
-      → begins (open_view was) ≡ true → text ≡ begin_text → params ≡ []
-      → Over talk faults (λ s. next (asked (slot_of was.conn) (request.Text text params) s) (λ reply t. controlled line reply t)) m old was m' new now r
-      → Over talk faults (begun line (open_view was)) m old was m' new now r
-  begun_over line m m' old was new now r text params due is none p =
+  pub control_over : (line : ℕ) (m m' : Memory) (old : Rack X F) (was : Open X F) (new : Rack X F) (now : Open X F) (r : Result (Unit {0}) Stop) (bytes text : Text) (params : List (Option Text))
+      → text ≡ bytes → params ≡ [] → Over talk faults (λ s. next (asked (slot_of was.conn) (request.Text text params) s) (λ reply t. controlled line reply t)) m old was m' new now r
+      → Over talk faults (control_sent line (open_view was) bytes) m old was m' new now r
+  control_over line m m' old was new now r bytes text params is none p =
+      subst (λ ps. Over talk faults (λ s. next (asked (slot_of was.conn) (request.Text bytes ps) s) (λ reply t. controlled line reply t)) m old was m' new now r) none
+      (subst (λ bs. Over talk faults (λ s. next (asked (slot_of was.conn) (request.Text bs params) s) (λ reply t. controlled line reply t)) m old was m' new now r) is p)
+
+  pub begun_over : (line : ℕ) (m m' : Memory) (old : Rack X F) (was : Open X F) (new : Rack X F) (now : Open X F) (r : Result (Unit {0}) Stop) (text : Text)
+      → begins (open_view was) ≡ true → text ≡ begin_text → Over talk faults (control_sent line (open_view was) text) m old was m' new now r → Over talk faults (begun line (open_view was)) m old was m' new now r
+  begun_over line m m' old was new now r text due is p =
       subst (λ b. Over talk faults (λ s. elim b [ true ↦ control_sent line (open_view was) begin_text s | false ↦ gives tt s ]) m old was m' new now r) (sym due)
-      (subst (λ ps. Over talk faults (λ s. next (asked (slot_of was.conn) (request.Text begin_text ps) s) (λ reply t. controlled line reply t)) m old was m' new now r) none
-      (subst (λ bs. Over talk faults (λ s. next (asked (slot_of was.conn) (request.Text bs params) s) (λ reply t. controlled line reply t)) m old was m' new now r) is p))
+      (subst (λ bs. Over talk faults (control_sent line (open_view was) bs) m old was m' new now r) is p)
 
   pub begun_not : (line : ℕ) (m : Memory) (rack : Rack X F) (was : Open X F) → begins (open_view was) ≡ false → Over talk faults (begun line (open_view was)) m rack was m rack was (Ok (tt {0}))
   begun_not line m rack was e =

@@ -7,5 +7,6 @@ pub mod Kept
 pub mod Sending
 pub mod Starting
 pub mod Stored
+pub mod Switching
 pub mod Targets
 pub mod Texts

@@ -1,52 +1,63 @@
--- A call from its arguments on: what is read, and what follows.
-use Rattle.std.proofs.Common.{◌≡◌, ℕ, List, [], ◌∷◌, map, Option, Some, None, Result, Ok, Err, true, false, refl, sym, subst, ap, ◌∙◌}
+-- A call from its arguments on: what is read, the connection, and what follows.
+use Rattle.std.proofs.Common.{◌≡◌, ℕ, List, [], ◌∷◌, map, Option, Some, None, Result, Ok, Err, true, false, refl, sym, subst, ap, ◌∙◌, arith}
 use Rattle.std.specs.Cmp.Lexicographic.{nat_list_eq_equiv}
 use Rattle.std.specs.declared.alloc.Global.{Global}
 use Rattle.std.specs.declared.dyn_box.DynBox.{DynBox}
 use Rattle.ec_base.specs.declared.stop.Trap.{Trap}
 use Rattle.ec_arguments.specs.Arguments.{TextArg as TextData, Member, normal}
+use Rattle.ec_link.specs.declared.logged.Logged.{Logged}
 use Rattle.ec_link.specs.declared.rack.Rack.{Rack}
 use Rattle.ec_link.specs.declared.request.Request.{Request}
 use Rattle.ec_link.specs.declared.request.Request.TheVariants as request
 use Rattle.ec_link.specs.Logged.{Talk}
+use Rattle.ec_link.proofs.Runs.{Asks-nil}
 use Rattle.ec_objects.specs.Memory.{Memory}
 use Rattle.ec_transfer.specs.declared.finding.Finding.TheVariants as found
+use Rattle.ec_transfer.specs.Codes.{code_of, state_of, text_of_finding}
 use Rattle.ec_evaluation.specs.State.{Answer, Connection, State}
 use Rattle.ec_calls.specs.Growth.{Grows}
 use Rattle.ec_calls.specs.Outcomes.{Text, Field, trapped, Outcome, gives, finished, over, next, with_memory, fresh_area, told_area, begun_area, raised}
 use Rattle.ec_calls.specs.Connections.{same_name, found_connection, connection_for}
 use Rattle.ec_calls.specs.Inputs.{text_read, Inputs, with_param, inputs_read, value_read, member_read}
+use Rattle.ec_calls.specs.Library.{call_done}
 use Rattle.ec_calls.specs.Running.{places_of, into_places, outputs_read, outputs_found, carried_out, run_call, text}
+use Rattle.ec_runtime.specs.declared.call.Call.{Call}
+use Rattle.ec_runtime.specs.declared.call.Kind.{Kind}
+use Rattle.ec_runtime.specs.declared.call.Kind.TheVariants as kinds
+use Rattle.ec_runtime.specs.declared.call.Statement.{Statement}
 use Rattle.ec_runtime.specs.declared.host.Host.{Host}
 use Rattle.ec_runtime.specs.declared.inputs.Input.{Input}
 use Rattle.ec_runtime.specs.declared.inputs.Input.TheVariants as inputs
 use Rattle.ec_runtime.specs.declared.open.Open.{Open}
 use Rattle.ec_runtime.specs.declared.stop.Stop.{Stop}
 use Rattle.ec_runtime.specs.declared.stop.Stop.TheVariants as stops
-use Rattle.ec_runtime.specs.Does.{Seen, placed, seen, Over}
+use Rattle.ec_runtime.specs.Calling.{bare}
+use Rattle.ec_runtime.specs.Does.{Seen, placed, seen, Does, Over}
 use Rattle.ec_runtime.specs.Opening.{open_view}
-use Rattle.ec_runtime.specs.Reading.{input_view, values_read, is_named, TextIs}
-use Rattle.ec_runtime.specs.Statements.{carried, started, read_then, target_view}
+use Rattle.ec_runtime.specs.Reading.{text_view, input_view, values_read, is_named, TextIs}
+use Rattle.ec_runtime.specs.Says.{Quiet}
+use Rattle.ec_runtime.specs.Statements.{reached, carried, started, statement_read, ran, controlling, kind_done, target_view, kind_view, call_action}
 use Rattle.ec_runtime.specs.Views.{host_view, hosts_view, outputs_of}
 use Rattle.ec_runtime.proofs.Grows.{same_front, next_grows, begun_area_grows, connection_grows, member_grows}
-use Rattle.std.proofs.Common.{arith}
-use Rattle.ec_link.proofs.Runs.{Asks-nil}
-use Rattle.ec_transfer.specs.Codes.{code_of, state_of, text_of_finding}
-use Rattle.ec_runtime.specs.Says.{Quiet}
-use Rattle.ec_runtime.proofs.Joining.{same_action, no_memory, over_quiet, over_next, over_stop}
+use Rattle.ec_runtime.proofs.Joining.{quiet, same_action, and_next, and_stop, no_memory, over_quiet, over_next, over_stop}
 use Rattle.ec_runtime.proofs.Sending.{carried_grows}
+use Rattle.ec_runtime.proofs.Targets.{stopped_next}
 
 -- ---- what only adds
 
-pub started_grows : (line : ℕ) (bytes : Text) (hs : List Host) (name : Option Text) (params : List Field) → Grows (started line bytes hs name params)
-started_grows line bytes hs name params =
-    next_grows begun_area (λ _ t. next (connection_for line name t) (λ c u. carried line (request.Text bytes params) hs c u)) begun_area_grows (λ _.
-    next_grows (connection_for line name) (λ c u. carried line (request.Text bytes params) hs c u) (connection_grows line name) (λ c. carried_grows line (request.Text bytes params) hs c))
+pub reached_grows : (line : ℕ) (name : Option Text) → Grows (reached line name)
+reached_grows line name = next_grows begun_area (λ _ t. connection_for line name t) begun_area_grows (λ _. connection_grows line name)
+
+pub started_grows : (line : ℕ) (request : Request) (hs : List Host) (name : Option Text) → Grows (started line request hs name)
+started_grows line request hs name = next_grows (reached line name) (λ c t. carried line request hs c t) (reached_grows line name) (λ c. carried_grows line request hs c)
 
 pub values_grow : (ms : List (Member ℕ)) → Grows (values_read ms)
 values_grow [] = λ s. same_front s.conversation
 values_grow (m ∷ ms) = next_grows (member_read m) (λ field t. next (values_read ms t) (λ fields u. gives (field ∷ fields) u)) (member_grows m) (λ field.
     next_grows (values_read ms) (λ fields u. gives (field ∷ fields) u) (values_grow ms) (λ fields u. same_front u.conversation))
+
+pub statement_grows : (it : Statement) → Grows (statement_read it)
+statement_grows it = next_grows (values_read (map input_view it.ins)) (λ params t. gives (request.Text it.text params) t) (values_grow (map input_view it.ins)) (λ params t. same_front t.conversation)
 
 -- ---- inputs and outputs
 
@@ -86,31 +97,52 @@ outputs_there line (h ∷ hs) s = refl
 
 -- with what was read, the call is what follows
 carried_there : (line : ℕ) (bytes : Text) (hs : List Host) (name : Option Text) (fields : List Field) (s : State)
-    → carried_out line name (text bytes) (only_params fields) (outputs_of hs) s ≡ started line bytes hs name fields s
+    → carried_out line name (text bytes) (only_params fields) (outputs_of hs) s ≡ started line (request.Text bytes fields) hs name s
 carried_there line bytes hs name fields s = λ j.
     next (connection_for line name (with_memory (fresh_area s.memory) s)) (λ c t. next (outputs_there line hs t j) (λ _ u. carried line (request.Text bytes fields) hs c u))
 
 behind_values : (line : ℕ) (bytes : Text) (hs : List Host) (name : Option Text) (o : Outcome (List Field))
     → next (next o (λ fields t. gives (only_params fields) t)) (λ given t. next (outputs_read (map target_view hs) t) (λ outputs u. carried_out line name (text bytes) given outputs u))
-    ≡ next o (λ fields t. started line bytes hs name fields t)
+    ≡ next (next o (λ fields t. gives (request.Text bytes fields) t)) (λ asks t. started line asks hs name t)
 behind_values line bytes hs name (gives fields t) = (λ j. next (outputs_known hs t j) (λ outputs u. carried_out line name (text bytes) (only_params fields) outputs u)) ∙ carried_there line bytes hs name fields t
 behind_values line bytes hs name (finished t) = refl
 behind_values line bytes hs name (over halt t) = refl
 
-module _ (line : ℕ) (named : TextData ℕ) (bytes : Text) (ins : List Input) (hs : List Host) where
-  -- the call
-  abbrev pub whole : State → Outcome (Unit {0})
-  whole s = run_call line named (normal bytes) (map input_view ins) (map target_view hs) s
+-- ---- a call is what follows behind the name of its connection
 
-  -- once the name of its connection is read
-  pub name_read : (m : Memory) (name : Option Text) → TextIs named m name → (s : State) → whole (with_memory m s) ≡ read_then line bytes (map input_view ins) hs name (with_memory m s)
-  name_read m name is s =
-      (λ j. next (is s j) (λ read t. next (inputs_read (map input_view ins) t) (λ given u. next (outputs_read (map target_view hs) u) (λ outputs v. carried_out line read (text bytes) given outputs v))))
-      ∙ (λ j. next (inputs_split ins (with_memory m s) j) (λ given u. next (outputs_read (map target_view hs) u) (λ outputs v. carried_out line name (text bytes) given outputs v)))
-      ∙ behind_values line bytes hs name (values_read (map input_view ins) (with_memory m s))
+behind_name : (line : ℕ) (it : Statement) (o : Outcome (Option Text))
+    → next o (λ name t. next (inputs_read (map input_view it.ins) t) (λ given u. next (outputs_read (map target_view it.outs) u) (λ outputs v. carried_out line name (text it.text) given outputs v))) ≡ next o (λ name t. ran line it name t)
+behind_name line it (gives name t) =
+    (λ j. next (inputs_split it.ins t j) (λ given u. next (outputs_read (map target_view it.outs) u) (λ outputs v. carried_out line name (text it.text) given outputs v)))
+    ∙ behind_values line it.text it.outs name (values_read (map input_view it.ins) t)
+behind_name line it (finished t) = refl
+behind_name line it (over halt t) = refl
 
-  pub name_traps : (m : Memory) (trap : Trap) → ((s : State) → text_read named (with_memory m s) ≡ over (trapped trap) (with_memory m s)) → (s : State) → whole (with_memory m s) ≡ over (trapped trap) (with_memory m s)
-  name_traps m trap is s = λ j. next (is s j) (λ read t. next (inputs_read (map input_view ins) t) (λ given u. next (outputs_read (map target_view hs) u) (λ outputs v. carried_out line read (text bytes) given outputs v)))
+kind_is : (line : ℕ) (named : TextData ℕ) (kind : Kind) (s : State) → call_done line (kind_view named kind) s ≡ next (text_read named s) (λ name t. kind_done line kind name t)
+kind_is line named (kinds.Run it) s = behind_name line it (text_read named s)
+kind_is line named (kinds.Control bytes) s = refl
+kind_is line named (kinds.Autocommit on) s = refl
+
+module _ (it : Call) where
+  abbrev behind : Option Text → State → Outcome (Unit {0})
+  behind name t = kind_done it.line.0 it.kind name t
+
+  -- the name is read
+  named_is : (name : Option Text) (x : Seen) → TextIs (text_view it.connection) x.memory name → (s : State) (answers : List Answer) → call_action it (placed x answers s) ≡ behind name (placed x answers s)
+  named_is name x is s answers = kind_is it.line.0 (text_view it.connection) it.kind (placed x answers s) ∙ (λ j. next (is (placed x answers s) j) behind)
+
+  named_traps : (trap : Trap) (x : Seen) → ((s : State) → text_read (text_view it.connection) (with_memory x.memory s) ≡ over (trapped trap) (with_memory x.memory s))
+      → (s : State) (answers : List Answer) → call_action it (placed x answers s) ≡ over (trapped trap) (placed x answers s)
+  named_traps trap x is s answers = kind_is it.line.0 (text_view it.connection) it.kind (placed x answers s) ∙ (λ j. next (is (placed x answers s) j) behind)
+
+  pub does_named : (name : Option Text) (x y : Seen) (g : List Logged) (r : Result (Unit {0}) Stop) → TextIs (text_view it.connection) x.memory name → Does (behind name) x y g r → Does (call_action it) x y g r
+  does_named name x y g r is p = same_action (call_action it) (behind name) x x y g r (named_is name x is) p
+
+  pub does_trapped : (trap : Trap) (x : Seen) → ((s : State) → text_read (text_view it.connection) (with_memory x.memory s) ≡ over (trapped trap) (with_memory x.memory s))
+      → Does {A = Unit {0}} (call_action it) x x [] (Err (stops.Trapped trap))
+  does_trapped trap x is =
+      same_action (call_action it) (λ s. over (trapped trap) s) x x x [] (Err (stops.Trapped trap)) (named_traps trap x is)
+      (quiet (λ s. over (trapped trap) s) x x.memory (Err (stops.Trapped trap)) (λ s. same_front s.conversation) (λ s. refl))
 
 -- ---- the connection
 
@@ -129,87 +161,115 @@ module _ (c : Connection) (m : Memory) (line : ℕ) (s : State) (answers : List 
   is_missing None e = cc
   is_missing (Some name) e = λ j. found_connection line (elim (sym e j) [ true ↦ Some c | false ↦ None ]) (placed there answers s)
 
-module _ (line : ℕ) (bytes : Text) (hs : List Host) (params : List Field) (c : Connection) (m : Memory) (name : Option Text) where
-  -- where the connection is found, what follows is its request
-  pub started_there : true ≡ is_named c.name name → (s : State) (answers : List Answer)
-      → started line bytes hs name params (placed (record { memory = m; connection = Some c }) answers s) ≡ carried line (request.Text bytes params) hs c (placed (record { memory = fresh_area m; connection = Some c }) answers s)
-  started_there e s answers = λ j. next (is_found c (fresh_area m) line s answers name e j) (λ d u. carried line (request.Text bytes params) hs d u)
+-- with this area the connection is reached
+module _ {X : Type 0} {F : X → Type 0} (line : ℕ) (name : Option Text) (m m1 : Memory) (o : Open X F) (area : m1 ≡ fresh_area m) where
+  pub reached_there : true ≡ is_named o.name name → Does (reached line name) (seen m o) (seen m1 o) [] (Ok (open_view o))
+  reached_there e =
+      subst (λ a. Does (reached line name) (seen m o) (seen a o) [] (Ok (open_view o))) (sym area)
+      (same_action (reached line name) (λ s. gives (open_view o) s) (seen m o) (seen (fresh_area m) o) (seen (fresh_area m) o) [] (Ok (open_view o))
+      (λ s answers. is_found (open_view o) (fresh_area m) line s answers name e)
+      (quiet (λ s. gives (open_view o) s) (seen (fresh_area m) o) (fresh_area m) (Ok (open_view o)) (λ s. same_front s.conversation) (λ s. refl)))
 
-  -- where it isn't, a code ends the call
-  pub started_nowhere : false ≡ is_named c.name name → (s : State) (answers : List Answer)
-      → started line bytes hs name params (placed (record { memory = m; connection = Some c }) answers s) ≡ raised {A = Unit {0}} line found.NoConnection (placed (record { memory = fresh_area m; connection = Some c }) answers s)
-  started_nowhere e s answers = λ j. next (is_missing c (fresh_area m) line s answers name e j) (λ d u. carried line (request.Text bytes params) hs d u)
+  -- it is another one, and a code ends the call
+  pub reached_no : (m' : Memory) (stop : Stop) → false ≡ is_named o.name name → m' ≡ told_area (code_of found.NoConnection) (state_of found.NoConnection) (text_of_finding found.NoConnection) line m1 → stop ≡ stops.Finished
+      → Does {A = Connection} (reached line name) (seen m o) (seen m' o) [] (Err stop)
+  reached_no m' stop e told is =
+      subst (λ x. Does {A = Connection} (reached line name) (seen m o) (seen m' o) [] (Err x)) (sym is)
+      (subst (λ a. Does {A = Connection} (reached line name) (seen m o) (seen a o) [] (Err stops.Finished)) (sym (told ∙ ap (told_area (code_of found.NoConnection) (state_of found.NoConnection) (text_of_finding found.NoConnection) line) area))
+      (same_action (reached line name) (raised line found.NoConnection) (seen m o) (seen (fresh_area m) o) (seen _ o) [] (Err stops.Finished)
+      (λ s answers. is_missing (open_view o) (fresh_area m) line s answers name e)
+      (quiet (raised line found.NoConnection) (seen (fresh_area m) o) _ (Err stops.Finished) (λ s. same_front s.conversation) (λ s. refl))))
 
--- values that are read, with the inputs as they are lent
-pub same_inputs : (lent ins : List Input) (r : Result (List Field) Stop) (m : Memory) → lent ≡ ins → Quiet r (values_read (map input_view lent)) m m → Quiet r (values_read (map input_view ins)) m m
-same_inputs lent ins r m e q = subst (λ x. Quiet r (values_read (map input_view x)) m m) e q
+nowhere : (line : ℕ) (name : Option Text) (m : Memory) (s : State) (answers : List Answer) → reached line name (placed (bare m) answers s) ≡ raised {A = Connection} line found.NoConnection (placed (bare (fresh_area m)) answers s)
+nowhere line None m s answers = refl
+nowhere line (Some name) m s answers = refl
+
+-- where no connection is open a code ends the call
+pub reached_closed : (line : ℕ) (name : Option Text) (m m1 m' : Memory) (stop : Stop) → m1 ≡ fresh_area m → m' ≡ told_area (code_of found.NoConnection) (state_of found.NoConnection) (text_of_finding found.NoConnection) line m1 → stop ≡ stops.Finished
+    → Does {A = Connection} (reached line name) (bare m) (bare m') [] (Err stop)
+reached_closed line name m m1 m' stop area told is =
+    subst (λ x. Does {A = Connection} (reached line name) (bare m) (bare m') [] (Err x)) (sym is)
+    (subst (λ a. Does {A = Connection} (reached line name) (bare m) (bare a) [] (Err stops.Finished)) (sym (told ∙ ap (told_area (code_of found.NoConnection) (state_of found.NoConnection) (text_of_finding found.NoConnection) line) area))
+    (same_action (reached line name) (raised line found.NoConnection) (bare m) (bare (fresh_area m)) (bare _) [] (Err stops.Finished) (nowhere line name m)
+    (quiet (raised line found.NoConnection) (bare (fresh_area m)) _ (Err stops.Finished) (λ s. same_front s.conversation) (λ s. refl))))
+
+-- ---- what a statement reads
+
+pub reading_stops : (it : Statement) (lent : List Input) (m : Memory) (stop : Stop) → lent ≡ it.ins → Quiet {A = List Field} (Err stop) (values_read (map input_view lent)) m m → Quiet {A = Request} (Err stop) (statement_read it) m m
+reading_stops it lent m stop e q s =
+    stopped_next stop (values_read (map input_view it.ins) (with_memory m s)) (with_memory m s) (λ params t. gives (request.Text it.text params) t)
+    (subst (λ x. Quiet {A = List Field} (Err stop) (values_read (map input_view x)) m m) e q s)
+
+pub reading_gives : (it : Statement) (lent : List Input) (m : Memory) (bytes : Text) (params : List Field) → lent ≡ it.ins → bytes ≡ it.text → Quiet (Ok params) (values_read (map input_view lent)) m m → Quiet (Ok (request.Text bytes params)) (statement_read it) m m
+reading_gives it lent m bytes params e f q s =
+    (λ j. next (subst (λ x. Quiet (Ok params) (values_read (map input_view x)) m m) e q s j) (λ given t. gives (request.Text it.text given) t)) ∙ (λ j. gives (request.Text (sym f j) params) (with_memory m s))
 
 module _ {X : Type 0} {F : X → Type 0} (talk : DynBox X Global F → Option Talk) (faults : DynBox X Global F → ℕ) where
   -- the action is another one in the states that are met
-  pub over_moved : (action other : State → Outcome (Unit {0})) (m1 m2 m3 : Memory) (old : Rack X F) (was : Open X F) (new : Rack X F) (now : Open X F) (r : Result (Unit {0}) Stop)
-      → ((s : State) (answers : List Answer) → action (placed (seen m1 was) answers s) ≡ other (placed (seen m2 was) answers s))
-      → Over talk faults other m2 old was m3 new now r → Over talk faults action m1 old was m3 new now r
-  over_moved action other m1 m2 m3 old was new now r h p = record {
+  pub over_moved : (action other : State → Outcome (Unit {0})) (m m' : Memory) (old : Rack X F) (was : Open X F) (new : Rack X F) (now : Open X F) (r : Result (Unit {0}) Stop)
+      → ((s : State) (answers : List Answer) → action (placed (seen m was) answers s) ≡ other (placed (seen m was) answers s))
+      → Over talk faults other m old was m' new now r → Over talk faults action m old was m' new now r
+  over_moved action other m m' old was new now r h p = record {
     growth = p.growth;
     asks = p.asks;
-    does = same_action action other (seen m1 was) (seen m2 was) (seen m3 now) p.growth r h p.does;
+    does = same_action action other (seen m was) (seen m was) (seen m' now) p.growth r h p.does;
   }
 
-  -- ---- the ways of a start
-
-  pub start_found : (line : ℕ) (bytes sent : Text) (hs : List Host) (params : List Field) (name : Option Text) (m m1 m' : Memory) (old : Rack X F) (was : Open X F) (new : Rack X F) (now : Open X F) (r : Result (Unit {0}) Stop)
-      → true ≡ is_named was.name name → m1 ≡ fresh_area m → sent ≡ bytes
-      → Over talk faults (carried line (request.Text sent params) hs (open_view was)) m1 old was m' new now r → Over talk faults (started line bytes hs name params) m old was m' new now r
-  start_found line bytes sent hs params name m m1 m' old was new now r e area same p =
-      over_moved (started line bytes hs name params) (carried line (request.Text bytes params) hs (open_view was)) m (fresh_area m) m' old was new now r
-      (λ s answers. started_there line bytes hs params (open_view was) m name e s answers)
-      (subst (λ a. Over talk faults (carried line (request.Text bytes params) hs (open_view was)) a old was m' new now r) area
-      (subst (λ bs. Over talk faults (carried line (request.Text bs params) hs (open_view was)) m1 old was m' new now r) same p))
-
-  pub start_missing : (line : ℕ) (bytes : Text) (hs : List Host) (params : List Field) (name : Option Text) (m m1 m' : Memory) (rack : Rack X F) (was : Open X F) (stop : Stop)
-      → false ≡ is_named was.name name → m1 ≡ fresh_area m → m' ≡ told_area (code_of found.NoConnection) (state_of found.NoConnection) (text_of_finding found.NoConnection) line m1 → stop ≡ stops.Finished
-      → Over {X = X} {F = F} talk faults {A = Unit {0}} (started line bytes hs name params) m rack was m' rack was (Err stop)
-  start_missing line bytes hs params name m m1 m' rack was stop e area told is =
-      subst (λ x. Over {X = X} {F = F} talk faults {A = Unit {0}} (started line bytes hs name params) m rack was m' rack was (Err x)) (sym is)
-      (subst (λ a. Over {X = X} {F = F} talk faults {A = Unit {0}} (started line bytes hs name params) m rack was a rack was (Err stops.Finished)) (sym (told ∙ ap (told_area (code_of found.NoConnection) (state_of found.NoConnection) (text_of_finding found.NoConnection) line) area))
-      (over_moved (started line bytes hs name params) (raised line found.NoConnection) m (fresh_area m) _ rack was rack was (Err stops.Finished)
-      (λ s answers. started_nowhere line bytes hs params (open_view was) m name e s answers)
-      (over_quiet talk faults (raised line found.NoConnection) (fresh_area m) _ rack was (Err stops.Finished) (λ s. same_front s.conversation) (λ s. refl))))
-
-  pub start_wanting : (action : State → Outcome (Unit {0})) (m m1 : Memory) (rack : Rack X F) (was : Open X F) → Grows action → Over {X = X} {F = F} talk faults {A = Unit {0}} action m rack was m1 rack was (Err stops.OutOfMemory)
-  start_wanting action m m1 rack was grows = record {
+  -- nothing is asked
+  pub over_still : {A : Type 0} (action : State → Outcome A) (m m' : Memory) (rack : Rack X F) (o : Open X F) (r : Result A Stop) → Does action (seen m o) (seen m' o) [] r → Over talk faults action m rack o m' rack o r
+  over_still action m m' rack o r p = record {
     growth = [];
-    asks = Asks-nil talk faults rack rack was.conn was.conn refl refl refl refl (omega arith);
-    does = no_memory action (seen m was) (seen m1 was) grows;
+    asks = Asks-nil talk faults rack rack o.conn o.conn refl refl refl refl (omega arith);
+    does = p;
   }
 
-  -- the same with the hosts as they are lent
-  pub over_hosts : (line : ℕ) (request : Request) (lent hs : List Host) (m m' : Memory) (old : Rack X F) (was : Open X F) (new : Rack X F) (now : Open X F) (r : Result (Unit {0}) Stop) → lent ≡ hs
-      → Over talk faults (carried line request lent (open_view was)) m old was m' new now r → Over talk faults (carried line request hs (open_view was)) m old was m' new now r
-  over_hosts line request lent hs m m' old was new now r e p = subst (λ x. Over talk faults (carried line request x (open_view was)) m old was m' new now r) e p
+  -- ---- a call over the open connection
 
-  -- ---- the ways of a call
+  module _ (it : Call) (m : Memory) (rack : Rack X F) (was : Open X F) where
+    pub over_trapped : (trap : Trap) → ((s : State) → text_read (text_view it.connection) (with_memory m s) ≡ over (trapped trap) (with_memory m s))
+        → Over {X = X} {F = F} talk faults {A = Unit {0}} (call_action it) m rack was m rack was (Err (stops.Trapped trap))
+    over_trapped trap is = over_still (call_action it) m m rack was (Err (stops.Trapped trap)) (does_trapped it trap (seen m was) is)
 
-  module _ (line : ℕ) (named : TextData ℕ) (bytes : Text) (ins : List Input) (hs : List Host) (m : Memory) (rack : Rack X F) (was : Open X F) where
-    pub run_trapped : (trap : Trap) → ((s : State) → text_read named (with_memory m s) ≡ over (trapped trap) (with_memory m s))
-        → Over {X = X} {F = F} talk faults {A = Unit {0}} (whole line named bytes ins hs) m rack was m rack was (Err (stops.Trapped trap))
-    run_trapped trap is =
-        over_moved (whole line named bytes ins hs) (λ s. over (trapped trap) s) m m m rack was rack was (Err (stops.Trapped trap))
-        (λ s answers. name_traps line named bytes ins hs m trap is (placed (seen m was) answers s))
-        (over_quiet talk faults (λ s. over (trapped trap) s) m m rack was (Err (stops.Trapped trap)) (λ s. same_front s.conversation) (λ s. refl))
+    pub over_named : (name : Option Text) (kind : Kind) (m' : Memory) (new : Rack X F) (now : Open X F) (r : Result (Unit {0}) Stop) → TextIs (text_view it.connection) m name → it.kind ≡ kind
+        → Over talk faults (λ t. kind_done it.line.0 kind name t) m rack was m' new now r → Over talk faults (call_action it) m rack was m' new now r
+    over_named name kind m' new now r is e p =
+        over_moved (call_action it) (λ t. kind_done it.line.0 it.kind name t) m m' rack was new now r (λ s answers. named_is it name (seen m was) is s answers)
+        (subst (λ k. Over talk faults (λ t. kind_done it.line.0 k name t) m rack was m' new now r) (sym e) p)
 
-    pub run_stopped : (name : Option Text) (stop : Stop) → TextIs named m name → Quiet {A = List Field} (Err stop) (values_read (map input_view ins)) m m
-        → Over {X = X} {F = F} talk faults {A = Unit {0}} (whole line named bytes ins hs) m rack was m rack was (Err stop)
-    run_stopped name stop is q =
-        over_moved (whole line named bytes ins hs) (read_then line bytes (map input_view ins) hs name) m m m rack was rack was (Err stop)
-        (λ s answers. name_read line named bytes ins hs m name is (placed (seen m was) answers s))
-        (over_stop talk faults (values_read (map input_view ins)) (λ params t. started line bytes hs name params t) m m rack was rack was stop (started_grows line bytes hs name)
-        (over_quiet talk faults (values_read (map input_view ins)) m m rack was (Err stop) (values_grow (map input_view ins)) q))
+    -- with a text as it is lent
+    pub over_control : (name : Option Text) (lent bytes : Text) (m' : Memory) (new : Rack X F) (now : Open X F) (r : Result (Unit {0}) Stop) → TextIs (text_view it.connection) m name → it.kind ≡ kinds.Control bytes → lent ≡ bytes
+        → Over talk faults (controlling it.line.0 lent name) m rack was m' new now r → Over talk faults (call_action it) m rack was m' new now r
+    over_control name lent bytes m' new now r is e same p =
+        over_named name (kinds.Control bytes) m' new now r is e (subst (λ x. Over talk faults (controlling it.line.0 x name) m rack was m' new now r) same p)
 
-    pub run_started : (name : Option Text) (params : List Field) (m' : Memory) (new : Rack X F) (now : Open X F) (r : Result (Unit {0}) Stop) → TextIs named m name → Quiet (Ok params) (values_read (map input_view ins)) m m
-        → Over talk faults (started line bytes hs name params) m rack was m' new now r → Over talk faults (whole line named bytes ins hs) m rack was m' new now r
-    run_started name params m' new now r is q p =
-        over_moved (whole line named bytes ins hs) (read_then line bytes (map input_view ins) hs name) m m m' rack was new now r
-        (λ s answers. name_read line named bytes ins hs m name is (placed (seen m was) answers s))
-        (over_next talk faults (values_read (map input_view ins)) (λ params t. started line bytes hs name params t) m m m' rack was rack was new now params r
-        (over_quiet talk faults (values_read (map input_view ins)) m m rack was (Ok params) (values_grow (map input_view ins)) q) p)
+  -- ---- a statement over it
+
+  module _ (line : ℕ) (it : Statement) (name : Option Text) (m : Memory) (rack : Rack X F) (was : Open X F) where
+    abbrev With : Request → State → Outcome (Unit {0})
+    With asks t = started line asks it.outs name t
+
+    pub run_stopped : (stop : Stop) → Quiet {A = Request} (Err stop) (statement_read it) m m → Over {X = X} {F = F} talk faults {A = Unit {0}} (ran line it name) m rack was m rack was (Err stop)
+    run_stopped stop q =
+        over_stop talk faults (statement_read it) With m m rack was rack was stop (λ asks. started_grows line asks it.outs name)
+        (over_quiet talk faults (statement_read it) m m rack was (Err stop) (statement_grows it) q)
+
+    pub run_started : (asks : Request) (lent : List Host) (m' : Memory) (new : Rack X F) (now : Open X F) (r : Result (Unit {0}) Stop) → Quiet (Ok asks) (statement_read it) m m → lent ≡ it.outs
+        → Over talk faults (started line asks lent name) m rack was m' new now r → Over talk faults (ran line it name) m rack was m' new now r
+    run_started asks lent m' new now r q e p =
+        over_next talk faults (statement_read it) With m m m' rack was rack was new now asks r
+        (over_quiet talk faults (statement_read it) m m rack was (Ok asks) (statement_grows it) q)
+        (subst (λ x. Over talk faults (started line asks x name) m rack was m' new now r) e p)
+
+-- ---- a statement where no connection is open
+
+pub run_ended : (line : ℕ) (it : Statement) (name : Option Text) (m m' : Memory) (asks : Request) (stop : Stop) → Quiet (Ok asks) (statement_read it) m m
+    → Does {A = Connection} (reached line name) (bare m) (bare m') [] (Err stop) → Does {A = Unit {0}} (ran line it name) (bare m) (bare m') [] (Err stop)
+run_ended line it name m m' asks stop q p =
+    and_next (statement_read it) (λ x t. started line x it.outs name t) (bare m) (bare m) (bare m') asks [] [] (Err stop)
+    (quiet (statement_read it) (bare m) m (Ok asks) (statement_grows it) q)
+    (and_stop (reached line name) (λ c t. carried line asks it.outs c t) (bare m) (bare m') [] stop (λ c. carried_grows line asks it.outs c) p)
+
+pub run_unread : (line : ℕ) (it : Statement) (name : Option Text) (m : Memory) (stop : Stop) → Quiet {A = Request} (Err stop) (statement_read it) m m → Does {A = Unit {0}} (ran line it name) (bare m) (bare m) [] (Err stop)
+run_unread line it name m stop q =
+    and_stop (statement_read it) (λ x t. started line x it.outs name t) (bare m) (bare m) [] stop (λ asks. started_grows line asks it.outs name)
+    (quiet (statement_read it) (bare m) m (Err stop) (statement_grows it) q)

@@ -22,6 +22,11 @@ abbrev pub Quiet : {A : Type 0} → Result A Stop → (State → Outcome A) → 
 Quiet result action old new = (s : State) →
     Says result (action (with_memory old s)) (with_memory new s)
 
+-- what is given where a part goes on
+abbrev pub giving : {A : Type 0} → A → Result (Unit {0}) Stop → Result A Stop
+giving a (Ok x) = Ok a
+giving a (Err stop) = Err stop
+
 -- what a conversion stops at: a trap, or a code that is told
 abbrev pub Stopped : ConvStop → ℕ → Stop → Memory → Memory → Type 0
 Stopped (conv.Trapped trap) line stop old new = (stop ≡ stops.Trapped trap) × (new ≡ old)

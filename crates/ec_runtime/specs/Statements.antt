@@ -1,16 +1,20 @@
--- Statements over a connection, from the request on.
-use Rattle.std.specs.Prelude.{ℕ, List, Option, map}
+-- The parts of a call over a connection, and what a call does.
+use Rattle.std.specs.Prelude.{ℕ, Bool, List, Option, map}
 use Rattle.ec_link.specs.declared.request.Request.{Request}
 use Rattle.ec_link.specs.declared.request.Request.TheVariants as request
-use Rattle.ec_arguments.specs.Arguments.{Member, host, normal, run, Cut}
+use Rattle.ec_arguments.specs.Arguments.{Call as CutCall, Cut, Member, TextArg, control, host, normal, run, set_autocommit}
 use Rattle.ec_evaluation.specs.State.{Connection, State}
-use Rattle.ec_calls.specs.Outcomes.{Text, Field, Outcome, next, begun_area}
-use Rattle.ec_calls.specs.Connections.{asked, begun, connection_for}
+use Rattle.ec_calls.specs.Outcomes.{Text, Outcome, gives, next, begun_area}
+use Rattle.ec_calls.specs.Connections.{asked, begun, connection_for, control_sent}
+use Rattle.ec_calls.specs.Autocommit.{autocommit_set}
 use Rattle.ec_calls.specs.Answers.{replied}
 use Rattle.ec_calls.specs.Running.{is_wanted, table_kept}
 use Rattle.ec_calls.specs.Library.{cut_done}
 use Rattle.ec_runtime.specs.declared.host.Host.{Host}
 use Rattle.ec_runtime.specs.declared.call.Call.{Call}
+use Rattle.ec_runtime.specs.declared.call.Kind.{Kind}
+use Rattle.ec_runtime.specs.declared.call.Kind.TheVariants as kinds
+use Rattle.ec_runtime.specs.declared.call.Statement.{Statement}
 use Rattle.ec_runtime.specs.Reading.{text_view, input_view, values_read}
 use Rattle.ec_runtime.specs.Views.{host_view, outputs_of}
 
@@ -24,30 +28,50 @@ sent line request hosts slot s =
 abbrev pub carried : ℕ → Request → List Host → Connection → State → Outcome (Unit {0})
 carried line request hosts c s = next (begun line c s) (λ _ t. sent line request hosts c.slot t)
 
--- the area is set to its opening value, the connection is found, and the text is sent to it with its parameters
-abbrev pub started : ℕ → Text → List Host → Option Text → List Field → State → Outcome (Unit {0})
-started line text hosts name params s =
-    next (begun_area s) (λ _ t. next (connection_for line name t)
-    (λ c u. carried line (request.Text text params) hosts c u))
+-- the area is set to its opening value, and the connection is found
+abbrev pub reached : ℕ → Option Text → State → Outcome Connection
+reached line name s = next (begun_area s) (λ _ t. connection_for line name t)
 
--- the values are read first
-abbrev pub read_then : ℕ → Text → List (Member ℕ) →
-    List Host → Option Text → State → Outcome (Unit {0})
-read_then line text ins hosts name s =
-    next (values_read ins s) (λ params t. started line text hosts name params t)
+-- a request is carried out over the connection that is found
+abbrev pub started : ℕ → Request → List Host → Option Text → State → Outcome (Unit {0})
+started line request hosts name s =
+    next (reached line name s) (λ c t. carried line request hosts c t)
+
+-- the request of a statement, with the values that it reads
+abbrev pub statement_read : Statement → State → Outcome Request
+statement_read it s =
+    next (values_read (map input_view it.ins) s)
+    (λ params t. gives (request.Text it.text params) t)
+
+-- what each call does behind the name of its connection
+abbrev pub ran : ℕ → Statement → Option Text → State → Outcome (Unit {0})
+ran line it name s =
+    next (statement_read it s) (λ request t. started line request it.outs name t)
+
+abbrev pub controlling : ℕ → Text → Option Text → State → Outcome (Unit {0})
+controlling line text name s = next (reached line name s) (λ c t. control_sent line c text t)
+
+abbrev pub switching : ℕ → Bool → Option Text → State → Outcome (Unit {0})
+switching line on name s = next (reached line name s) (λ c t. autocommit_set line on c t)
+
+abbrev pub kind_done : ℕ → Kind → Option Text → State → Outcome (Unit {0})
+kind_done line (kinds.Run it) name s = ran line it name s
+kind_done line (kinds.Control text) name s = controlling line text name s
+kind_done line (kinds.Autocommit on) name s = switching line on name s
 
 -- a host that is stored into
 abbrev pub target_view : Host → Member ℕ
 target_view h = host (host_view h)
 
 -- a call, cut
+abbrev pub kind_view : TextArg ℕ → Kind → CutCall ℕ
+kind_view connection (kinds.Run it) =
+    run connection (normal it.text) (map input_view it.ins) (map target_view it.outs)
+kind_view connection (kinds.Control text) = control connection text
+kind_view connection (kinds.Autocommit on) = set_autocommit on connection
+
 abbrev pub cut_view : Call → Cut ℕ
-cut_view it =
-    record {
-      line = it.line.0;
-      call = run (text_view it.connection)
-          (normal it.text) (map input_view it.ins) (map target_view it.outs);
-    }
+cut_view it = record { line = it.line.0; call = kind_view (text_view it.connection) it.kind }
 
 -- what it does
 abbrev pub call_action : Call → State → Outcome (Unit {0})

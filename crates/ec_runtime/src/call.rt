@@ -1,16 +1,33 @@
-//! A call of ECPGdo, cut.
+//! A call of the library, cut.
 
 use crate::host::Host;
 use crate::inputs::{Input, TextArg};
 use ec_base::{Bytes, Line, List};
 
-/// A statement that is sent as its text stands, with the values that it is given and the hosts that its rows go into.
+/// A call over a connection.
 #[derive(Debug, Drop)]
 pub struct Call {
     /// The line that is told with its codes.
     pub line: Line,
     /// The name of its connection.
     pub connection: TextArg,
+    pub kind: Kind,
+}
+
+/// What is called (PostgreSQL manual, chapter ECPG).
+#[derive(Debug, Drop)]
+pub enum Kind {
+    /// ECPGdo.
+    Run(Statement),
+    /// ECPGtrans, with the text of the transaction control.
+    Control(Bytes),
+    /// ECPGsetcommit: whether each statement is a transaction by itself.
+    Autocommit(bool),
+}
+
+/// A statement that is sent as its text stands, with the values that it is given and the hosts that its rows go into.
+#[derive(Debug, Drop)]
+pub struct Statement {
     pub text: Bytes,
     pub ins: List<Input>,
     pub outs: List<Host>,

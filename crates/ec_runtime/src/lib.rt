@@ -3,16 +3,19 @@
 
 mod answering;
 mod area;
+mod autocommit;
 mod call;
+mod control;
 mod host;
 mod inputs;
 mod library;
 mod open;
+mod reaching;
 mod running;
 mod stop;
 mod storing;
 
-pub use call::Call;
+pub use call::{Call, Kind, Statement};
 pub use host::{Host, places_that_fit};
 pub use inputs::{Input, TextArg};
 pub use library::Library;

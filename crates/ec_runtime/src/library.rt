@@ -1,24 +1,29 @@
 //! The library: its connection, and its calls.
 
 ghost use Rattle.std.specs.Prelude.{◌≡◌, IfOk, OnOk, OnErr, option_map, MatchOption, Some, None, []};
+ghost use Rattle.ec_link.specs.Conn.{slot_of};
 ghost use Rattle.ec_link.specs.Links.{talk_by, faults_by};
 ghost use Rattle.ec_link.specs.Rack.{slots_of, log_of};
 ghost use Rattle.ec_link.specs.Slot.{states};
-ghost use Rattle.ec_link.specs.SlotState.{ready_slot};
+ghost use Rattle.ec_link.specs.SlotState.{ready_slot, TakenAt};
 ghost use Rattle.ec_transfer.specs.Area.{IsArea};
+ghost use Rattle.ec_calls.specs.Outcomes.{Text};
 ghost use Rattle.ec_runtime.specs.Calling.{connection_of, conn_of, called_by, Called, Holds, Opens, Closes, Closed};
-ghost use Rattle.ec_runtime.specs.Statements.{call_action};
+ghost use Rattle.ec_runtime.specs.Does.{Over};
+ghost use Rattle.ec_runtime.specs.Statements.{call_action, kind_done, ran};
+ghost use Rattle.std.specs.declared.option.Option.{Option};
 
-use crate::area::{begin_area, refuse};
-use crate::call::Call;
-use crate::inputs::{pass_text, values};
+use crate::autocommit::set_autocommit;
+use crate::call::{Call, Kind, Statement};
+use crate::control::control;
+use crate::inputs::{finds, pass_text};
 use crate::open::Open;
-use crate::running::run;
+use crate::reaching::miss;
+use crate::running::{read, run};
 use crate::stop::{CallStop, Stop};
-use ec_base::{Name, OutOfMemory};
+use ec_base::{Line, Name, OutOfMemory};
 use ec_link::{Link, Rack, Slot, Tx};
 use ec_memory::Store;
-use ec_transfer::Finding;
 use std::alloc::Global;
 
 /// The library of a program: the connection that is open, if there is one.
@@ -43,22 +48,75 @@ fn ready_name(slots: &[Slot]) -> Result<Option<Name>, OutOfMemory>
     Ok(None)
 }
 
-/// A call where no connection is open: what it is given is read, and a code ends it.
+/// A call over the open connection.
+fn run_open(
+    alloc: Global,
+    store: &mut Store,
+    rack: &mut Rack,
+    session: &mut Open,
+    it: &Call,
+) -> Result<(), Stop>
+    requires area { IsArea store.old }
+    requires taken { TakenAt (states (slots_of rack.old)) (slot_of session.old.conn) }
+    ensures over { Over (talk_by ⟦<dyn Link as Link>⟧) (faults_by ⟦<dyn Link as Link>⟧)
+        (call_action it.now)
+        store.old rack.old session.old store.new rack.new session.new result }
+    ensures kept { IsArea store.new }
+    ensures still_taken { TakenAt (states (slots_of rack.new)) (slot_of session.new.conn) }
+{
+    let line = it.line;
+    match finds(store, session.name.as_slice(), &it.connection) {
+        Err(trap) => Err(Stop::Trapped(trap)),
+        Ok(found) => match &it.kind {
+            Kind::Run(statement) => run(alloc, store, rack, session, line, found, statement),
+            Kind::Control(text) => {
+                control(alloc, store, rack, session, line, found, text.as_slice())
+            }
+            Kind::Autocommit(on) => {
+                set_autocommit(alloc, store, rack, session, line, found, *on)
+            }
+        },
+    }
+}
+
+/// ECPGdo where no connection is open: what it is given is read, and a code ends it.
+fn run_nowhere(alloc: Global, store: &mut Store, line: Line, it: &Statement) -> Result<(), Stop>
+    requires { IsArea store.old }
+    ensures does { (name : Option Text) →
+        Closed (ran line.0 it.now name) store.old store.new result }
+    ensures kept { IsArea store.new }
+{
+    match read(alloc, store, it) {
+        Err(stop) => return Err(stop),
+        Ok(_) => {}
+    }
+    Err(miss(store, line))
+}
+
+/// What is called behind the name of a connection, where none is open.
+fn end_closed(alloc: Global, store: &mut Store, line: Line, kind: &Kind) -> Result<(), Stop>
+    requires { IsArea store.old }
+    ensures does { (name : Option Text) →
+        Closed (kind_done line.0 kind.now name) store.old store.new result }
+    ensures kept { IsArea store.new }
+{
+    match kind {
+        Kind::Run(statement) => run_nowhere(alloc, store, line, statement),
+        Kind::Control(_) => Err(miss(store, line)),
+        Kind::Autocommit(_) => Err(miss(store, line)),
+    }
+}
+
+/// A call where no connection is open.
 fn run_closed(alloc: Global, store: &mut Store, it: &Call) -> Result<(), Stop>
     requires { IsArea store.old }
     ensures does { Closed (call_action it.now) store.old store.new result }
     ensures kept { IsArea store.new }
 {
     match pass_text(store, &it.connection) {
-        Err(trap) => return Err(Stop::Trapped(trap)),
-        Ok(()) => {}
+        Err(trap) => Err(Stop::Trapped(trap)),
+        Ok(()) => end_closed(alloc, store, it.line, &it.kind),
     }
-    match values(alloc, store, it.ins.as_slice()) {
-        Err(stop) => return Err(stop),
-        Ok(_) => {}
-    }
-    begin_area(store);
-    Err(refuse(store, it.line, Finding::NoConnection))
 }
 
 impl Library {
@@ -118,7 +176,7 @@ impl Library {
         ensures still_holds { Holds self.new rack.new }
     {
         match &mut self.session {
-            Some(session) => called(run(alloc, store, rack, session, it)),
+            Some(session) => called(run_open(alloc, store, rack, session, it)),
             None => called(run_closed(alloc, store, it)),
         }
     }

@@ -1,6 +1,6 @@
 //! A statement over the open connection.
 
-ghost use Rattle.std.specs.Prelude.{◌≡◌};
+ghost use Rattle.std.specs.Prelude.{◌≡◌, IfOk};
 ghost use Rattle.ec_link.specs.Conn.{slot_of};
 ghost use Rattle.ec_link.specs.Links.{talk_by, faults_by};
 ghost use Rattle.ec_link.specs.Logged.{IsAsk};
@@ -12,21 +12,22 @@ ghost use Rattle.ec_calls.specs.Connections.{begun};
 ghost use Rattle.ec_runtime.specs.Does.{Over};
 ghost use Rattle.ec_runtime.specs.Opening.{open_view};
 ghost use Rattle.ec_runtime.specs.Reading.{is_named};
-ghost use Rattle.ec_runtime.specs.Statements.{sent, carried, started, call_action};
+ghost use Rattle.ec_runtime.specs.Says.{Quiet};
+ghost use Rattle.ec_runtime.specs.Statements.{sent, carried, started, ran, statement_read};
 ghost use Rattle.ec_calls.specs.Outcomes.{Text};
 ghost use Rattle.std.specs.declared.option.Option.{Option};
 
-use crate::answering::{answered, controlled};
-use crate::area::{begin_area, refuse};
-use crate::call::Call;
+use crate::answering::answered;
+use crate::call::Statement;
+use crate::control::send_control;
 use crate::host::Host;
-use crate::inputs::{finds, values};
+use crate::inputs::values;
 use crate::open::{Open, ask, is_due};
+use crate::reaching::reach;
 use crate::stop::Stop;
-use ec_base::{Bytes, Line, List};
+use ec_base::{Bytes, Line};
 use ec_link::{Link, Rack, Request};
 use ec_memory::Store;
-use ec_transfer::Finding;
 use std::alloc::Global;
 
 /// `begin transaction` is sent where it is due.
@@ -48,18 +49,14 @@ fn begin(
     if !is_due(session) {
         return Ok(());
     }
-    let text = match Bytes::from_slice(alloc, b"begin transaction".as_slice()) {
-        Ok(text) => text,
-        Err(_) => return Err(Stop::OutOfMemory),
-    };
-    let params = List::new(alloc);
-    match ask(rack, session, Request::Text { text, params }) {
-        Err(_) => Err(Stop::OutOfMemory),
-        Ok(()) => match rack.last_reply() {
-            Some(reply) => controlled(store, line, reply),
-            None => unreachable!(),
-        },
-    }
+    send_control(
+        alloc,
+        store,
+        rack,
+        session,
+        line,
+        b"begin transaction".as_slice(),
+    )
 }
 
 /// The text is sent, and its reply is answered.
@@ -114,66 +111,72 @@ pub(crate) fn carry_out(
     }
 }
 
-/// With what was read: the area is set to its opening value, the connection is found, and the text is sent.
+/// The request that a statement asks for, with what it reads behind the name of its connection: the text, and the values.
+pub(crate) fn read(alloc: Global, store: &Store, it: &Statement) -> Result<Request, Stop>
+    ensures quiet { Quiet result (statement_read it.now) store.now store.now }
+    ensures asks { IfOk result (λ request. IsAsk request) }
+{
+    let text = match Bytes::from_slice(alloc, it.text.as_slice()) {
+        Ok(text) => text,
+        Err(_) => return Err(Stop::OutOfMemory),
+    };
+    match values(alloc, store, it.ins.as_slice()) {
+        Err(stop) => Err(stop),
+        Ok(params) => Ok(Request::Text { text, params }),
+    }
+}
+
+/// With a request: the connection is found, and the request is carried out over it.
 fn start(
     alloc: Global,
     store: &mut Store,
     rack: &mut Rack,
     session: &mut Open,
-    it: &Call,
+    line: Line,
     found: bool,
-    params: List<Option<Bytes>>,
+    request: Request,
+    hosts: &[Host],
 ) -> Result<(), Stop>
     requires area { IsArea store.old }
     requires taken { TakenAt (states (slots_of rack.old)) (slot_of session.old.conn) }
+    requires asks { IsAsk request }
     ensures over { (name : Option Text) → found ≡ is_named session.old.name name
         → Over (talk_by ⟦<dyn Link as Link>⟧) (faults_by ⟦<dyn Link as Link>⟧)
-        (started it.now.line.0 it.now.text it.now.outs name params)
+        (started line.0 request hosts.now name)
         store.old rack.old session.old store.new rack.new session.new result }
     ensures kept { IsArea store.new }
     ensures still_taken { TakenAt (states (slots_of rack.new)) (slot_of session.new.conn) }
 {
-    begin_area(store);
-    if !found {
-        return Err(refuse(store, it.line, Finding::NoConnection));
+    match reach(store, session, line, found) {
+        Err(stop) => Err(stop),
+        Ok(()) => carry_out(alloc, store, rack, session, line, request, hosts),
     }
-    let text = match Bytes::from_slice(alloc, it.text.as_slice()) {
-        Ok(text) => text,
-        Err(_) => return Err(Stop::OutOfMemory),
-    };
-    let request = Request::Text { text, params };
-    carry_out(
-        alloc,
-        store,
-        rack,
-        session,
-        it.line,
-        request,
-        it.outs.as_slice(),
-    )
 }
 
-/// A call over the open connection.
+/// ECPGdo, where the open connection was found by its name or not.
 pub(crate) fn run(
     alloc: Global,
     store: &mut Store,
     rack: &mut Rack,
     session: &mut Open,
-    it: &Call,
+    line: Line,
+    found: bool,
+    it: &Statement,
 ) -> Result<(), Stop>
     requires area { IsArea store.old }
     requires taken { TakenAt (states (slots_of rack.old)) (slot_of session.old.conn) }
-    ensures over { Over (talk_by ⟦<dyn Link as Link>⟧) (faults_by ⟦<dyn Link as Link>⟧)
-        (call_action it.now)
+    ensures over { (name : Option Text) → found ≡ is_named session.old.name name
+        → Over (talk_by ⟦<dyn Link as Link>⟧) (faults_by ⟦<dyn Link as Link>⟧)
+        (ran line.0 it.now name)
         store.old rack.old session.old store.new rack.new session.new result }
     ensures kept { IsArea store.new }
     ensures still_taken { TakenAt (states (slots_of rack.new)) (slot_of session.new.conn) }
 {
-    match finds(store, session.name.as_slice(), &it.connection) {
-        Err(trap) => Err(Stop::Trapped(trap)),
-        Ok(found) => match values(alloc, store, it.ins.as_slice()) {
-            Err(stop) => Err(stop),
-            Ok(params) => start(alloc, store, rack, session, it, found, params),
-        },
+    match read(alloc, store, it) {
+        Err(stop) => Err(stop),
+        Ok(request) => {
+            let hosts = it.outs.as_slice();
+            start(alloc, store, rack, session, line, found, request, hosts)
+        }
     }
 }

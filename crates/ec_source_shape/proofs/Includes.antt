@@ -16,7 +16,7 @@ use Rattle.ec_language.specs.Pieces.{NoneStarts}
 use Rattle.ec_language.proofs.CWalks.{c_stop_behind}
 use Rattle.ec_writing.specs.Shapes.{has_no_piece, is_line_end, is_include_line}
 use Rattle.ec_source_shape.proofs.Parts.{join}
-use Rattle.ec_source_shape.proofs.ItemUnits.{Free, line_free}
+use Rattle.ec_source_shape.proofs.LineUnits.{none_before}
 
 -- ---- no end of a line
 
@@ -99,19 +99,16 @@ units_before : (us : List Text) (r : Text) → CUnits us r → list_all is_insid
 units_before [] r f i = tt
 units_before (u ∷ us) r f i = let p = both (is_inside u) (list_all is_inside us) i in (unit_before u (concat us) r f.0 p.0, units_before us r f.1 p.1)
 
-line_ends : (us : List Text) (text : Text) → text ≡ concat us → CUnits us (newline ∷ []) → list_all is_inside us ≡ true → is_line_end (include_behind (text ++ newline ∷ [])) ≡ true
-line_ends us text e f i =
-    ap is_line_end (ap (λ t. include_behind (t ++ newline ∷ [])) e ∙ include_complete (suc (length (concat us ++ newline ∷ []))) us (newline ∷ []) f i refl (omega arith))
+line_ends : (us : List Text) (text : Text) → text ≡ concat us → CUnits us (newline ∷ []) → list_all is_inside us ≡ true → NoneStarts us (newline ∷ []) → is_line_end (include_behind (text ++ newline ∷ [])) ≡ true
+line_ends us text e f i n =
+    ap is_line_end (ap (λ t. include_behind (t ++ newline ∷ [])) e ∙ include_complete (suc (length (concat us ++ newline ∷ []))) us (newline ∷ []) f i n refl (omega arith))
 
 -- C text goes on to the end of the line
 line_goes_on : (us : List Text) (text : Text) → text ≡ concat us → CUnits us (newline ∷ []) → NoneStarts us (newline ∷ []) → has_no_piece text ≡ true
 line_goes_on us text e f n = ap has_no_piece e ∙ ap is_empty (c_stop_behind us (newline ∷ []) f n)
 
--- in which no embedded piece starts
-pub include_kept : (text rest : Text) → IncludeLine text rest → has_no_piece text ≡ true → is_include_line text ≡ true
-include_kept text rest h k =
-    join h.begin (join (ap (each is_not_newline) h.whole ∙ units_line h.units rest h.free h.inside) (join k (line_ends h.units text h.whole (units_before h.units rest h.free h.inside) h.inside)))
-
--- as none does in C text in which none starts
-pub include_starts_nothing : (text rest behind : Text) → IncludeLine text rest → Free (text ++ rest) behind → has_no_piece text ≡ true
-include_starts_nothing text rest behind h k = line_goes_on h.units text h.whole (units_before h.units rest h.free h.inside) (line_free text rest behind h k).none
+pub include_is : (text rest : Text) → IncludeLine text rest → is_include_line text ≡ true
+include_is text rest h =
+    let units = units_before h.units rest h.free h.inside in
+    let none = none_before h.units rest h.free h.none in
+    join h.begin (join (ap (each is_not_newline) h.whole ∙ units_line h.units rest h.free h.inside) (join (line_goes_on h.units text h.whole units none) (line_ends h.units text h.whole units h.inside none)))

@@ -1,6 +1,6 @@
 mod Derived
 mod Includes
-mod ItemUnits
+mod LineUnits
 mod SourceTokens
 mod Values
 mod Parts

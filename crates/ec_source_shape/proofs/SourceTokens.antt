@@ -1,5 +1,5 @@
 -- The tokens of a source hold what they are to hold, and stand on lines from 1 on.
-use Rattle.std.proofs.Common.{◌≡◌, ℕ, zero, suc, ◌+◌, ◌≤◌, ◌<◌, Bool, true, false, not, ◌&&◌, List, [], ◌∷◌, ◌++◌, length, take, drop, refl, sym, ap, ◌∙◌, subst, Option, Some, None, Result, Ok, Err, arith, append-nil, append_assoc, ◌⊎◌, inl, inr}
+use Rattle.std.proofs.Common.{◌≡◌, ℕ, zero, suc, ◌+◌, ◌≤◌, ◌<◌, Bool, true, false, not, ◌&&◌, List, [], ◌∷◌, ◌++◌, length, take, drop, refl, sym, ap, ◌∙◌, subst, Option, Some, None, Result, Ok, Err, arith, append-nil, append_assoc}
 use Rattle.std.specs.Prelude.{codes, ◌==◌, nat_lt, option_map, if◌then◌else◌}
 use Rattle.std.specs.List.{concat}
 use Rattle.std.proofs.lemmas.Bool.{false≢true}
@@ -10,8 +10,6 @@ use Rattle.ec_base.specs.declared.fault.LimitKind.TheVariants.{L2}
 use Rattle.ec_base.specs.declared.stop.Stop.{Stop}
 use Rattle.ec_base.specs.declared.stop.Stop.TheVariants.{Limit}
 use Rattle.ec_ctypes.specs.declared.text.piece.Piece.{Piece}
-use Rattle.ec_ctypes.specs.declared.text.piece.PieceKind.{PieceKind}
-use Rattle.ec_ctypes.specs.declared.text.piece.PieceKind.TheVariants.{C, Emb, SectionStart, SectionEnd}
 use Rattle.ec_ctypes.specs.declared.types.arith.Arith.{Arith}
 use Rattle.ec_ctypes.specs.declared.text.token.Punct.{Punct}
 use Rattle.ec_ctypes.specs.trees.Tokens.{TokData, word_token, string_token, section_end, TokenData}
@@ -19,26 +17,19 @@ use Rattle.ec_ctypes.specs.trees.Units.{UnitData}
 use Rattle.ec_language.specs.First.{Reads, tokens, max_text}
 use Rattle.ec_language.specs.Letters.{Text, newline, is_blank, begins, each, skip_blanks, is_word_byte, same_word}
 use Rattle.ec_language.specs.Line.{newlines}
-use Rattle.ec_language.specs.CText.{is_word, is_number, is_quoted, CUnits}
+use Rattle.ec_language.specs.CText.{is_word, is_number, is_quoted}
 use Rattle.ec_language.specs.Constants.{integer_constant, character_value, string_value}
 use Rattle.ec_language.specs.Lexemes.{Class, word, number, character, string, punct, left_out, comment, class_of, is_comment, is_left_out_mark, punct_of, is_fresh_after}
-use Rattle.ec_language.specs.Pieces as pieces
-use Rattle.ec_language.specs.Pieces.{behind_start, solid, same_words, Declared, IsPiece, Pieces, PiecesUpTo}
-use Rattle.ec_language.specs.ReadTokens.{ReadParts, declaration_text}
-use Rattle.ec_language.specs.ReadTokens.{c_parts as read_parts}
+use Rattle.ec_language.specs.Pieces.{behind_start, Pieces, PiecesUpTo}
 use Rattle.ec_language.specs.SqlTokens.{first_bad_line}
 use Rattle.ec_language.specs.Tokens.{Part, is_left_out_word, integer_tok, character_tok, string_tok, token_of, Item, blank, match, include, directive, last_directive, Step, counted, line_behind, part_at, CParts, end, item, bad, fault_at, lines_before, PieceParts, c_text, statement, opening, closing, declaration, embedded, statements_behind, AllParts, join_two, join_first, join_strings, without_head, token, with_token, is_full, part_within, max_tokens, numbered_within, Tokens}
 use Rattle.ec_language.proofs.Ends.{both}
-use Rattle.ec_language.proofs.CParts.{parts_complete}
-use Rattle.ec_language.proofs.PieceParts.{declaration_text_complete}
 use Rattle.ec_language.proofs.ReadLaws.{newlines-append}
-use Rattle.ec_writing.specs.Shapes.{is_byte, is_line, has_no_piece}
+use Rattle.ec_writing.specs.Shapes.{is_byte, is_line}
 use Rattle.ec_source_shape.specs.SourceShape.{is_source_tok, is_source_token, are_source_tokens, is_source_shape}
 use Rattle.ec_source_shape.proofs.Parts.{join}
 use Rattle.ec_source_shape.proofs.Values.{each_parts, each_drop, IsInteger, integer_fits, AreBytes, string_bytes, IsCharacter, character_fits}
-use Rattle.ec_source_shape.proofs.Includes.{include_kept, include_starts_nothing}
-use Rattle.ec_source_shape.proofs.ItemUnits.{Free, free_piece, item_free}
-use Rattle.ec_source_shape.specs.Includes.{starts_nothing, start_nothing, DeclaresNoPiece, DeclareNoPiece, DeclaredIncludesStartNothing}
+use Rattle.ec_source_shape.proofs.Includes.{include_is}
 use Rattle.ec_source_shape.proofs.Steps.{derived_shape}
 
 -- ---- what stands at one place
@@ -105,14 +96,12 @@ record IsItem (tok : Option (Result TokData FaultKind)) (step : Step) : Type 0 w
   found : IsFound tok
   counts : step ≡ counted
 
-item_is : (line : ℕ) (fresh : Bool) (text rest behind : Text) (tok : Option (Result TokData FaultKind)) (step : Step) → Item false fresh text rest tok step → each is_byte text ≡ true
-    → Free (text ++ rest) behind ⊎ (start_nothing (part_at line tok) ≡ true) → IsItem tok step
-item_is line fresh text rest behind tok step (blank f t r l e) h k = record { found = tt; counts = refl }
-item_is line fresh text rest behind tok step (match f t r class v x e) h k = record { found = subst IsFound (sym e) (class_is class text x.is h); counts = refl }
-item_is line fresh text rest behind tok step (include f t r e it) h (inl k) = record { found = include_kept text rest it (include_starts_nothing text rest behind it k); counts = refl }
-item_is line fresh text rest behind tok step (include f t r e it) h (inr k) = record { found = include_kept text rest it (both (has_no_piece text) true k).0; counts = refl }
-item_is line fresh text rest behind tok step (directive f t l r e w whole d) h k = absurd (false≢true w)
-item_is line fresh text rest behind tok step (last_directive f t r e w ends d) h k = absurd (false≢true w)
+item_is : (fresh : Bool) (text rest : Text) (tok : Option (Result TokData FaultKind)) (step : Step) → Item false fresh text rest tok step → each is_byte text ≡ true → IsItem tok step
+item_is fresh text rest tok step (blank f t r l e) h = record { found = tt; counts = refl }
+item_is fresh text rest tok step (match f t r class v x e) h = record { found = subst IsFound (sym e) (class_is class text x.is h); counts = refl }
+item_is fresh text rest tok step (include f t r e it) h = record { found = include_is text rest it; counts = refl }
+item_is fresh text rest tok step (directive f t l r e w whole d) h = absurd (false≢true w)
+item_is fresh text rest tok step (last_directive f t r e w ends d) h = absurd (false≢true w)
 
 -- ---- parts
 
@@ -149,35 +138,20 @@ part_is line None l h = tt
 part_is line (Some (Ok tok)) l h = ((l, h), tt)
 part_is line (Some (Err kind)) l h = (tt, tt)
 
--- No embedded piece starts in C text, or in the `#include` lines of these parts.
-abbrev StartsNone : Text → Text → List Part → Type 0
-StartsNone text behind parts = Free text behind ⊎ (start_nothing parts ≡ true)
-
-first_starts : (line : ℕ) (u rest behind : Text) (tok : Option (Result TokData FaultKind)) (others : List Part) → StartsNone (u ++ rest) behind (part_at line tok ++ others) → StartsNone (u ++ rest) behind (part_at line tok)
-first_starts line u rest behind tok others (inl f) = inl f
-first_starts line u rest behind None others (inr h) = inr refl
-first_starts line u rest behind (Some tok) others (inr h) = inr (join (both (starts_nothing tok) (start_nothing others) h).0 refl)
-
-others_start : (line : ℕ) (fresh : Bool) (u rest behind : Text) (tok : Option (Result TokData FaultKind)) (step : Step) (others : List Part) → Item false fresh u rest tok step → StartsNone (u ++ rest) behind (part_at line tok ++ others) → StartsNone rest behind others
-others_start line fresh u rest behind tok step others it (inl f) = inl (item_free fresh u rest behind tok step it f)
-others_start line fresh u rest behind None step others it (inr h) = inr h
-others_start line fresh u rest behind (Some tok) step others it (inr h) = inr (both (starts_nothing tok) (start_nothing others) h).1
-
-c_parts : (line : ℕ) (fresh : Bool) (text behind : Text) (parts : List Part) (last : ℕ) → CParts false line fresh text parts last → 0 < line → line + newlines text ≤ most → each is_byte text ≡ true → StartsNone text behind parts → Between line text parts last
-c_parts line fresh text behind parts last (end n f) l m h s = record { are = tt; later = omega arith; ends = omega arith }
-c_parts line fresh text behind parts last (item n f t u rest tok step ps others k e it d p) l m h s =
+c_parts : (line : ℕ) (fresh : Bool) (text : Text) (parts : List Part) (last : ℕ) → CParts false line fresh text parts last → 0 < line → line + newlines text ≤ most → each is_byte text ≡ true → Between line text parts last
+c_parts line fresh text parts last (end n f) l m h = record { are = tt; later = omega arith; ends = omega arith }
+c_parts line fresh text parts last (item n f t u rest tok step ps others k e it d p) l m h =
     let b = each_parts is_byte u rest (subst (λ t. each is_byte t ≡ true) e h) in
-    let starts : StartsNone (u ++ rest) behind (part_at line tok ++ others) = subst (λ ps. StartsNone (u ++ rest) behind ps) p (subst (λ t. StartsNone t behind parts) e s) in
-    let i = item_is line fresh u rest behind tok step it b.0 (first_starts line u rest behind tok others starts) in
+    let i = item_is fresh u rest tok step it b.0 in
     let lines : newlines text ≡ newlines u + newlines rest = ap newlines e ∙ newlines-append u rest in
     let at : line_behind line u step ≡ line + newlines u = ap (line_behind line u) i.counts in
-    let more = c_parts (line_behind line u step) (is_fresh_after fresh u) rest behind others last d (omega (arith, l, at)) (omega (arith, lines, m, at)) b.1 (others_start line fresh u rest behind tok step others it starts) in
+    let more = c_parts (line_behind line u step) (is_fresh_after fresh u) rest others last d (omega (arith, l, at)) (omega (arith, lines, m, at)) b.1 in
     record {
       are = subst AreParts (sym p) (parts_joined (part_at line tok) others (part_is line tok (on_line line l (omega (arith, m))) i.found) more.are);
       later = let z = more.later in omega (arith, z, at);
       ends = let z = more.ends in omega (arith, z, lines, at);
     }
-c_parts line fresh text behind parts last (bad n f t ps e none p) l m h s = record { are = subst AreParts (sym p) (tt, tt); later = omega arith; ends = omega arith }
+c_parts line fresh text parts last (bad n f t ps e none p) l m h = record { are = subst AreParts (sym p) (tt, tt); later = omega arith; ends = omega arith }
 
 -- ---- pieces
 
@@ -227,41 +201,20 @@ fault_is : (line : Option ℕ) (kind : FaultKind) → AreParts (fault_at line ki
 fault_is None kind = tt
 fault_is (Some line) kind = (tt, tt)
 
--- a piece of C text
-c_free : (kind : PieceKind) (bytes rest : Text) → IsPiece kind bytes rest → kind ≡ C → Free bytes rest
-c_free _ _ _ (pieces.c_text bytes rest us e some f n x) k = free_piece us bytes rest e f n
-c_free _ _ _ (pieces.statement kind bytes rest us s f n t e) k = absurd (never (same_words (solid us) (codes "BEGIN" ∷ codes "DECLARE" ∷ codes "SECTION" ∷ [])) (same_words (solid us) (codes "END" ∷ codes "DECLARE" ∷ codes "SECTION" ∷ [])) (sym k ∙ e))
-  where
-    never : (a b : Bool) → C ≡ (if a then SectionStart else if b then SectionEnd else Emb) → ⊥
-    never true b e = cc
-    never false true e = cc
-    never false false e = cc
-c_free _ _ _ (pieces.declaration bytes rest d) k = absurd (cc)
-
--- the parts of a declaration are those that are read of it
-declared_parts : (line : ℕ) (bytes : Text) (d : Declared CUnits bytes []) (parts : List Part) (last : ℕ) → CParts false line false (concat (d.first ∷ d.others)) parts last
-    → start_nothing (read_parts false line false (declaration_text bytes)).parts ≡ true → start_nothing parts ≡ true
-declared_parts line bytes d parts last c h =
-    let text = concat (d.first ∷ d.others) in
-    let read : read_parts false line false text ≡ record { parts = parts; last = last } = parts_complete (length text) false line false text parts last c (omega arith) in
-    sym (ap (λ (r : ReadParts). start_nothing r.parts) (ap (read_parts false line false) (declaration_text_complete CUnits bytes d) ∙ read)) ∙ h
-
-piece_parts : (line : ℕ) (fresh : Bool) (statements : ℕ) (p : Piece) (rest : Text) (parts : List Part) (last : ℕ) → PieceParts false line fresh statements p parts last → IsPiece p.kind p.bytes rest → DeclaresNoPiece p
-    → 0 < line → line + newlines p.bytes ≤ most → each is_byte p.bytes ≡ true → Between line p.bytes parts last
-piece_parts line fresh statements p rest parts last (c_text ps n k d) i q l m h = c_parts line fresh p.bytes rest parts last d l m h (inl (c_free p.kind p.bytes rest i k))
-piece_parts line fresh statements p rest parts last (statement units ps n k w u e f) i q l m h = record {
+piece_parts : (line : ℕ) (fresh : Bool) (statements : ℕ) (p : Piece) (parts : List Part) (last : ℕ) → PieceParts false line fresh statements p parts last → 0 < line → line + newlines p.bytes ≤ most → each is_byte p.bytes ≡ true → Between line p.bytes parts last
+piece_parts line fresh statements p parts last (c_text ps n k d) l m h = c_parts line fresh p.bytes parts last d l m h
+piece_parts line fresh statements p parts last (statement units ps n k w u e f) l m h = record {
   are = subst AreParts (sym e) ((on_line line l (omega (arith, m)), refl), fault_is (first_bad_line (line + lines_before p.bytes (concat units)) units) F4);
   later = omega (arith, f);
   ends = omega (arith, f);
 }
-piece_parts line fresh statements p rest parts last (opening ps n k w e f) i q l m h = record { are = subst AreParts (sym e) ((on_line line l (omega (arith, m)), refl), tt); later = omega (arith, f); ends = omega (arith, f) }
-piece_parts line fresh statements p rest parts last (closing ps n k w e f) i q l m h = record { are = subst AreParts (sym e) ((on_line line l (omega (arith, m)), refl), tt); later = omega (arith, f); ends = omega (arith, f) }
-piece_parts line fresh statements p rest parts last (declaration found ps inner n k w d e) g q l m h =
+piece_parts line fresh statements p parts last (opening ps n k w e f) l m h = record { are = subst AreParts (sym e) ((on_line line l (omega (arith, m)), refl), tt); later = omega (arith, f); ends = omega (arith, f) }
+piece_parts line fresh statements p parts last (closing ps n k w e f) l m h = record { are = subst AreParts (sym e) ((on_line line l (omega (arith, m)), refl), tt); later = omega (arith, f); ends = omega (arith, f) }
+piece_parts line fresh statements p parts last (declaration found ps inner n k w d e) l m h =
     let text = concat (found.first ∷ found.others) in
     let b = declared_behind p.bytes (concat found.gap) text h found.start in
     let y = b.lines in
-    let quiet = declared_parts (line + lines_before p.bytes text) p.bytes found inner last d (q (line + lines_before p.bytes text) k) in
-    let i = c_parts (line + lines_before p.bytes text) false text [] inner last d (omega (arith, l)) (omega (arith, m, y)) b.bytes (inr quiet) in
+    let i = c_parts (line + lines_before p.bytes text) false text inner last d (omega (arith, l)) (omega (arith, m, y)) b.bytes in
     let x = i.later in
     let z = i.ends in
     record {
@@ -269,19 +222,19 @@ piece_parts line fresh statements p rest parts last (declaration found ps inner 
       later = omega (arith, x);
       ends = omega (arith, y, z);
     }
-piece_parts line fresh statements p rest parts last (embedded ps n k w e f) i q l m h = absurd (false≢true w)
+piece_parts line fresh statements p parts last (embedded ps n k w e f) l m h = absurd (false≢true w)
 
 -- A piece may be said to begin on any line.
-all_parts : (from line : ℕ) (fresh : Bool) (statements : ℕ) (text rest : Text) (pieces : List Piece) (parts : List Part) (last : ℕ) → PiecesUpTo from text pieces rest → AllParts false line fresh statements pieces parts last → DeclareNoPiece pieces
+all_parts : (from line : ℕ) (fresh : Bool) (statements : ℕ) (text rest : Text) (pieces : List Piece) (parts : List Part) (last : ℕ) → PiecesUpTo from text pieces rest → AllParts false line fresh statements pieces parts last
     → 0 < line → line + newlines text ≤ most → each is_byte text ≡ true → Between line text parts last
-all_parts from line fresh statements text rest [] parts last c h q l m b = record { are = subst AreParts (sym h.0) tt; later = omega (arith, h.1); ends = omega (arith, h.1) }
-all_parts from line fresh statements text rest (p ∷ ps) parts last c h q l m b =
+all_parts from line fresh statements text rest [] parts last c h l m b = record { are = subst AreParts (sym h.0) tt; later = omega (arith, h.1); ends = omega (arith, h.1) }
+all_parts from line fresh statements text rest (p ∷ ps) parts last c h l m b =
     let two = each_parts is_byte p.bytes c.0 (subst (λ t. each is_byte t ≡ true) c.1 b) in
     let lines : newlines text ≡ newlines p.bytes + newlines c.0 = ap newlines c.1 ∙ newlines-append p.bytes c.0 in
-    let first = piece_parts line fresh statements p c.0 h.0 h.2 h.4 c.3 q.0 l (omega (arith, m, lines)) two.0 in
+    let first = piece_parts line fresh statements p h.0 h.2 h.4 l (omega (arith, m, lines)) two.0 in
     let x = first.later in
     let y = first.ends in
-    let others = all_parts (from + newlines p.bytes) h.2 (is_fresh_after fresh p.bytes) (statements_behind statements p.kind) c.0 rest ps h.1 last c.4 h.5 q.1 (omega (arith, l, x)) (omega (arith, m, lines, y)) two.1 in
+    let others = all_parts (from + newlines p.bytes) h.2 (is_fresh_after fresh p.bytes) (statements_behind statements p.kind) c.0 rest ps h.1 last c.4 h.5 (omega (arith, l, x)) (omega (arith, m, lines, y)) two.1 in
     let u = others.later in
     let v = others.ends in
     record { are = subst AreParts (sym h.3) (parts_joined h.0 h.1 first.are others.are); later = omega (arith, x, u); ends = omega (arith, lines, y, v) }
@@ -340,14 +293,14 @@ few_lines (b ∷ t) = go (b == newline) (few_lines t)
     go true h = omega (arith, h)
     go false h = omega (arith, h)
 
-pub tokens_are : (text : Text) (pieces : List Piece) (ts : List TokenData) → each is_byte text ≡ true → length text ≤ max_text → Pieces text pieces → DeclareNoPiece pieces → Tokens false pieces ts → are_source_tokens ts ≡ true
-tokens_are text pieces ts b l c q h =
+pub tokens_are : (text : Text) (pieces : List Piece) (ts : List TokenData) → each is_byte text ≡ true → length text ≤ max_text → Pieces text pieces → Tokens false pieces ts → are_source_tokens ts ≡ true
+tokens_are text pieces ts b l c h =
     let short : length text ≤ 16777216 = l in
     let few = few_lines text in
-    let x = all_parts 1 1 true 0 text [] pieces h.0 h.1 c h.2 q (omega arith) (omega (arith, short, few)) b in
+    let x = all_parts 1 1 true 0 text [] pieces h.0 h.1 c h.2 (omega arith) (omega (arith, short, few)) b in
     let later = x.later in
     let ends = x.ends in
     subst AreTokens (sym h.3) (numbered_is (Some max_tokens) 0 h.1 (without_head false (join_strings h.0)) (on_line h.1 (omega (arith, later)) (omega (arith, ends, short, few))) (headless (join_strings h.0) (strings_joined h.0 x.are)))
 
-pub read_shape : (text : Text) (u : UnitData) → each is_byte text ≡ true → DeclaredIncludesStartNothing text → Reads false text (Ok u) → is_source_shape u ≡ true
-read_shape text u b q (tokens pieces ts a l c x is) = derived_shape ts u (tokens_are text pieces ts b l c (q pieces c) x) is
+pub read_shape : (text : Text) (u : UnitData) → each is_byte text ≡ true → Reads false text (Ok u) → is_source_shape u ≡ true
+read_shape text u b (tokens pieces ts a l c x is) = derived_shape ts u (tokens_are text pieces ts b l c x) is

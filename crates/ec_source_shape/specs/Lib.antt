@@ -1,3 +1,2 @@
-pub mod Includes
 pub mod Kept
 pub mod SourceShape

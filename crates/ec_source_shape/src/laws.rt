@@ -10,7 +10,6 @@ ghost use Rattle.ec_language.specs.Letters.{Text, each};
 ghost use Rattle.ec_language.specs.Pieces.{Pieces};
 ghost use Rattle.ec_language.specs.Syntax.{TreeOrStop};
 ghost use Rattle.ec_language.specs.Tokens.{Tokens};
-ghost use Rattle.ec_source_shape.specs.Includes.{DeclareNoPiece, DeclaredIncludesStartNothing};
 ghost use Rattle.ec_source_shape.specs.SourceShape.{are_source_tokens, is_source_shape};
 ghost use Rattle.ec_writing.specs.Shapes.{is_byte};
 
@@ -22,12 +21,11 @@ pub fn derived_trees_have_source_shape()
 
 /// The tokens of a source hold what they are to hold: names are words of C that are not left out, integers fit a type of
 /// constants, characters and bytes are in range, `#include` lines are such lines by themselves, and lines are from 1 to
-/// 999999999. So each tree that is read of a source has the shape of one. Both are said of sources whose declarations after
-/// EXEC SQL have no `#include` line in which an embedded piece would start.
+/// 999999999. So each tree that is read of a source has the shape of one.
 pub fn sources_have_source_shape()
     ensures tokens { (text : Text) (pieces : List Piece) (ts : List TokenData)
         → each is_byte text ≡ true → length text ≤ max_text → Pieces text pieces
-        → DeclareNoPiece pieces → Tokens false pieces ts → are_source_tokens ts ≡ true }
+        → Tokens false pieces ts → are_source_tokens ts ≡ true }
     ensures trees { (text : Text) (u : UnitData) → each is_byte text ≡ true
-        → DeclaredIncludesStartNothing text → Reads false text (Ok u) → is_source_shape u ≡ true }
+        → Reads false text (Ok u) → is_source_shape u ≡ true }
 {}

@@ -24,7 +24,6 @@ use Rattle.ec_phases.specs.Sources.{ReadsTree, statements, checked_with, checked
 use Rattle.ec_writing.specs.Shapes.{is_byte, is_line, is_written_shape}
 use Rattle.ec_source_shape.specs.SourceShape.{are_source_tokens, are_source_tops, is_source_shape}
 use Rattle.ec_source_shape.specs.Kept.{written, is_kept}
-use Rattle.ec_source_shape.specs.Includes.{DeclareNoPiece, DeclaredIncludesStartNothing}
 use Rattle.ec_expansion.specs.Calls.{prepared_opened, call_by}
 use Rattle.ec_expansion.specs.Programs.{block_of, block_for, embedded, unit_of}
 use Rattle.ec_expansion.specs.Statements.{written_tops}
@@ -101,16 +100,16 @@ no_statement (x ∷ es) handlers bounds n e = absurd (cc)
 
 -- by the laws of the phases and of what is written
 module _
-    (tokens_are : (text : Text) (pieces : List Piece) (ts : List TokenData) → each is_byte text ≡ true → length text ≤ max_text → Pieces text pieces → DeclareNoPiece pieces → Tokens false pieces ts → are_source_tokens ts ≡ true)
+    (tokens_are : (text : Text) (pieces : List Piece) (ts : List TokenData) → each is_byte text ≡ true → length text ≤ max_text → Pieces text pieces → Tokens false pieces ts → are_source_tokens ts ≡ true)
     (derived_shape : (ts : List TokenData) (u : UnitData) → are_source_tokens ts ≡ true → TreeOrStop ts (Ok u) → is_source_shape u ≡ true)
     (phases_kept : (u : UnitData) (hosts : List ℕ) (handlers : List MarkData) (t : TypedData) → hosts_answer u ≡ Ok hosts → check_answer false u hosts handlers ≡ Ok t → is_kept written u ≡ true)
     (program_is : (u : UnitData) (embedded : ℕ → Option StmtKindData) → is_source_shape u ≡ true → is_kept written u ≡ true → ((n : ℕ) → IsBlockOption (embedded n)) → is_written_shape (unit_of (written_tops embedded u.tops)) ≡ true)
     (block_for_is : (handlers : List MarkData) (es : List EmbData) (n : ℕ) (e : EmbData) (b : BoundData) → is_line e.line.0 ≡ true → are_written_actions e.line.0 (action_among handlers e.place) ≡ true → are_written_statements es ≡ true → is_written_statement e.kind ≡ true
     → is_written_bound e.line.0 b ≡ true → IsBlockOption (block_for handlers es n e b))
-    (hosts_are : (text : Text) (p : BoundProgram) → each is_byte text ≡ true → DeclaredIncludesStartNothing text → ReadsSource text (Ok p) → are_counted p.bounds ≡ true → are_hosts_written p ≡ true)
+    (hosts_are : (text : Text) (p : BoundProgram) → each is_byte text ≡ true → ReadsSource text (Ok p) → are_counted p.bounds ≡ true → are_hosts_written p ≡ true)
   where
-    tree_shape : (text : Text) (v : UnitData) → each is_byte text ≡ true → DeclaredIncludesStartNothing text → ReadsTree text (Ok v) → is_source_shape v ≡ true
-    tree_shape text v b q (statements pieces ts u es answer l c x is r e) = subst (λ ts. are_source_tops ts ≡ true) (same_tops u v es e) (derived_shape ts u (tokens_are text pieces ts b l c (q pieces c) x) is)
+    tree_shape : (text : Text) (v : UnitData) → each is_byte text ≡ true → ReadsTree text (Ok v) → is_source_shape v ≡ true
+    tree_shape text v b (statements pieces ts u es answer l c x is r e) = subst (λ ts. are_source_tops ts ≡ true) (same_tops u v es e) (derived_shape ts u (tokens_are text pieces ts b l c x) is)
 
     -- of no directive
     block_is : (handlers : List MarkData) (all : List EmbData) (n : ℕ) (e : EmbData) (b : BoundData) → is_line e.line.0 ≡ true → are_written_statements all ≡ true → is_written_statement e.kind ≡ true → has_written_hosts handlers e b ≡ true → IsBlockOption (block_for handlers all n e b)
@@ -160,7 +159,7 @@ module _
 
     -- ---- the law
 
-    module _ (text : Text) (p : BoundProgram) (b : each is_byte text ≡ true) (r : ReadsSource text (Ok p)) (k : DeclaredIncludesStartNothing text) where
+    module _ (text : Text) (p : BoundProgram) (b : each is_byte text ≡ true) (r : ReadsSource text (Ok p)) where
       bound : OfBoundProgram r.0 p
       bound = of_bound r.0 p (sym r.2)
 
@@ -171,7 +170,7 @@ module _
       same_program = ap (λ (t : TypedData). t.unit) bound.same ∙ tree.made.same
 
       shape : is_source_shape p.program.unit ≡ true
-      shape = subst (λ u. is_source_shape u ≡ true) (sym same_program) (tree_shape text tree.unit b k (subst (ReadsTree text) tree.is r.1.1))
+      shape = subst (λ u. is_source_shape u ≡ true) (sym same_program) (tree_shape text tree.unit b (subst (ReadsTree text) tree.is r.1.1))
 
       kept : is_kept written p.program.unit ≡ true
       kept = subst (λ u. is_kept written u ≡ true) (sym same_program)
@@ -183,11 +182,11 @@ module _
       by_blocks : ((n : ℕ) → IsBlockOption (embedded p.program.handlers p.program.unit.embs p.bounds n)) → is_written_shape (written_of p) ≡ true
       by_blocks blocks = program_is p.program.unit (embedded p.program.handlers p.program.unit.embs p.bounds) shape kept blocks
 
-    pub with_statements_shape : (text : Text) (p : BoundProgram) → each is_byte text ≡ true → ReadsSource text (Ok p) → DeclaredIncludesStartNothing text → are_counted p.bounds ≡ true → is_written_shape (written_of p) ≡ true
-    with_statements_shape text p b r k c =
-        let s = statements_are text p b r k in
-        let h = hosts_are text p b k r c in
-        by_blocks text p b r k (λ n. embedded_is p.program.handlers p.program.unit.embs p.program.unit.embs p.bounds n n (statements_written p.program.unit.embs s) s h)
+    pub with_statements_shape : (text : Text) (p : BoundProgram) → each is_byte text ≡ true → ReadsSource text (Ok p) → are_counted p.bounds ≡ true → is_written_shape (written_of p) ≡ true
+    with_statements_shape text p b r c =
+        let s = statements_are text p b r in
+        let h = hosts_are text p b r c in
+        by_blocks text p b r (λ n. embedded_is p.program.handlers p.program.unit.embs p.program.unit.embs p.bounds n n (statements_written p.program.unit.embs s) s h)
 
-    pub without_statements_shape : (text : Text) (p : BoundProgram) → each is_byte text ≡ true → ReadsSource text (Ok p) → DeclaredIncludesStartNothing text → p.program.unit.embs ≡ [] → is_written_shape (written_of p) ≡ true
-    without_statements_shape text p b r k h = by_blocks text p b r k (λ n. no_statement p.program.unit.embs p.program.handlers p.bounds n h)
+    pub without_statements_shape : (text : Text) (p : BoundProgram) → each is_byte text ≡ true → ReadsSource text (Ok p) → p.program.unit.embs ≡ [] → is_written_shape (written_of p) ≡ true
+    without_statements_shape text p b r h = by_blocks text p b r (λ n. no_statement p.program.unit.embs p.program.handlers p.bounds n h)

@@ -4,7 +4,6 @@ ghost use Rattle.std.specs.Prelude.{◌≡◌, true, [], Result, Ok};
 ghost use Rattle.ec_bound_shape.specs.Counts.{are_counted};
 ghost use Rattle.ec_language.specs.Letters.{Text, each};
 ghost use Rattle.ec_phases.specs.Sources.{BoundProgram, ReadsSource};
-ghost use Rattle.ec_source_shape.specs.Includes.{DeclaredIncludesStartNothing};
 ghost use Rattle.ec_writing.specs.Shapes.{is_byte, is_written_shape};
 ghost use Rattle.ec_written_sources.specs.Written.{written_of};
 
@@ -13,16 +12,15 @@ use ec_kept_shape::phases_keep_what_is_written;
 use ec_source_shape::{derived_trees_have_source_shape, sources_have_source_shape};
 use ec_written_shape::{blocks_have_written_shape, expanded_programs_have_written_shape};
 
-/// What is written of an accepted source has the written shape, so that it is read back, if its declarations after EXEC SQL
-/// have no `#include` line in which an embedded piece would start; and if it has no embedded statement, or the sizes and counts
-/// of the hosts of each are of type long.
+/// What is written of an accepted source has the written shape, so that it is read back, if it has no embedded statement, or
+/// the sizes and counts of the hosts of each are of type long.
 #[tactic(none)]
 pub fn sources_are_written_in_shape()
     ensures alone { (text : Text) (p : BoundProgram) → each is_byte text ≡ true
-        → ReadsSource text (Ok p) → DeclaredIncludesStartNothing text
+        → ReadsSource text (Ok p)
         → p.program.unit.embs ≡ [] → is_written_shape (written_of p) ≡ true }
     ensures embedded { (text : Text) (p : BoundProgram) → each is_byte text ≡ true
-        → ReadsSource text (Ok p) → DeclaredIncludesStartNothing text
+        → ReadsSource text (Ok p)
         → are_counted p.bounds ≡ true → is_written_shape (written_of p) ≡ true }
 {
     sources_have_source_shape();

@@ -1,5 +1,6 @@
 use Rattle.std.proofs.Common.{◌≡◌, subst, sym, Ok, Err}
 use Rattle.ec_base.specs.Putting.{Puts, PutsPart}
+use Rattle.ec_run.specs.Meanings.{KeepsMeaning}
 use Rattle.ec_translate.specs.Answers.{TellsTranslation}
 use Rattle.ec_translation.specs.Translations.{IsTranslation}
 use Rattle.ec_cli.specs.Translating.{TranslatesText}
@@ -12,6 +13,7 @@ returns-in-Ok-put_text g c =
     let written : c.as_slice-in-Ok.result.now ≡ c.in-Ok.written = cc (c.as_slice-in-Ok.ensures) in (
       c.in-Ok.written,
       subst (λ t. IsTranslation t (Ok c.in-Ok.written)) text c.in-Ok.ensures.answer,
+      subst (λ t. KeepsMeaning t c.in-Ok.written) text c.in-Ok.ensures.means,
       subst (λ w. Puts g.O.Sink.held g.O.Sink.faults c.args.out.now c.put_text.new.out w) written c.in-Ok-put_text.ensures.ok,
     )
 

@@ -8,5 +8,6 @@ returns c = record {
   declaration = source_gives _ refl refl;
   section = source_gives _ refl refl;
   statements = source_gives _ refl refl;
+  line_before_start = source_gives _ refl refl;
   first_fault = source_gives _ refl refl;
 }

@@ -3,8 +3,8 @@ use Rattle.ec_translation.specs.Translations.{IsTranslation}
 use Rattle.ec_run.proofs.Telling.{not_translated}
 use Rattle.ec_run.proofs.reading.read_source.Goals as goal
 
-pub read_translated-requires : goal.read_translated-requires
-read_translated-requires c = subst (λ w. IsTranslation c.args.text.now (Ok w)) (sym c.as_slice.ensures) c.in-Ok.ensures.answer
+pub read_back-requires : goal.read_back-requires
+read_back-requires c = subst (λ w. IsTranslation c.args.text.now (Ok w)) (sym c.as_slice.ensures) c.in-Ok.ensures.answer
 
 pub returns-in-Err : goal.returns-in-Err
 returns-in-Err c = not_translated c.args.text.now c.in-Err.stop c.in-Err.ensures.answer

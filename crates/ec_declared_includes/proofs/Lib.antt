@@ -1,2 +1,0 @@
-mod StartNothing
-mod Search

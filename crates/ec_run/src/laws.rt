@@ -1,0 +1,21 @@
+//! What holds of the C that is written of a source.
+
+ghost use Rattle.std.specs.Prelude.{◌≡◌, true, Ok};
+ghost use Rattle.ec_language.specs.Letters.{Text, each};
+ghost use Rattle.ec_translation.specs.Translations.{IsTranslation};
+ghost use Rattle.ec_writing.specs.Shapes.{is_byte};
+ghost use Rattle.ec_run.specs.Meanings.{KeepsMeaning};
+
+use ec_run_law::{written_texts_are_run, written_texts_mean_the_same};
+use ec_translation::translations_are_single;
+
+/// What is written of a source is read as its written program, and means what the source means; where the source is run, it is run too.
+#[tactic(none)]
+pub fn translations_keep_meanings()
+    ensures { (text written : Text) → each is_byte text ≡ true → IsTranslation text (Ok written)
+        → KeepsMeaning text written }
+{
+    written_texts_are_run();
+    written_texts_mean_the_same();
+    translations_are_single();
+}

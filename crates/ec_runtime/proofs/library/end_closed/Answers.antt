@@ -1,0 +1,11 @@
+use Rattle.ec_runtime.proofs.Calls.{run_closed, control_closed, autocommit_closed}
+use Rattle.ec_runtime.proofs.library.end_closed.Goals as goal
+
+pub returns-in-Run-clause-does : goal.returns-in-Run-clause-does
+returns-in-Run-clause-does c = λ name. run_closed c.args.line.0 c.args.kind.now name c.args.store.now c.in-Run.statement c.run_nowhere.new.store c.run_nowhere.result c.in-Run.is (c.run_nowhere.ensures.does name)
+
+pub returns-in-Control-clause-does : goal.returns-in-Control-clause-does
+returns-in-Control-clause-does c = λ name. control_closed c.args.line.0 c.args.kind.now name c.args.store.now c.in-Control.field-0 c.miss.new.store c.miss.result c.in-Control.is (c.miss.ensures.does name)
+
+pub returns-in-Autocommit-clause-does : goal.returns-in-Autocommit-clause-does
+returns-in-Autocommit-clause-does c = λ name. autocommit_closed c.args.line.0 c.args.kind.now name c.args.store.now c.in-Autocommit.field-0 c.miss-in-Autocommit.new.store c.miss-in-Autocommit.result c.in-Autocommit.is (c.miss-in-Autocommit.ensures.does name)
