@@ -1,20 +1,20 @@
 -- Each argument of a written call is resolved to itself.
 use Rattle.std.proofs.Common.{◌≡◌, ◌∙◌, ℕ, Bool, true, false, List, [], ◌∷◌, Option, None, refl, codes}
-use Rattle.ec_arguments.specs.Arguments.{Arg, symbol, literal, null, int_constant, long_constant, pointer, stray}
+use Rattle.ec_written.specs.ec_arguments.Arguments.{Arg, symbol, literal, null, int_constant, long_constant, pointer, stray}
 use Rattle.ec_ctypes.specs.declared.checked.library.Sym.{Sym}
 use Rattle.ec_ctypes.specs.declared.checked.library.Sym.TheVariants as symbols_of
 use Rattle.ec_ctypes.specs.trees.Exprs.{ExprData}
 use Rattle.ec_ctypes.specs.trees.Types as types
-use Rattle.ec_expansion.specs.Calls.{argument_expr, argument_exprs}
-use Rattle.ec_typing.specs.Known.{with_symbols, is_symbol, is_no_expression}
-use Rattle.ec_typing.specs.Operands as checked
-use Rattle.ec_typing.specs.Operands.{name_rule as check_name, named_by as check_named, value_rule as check_value}
-use Rattle.ec_typing.specs.Worlds.{Place, EntryData, World, look_up, chain as check_chain, pure as check_pure, ask as check_ask}
-use Rattle.ec_objects.specs.Memory.{address}
-use Rattle.ec_resolved.specs.Resolved.{Exp, constant}
-use Rattle.ec_resolving.specs.Storage.{Storage, Resolving, Reached, reached, followed, chain, pure, checks, ask, stored}
-use Rattle.ec_resolving.specs.Operands.{Found, found as found_of, named_exp, value_rule, no_expression, is_library_literal, argument_of, pointer_argument}
-use Rattle.ec_resolving.specs.Expressions.{library_literal, args}
+use Rattle.ec_written.specs.ec_expansion.Calls.{argument_expr, argument_exprs}
+use Rattle.ec_written.specs.ec_typing.Known.{with_symbols, is_symbol, is_no_expression}
+use Rattle.ec_written.specs.ec_typing.Operands as checked
+use Rattle.ec_written.specs.ec_typing.Operands.{name_rule as check_name, named_by as check_named, value_rule as check_value}
+use Rattle.ec_written.specs.ec_typing.Worlds.{Place, EntryData, World, look_up, chain as check_chain, pure as check_pure, ask as check_ask}
+use Rattle.ec_statement_law.specs.ec_objects.Memory.{address}
+use Rattle.ec_statement_law.specs.ec_resolved.Resolved.{Exp, constant}
+use Rattle.ec_statement_law.specs.ec_resolving.Storage.{Storage, Resolving, Reached, reached, followed, chain, pure, checks, ask, stored}
+use Rattle.ec_statement_law.specs.ec_resolving.Operands.{Found, found as found_of, named_exp, value_rule, no_expression, is_library_literal, argument_of, pointer_argument}
+use Rattle.ec_statement_law.specs.ec_resolving.Expressions.{library_literal, args}
 use Rattle.ec_written.specs.Calls.{argument_with}
 use Rattle.ec_argument_law.specs.Arguments.{IsArgument, AreArguments, AreResolved}
 use Rattle.ec_argument_law.specs.Pointers.{value_of}

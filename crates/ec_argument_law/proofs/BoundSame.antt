@@ -1,8 +1,8 @@
 -- The call that is written for a statement, with the places to which its pointers lead, is that of the statement by its places.
 use Rattle.std.proofs.Common.{◌≡◌, ◌∙◌, ℕ, zero, suc, Bool, true, false, List, [], ◌∷◌, ◌++◌, map, Option, Some, None, refl, sym, append_assoc}
 use Rattle.std.specs.Prelude.{slice_get, option_map, option_and_then, if◌then◌else◌}
-use Rattle.ec_arguments.specs.Arguments as library
-use Rattle.ec_arguments.specs.Arguments.{TextArg, Member, ItemMember, Call, host, descriptor, held}
+use Rattle.ec_written.specs.ec_arguments.Arguments as library
+use Rattle.ec_written.specs.ec_arguments.Arguments.{TextArg, Member, ItemMember, Call, host, descriptor, held}
 use Rattle.ec_ctypes.specs.declared.embedded.emb.Item.{Item}
 use Rattle.ec_ctypes.specs.declared.types.arith.Arith.{Arith}
 use Rattle.ec_ctypes.specs.declared.types.arith.Arith.TheVariants as arith_of
@@ -10,23 +10,23 @@ use Rattle.ec_ctypes.specs.trees.Checked.{PlaceData}
 use Rattle.ec_ctypes.specs.trees.Embedded.{HostData, TextArgData, word_arg, host_arg, host_with_indicator, InputData, host_input, const_input, InsData, listed_ins, area_ins, OutsData, no_outs, listed_outs, area_outs, PartData, bytes_part, host_part, EmbData, EmbKindData, connect, set_connection, disconnect, autocommit, trans, server_text, declare_cursor, open_cursor, execute_immediate, prepare, execute, deallocate, allocate_area, free_area, get_count, get_items, set_count, set_items, whenever, include_sqlca}
 use Rattle.ec_ctypes.specs.trees.Exprs.{ExprData}
 use Rattle.ec_ctypes.specs.trees.Types.{TyData, void, arithmetic, pointer, array, structure, StructData}
-use Rattle.ec_language.specs.Letters.{Text}
-use Rattle.ec_expansion.specs.Calls as written
-use Rattle.ec_expansion.specs.Calls.{text_of, is_const, is_descriptor, member_of, member_at, items_from, kinds_of, bytes_in}
-use Rattle.ec_hosts.specs.Bound as bound
-use Rattle.ec_hosts.specs.Bound.{pairs_of, cursor_parts, text_expr, text_option_expr, input_places, part_places, host_places, ins_places, outs_places, get_places, set_places, sent_from}
-use Rattle.ec_hosts.specs.Elements.{symbol_of, struct_symbol, varchar_symbol, capacity}
-use Rattle.ec_hosts.specs.Leaves.{LeafData, Pair}
-use Rattle.ec_hosts.specs.Places as places
-use Rattle.ec_hosts.specs.Places.{symbol_or_none, symbol_in, leaf_pointer, size_of, indicator_place, constant_place}
-use Rattle.ec_hosts.specs.Programs.{ProgramData, Denoted}
-use Rattle.ec_resolved.specs.Resolved.{Exp}
-use Rattle.ec_resolving.specs.Storage.{ReferenceForm}
+use Rattle.ec_written.specs.ec_language.Letters.{Text}
+use Rattle.ec_written.specs.ec_expansion.Calls as written
+use Rattle.ec_written.specs.ec_expansion.Calls.{text_of, is_const, is_descriptor, member_of, member_at, items_from, kinds_of, bytes_in}
+use Rattle.ec_statement_law.specs.ec_hosts.Bound as bound
+use Rattle.ec_statement_law.specs.ec_hosts.Bound.{pairs_of, cursor_parts, text_expr, text_option_expr, input_places, part_places, host_places, ins_places, outs_places, get_places, set_places, sent_from}
+use Rattle.ec_statement_law.specs.ec_hosts.Elements.{symbol_of, struct_symbol, varchar_symbol, capacity}
+use Rattle.ec_statement_law.specs.ec_hosts.Leaves.{LeafData, Pair}
+use Rattle.ec_statement_law.specs.ec_hosts.Places as places
+use Rattle.ec_statement_law.specs.ec_hosts.Places.{symbol_or_none, symbol_in, leaf_pointer, size_of, indicator_place, constant_place}
+use Rattle.ec_statement_law.specs.ec_hosts.Programs.{ProgramData, Denoted}
+use Rattle.ec_statement_law.specs.ec_resolved.Resolved.{Exp}
+use Rattle.ec_statement_law.specs.ec_resolving.Storage.{ReferenceForm}
 use Rattle.ec_written.specs.Calls.{text_with, indicator_with, member_with, item_with, statement_with}
-use Rattle.ec_direct.specs.Leaves as leaves_of
-use Rattle.ec_direct.specs.Leaves.{Leaf, leaf_place, leaf_at}
-use Rattle.ec_direct.specs.Statements as direct
-use Rattle.ec_direct.specs.Statements.{Around, Cursor, Sent, Input, stored, gets_count, gets_items, sets_count, sets_items, first_of, opened_by, reference_at, indicator_at, host_leaves, input, part, text_arg, text_option, sent, outputs, get_leaves, set_inputs}
+use Rattle.ec_statement_law.specs.ec_direct.Leaves as leaves_of
+use Rattle.ec_statement_law.specs.ec_direct.Leaves.{Leaf, leaf_place, leaf_at}
+use Rattle.ec_statement_law.specs.ec_direct.Statements as direct
+use Rattle.ec_statement_law.specs.ec_direct.Statements.{Around, Cursor, Sent, Input, stored, gets_count, gets_items, sets_count, sets_items, first_of, opened_by, reference_at, indicator_at, host_leaves, input, part, text_arg, text_option, sent, outputs, get_leaves, set_inputs}
 use Rattle.ec_statement_law.specs.Calls.{indicator_of, host_of, input_of, area_of, ins_of, outs_of, asked_of, got_of, given_of}
 use Rattle.ec_argument_law.specs.Bound.{cursor_of, IsOne, IndicatorIs, PairsAre, TextIs, OptionIs, InputIs, InputsAre, InsAre, PartsAre, HostsAre, OutputsAre, OneHostIs, OneInputIs, GetsAre, SetsAre, KindIs, IsCall}
 

@@ -5,22 +5,22 @@ use Rattle.ec_ctypes.specs.Layout.{member_of}
 use Rattle.ec_ctypes.specs.declared.types.arith.Arith.TheVariants.{Int}
 use Rattle.ec_ctypes.specs.trees.Exprs.{ExprData, integer, index, member as member_expr}
 use Rattle.ec_ctypes.specs.trees.Types.{TyData, void, arithmetic, pointer, array, structure, StructData}
-use Rattle.ec_hosts.specs.Leaves.{Path, LeafData}
-use Rattle.ec_hosts.specs.Places as written
-use Rattle.ec_hosts.specs.Places.{size_of, pointer_to, leaf_pointer}
-use Rattle.ec_objects.specs.Memory.{number}
-use Rattle.ec_resolved.specs.Operations.{pointer_plus}
-use Rattle.ec_resolved.specs.Resolved.{Exp, member, constant, operate, faulty}
-use Rattle.ec_typing.specs.Answers.{place_of, renumbered}
-use Rattle.ec_typing.specs.Types.{element_type}
-use Rattle.ec_typing.specs.Operands as checked
-use Rattle.ec_typing.specs.Operands.{address_rule as check_address, index_rule as check_index, member_rule as check_member, value_rule as check_value}
-use Rattle.ec_typing.specs.Operands.{OperandData, member_type, member_by, element_by, address, valued, integer_operand}
-use Rattle.ec_typing.specs.Worlds.{Place, World, members_of, is_complete, chain as check_chain, pure as check_pure, ask as check_ask}
-use Rattle.ec_resolving.specs.Conversions.{size_in}
-use Rattle.ec_resolving.specs.Storage.{Storage, Reached, reached, followed, chain, pure, checks, ask}
-use Rattle.ec_resolving.specs.Operands.{Found, found, offset_among, member_at, value_rule, address_rule, index_rule, member_rule}
-use Rattle.ec_direct.specs.Leaves.{first_element, member_place, along, leaf_place}
+use Rattle.ec_statement_law.specs.ec_hosts.Leaves.{Path, LeafData}
+use Rattle.ec_statement_law.specs.ec_hosts.Places as written
+use Rattle.ec_statement_law.specs.ec_hosts.Places.{size_of, pointer_to, leaf_pointer}
+use Rattle.ec_statement_law.specs.ec_objects.Memory.{number}
+use Rattle.ec_statement_law.specs.ec_resolved.Operations.{pointer_plus}
+use Rattle.ec_statement_law.specs.ec_resolved.Resolved.{Exp, member, constant, operate, faulty}
+use Rattle.ec_written.specs.ec_typing.Answers.{place_of, renumbered}
+use Rattle.ec_written.specs.ec_typing.Types.{element_type}
+use Rattle.ec_written.specs.ec_typing.Operands as checked
+use Rattle.ec_written.specs.ec_typing.Operands.{address_rule as check_address, index_rule as check_index, member_rule as check_member, value_rule as check_value}
+use Rattle.ec_written.specs.ec_typing.Operands.{OperandData, member_type, member_by, element_by, address, valued, integer_operand}
+use Rattle.ec_written.specs.ec_typing.Worlds.{Place, World, members_of, is_complete, chain as check_chain, pure as check_pure, ask as check_ask}
+use Rattle.ec_statement_law.specs.ec_resolving.Conversions.{size_in}
+use Rattle.ec_statement_law.specs.ec_resolving.Storage.{Storage, Reached, reached, followed, chain, pure, checks, ask}
+use Rattle.ec_statement_law.specs.ec_resolving.Operands.{Found, found, offset_among, member_at, value_rule, address_rule, index_rule, member_rule}
+use Rattle.ec_statement_law.specs.ec_direct.Leaves.{first_element, member_place, along, leaf_place}
 use Rattle.ec_argument_law.specs.Pointers.{value_of, IsPlace, IsPointer, target_of, Leads, leads_here, leads_on, LiesIn, in_itself, in_first_of}
 
 module _ (at : Place) (s : Storage) (w : World) where

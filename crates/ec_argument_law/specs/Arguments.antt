@@ -1,15 +1,15 @@
 -- What the arguments of a written call are resolved to, where the call stands.
 use Rattle.std.specs.Prelude.{◌≡◌, false, List, [], ◌∷◌, map}
-use Rattle.ec_arguments.specs.Arguments.{Arg, pointer, stray}
+use Rattle.ec_written.specs.ec_arguments.Arguments.{Arg, pointer, stray}
 use Rattle.ec_ctypes.specs.trees.Exprs.{ExprData}
 use Rattle.ec_ctypes.specs.trees.Types.{TyData}
-use Rattle.ec_expansion.specs.Calls.{argument_exprs}
-use Rattle.ec_typing.specs.Known.{with_symbols, is_symbol}
-use Rattle.ec_typing.specs.Worlds.{Place, World}
-use Rattle.ec_resolved.specs.Resolved.{Exp}
-use Rattle.ec_resolving.specs.Storage.{Storage, reached}
-use Rattle.ec_resolving.specs.Operands.{Found, is_library_literal, argument_of, pointer_argument, arguments_of_call}
-use Rattle.ec_resolving.specs.Expressions.{args}
+use Rattle.ec_written.specs.ec_expansion.Calls.{argument_exprs}
+use Rattle.ec_written.specs.ec_typing.Known.{with_symbols, is_symbol}
+use Rattle.ec_written.specs.ec_typing.Worlds.{Place, World}
+use Rattle.ec_statement_law.specs.ec_resolved.Resolved.{Exp}
+use Rattle.ec_statement_law.specs.ec_resolving.Storage.{Storage, reached}
+use Rattle.ec_statement_law.specs.ec_resolving.Operands.{Found, is_library_literal, argument_of, pointer_argument, arguments_of_call}
+use Rattle.ec_statement_law.specs.ec_resolving.Expressions.{args}
 use Rattle.ec_written.specs.Calls.{argument_with}
 use Rattle.ec_argument_law.specs.Pointers.{IsPointer}
 

@@ -1,21 +1,21 @@
 -- What is bound for a statement, and its places: the pointers that are written lead to the places of its references.
 use Rattle.std.specs.Prelude.{◌≡◌, List, [], ◌∷◌, Option, Some, None}
-use Rattle.ec_arguments.specs.Arguments.{held, Call}
+use Rattle.ec_written.specs.ec_arguments.Arguments.{held, Call}
 use Rattle.ec_ctypes.specs.declared.embedded.emb.Item.{Item}
 use Rattle.ec_ctypes.specs.trees.Embedded.{HostData, TextArgData, word_arg, host_arg, host_with_indicator, InputData, host_input, const_input, InsData, listed_ins, area_ins, OutsData, no_outs, listed_outs, area_outs, PartData, bytes_part, host_part, EmbData, connect, set_connection, disconnect, autocommit, trans, server_text, declare_cursor, open_cursor, execute_immediate, prepare, execute, deallocate, allocate_area, free_area, get_count, get_items, set_count, set_items, whenever, include_sqlca}
 use Rattle.ec_ctypes.specs.trees.Exprs.{ExprData}
-use Rattle.ec_expansion.specs.Calls.{text_of, call_by}
-use Rattle.ec_hosts.specs.Bound.{pairs_of, cursor_parts, statement_bound}
-use Rattle.ec_hosts.specs.Faults.{cursor_part}
-use Rattle.ec_hosts.specs.Leaves.{LeafData, Pair}
-use Rattle.ec_hosts.specs.Places.{leaf_pointer, text_pointer}
-use Rattle.ec_hosts.specs.Programs.{ProgramData, Denoted}
-use Rattle.ec_language.specs.Letters.{Text}
-use Rattle.ec_resolved.specs.Resolved.{Exp}
-use Rattle.ec_resolving.specs.Storage.{ReferenceForm}
+use Rattle.ec_written.specs.ec_expansion.Calls.{text_of, call_by}
+use Rattle.ec_statement_law.specs.ec_hosts.Bound.{pairs_of, cursor_parts, statement_bound}
+use Rattle.ec_statement_law.specs.ec_hosts.Faults.{cursor_part}
+use Rattle.ec_statement_law.specs.ec_hosts.Leaves.{LeafData, Pair}
+use Rattle.ec_statement_law.specs.ec_hosts.Places.{leaf_pointer, text_pointer}
+use Rattle.ec_statement_law.specs.ec_hosts.Programs.{ProgramData, Denoted}
+use Rattle.ec_written.specs.ec_language.Letters.{Text}
+use Rattle.ec_statement_law.specs.ec_resolved.Resolved.{Exp}
+use Rattle.ec_statement_law.specs.ec_resolving.Storage.{ReferenceForm}
 use Rattle.ec_written.specs.Calls.{call_with}
-use Rattle.ec_direct.specs.Leaves.{leaf_place}
-use Rattle.ec_direct.specs.Statements.{Around, Cursor, Statement, statement_of, reference_at, text_place, type_of, each_of, host_leaves, input, part, text_arg, text_option, sent}
+use Rattle.ec_statement_law.specs.ec_direct.Leaves.{leaf_place}
+use Rattle.ec_statement_law.specs.ec_direct.Statements.{Around, Cursor, Statement, statement_of, reference_at, text_place, type_of, each_of, host_leaves, input, part, text_arg, text_option, sent}
 use Rattle.ec_statement_law.specs.Calls.{call_of}
 
 -- the cursor that a statement opens, by the name and the DECLARE that it has, and by the references of this

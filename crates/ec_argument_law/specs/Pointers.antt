@@ -3,16 +3,16 @@ use Rattle.std.specs.Prelude.{◌≡◌, ℕ, true, false, List, [], ◌∷◌, 
 use Rattle.ec_ctypes.specs.Layout.{member_of}
 use Rattle.ec_ctypes.specs.trees.Exprs.{ExprData}
 use Rattle.ec_ctypes.specs.trees.Types.{TyData, void, arithmetic, pointer, array, structure, StructData}
-use Rattle.ec_hosts.specs.Leaves.{Path, LeafData}
-use Rattle.ec_hosts.specs.Places.{size_of}
-use Rattle.ec_typing.specs.Answers.{place_of, renumbered}
-use Rattle.ec_typing.specs.Operands.{OperandData, member_type}
-use Rattle.ec_typing.specs.Worlds.{Place, World, members_of, is_complete}
-use Rattle.ec_resolved.specs.Resolved.{Exp}
-use Rattle.ec_resolving.specs.Conversions.{size_in}
-use Rattle.ec_resolving.specs.Storage.{Storage, Resolving, reached, ◌>>=◌}
-use Rattle.ec_resolving.specs.Operands.{Found, found, offset_among, value_rule}
-use Rattle.ec_resolving.specs.Expressions.{expr}
+use Rattle.ec_statement_law.specs.ec_hosts.Leaves.{Path, LeafData}
+use Rattle.ec_statement_law.specs.ec_hosts.Places.{size_of}
+use Rattle.ec_written.specs.ec_typing.Answers.{place_of, renumbered}
+use Rattle.ec_written.specs.ec_typing.Operands.{OperandData, member_type}
+use Rattle.ec_written.specs.ec_typing.Worlds.{Place, World, members_of, is_complete}
+use Rattle.ec_statement_law.specs.ec_resolved.Resolved.{Exp}
+use Rattle.ec_statement_law.specs.ec_resolving.Conversions.{size_in}
+use Rattle.ec_statement_law.specs.ec_resolving.Storage.{Storage, Resolving, reached, ◌>>=◌}
+use Rattle.ec_statement_law.specs.ec_resolving.Operands.{Found, found, offset_among, value_rule}
+use Rattle.ec_statement_law.specs.ec_resolving.Expressions.{expr}
 
 -- an expression as a value
 abbrev pub value_of : Place → ExprData → Resolving Found

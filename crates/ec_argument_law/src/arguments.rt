@@ -1,11 +1,11 @@
 //! What holds of all arguments of a call.
 
 ghost use Rattle.std.specs.Prelude.{◌≡◌, List, None, codes};
-ghost use Rattle.ec_arguments.specs.Arguments.{Arg};
+ghost use Rattle.ec_written.specs.ec_arguments.Arguments.{Arg};
 ghost use Rattle.ec_ctypes.specs.trees.Exprs.{ExprData};
-ghost use Rattle.ec_resolved.specs.Resolved.{Exp};
-ghost use Rattle.ec_resolving.specs.Storage.{Storage};
-ghost use Rattle.ec_typing.specs.Worlds.{Place, World, look_up};
+ghost use Rattle.ec_statement_law.specs.ec_resolved.Resolved.{Exp};
+ghost use Rattle.ec_statement_law.specs.ec_resolving.Storage.{Storage};
+ghost use Rattle.ec_written.specs.ec_typing.Worlds.{Place, World, look_up};
 ghost use Rattle.ec_argument_law.specs.Arguments.{AreArguments, AreResolved};
 
 /// The arguments of a call of the library that are written for it are resolved to themselves, with the pointers to which

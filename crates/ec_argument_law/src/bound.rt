@@ -3,11 +3,11 @@
 ghost use Rattle.std.specs.Prelude.{List, Option};
 ghost use Rattle.ec_ctypes.specs.trees.Embedded.{EmbData};
 ghost use Rattle.ec_ctypes.specs.trees.Exprs.{ExprData};
-ghost use Rattle.ec_language.specs.Letters.{Text};
-ghost use Rattle.ec_hosts.specs.Programs.{ProgramData};
-ghost use Rattle.ec_resolved.specs.Resolved.{Exp};
-ghost use Rattle.ec_resolving.specs.Storage.{ReferenceForm};
-ghost use Rattle.ec_direct.specs.Statements.{Around, text_option};
+ghost use Rattle.ec_written.specs.ec_language.Letters.{Text};
+ghost use Rattle.ec_statement_law.specs.ec_hosts.Programs.{ProgramData};
+ghost use Rattle.ec_statement_law.specs.ec_resolved.Resolved.{Exp};
+ghost use Rattle.ec_statement_law.specs.ec_resolving.Storage.{ReferenceForm};
+ghost use Rattle.ec_statement_law.specs.ec_direct.Statements.{Around, text_option};
 ghost use Rattle.ec_argument_law.specs.Bound.{cursor_of, OptionIs, KindIs, IsCall};
 
 /// The call that is written for a statement, with the places to which its pointers lead, is the call of the statement by its

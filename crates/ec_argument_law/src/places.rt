@@ -3,12 +3,12 @@
 ghost use Rattle.std.specs.Prelude.{ℕ, List};
 ghost use Rattle.ec_ctypes.specs.trees.Exprs.{ExprData};
 ghost use Rattle.ec_ctypes.specs.trees.Types.{TyData, StructData};
-ghost use Rattle.ec_hosts.specs.Leaves.{LeafData};
-ghost use Rattle.ec_hosts.specs.Places.{leaf_pointer};
-ghost use Rattle.ec_resolved.specs.Resolved.{Exp};
-ghost use Rattle.ec_resolving.specs.Storage.{Storage};
-ghost use Rattle.ec_typing.specs.Worlds.{Place, World};
-ghost use Rattle.ec_direct.specs.Leaves.{leaf_place};
+ghost use Rattle.ec_statement_law.specs.ec_hosts.Leaves.{LeafData};
+ghost use Rattle.ec_statement_law.specs.ec_hosts.Places.{leaf_pointer};
+ghost use Rattle.ec_statement_law.specs.ec_resolved.Resolved.{Exp};
+ghost use Rattle.ec_statement_law.specs.ec_resolving.Storage.{Storage};
+ghost use Rattle.ec_written.specs.ec_typing.Worlds.{Place, World};
+ghost use Rattle.ec_statement_law.specs.ec_direct.Leaves.{leaf_place};
 ghost use Rattle.ec_argument_law.specs.Pointers.{IsPlace, IsPointer, target_of, LiesIn};
 
 /// The pointer that is written for a leaf is resolved to the place of the leaf, where the host is a place in whose type the

@@ -2,14 +2,14 @@
 use Rattle.std.proofs.Common.{◌≡◌, ℕ, true, false, List, [], length, Some, slice_get, sym, subst}
 use Rattle.ec_ctypes.specs.trees.Checked.{BoundData, TypedData}
 use Rattle.ec_ctypes.specs.trees.Embedded.{EmbData}
-use Rattle.ec_bound_shape.specs.Numbers.{tops_numbers}
+use Rattle.ec_shape_law.specs.ec_bound_shape.Numbers.{tops_numbers}
 use Rattle.ec_statement_parts.specs.Handlers.{is_directive}
 use Rattle.ec_typing.specs.Answers.{checked, typed_of}
 use Rattle.ec_expansion.specs.Programs.{embedded}
 use Rattle.ec_resolving.specs.Programs.{embedded_statements_of, library_calls_of}
 use Rattle.ec_resolving.specs.Storage.{LibraryCall, StatementForm}
-use Rattle.ec_program_law.specs.Embedded.{DirectiveIsGone, EmbeddedAreCopied}
-use Rattle.ec_program_law.specs.Programs.{written_of, whole_by}
+use Rattle.ec_shape_law.specs.ec_program_law.Embedded.{DirectiveIsGone, EmbeddedAreCopied}
+use Rattle.ec_shape_law.specs.ec_program_law.Programs.{written_of, whole_by}
 use Rattle.ec_block_law.specs.Accepted.{IsAccepted, StatementLaws, StatementsAreCopied}
 use Rattle.ec_block_law.proofs.Copied.{executed_copied}
 use Rattle.ec_block_law.proofs.Standing.{LawsBelow}

@@ -18,14 +18,14 @@ use Rattle.ec_statement_parts.specs.Cursors.{declare_opened}
 use Rattle.ec_statement_parts.specs.Handlers.{is_directive, action_among}
 use Rattle.ec_typing.specs.Statements.{labels_in, labels_in_kind, labels_in_all}
 use Rattle.ec_typing.specs.Tables.{Named}
-use Rattle.ec_hosts.specs.Bound.{program_of, faults_of, violation_at, violations_at, answer_by, bound_answer, statement_bound}
-use Rattle.ec_hosts.specs.Faults.{row_at}
-use Rattle.ec_phases.specs.Sources.{with_bound, bound_from}
+use Rattle.ec_cursor_law.specs.ec_hosts.Bound.{program_of, faults_of, violation_at, violations_at, answer_by, bound_answer, statement_bound}
+use Rattle.ec_cursor_law.specs.ec_hosts.Faults.{row_at}
+use Rattle.ec_shape_law.specs.ec_phases.Sources.{with_bound, bound_from}
 use Rattle.ec_expansion.specs.Calls.{call_by, prepared_opened}
 use Rattle.ec_expansion.specs.Handlers.{test_for, tests}
 use Rattle.ec_expansion.specs.Programs.{block_of, block_for, embedded}
 use Rattle.ec_expansion.specs.Statements.{before_stmts}
-use Rattle.ec_written.specs.Calls.{call_with}
+use Rattle.ec_shape_law.specs.ec_written.Calls.{call_with}
 use Rattle.ec_block_law.proofs.Numbers.{none_not, some_is}
 
 -- ---- what is bound

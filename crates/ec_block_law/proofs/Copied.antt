@@ -11,16 +11,16 @@ use Rattle.ec_language.specs.Letters.{Text}
 use Rattle.ec_arguments.specs.Arguments.{name_of}
 use Rattle.ec_arguments.specs.Rules.{is_call}
 use Rattle.ec_arguments.specs.Writing.{arguments}
-use Rattle.ec_bound_shape.specs.Numbers.{numbers_from}
+use Rattle.ec_shape_law.specs.ec_bound_shape.Numbers.{numbers_from}
 use Rattle.ec_statement_parts.specs.Cursors.{declare_opened}
 use Rattle.ec_statement_parts.specs.Handlers.{is_directive, marks_in, action_among}
 use Rattle.ec_statement_parts.specs.References.{References, references, all_names, names_of, names_of_option}
-use Rattle.ec_sections.specs.Declared.{functions_of}
-use Rattle.ec_hosts.specs.Bound.{statement_bound}
-use Rattle.ec_hosts.specs.Faults.{row_at, opening_faults, uses_faults}
-use Rattle.ec_hosts.specs.Programs.{Denoted, ProgramData}
-use Rattle.ec_hosts.specs.Uses.{uses_of}
-use Rattle.ec_phases.specs.Sources.{bound_from}
+use Rattle.ec_cursor_law.specs.ec_sections.Declared.{functions_of}
+use Rattle.ec_cursor_law.specs.ec_hosts.Bound.{statement_bound}
+use Rattle.ec_cursor_law.specs.ec_hosts.Faults.{row_at, opening_faults, uses_faults}
+use Rattle.ec_cursor_law.specs.ec_hosts.Programs.{Denoted, ProgramData}
+use Rattle.ec_cursor_law.specs.ec_hosts.Uses.{uses_of}
+use Rattle.ec_shape_law.specs.ec_phases.Sources.{bound_from}
 use Rattle.ec_whenever.specs.Tables.{table_of, are_in_order}
 use Rattle.ec_whenever.proofs.Tables.{table_answers}
 use Rattle.ec_expansion.specs.Calls.{prepared_opened}
@@ -36,47 +36,47 @@ use Rattle.ec_typing.specs.Statements.{as_item}
 use Rattle.ec_typing.specs.Tables.{Named}
 use Rattle.ec_typing.specs.Worlds as worlds
 use Rattle.ec_typing.specs.Worlds.{Place, World, Out, Rule, out, entered, left, look_up}
-use Rattle.ec_written.specs.Calls.{call_with}
+use Rattle.ec_shape_law.specs.ec_written.Calls.{call_with}
 use Rattle.ec_resolved.specs.Resolved.{Stm, block, stms}
 use Rattle.ec_resolving.specs.Agreement.{around_of}
 use Rattle.ec_resolving.specs.Embedded.{handlers_rule, embedded_rule}
 use Rattle.ec_resolving.specs.Statements.{objects_in_all, statement_kind, statements}
 use Rattle.ec_resolving.specs.Storage.{LibraryCall, ReferenceForm, ActionForms, StatementForm, BlockObjects, Storage, Resolving, reached, chain, pure, checks, stored, arrange, in_block, inside_block, back_in_block, with_call, with_statement}
-use Rattle.ec_direct.specs.Direct.{form_of, declare_number, statement_at}
-use Rattle.ec_direct.specs.Statements.{Around, statement_of}
-use Rattle.ec_statement_law.specs.Blocks.{call_stm, block_stm}
-use Rattle.ec_statement_law.specs.Calls.{any_pointer, call_of, cut_of as cut_of_statement, keeps_rules}
-use Rattle.ec_statement_law.specs.Copies.{AreFunctionCopies}
-use Rattle.ec_statement_law.specs.Tests.{tests_stms}
-use Rattle.ec_statement_law.specs.Whole.{IsWrittenAt}
-use Rattle.ec_argument_law.specs.Bound.{cursor_of, IsCall}
-use Rattle.ec_call_law.specs.Calls.{cut_of, StandsThere, made_for, next_at, place_passed, call_statement, IsMadeAlone}
-use Rattle.ec_call_law.specs.Pointers.{text_there}
-use Rattle.ec_expression_law.specs.Alike.{SameStorage}
-use Rattle.ec_expression_law.specs.Rules.{none_before, none_behind}
-use Rattle.ec_expression_law.specs.Worlds.{AreAlike}
+use Rattle.ec_cursor_law.specs.ec_direct.Direct.{form_of, declare_number, statement_at}
+use Rattle.ec_cursor_law.specs.ec_direct.Statements.{Around, statement_of}
+use Rattle.ec_cursor_law.specs.ec_statement_law.Blocks.{call_stm, block_stm}
+use Rattle.ec_cursor_law.specs.ec_statement_law.Calls.{any_pointer, call_of, cut_of as cut_of_statement, keeps_rules}
+use Rattle.ec_cursor_law.specs.ec_statement_law.Copies.{AreFunctionCopies}
+use Rattle.ec_cursor_law.specs.ec_statement_law.Tests.{tests_stms}
+use Rattle.ec_cursor_law.specs.ec_statement_law.Whole.{IsWrittenAt}
+use Rattle.ec_shape_law.specs.ec_argument_law.Bound.{cursor_of, IsCall}
+use Rattle.ec_shape_law.specs.ec_call_law.Calls.{cut_of, StandsThere, made_for, next_at, place_passed, call_statement, IsMadeAlone}
+use Rattle.ec_shape_law.specs.ec_call_law.Pointers.{text_there}
+use Rattle.ec_shape_law.specs.ec_expression_law.Alike.{SameStorage}
+use Rattle.ec_shape_law.specs.ec_expression_law.Rules.{none_before, none_behind}
+use Rattle.ec_shape_law.specs.ec_expression_law.Worlds.{AreAlike}
 use Rattle.ec_growth_law.specs.Growth.{Begins, Grows}
 use Rattle.ec_growth_law.proofs.Rules.{grows_further, demand_same}
-use Rattle.ec_test_law.specs.Area.{KnowsArea}
-use Rattle.ec_test_law.specs.Laws.{TestsFound, TellsActions}
-use Rattle.ec_test_law.specs.Plain.{HasPlainActions}
-use Rattle.ec_test_law.proofs.Alike.{alike_placed, alike_inside, alike_outside}
-use Rattle.ec_test_law.proofs.Steps.{then_is, then_finds, scoped_is, scoped_finds}
-use Rattle.ec_test_law.proofs.Tests.{done_behind}
-use Rattle.ec_known_law.specs.Known.{IsKnown, IsFound, AreFound}
-use Rattle.ec_place_law.specs.References.{NamesAreDeclared, tables_of}
-use Rattle.ec_place_law.specs.Statements.{pointer_exp, ReferencesAre}
-use Rattle.ec_place_law.specs.Structs.{ClosedAreListed, IsWithin}
-use Rattle.ec_table_law.specs.Tables.{AreSound}
-use Rattle.ec_reference_law.specs.Found.{AreReferences, ReferencesFound}
-use Rattle.ec_reference_law.specs.Rows.{indexes_are_typed, IndexesAreTyped}
-use Rattle.ec_host_law.specs.Hosts.{StatementStands, StatementLeads}
-use Rattle.ec_fit_law.specs.Fits.{HostsFit}
-use Rattle.ec_pointer_law.specs.Pointers.{CallStands}
+use Rattle.ec_shape_law.specs.ec_test_law.Area.{KnowsArea}
+use Rattle.ec_shape_law.specs.ec_test_law.Laws.{TestsFound, TellsActions}
+use Rattle.ec_shape_law.specs.ec_test_law.Plain.{HasPlainActions}
+use Rattle.ec_shape_law.proofs.ec_test_law_proofs.Alike.{alike_placed, alike_inside, alike_outside}
+use Rattle.ec_shape_law.proofs.ec_test_law_proofs.Steps.{then_is, then_finds, scoped_is, scoped_finds}
+use Rattle.ec_shape_law.proofs.ec_test_law_proofs.Tests.{done_behind}
+use Rattle.ec_cursor_law.specs.ec_known_law.Known.{IsKnown, IsFound, AreFound}
+use Rattle.ec_shape_law.specs.ec_place_law.References.{NamesAreDeclared, tables_of}
+use Rattle.ec_shape_law.specs.ec_place_law.Statements.{pointer_exp, ReferencesAre}
+use Rattle.ec_shape_law.specs.ec_place_law.Structs.{ClosedAreListed, IsWithin}
+use Rattle.ec_shape_law.specs.ec_table_law.Tables.{AreSound}
+use Rattle.ec_cursor_law.specs.ec_reference_law.Found.{AreReferences, ReferencesFound}
+use Rattle.ec_cursor_law.specs.ec_reference_law.Rows.{indexes_are_typed, IndexesAreTyped}
+use Rattle.ec_shape_law.specs.ec_host_law.Hosts.{StatementStands, StatementLeads}
+use Rattle.ec_shape_law.specs.ec_fit_law.Fits.{HostsFit}
+use Rattle.ec_shape_law.specs.ec_pointer_law.Pointers.{CallStands}
 use Rattle.ec_shape_law.specs.Shapes.{IsRead, AllAreRead}
-use Rattle.ec_program_law.specs.Copied.{Whole, in_function, AreToCome, FindCopies}
-use Rattle.ec_program_law.specs.Embedded.{inside, ExecutedIsCopied}
-use Rattle.ec_program_law.specs.Programs.{whole_by}
+use Rattle.ec_shape_law.specs.ec_program_law.Copied.{Whole, in_function, AreToCome, FindCopies}
+use Rattle.ec_shape_law.specs.ec_program_law.Embedded.{inside, ExecutedIsCopied}
+use Rattle.ec_shape_law.specs.ec_program_law.Programs.{whole_by}
 use Rattle.ec_block_law.specs.Accepted.{CursorsHaveNoFunctions, StatementLaws}
 use Rattle.ec_block_law.proofs.Numbers.{some_is, get_front, get_last, map_joined, length_joined, number_next, numbers_joined, form_last, MayHaveForm, references_of, references_stay}
 use Rattle.ec_block_law.proofs.Binding.{IsBound, is_bound, HasCall, has_call, name_kept, block_written, block_bare}

@@ -5,16 +5,16 @@ use Rattle.std.specs.List.{list_all}
 use Rattle.ec_ctypes.specs.trees.Exprs.{ExprData, integer, identifier, index, member, arrow}
 use Rattle.ec_ctypes.specs.trees.Types.{TyData, void, arithmetic}
 use Rattle.ec_language.specs.Letters.{Text}
-use Rattle.ec_hosts.specs.Programs.{Denoted}
+use Rattle.ec_cursor_law.specs.ec_hosts.Programs.{Denoted}
 use Rattle.ec_statement_parts.specs.References.{References, names_in, all_names}
 use Rattle.ec_typing.specs.Answers.{struct_order, renumbered, numbered_from, names_of}
 use Rattle.ec_typing.specs.Embedded.{denoted_by, denoted_in}
 use Rattle.ec_typing.specs.Types.{is_void}
 use Rattle.ec_typing.specs.Worlds.{EntryData, object, function, World, look_up}
-use Rattle.ec_place_law.specs.References.{IsIndex, IsReference, IsTypedEntry, IndexHasType, IndexesHaveTypes, NamesAreDeclared}
-use Rattle.ec_place_law.specs.Structs.{IsWithin}
-use Rattle.ec_reference_law.specs.Found.{AreReferences, AllIndexesHaveTypes}
-use Rattle.ec_reference_law.specs.Rows.{is_typed_name, indexes_are_typed}
+use Rattle.ec_shape_law.specs.ec_place_law.References.{IsIndex, IsReference, IsTypedEntry, IndexHasType, IndexesHaveTypes, NamesAreDeclared}
+use Rattle.ec_shape_law.specs.ec_place_law.Structs.{IsWithin}
+use Rattle.ec_cursor_law.specs.ec_reference_law.Found.{AreReferences, AllIndexesHaveTypes}
+use Rattle.ec_cursor_law.specs.ec_reference_law.Rows.{is_typed_name, indexes_are_typed}
 use Rattle.ec_block_law.proofs.Numbers.{none_not, some_is, map_joined}
 
 -- ---- lists

@@ -3,12 +3,12 @@ use Rattle.std.proofs.Common.{◌≡◌, ◌∙◌, ℕ, zero, suc, ◌+◌, ◌
 use Rattle.std.specs.Prelude.{option_and_then}
 use Rattle.std.proofs.lemmas.Bool.Decides.{nat_tests}
 use Rattle.ec_ctypes.specs.trees.Units.{UnitData}
-use Rattle.ec_bound_shape.specs.Numbers.{numbers_from}
-use Rattle.ec_hosts.specs.Programs.{Denoted}
+use Rattle.ec_shape_law.specs.ec_bound_shape.Numbers.{numbers_from}
+use Rattle.ec_cursor_law.specs.ec_hosts.Programs.{Denoted}
 use Rattle.ec_typing.specs.Worlds.{World}
 use Rattle.ec_resolving.specs.Storage.{Storage, StatementForm, ReferenceForm}
-use Rattle.ec_direct.specs.Direct.{form_of, references_in}
-use Rattle.ec_known_law.specs.Known.{IsFound, AreFound}
+use Rattle.ec_cursor_law.specs.ec_direct.Direct.{form_of, references_in}
+use Rattle.ec_cursor_law.specs.ec_known_law.Known.{IsFound, AreFound}
 
 -- ---- options and lists
 

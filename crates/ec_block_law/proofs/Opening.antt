@@ -9,11 +9,11 @@ use Rattle.ec_ctypes.specs.trees.Embedded.{EmbData, EmbKindData, InsData, PartDa
 use Rattle.ec_ctypes.specs.trees.Checked.{TypedData, MarkData}
 use Rattle.ec_ctypes.specs.trees.Units.{UnitData}
 use Rattle.ec_language.specs.Letters.{Text, same_word}
-use Rattle.ec_hosts.specs.Bound.{cursor_parts, faults_of}
-use Rattle.ec_hosts.specs.Faults.{fault_unless, same_denoted, row_at, cursor_part, open_faults, opening_faults, uses_faults}
-use Rattle.ec_hosts.specs.Programs.{Denoted, ProgramData}
-use Rattle.ec_hosts.specs.Uses.{part_uses, each_uses, uses_of}
-use Rattle.ec_sections.specs.Declared.{functions_of}
+use Rattle.ec_cursor_law.specs.ec_hosts.Bound.{cursor_parts, faults_of}
+use Rattle.ec_cursor_law.specs.ec_hosts.Faults.{fault_unless, same_denoted, row_at, cursor_part, open_faults, opening_faults, uses_faults}
+use Rattle.ec_cursor_law.specs.ec_hosts.Programs.{Denoted, ProgramData}
+use Rattle.ec_cursor_law.specs.ec_hosts.Uses.{part_uses, each_uses, uses_of}
+use Rattle.ec_cursor_law.specs.ec_sections.Declared.{functions_of}
 use Rattle.ec_statement_parts.specs.Cursors.{declared_cursor, opened_cursor, declare_from, declared_above, declare_opened}
 use Rattle.ec_statement_parts.specs.References.{references, all_names, names_of, names_of_option}
 use Rattle.ec_typing.specs.Answers.{names_of as names_of_tables, typed_of}
@@ -22,26 +22,26 @@ use Rattle.ec_typing.specs.Embedded.{denoted_by, denoted_in, variables_of}
 use Rattle.ec_typing.specs.Worlds.{Place, World, entered, look_up}
 use Rattle.ec_resolving.specs.Embedded.{references_rule}
 use Rattle.ec_resolving.specs.Storage.{Storage, StatementForm, ReferenceForm, inside_block}
-use Rattle.ec_direct.specs.Direct.{form_of, references_in, declare_number}
-use Rattle.ec_direct.specs.Statements.{Around}
-use Rattle.ec_argument_law.specs.Bound.{cursor_of}
-use Rattle.ec_bound_shape.specs.Numbers.{numbers_from}
-use Rattle.ec_expression_law.specs.Alike.{SameStorage}
-use Rattle.ec_expression_law.specs.Rules.{none_before}
-use Rattle.ec_expression_law.specs.Worlds.{AreAlike}
+use Rattle.ec_cursor_law.specs.ec_direct.Direct.{form_of, references_in, declare_number}
+use Rattle.ec_cursor_law.specs.ec_direct.Statements.{Around}
+use Rattle.ec_shape_law.specs.ec_argument_law.Bound.{cursor_of}
+use Rattle.ec_shape_law.specs.ec_bound_shape.Numbers.{numbers_from}
+use Rattle.ec_shape_law.specs.ec_expression_law.Alike.{SameStorage}
+use Rattle.ec_shape_law.specs.ec_expression_law.Rules.{none_before}
+use Rattle.ec_shape_law.specs.ec_expression_law.Worlds.{AreAlike}
 use Rattle.ec_growth_law.specs.Growth.{Grows}
 use Rattle.ec_growth_law.proofs.Rules.{grows_further}
-use Rattle.ec_closing_law.specs.Closing.{HaveTypes}
-use Rattle.ec_place_law.specs.References.{NamesAreDeclared, tables_of}
-use Rattle.ec_place_law.specs.Statements.{ReferencesAre}
-use Rattle.ec_place_law.specs.Structs.{IsWithin}
-use Rattle.ec_known_law.specs.Known.{IsKnown, AreFound}
-use Rattle.ec_reference_law.specs.Found.{AreReferences, AllIndexesHaveTypes, ReferencesFound, ReferencesAreFound}
-use Rattle.ec_reference_law.specs.Rows.{indexes_are_typed, IndexesAreTyped}
+use Rattle.ec_cursor_law.specs.ec_closing_law.Closing.{HaveTypes}
+use Rattle.ec_shape_law.specs.ec_place_law.References.{NamesAreDeclared, tables_of}
+use Rattle.ec_shape_law.specs.ec_place_law.Statements.{ReferencesAre}
+use Rattle.ec_shape_law.specs.ec_place_law.Structs.{IsWithin}
+use Rattle.ec_cursor_law.specs.ec_known_law.Known.{IsKnown, AreFound}
+use Rattle.ec_cursor_law.specs.ec_reference_law.Found.{AreReferences, AllIndexesHaveTypes, ReferencesFound, ReferencesAreFound}
+use Rattle.ec_cursor_law.specs.ec_reference_law.Rows.{indexes_are_typed, IndexesAreTyped}
 use Rattle.ec_cursor_law.specs.Cursors.{are_no_functions, FoundAgain, ReferencesAreFoundAgain}
 use Rattle.ec_block_law.specs.Accepted.{CursorsHaveNoFunctions}
 use Rattle.ec_block_law.proofs.Indexes.{indexes_have_types}
-use Rattle.ec_host_law.specs.Hosts.{PartsStand, CursorStands}
+use Rattle.ec_shape_law.specs.ec_host_law.Hosts.{PartsStand, CursorStands}
 use Rattle.ec_shape_law.specs.Shapes.{AllAreRead}
 use Rattle.ec_block_law.proofs.Numbers.{none_not, some_is, get_front, map_joined, length_mapped, IsNumbered, form_there, FoundAt, found_at, MayHaveForm, references_of}
 use Rattle.ec_block_law.proofs.Passing.{references_look, references_inside}

@@ -24,12 +24,12 @@ use Rattle.ec_resolving.specs.Embedded.{reference_rule, references_rule, action_
 use Rattle.ec_resolving.specs.Expressions.{library_literal, expr, args}
 use Rattle.ec_resolving.specs.Operands.{Found, over_types, as_value, value_rule, index_rule, member_rule, arrow_rule, name_rule, literal_rule, with_form, library_exp, function_called, called, call_rule, is_library_literal, done_alone}
 use Rattle.ec_resolving.specs.Storage.{BlockObjects, Storage, Resolving, reached, followed, chain, pure, checks, ask, stored, arrange, back_in_block}
-use Rattle.ec_test_law.specs.Plain.{IsPlain, ArePlain, IsPlainOption, HasPlainActions}
-use Rattle.ec_test_law.proofs.Finding.{Finds, chained as both_find, pure_finds, asked as asked_find, call_alone_finds}
-use Rattle.ec_test_law.proofs.Layouts.{inside_layout, element_same, member_same, done_same}
-use Rattle.ec_test_law.proofs.Looking.{Looks, chained as both_look, pure_looks, asked as asked_look, plain_looks, name_looks, value_looks, index_looks, member_looks, arrow_looks, call_alone_looks}
-use Rattle.ec_place_law.specs.References.{IsIndex, IsReference}
-use Rattle.ec_reference_law.specs.Found.{AreReferences}
+use Rattle.ec_shape_law.specs.ec_test_law.Plain.{IsPlain, ArePlain, IsPlainOption, HasPlainActions}
+use Rattle.ec_shape_law.proofs.ec_test_law_proofs.Finding.{Finds, chained as both_find, pure_finds, asked as asked_find, call_alone_finds}
+use Rattle.ec_shape_law.proofs.ec_test_law_proofs.Layouts.{inside_layout, element_same, member_same, done_same}
+use Rattle.ec_shape_law.proofs.ec_test_law_proofs.Looking.{Looks, chained as both_look, pure_looks, asked as asked_look, plain_looks, name_looks, value_looks, index_looks, member_looks, arrow_looks, call_alone_looks}
+use Rattle.ec_shape_law.specs.ec_place_law.References.{IsIndex, IsReference}
+use Rattle.ec_cursor_law.specs.ec_reference_law.Found.{AreReferences}
 
 -- ---- in another block
 

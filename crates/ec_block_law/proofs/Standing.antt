@@ -9,24 +9,24 @@ use Rattle.ec_ctypes.specs.trees.Types.{TyData, void, arithmetic, pointer, array
 use Rattle.ec_ctypes.specs.trees.Units.{UnitData}
 use Rattle.ec_language.specs.Letters.{Text}
 use Rattle.ec_arguments.specs.Arguments.{Arg}
-use Rattle.ec_hosts.specs.Programs.{ProgramData, Denoted}
+use Rattle.ec_cursor_law.specs.ec_hosts.Programs.{ProgramData, Denoted}
 use Rattle.ec_typing.specs.Embedded.{denoted_in}
 use Rattle.ec_typing.specs.Worlds.{Place, unlisted, begun, listed, MembersData, is_listed, World, entered}
 use Rattle.ec_resolved.specs.Resolved.{Exp}
 use Rattle.ec_resolving.specs.Storage.{Storage, StatementForm, ReferenceForm}
-use Rattle.ec_direct.specs.Statements.{Around, text_option}
-use Rattle.ec_argument_law.specs.Arguments.{AreArguments}
-use Rattle.ec_argument_law.specs.Bound.{cursor_of, OptionIs, KindIs, IsCall}
-use Rattle.ec_call_law.specs.Calls.{AreSeen, StandsThere, IsMadeAlone, next_at, place_passed}
-use Rattle.ec_call_law.specs.Pointers.{AreSimple, text_there}
-use Rattle.ec_closing_law.specs.Closing.{AreInTheirOrder, HaveTypes, ListedStay}
-use Rattle.ec_closing_law.specs.Laws.{WithTypesAreListed, HadTypes}
-use Rattle.ec_expression_law.specs.Worlds.{KeepsReserved, AllKeepReserved, AreAlike}
+use Rattle.ec_cursor_law.specs.ec_direct.Statements.{Around, text_option}
+use Rattle.ec_shape_law.specs.ec_argument_law.Arguments.{AreArguments}
+use Rattle.ec_shape_law.specs.ec_argument_law.Bound.{cursor_of, OptionIs, KindIs, IsCall}
+use Rattle.ec_shape_law.specs.ec_call_law.Calls.{AreSeen, StandsThere, IsMadeAlone, next_at, place_passed}
+use Rattle.ec_shape_law.specs.ec_call_law.Pointers.{AreSimple, text_there}
+use Rattle.ec_cursor_law.specs.ec_closing_law.Closing.{AreInTheirOrder, HaveTypes, ListedStay}
+use Rattle.ec_cursor_law.specs.ec_closing_law.Laws.{WithTypesAreListed, HadTypes}
+use Rattle.ec_shape_law.specs.ec_expression_law.Worlds.{KeepsReserved, AllKeepReserved, AreAlike}
 use Rattle.ec_growth_law.specs.Growth.{is_unlisted, Begins, Grows}
 use Rattle.ec_growth_law.proofs.Rules.{begins_itself, begins_further, grows_further}
-use Rattle.ec_known_law.specs.Known.{IsFound, AreFound}
-use Rattle.ec_place_law.specs.References.{IsDeclared, NamesAreDeclared}
-use Rattle.ec_place_law.specs.Structs.{IsListed, EachStruct, EachStructIn, ClosedAreListed, IsWithin}
+use Rattle.ec_cursor_law.specs.ec_known_law.Known.{IsFound, AreFound}
+use Rattle.ec_shape_law.specs.ec_place_law.References.{IsDeclared, NamesAreDeclared}
+use Rattle.ec_shape_law.specs.ec_place_law.Structs.{IsListed, EachStruct, EachStructIn, ClosedAreListed, IsWithin}
 
 -- what is used of the laws below
 pub record LawsBelow : Type 0 where

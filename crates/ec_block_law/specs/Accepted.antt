@@ -3,30 +3,30 @@ use Rattle.std.specs.Prelude.{◌≡◌, ℕ, true, false, List, [], Some, Ok, l
 use Rattle.ec_ctypes.specs.trees.Checked.{TypedData, BoundData}
 use Rattle.ec_ctypes.specs.trees.Embedded.{EmbData}
 use Rattle.ec_ctypes.specs.trees.Units.{UnitData}
-use Rattle.ec_bound_shape.specs.Numbers.{tops_numbers, numbers_from}
+use Rattle.ec_shape_law.specs.ec_bound_shape.Numbers.{tops_numbers, numbers_from}
 use Rattle.ec_expansion.specs.Programs.{embedded}
-use Rattle.ec_hosts.specs.Faults.{row_at}
+use Rattle.ec_cursor_law.specs.ec_hosts.Faults.{row_at}
 use Rattle.ec_language.specs.Letters.{Text}
-use Rattle.ec_phases.specs.Sources.{bound_from}
-use Rattle.ec_sections.specs.Declared.{functions_of}
+use Rattle.ec_shape_law.specs.ec_phases.Sources.{bound_from}
+use Rattle.ec_cursor_law.specs.ec_sections.Declared.{functions_of}
 use Rattle.ec_statement_parts.specs.Cursors.{declared_cursor}
 use Rattle.ec_statement_parts.specs.Handlers.{marks_in}
 use Rattle.ec_whenever.specs.Tables.{are_in_order}
 use Rattle.ec_typing.specs.Answers.{checked, violations, typed_of}
 use Rattle.ec_whenever.specs.Tables.{table_of}
-use Rattle.ec_test_law.specs.Laws.{TestsAreResolved, AreaIsKnown}
-use Rattle.ec_expression_law.specs.Laws.{ExpressionsAreAlike}
-use Rattle.ec_known_law.specs.Laws.{EmbeddedStatementsKeep}
-use Rattle.ec_table_law.specs.Tables.{AreSound}
-use Rattle.ec_reference_law.specs.Found.{ReferencesAreFound, ReferencesAreThere, KnownNamesAreDeclared}
-use Rattle.ec_reference_law.specs.Rows.{IndexesAreTyped}
-use Rattle.ec_host_law.specs.Hosts.{StatementsLead, PartsLead}
-use Rattle.ec_fit_law.specs.Fits.{HostsFitTheirCalls}
-use Rattle.ec_pointer_law.specs.Pointers.{CallsStand, StatementsHaveTargets, RulesAreKept}
+use Rattle.ec_shape_law.specs.ec_test_law.Laws.{TestsAreResolved, AreaIsKnown}
+use Rattle.ec_shape_law.specs.ec_expression_law.Laws.{ExpressionsAreAlike}
+use Rattle.ec_cursor_law.specs.ec_known_law.Laws.{EmbeddedStatementsKeep}
+use Rattle.ec_shape_law.specs.ec_table_law.Tables.{AreSound}
+use Rattle.ec_cursor_law.specs.ec_reference_law.Found.{ReferencesAreFound, ReferencesAreThere, KnownNamesAreDeclared}
+use Rattle.ec_cursor_law.specs.ec_reference_law.Rows.{IndexesAreTyped}
+use Rattle.ec_shape_law.specs.ec_host_law.Hosts.{StatementsLead, PartsLead}
+use Rattle.ec_shape_law.specs.ec_fit_law.Fits.{HostsFitTheirCalls}
+use Rattle.ec_shape_law.specs.ec_pointer_law.Pointers.{CallsStand, StatementsHaveTargets, RulesAreKept}
 use Rattle.ec_cursor_law.specs.Cursors.{are_no_functions, ReferencesAreFoundAgain}
 use Rattle.ec_shape_law.specs.Shapes.{AllAreRead}
-use Rattle.ec_program_law.specs.Programs.{written_of, whole_of, blocks_in}
-use Rattle.ec_program_law.specs.Embedded.{EmbeddedAreCopied}
+use Rattle.ec_shape_law.specs.ec_program_law.Programs.{written_of, whole_of, blocks_in}
+use Rattle.ec_shape_law.specs.ec_program_law.Embedded.{EmbeddedAreCopied}
 
 -- no name in the references of a DECLARE stands for a function
 abbrev pub CursorsHaveNoFunctions : TypedData → Type 0

@@ -4,4 +4,7 @@
 
 mod laws;
 
+pub use ec_cursor_law;
+pub use ec_cursor_law::ec_closing_law;
+pub use ec_shape_law::ec_place_law;
 pub use laws::embedded_statements_are_copied;

@@ -17,14 +17,14 @@ use Rattle.ec_language.specs.Pieces.{Pieces}
 use Rattle.ec_language.specs.Syntax.{TreeOrStop}
 use Rattle.ec_language.specs.Tokens.{Tokens}
 use Rattle.ec_language.proofs.Ends.{both}
-use Rattle.ec_hosts.specs.Bound.{program_of, cursor_parts, statement_bound, faults_of, violation_at, violations_at, answer_by, bound_answer}
-use Rattle.ec_hosts.specs.Examples.{statement_places, with_statements}
-use Rattle.ec_hosts.specs.Faults.{row_at, uses_faults}
-use Rattle.ec_hosts.specs.Programs.{ProgramData}
-use Rattle.ec_hosts.specs.Uses.{uses_of}
+use Rattle.ec_phases.specs.ec_hosts.Bound.{program_of, cursor_parts, statement_bound, faults_of, violation_at, violations_at, answer_by, bound_answer}
+use Rattle.ec_phases.specs.ec_hosts.Examples.{statement_places, with_statements}
+use Rattle.ec_phases.specs.ec_hosts.Faults.{row_at, uses_faults}
+use Rattle.ec_phases.specs.ec_hosts.Programs.{ProgramData}
+use Rattle.ec_phases.specs.ec_hosts.Uses.{uses_of}
 use Rattle.ec_phases.specs.Sources.{ReadsStatements, ReadsTree, statements, checked_with, checked_tree, with_bound, bound_from, BoundProgram, program_with, bound_program, ReadsSource}
 use Rattle.ec_phases.proofs.Order.{stand_in_order}
-use Rattle.ec_sections.specs.Answers.{hosts_answer}
+use Rattle.ec_phases.specs.ec_sections.Answers.{hosts_answer}
 use Rattle.ec_statement_parts.specs.Cursors.{declare_opened, declared_above, opened_cursor}
 use Rattle.ec_statement_parts.specs.Handlers.{marks_in, action_among, handler}
 use Rattle.ec_statement_parts.specs.Handlers as parts
@@ -32,10 +32,10 @@ use Rattle.ec_statement_parts.specs.References.{references}
 use Rattle.ec_typing.specs.Answers.{checked, struct_order, struct_members, listed_members, struct_data, structs_of, typed_of, stop_of_unit, check_answer}
 use Rattle.ec_typing.specs.Answers as typing
 use Rattle.ec_typing.specs.Worlds.{MembersData, unlisted, begun, listed, StructInfo, World}
-use Rattle.ec_whenever.specs.Tables.{table_of, AnswersFor}
-use Rattle.ec_whenever.proofs.Tables.{table_answers}
+use Rattle.ec_phases.specs.ec_whenever.Tables.{table_of, AnswersFor}
+use Rattle.ec_phases.proofs.ec_whenever_proofs.Tables.{table_answers}
 use Rattle.ec_writing.specs.Shapes.{is_byte}
-use Rattle.ec_source_shape.specs.SourceShape.{are_source_tokens, are_source_tops, is_source_shape}
+use Rattle.ec_written_shape.specs.ec_source_shape.SourceShape.{are_source_tokens, are_source_tops, is_source_shape}
 use Rattle.ec_written_shape.specs.Bounds.{is_written_action_option, are_written_actions, is_written_bound}
 use Rattle.ec_bound_shape.specs.Counts.{is_counted, are_counted}
 use Rattle.ec_bound_shape.specs.Names.{is_simple, is_simple_action, has_known_names_option}

@@ -13,7 +13,7 @@ use Rattle.ec_typing.specs.Operands.{OperandData, value_rule, unary_rule}
 use Rattle.ec_typing.specs.Worlds.{Place, MembersData, unlisted, begun, listed, Rule, World, chain, free_tag, tag_up}
 use Rattle.ec_typing.specs.Expressions.{Members, type_or_fault, tag_type, tag_rule, tagged_struct, begin_again, begin_by, begin_struct, end_struct, member_named, is_varchar, varchar_tag, varchar_struct, varchar_object, varchar_member, expr, args, base, members, member_decl, member_items, member_item, lengths, last_length, outer_lengths, length_at, init_parts, init_exprs, all_init_exprs}
 use Rattle.ec_writing.specs.Shapes.{is_plain_name, is_free_name, is_assignable, is_line, is_written_name}
-use Rattle.ec_source_shape.specs.SourceShape.{is_source_expr, are_source_exprs, is_source_base, are_source_members, is_source_member, is_source_dim, are_source_dims, is_source_init, are_some_source_inits, are_source_inits, is_source_initializer, is_source_declarator, are_source_declarators}
+use Rattle.ec_written_shape.specs.ec_source_shape.SourceShape.{is_source_expr, are_source_exprs, is_source_base, are_source_members, is_source_member, is_source_dim, are_source_dims, is_source_init, are_some_source_inits, are_source_inits, is_source_initializer, is_source_declarator, are_source_declarators}
 use Rattle.ec_bound_shape.proofs.Rules.{PlainMembers, HasPlainMembers, put_plain, Holds, Quiet, quiet_of, chained, gives, asked, pure_holds, fault, demand_quiet, keep_quiet, change_holds, place_quiet, chosen, new_struct_quiet, set_struct_quiet, free_name_quiet}
 use Rattle.ec_bound_shape.proofs.Operands.{elements_quiet, name_free, value_quiet, address_quiet, unary_quiet, binary_quiet, index_quiet, assign_quiet, compound_quiet, bump_quiet, call_holds, member_quiet, arrow_quiet, cast_quiet, size_quiet, length_quiet, within_quiet, complete_quiet}
 

@@ -7,7 +7,7 @@ use Rattle.ec_typing.specs.Operands.{OperandData}
 use Rattle.ec_typing.specs.Worlds.{Place}
 use Rattle.ec_typing.specs.Initializers.{Frames, fixed_rule, init_value, suits_rule, go_by, go_to, next_part, part_rule, slot_of, slot_rule, single_by, braces_rule, initializer, fill, fill_part}
 use Rattle.ec_language.proofs.Ends.{both}
-use Rattle.ec_source_shape.specs.SourceShape.{is_source_expr, is_source_init, are_some_source_inits, are_source_inits}
+use Rattle.ec_written_shape.specs.ec_source_shape.SourceShape.{is_source_expr, is_source_init, are_some_source_inits, are_source_inits}
 use Rattle.ec_bound_shape.proofs.Rules.{Holds, Quiet, chained, asked, pure_holds, fault, demand_quiet, if_some}
 use Rattle.ec_bound_shape.proofs.Expressions.{valued, expr_quiet}
 

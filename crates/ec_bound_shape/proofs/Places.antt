@@ -13,12 +13,12 @@ use Rattle.ec_ctypes.specs.trees.Embedded.{HostData, TextArgData, word_arg, host
 use Rattle.ec_language.specs.Letters.{Text, each}
 use Rattle.ec_language.proofs.Ends.{both as both_true}
 use Rattle.ec_embedded.specs.SentText.{parameters}
-use Rattle.ec_hosts.specs.Bound.{Made, made, then, each_of, cursor_parts, pairs_of, host_places, input_places, part_places, text_expr, text_option_expr, area_place, ins_places, outs_places, get_places, set_places, sent_from, connect_bound, open_bound, kind_bound, statement_bound}
-use Rattle.ec_hosts.specs.Elements.{is_element, plain_struct}
-use Rattle.ec_hosts.specs.Faults.{cursor_part, host_count}
-use Rattle.ec_hosts.specs.Leaves.{Path, Way, both, with_step, LeafData, ShapeData, one_element, elements, one_struct, many_structs, member_ways, members_ways, ways_within, ways, leaf_of_struct, leaf_of_structs, own_leaf, shape_of_host, leaves_by, leaves, Pair, alone, paired, leaves_or_none, hosted}
-use Rattle.ec_hosts.specs.Places.{first_of_array, along, pointer_to, leaf_pointer, size_of, indicator_place, leaf_place, text_pointer}
-use Rattle.ec_hosts.specs.Programs.{ProgramData, Denoted, names_count, reference_type}
+use Rattle.ec_phases.specs.ec_hosts.Bound.{Made, made, then, each_of, cursor_parts, pairs_of, host_places, input_places, part_places, text_expr, text_option_expr, area_place, ins_places, outs_places, get_places, set_places, sent_from, connect_bound, open_bound, kind_bound, statement_bound}
+use Rattle.ec_phases.specs.ec_hosts.Elements.{is_element, plain_struct}
+use Rattle.ec_phases.specs.ec_hosts.Faults.{cursor_part, host_count}
+use Rattle.ec_phases.specs.ec_hosts.Leaves.{Path, Way, both, with_step, LeafData, ShapeData, one_element, elements, one_struct, many_structs, member_ways, members_ways, ways_within, ways, leaf_of_struct, leaf_of_structs, own_leaf, shape_of_host, leaves_by, leaves, Pair, alone, paired, leaves_or_none, hosted}
+use Rattle.ec_phases.specs.ec_hosts.Places.{first_of_array, along, pointer_to, leaf_pointer, size_of, indicator_place, leaf_place, text_pointer}
+use Rattle.ec_phases.specs.ec_hosts.Programs.{ProgramData, Denoted, names_count, reference_type}
 use Rattle.ec_writing.specs.Shapes.{is_plain_name, is_byte, is_written_expr}
 use Rattle.ec_written_shape.specs.Bounds.{is_long, is_written_indicator, is_written_place, are_written_places, are_written_texts, is_written_bound}
 use Rattle.ec_bound_shape.specs.Counts.{has_long_count, has_long_counts, have_long_counts, is_counted}

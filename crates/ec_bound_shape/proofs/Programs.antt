@@ -16,7 +16,7 @@ use Rattle.ec_typing.specs.Worlds.{Place, EntryData, ScopeData, World}
 use Rattle.ec_typing.specs.Programs.{result_rule, plain_param, array_param, param_type, declare_param, param, params, put_outside, begin_function, know_function, body_rule, function_rule, directive_rule, top_rule, tops_rule, main_rule, unit_rule, start}
 use Rattle.ec_typing.specs.Answers.{checked, violations, stop_of_unit, answer_by, check_answer}
 use Rattle.ec_writing.specs.Shapes.{is_plain_name, is_free_name, is_line, is_written_name, is_void_list}
-use Rattle.ec_source_shape.specs.SourceShape.{is_source_base, are_source_dims, is_source_param, are_source_params, is_source_body, is_source_func, is_source_top, are_source_tops, is_source_shape}
+use Rattle.ec_written_shape.specs.ec_source_shape.SourceShape.{is_source_base, are_source_dims, is_source_param, are_source_params, is_source_body, is_source_func, is_source_top, are_source_tops, is_source_shape}
 use Rattle.ec_bound_shape.specs.Numbers.{body_numbers, top_numbers, tops_numbers}
 use Rattle.ec_bound_shape.proofs.Rules.{Clean, CleanWith, FreeScopes, put_free, Runs, Holds, Quiet, chained, gives, asked, pure_holds, demand_quiet, change_run, change_holds, place_quiet, enter_quiet, leave_quiet, free_name_holds, declare_holds, number_quiet}
 use Rattle.ec_bound_shape.proofs.Operands.{elements_quiet, within_quiet, complete_quiet}

@@ -9,9 +9,9 @@ use Rattle.ec_ctypes.specs.trees.Embedded.{HostData, TextArgData, word_arg, host
 use Rattle.ec_language.specs.Letters.{Text, same_text}
 use Rattle.ec_language.proofs.Ends.{both}
 use Rattle.ec_language.proofs.Marks.{same_text_is}
-use Rattle.ec_hosts.specs.Faults.{fault_unless, value_faults, indicator_type_faults, reference_faults, indicator_faults, may_have_indicator, host_faults, host_count, value_part, indicator_part, uses_faults}
-use Rattle.ec_hosts.specs.Programs.{ProgramData, Denoted, element_of, member_among, member_type, type_along, variable_type, variable_of, reference_type}
-use Rattle.ec_hosts.specs.Uses.{RoleData, input_role, output_role, number_role, item_role, UseData, Uses, text_uses, text_option_uses, input_uses, part_uses, output_uses, get_uses, set_uses, each_uses, ins_uses, outs_uses, kind_uses, uses_of}
+use Rattle.ec_phases.specs.ec_hosts.Faults.{fault_unless, value_faults, indicator_type_faults, reference_faults, indicator_faults, may_have_indicator, host_faults, host_count, value_part, indicator_part, uses_faults}
+use Rattle.ec_phases.specs.ec_hosts.Programs.{ProgramData, Denoted, element_of, member_among, member_type, type_along, variable_type, variable_of, reference_type}
+use Rattle.ec_phases.specs.ec_hosts.Uses.{RoleData, input_role, output_role, number_role, item_role, UseData, Uses, text_uses, text_option_uses, input_uses, part_uses, output_uses, get_uses, set_uses, each_uses, ins_uses, outs_uses, kind_uses, uses_of}
 use Rattle.ec_statement_parts.specs.References.{References, of_option, of_host, of_text, of_text_option, of_input, of_part, of_get_item, of_set_item, of_all, of_ins, of_outs, of_kind, references}
 use Rattle.ec_writing.specs.Shapes.{is_plain_name, is_free_name, is_written_expr, are_written_exprs}
 use Rattle.ec_written_shape.specs.Bounds.{is_written_action}

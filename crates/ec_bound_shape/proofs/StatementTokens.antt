@@ -28,7 +28,7 @@ use Rattle.ec_embedded.specs.References.{Form, Of}
 use Rattle.ec_embedded.specs.ServerText.{Tokens, Reading, server_at, transaction_at}
 use Rattle.ec_embedded.specs.Statements.{Made, Entry, entries, chosen, declared_for, at_form, at_of}
 use Rattle.ec_embedded.specs.Terminals.{Terminal, is, Counts, alphabet}
-use Rattle.ec_hosts.specs.Examples.{with_statement, with_statements}
+use Rattle.ec_phases.specs.ec_hosts.Examples.{with_statement, with_statements}
 use Rattle.ec_phases.specs.Sources as source
 use Rattle.ec_phases.specs.Sources.{ReadsStatements, ReadsTree}
 use Rattle.ec_statement_parts.specs.Handlers.{mark_of, with_mark, marks_in, last_of, holds_at, action_among, handler}

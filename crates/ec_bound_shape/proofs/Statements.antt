@@ -15,7 +15,7 @@ use Rattle.ec_typing.specs.Worlds.{Place, unlisted}
 use Rattle.ec_typing.specs.Expressions.{is_varchar, has_init}
 use Rattle.ec_typing.specs.Statements.{object_rule, initial, object_type, object_item, object_items, declared_tag, tag_alone, specifier, declaration, Around, as_body, looping, as_item, condition_rule, condition, optional, optional_condition, return_rule, return_nothing, return_by, embedded_at, statement, statement_kind, statements, otherwise, labels_in, labels_in_kind, labels_in_all, labels_in_option}
 use Rattle.ec_writing.specs.Shapes.{is_plain_name, is_line, is_open}
-use Rattle.ec_source_shape.specs.SourceShape.{is_source_expr, is_source_base, are_source_dims, is_source_initializer, is_source_declarator, are_source_declarators, is_source_decl, is_source_option, is_item_alone, is_source_stmt, is_source_kind, is_source_else, are_source_items, is_source_item}
+use Rattle.ec_written_shape.specs.ec_source_shape.SourceShape.{is_source_expr, is_source_base, are_source_dims, is_source_initializer, is_source_declarator, are_source_declarators, is_source_decl, is_source_option, is_item_alone, is_source_stmt, is_source_kind, is_source_else, are_source_items, is_source_item}
 use Rattle.ec_bound_shape.specs.Numbers.{stmt_numbers, kind_numbers, stmts_numbers, else_numbers}
 use Rattle.ec_bound_shape.proofs.Rules.{Holds, Quiet, quiet_of, chained, gives, asked, pure_holds, demand_quiet, place_quiet, chosen, if_some, scoped_holds, declare_holds, better_quiet, label_quiet, number_quiet}
 use Rattle.ec_bound_shape.proofs.Operands.{elements_quiet, within_quiet, complete_quiet}

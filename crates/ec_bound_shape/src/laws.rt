@@ -8,14 +8,16 @@ ghost use Rattle.ec_ctypes.specs.trees.Units.{UnitData};
 ghost use Rattle.ec_bound_shape.specs.Counts.{are_counted};
 ghost use Rattle.ec_bound_shape.specs.Numbers.{tops_numbers, numbers_from};
 ghost use Rattle.ec_bound_shape.specs.Written.{are_hosts_written};
-ghost use Rattle.ec_hosts.specs.Examples.{statement_places};
+ghost use Rattle.ec_phases.specs.ec_hosts.Examples.{statement_places};
 ghost use Rattle.ec_language.specs.Letters.{Text, each};
 ghost use Rattle.ec_language.specs.Syntax.{TreeOrStop};
 ghost use Rattle.ec_language.specs.Tokens.{Tokens};
 ghost use Rattle.ec_phases.specs.Sources.{BoundProgram, ReadsSource, ReadsStatements};
 ghost use Rattle.ec_writing.specs.Shapes.{is_byte};
 
-use ec_source_shape::{derived_trees_have_source_shape, sources_have_source_shape};
+use ec_written_shape::ec_source_shape::{
+    derived_trees_have_source_shape, sources_have_source_shape,
+};
 
 /// The embedded statements that stand in the tree of a source are all of its statements, in their order.
 pub fn all_statements_stand_in_trees()

@@ -3,4 +3,5 @@
 
 mod laws;
 
+pub use ec_written_shape;
 pub use laws::{accepted_hosts_can_be_written, all_statements_stand_in_trees};

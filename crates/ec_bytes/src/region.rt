@@ -8,7 +8,7 @@ ghost use Rattle.ec_objects.specs.Cells.{bytes_of, part_of, filled_cells, set_ce
 
 use crate::parts::{all_set, decode, encode, mark, part, put, run_length, shift, spread};
 use crate::scalar::Scalar;
-use ec_base::OutOfMemory;
+use ec_objects::ec_base::OutOfMemory;
 use std::alloc::Global;
 use std::marker::Model;
 

@@ -11,3 +11,5 @@ mod printing;
 mod symbols;
 
 pub use calls::call_rule;
+pub use ec_code;
+pub use ec_code::ec_values;

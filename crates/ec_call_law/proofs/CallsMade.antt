@@ -14,7 +14,7 @@ use Rattle.ec_ctypes.specs.trees.Types as types
 use Rattle.ec_ctypes.specs.trees.Types.{TyData, void}
 use Rattle.ec_arguments.specs.Arguments.{Arg, symbol, literal, null, int_constant, long_constant, pointer, stray, Call, name_of}
 use Rattle.ec_arguments.specs.Writing.{arguments}
-use Rattle.ec_language.specs.Letters.{Text, same_text}
+use Rattle.ec_typing.specs.ec_language.Letters.{Text, same_text}
 use Rattle.ec_typing.specs.Known.{is_reserved, with_symbols, arguments_of, is_no_expression, is_symbol, symbols}
 use Rattle.ec_typing.specs.Library as seen
 use Rattle.ec_typing.specs.Library.{named_among, library_call as library_named, cuts}
@@ -22,9 +22,9 @@ use Rattle.ec_typing.specs.Worlds.{Place, ScopeData, World, Rule, out, or_else, 
 use Rattle.ec_typing.specs.Expressions as checked
 use Rattle.ec_typing.specs.Operands as operands
 use Rattle.ec_typing.specs.Operands.{OperandData, unknown, computed, types_of, undeclared_call, call_by}
-use Rattle.ec_expansion.specs.Calls.{argument_expr, argument_exprs, call_expr}
-use Rattle.ec_written.specs.Calls.{HaveTypes}
-use Rattle.ec_written.proofs.CallsBack.{are_taken}
+use Rattle.ec_expression_law.specs.ec_expansion.Calls.{argument_expr, argument_exprs, call_expr}
+use Rattle.ec_argument_law.specs.ec_written.Calls.{HaveTypes}
+use Rattle.ec_argument_law.proofs.ec_written_proofs.CallsBack.{are_taken}
 use Rattle.ec_resolved.specs.Resolved.{Exp, faulty, evaluate, on_line, library_call}
 use Rattle.ec_resolving.specs.Storage.{Storage, reached, followed, chain, pure, checks, ask, stored, arrange, with_call}
 use Rattle.ec_resolving.specs.Operands.{Found, found, as_value, with_form, operands_of, value_rule, library_exp, function_called, call_rule, done_alone, argument_of, name_argument, constant_argument, arguments_of_call}

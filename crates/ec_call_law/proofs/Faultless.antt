@@ -8,7 +8,7 @@ use Rattle.ec_ctypes.specs.trees.Exprs.{ExprData, integer, character, string, id
 use Rattle.ec_ctypes.specs.trees.Types as types
 use Rattle.ec_ctypes.specs.trees.Types.{TyData}
 use Rattle.ec_arguments.specs.Arguments.{Arg, symbol, literal, null, int_constant, long_constant, pointer, stray}
-use Rattle.ec_language.specs.Letters.{Text, same_text}
+use Rattle.ec_typing.specs.ec_language.Letters.{Text, same_text}
 use Rattle.ec_typing.specs.Known.{known_function}
 use Rattle.ec_typing.specs.Types.{is_structure, pointed_to, struct_number}
 use Rattle.ec_typing.specs.Library.{pointer_argument}

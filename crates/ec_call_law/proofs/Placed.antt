@@ -4,7 +4,7 @@ use Rattle.std.specs.Prelude.{option_map}
 use Rattle.ec_ctypes.specs.declared.checked.library.Sym.TheVariants as symbols_of
 use Rattle.ec_arguments.specs.Arguments.{Arg, symbol, literal, null, int_constant, long_constant, pointer, TextArg, absent, word, held, Indicator, Member, host, constant, descriptor, Statement, normal, prepared, immediate, opening, ItemMember, Call, run, connect, disconnect, set_connection, set_autocommit, control, prepare, deallocate, allocate_descriptor, deallocate_descriptor, get_count, set_count, get_items, set_items}
 use Rattle.ec_arguments.specs.Writing.{item_symbol, switch_word, text_argument, indicator_arguments, member_arguments, members_arguments, items_arguments, statement_arguments, call_arguments, arguments}
-use Rattle.ec_written.specs.Calls.{argument_with, text_with, indicator_with, member_with, item_with, statement_with, call_with}
+use Rattle.ec_argument_law.specs.ec_written.Calls.{argument_with, text_with, indicator_with, member_with, item_with, statement_with, call_with}
 use Rattle.ec_call_law.specs.Calls.{cut_of}
 
 module _ {A B : Type 0} (f : A → B) where

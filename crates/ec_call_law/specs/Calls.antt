@@ -12,8 +12,8 @@ use Rattle.ec_typing.specs.Library.{pointer_argument}
 use Rattle.ec_typing.specs.Operands.{OperandData, computed, value_rule}
 use Rattle.ec_typing.specs.Statements as checked_statements
 use Rattle.ec_typing.specs.Worlds.{Place, World, Rule, out, ◌>>=◌}
-use Rattle.ec_expansion.specs.Calls.{call_expr}
-use Rattle.ec_written.specs.Calls.{call_with}
+use Rattle.ec_expression_law.specs.ec_expansion.Calls.{call_expr}
+use Rattle.ec_argument_law.specs.ec_written.Calls.{call_with}
 use Rattle.ec_resolved.specs.Resolved.{Exp, library_call}
 use Rattle.ec_resolving.specs.Expressions.{expr}
 use Rattle.ec_resolving.specs.Operands.{found}
@@ -21,7 +21,7 @@ use Rattle.ec_resolving.specs.Statements.{Around, statement}
 use Rattle.ec_resolving.specs.Storage.{LibraryCall, Storage, reached, with_call}
 use Rattle.ec_argument_law.specs.Arguments.{AreArguments}
 use Rattle.ec_expression_law.specs.Worlds.{KeepsReserved, AllKeepReserved}
-use Rattle.ec_statement_law.specs.Blocks.{call_stm}
+use Rattle.ec_expression_law.specs.ec_statement_law.Blocks.{call_stm}
 
 -- an expression as a value, by the checks
 abbrev pub checked_value : Place → ExprData → Rule OperandData

@@ -8,7 +8,7 @@ ghost use Rattle.ec_ctypes.specs.trees.Exprs.{ExprData};
 ghost use Rattle.ec_resolved.specs.Resolved.{Exp};
 ghost use Rattle.ec_resolving.specs.Storage.{Storage};
 ghost use Rattle.ec_typing.specs.Worlds.{Place, World};
-ghost use Rattle.ec_written.specs.Calls.{argument_with, call_with};
+ghost use Rattle.ec_argument_law.specs.ec_written.Calls.{argument_with, call_with};
 ghost use Rattle.ec_call_law.specs.Calls.{cut_of, StandsThere, IsMade, next_at, place_passed, IsMadeAlone};
 
 use ec_argument_law::written_arguments_are_resolved;

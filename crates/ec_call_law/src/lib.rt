@@ -5,4 +5,5 @@ mod calls;
 mod pointers;
 
 pub use calls::{arguments_keep_their_places, written_calls_are_resolved};
+pub use ec_argument_law;
 pub use pointers::pointers_are_seen;

@@ -1,3 +1,4 @@
+pub use Rattle.ec_runtime.specs as ec_runtime
 pub mod Giving
 pub mod Held
 pub mod Laws

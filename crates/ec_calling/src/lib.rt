@@ -11,4 +11,5 @@ mod serving;
 mod session;
 
 pub use call::{Argument, Call};
+pub use ec_runtime;
 pub use session::Session;

@@ -1,3 +1,4 @@
+pub use Rattle.ec_typing.specs as ec_typing
 pub mod Functions
 pub mod Answers
 pub mod Mains

@@ -12,8 +12,8 @@ ghost use Rattle.ec_typing.specs.Statements as rule;
 use crate::objects::object_item;
 use ec_base::OutOfMemory;
 use ec_ctypes::{Base, Decl, Declarator, Ty};
+use ec_initializers::ec_walk::base;
 use ec_scopes::{Checker, Place};
-use ec_walk::base;
 
 fn is_varchar(b: &Base) -> bool
     ensures { result ≡ expressions.is_varchar (base_view b.now) }

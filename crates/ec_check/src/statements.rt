@@ -41,7 +41,7 @@ fn statement_kind(
     match kind {
         StmtKind::Empty => Ok(()),
         StmtKind::Expr(e) => {
-            let _found = ec_walk::expr(checker, at, e)?;
+            let _found = ec_initializers::ec_walk::expr(checker, at, e)?;
             Ok(())
         }
         StmtKind::Block(ss) => {

@@ -1,9 +1,9 @@
 -- Structs at the start, and where each of them has a shape.
 use Rattle.std.proofs.Common.{◌≡◌, ◌∙◌, ℕ, zero, suc, Bool, true, List, [], ◌∷◌, ◌++◌, Some, refl, sym, ap, subst, option_map}
 use Rattle.ec_ctypes.specs.trees.Units.{UnitData}
-use Rattle.ec_typing.specs.Worlds.{MembersData, unlisted, begun, listed, is_listed, World}
-use Rattle.ec_typing.specs.Expressions.{Members}
-use Rattle.ec_typing.specs.Programs.{start}
+use Rattle.ec_place_law.specs.ec_typing.Worlds.{MembersData, unlisted, begun, listed, is_listed, World}
+use Rattle.ec_place_law.specs.ec_typing.Expressions.{Members}
+use Rattle.ec_place_law.specs.ec_typing.Programs.{start}
 use Rattle.ec_place_law.specs.Structs.{IsAmong, IsClosed, AreClosed, ClosedAreListed}
 use Rattle.ec_closing_law.specs.Closing.{members_at, IsInOrder, AreInOrder, AreInTheirOrder, HasShape, HaveShapes, AreSomeTyped, HaveTypes, ListedStay}
 use Rattle.ec_closing_law.proofs.Lists.{none_not, false_not, some_is}

@@ -7,12 +7,12 @@ use Rattle.ec_ctypes.specs.declared.tree.expr.UnOp.{UnOp}
 use Rattle.ec_ctypes.specs.declared.tree.expr.UnOp.TheVariants.{Addr, Deref, Plus, Minus, Not, Flip}
 use Rattle.ec_ctypes.specs.trees.Types.{TyData}
 use Rattle.ec_ctypes.specs.trees.Exprs.{ExprData, integer, character, string, identifier, unary, binary, assign, bump, call, call_other, index, member, arrow, cast, size_type, size_expr, ExprList, no_exprs, exprs, BaseData, words, varchar, tagged, struct_base, DimData, open_dim, dim, DimList, no_dims, dims, InitData, one, many, InitList, no_inits, inits, InitOption, no_init, some_init, DeclaratorData, declarator, DeclaratorList, no_declarators, declarators, DeclData, decl, DeclList, no_decls, decls}
-use Rattle.ec_language.specs.Letters.{Text}
-use Rattle.ec_typing.specs.Tables.{find, put}
-use Rattle.ec_typing.specs.Known.{ArgumentsData, all_expressions, is_identifier, is_no_expression}
-use Rattle.ec_typing.specs.Operands.{OperandData, value_rule, unary_rule, complete_rule}
-use Rattle.ec_typing.specs.Worlds.{Place, MembersData, unlisted, begun, listed, StructInfo, Rule, World, chain, pure, ask, change, note, demand, free_name, new_struct, set_struct, struct_named, members_of, is_complete}
-use Rattle.ec_typing.specs.Expressions.{Members, varchar_members, capacity, varchar_info, type_or_fault, tag_type, tag_rule, tagged_struct, begin_again, begin_by, begin_struct, end_struct, member_named, is_varchar, varchar_struct, varchar_object, varchar_member, expr, args, base, members, member_decl, member_items, member_item, lengths, last_length, outer_lengths, length_at, init_parts, init_exprs, all_init_exprs}
+use Rattle.ec_place_law.specs.ec_language.Letters.{Text}
+use Rattle.ec_place_law.specs.ec_typing.Tables.{find, put}
+use Rattle.ec_place_law.specs.ec_typing.Known.{ArgumentsData, all_expressions, is_identifier, is_no_expression}
+use Rattle.ec_place_law.specs.ec_typing.Operands.{OperandData, value_rule, unary_rule, complete_rule}
+use Rattle.ec_place_law.specs.ec_typing.Worlds.{Place, MembersData, unlisted, begun, listed, StructInfo, Rule, World, chain, pure, ask, change, note, demand, free_name, new_struct, set_struct, struct_named, members_of, is_complete}
+use Rattle.ec_place_law.specs.ec_typing.Expressions.{Members, varchar_members, capacity, varchar_info, type_or_fault, tag_type, tag_rule, tagged_struct, begin_again, begin_by, begin_struct, end_struct, member_named, is_varchar, varchar_struct, varchar_object, varchar_member, expr, args, base, members, member_decl, member_items, member_item, lengths, last_length, outer_lengths, length_at, init_parts, init_exprs, all_init_exprs}
 use Rattle.ec_place_law.specs.Structs.{EachStructIn, IsAmong}
 use Rattle.ec_closing_law.specs.Closing.{IsSizedIn, members_at, AreInTheirOrder}
 use Rattle.ec_closing_law.proofs.Lists.{false_not, set_elsewhere, set_here, among_front}

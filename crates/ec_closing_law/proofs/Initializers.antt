@@ -2,9 +2,9 @@
 use Rattle.std.proofs.Common.{Bool, Option, Some, None}
 use Rattle.ec_ctypes.specs.trees.Types.{TyData}
 use Rattle.ec_ctypes.specs.trees.Exprs.{ExprData, InitData, one, many, InitList, no_inits, inits}
-use Rattle.ec_typing.specs.Operands.{OperandData}
-use Rattle.ec_typing.specs.Worlds.{Place}
-use Rattle.ec_typing.specs.Initializers.{Frames, fixed_rule, init_value, suits_rule, go_by, go_to, next_part, part_rule, slot_of, slot_rule, single_by, braces_rule, initializer, fill, fill_part}
+use Rattle.ec_place_law.specs.ec_typing.Operands.{OperandData}
+use Rattle.ec_place_law.specs.ec_typing.Worlds.{Place}
+use Rattle.ec_place_law.specs.ec_typing.Initializers.{Frames, fixed_rule, init_value, suits_rule, go_by, go_to, next_part, part_rule, slot_of, slot_rule, single_by, braces_rule, initializer, fill, fill_part}
 use Rattle.ec_closing_law.proofs.Rules.{Keeping, chained, asked, pure_keeps, fault, demand_keeps, if_some}
 use Rattle.ec_closing_law.proofs.Expressions.{valued, expr_keeps}
 

@@ -1,7 +1,7 @@
 -- Places in lists.
 use Rattle.std.proofs.Common.{◌≡◌, ◌⊎◌, inl, inr, ℕ, zero, suc, Bool, true, false, List, [], ◌∷◌, ◌++◌, map, length, Option, Some, None, refl, ap, subst, eqb-true, ◌==◌, slice_get, slice_set, option_map, arith, if◌then◌else◌}
 use Rattle.std.proofs.lemmas.Bool.Decides.{nat_tests}
-use Rattle.ec_typing.specs.Answers.{is_member}
+use Rattle.ec_place_law.specs.ec_typing.Answers.{is_member}
 use Rattle.ec_place_law.specs.Structs.{IsAmong}
 
 pub none_not : {A : Type 0} {a : A} {C : Type 0} → None ≡ Some a → C

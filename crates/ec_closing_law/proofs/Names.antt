@@ -2,10 +2,10 @@
 use Rattle.std.proofs.Common.{◌≡◌, ◌∙◌, Bool, true, false, ◌&&◌, [], ◌∷◌, Option, Some, None, refl, sym, ap, eqb-true, if◌then◌else◌}
 use Rattle.std.specs.Prelude.{nat_eq}
 use Rattle.std.specs.Cmp.Lexicographic.{nat_list_eq_equiv}
-use Rattle.ec_language.specs.Letters.{Text, same_text}
+use Rattle.ec_place_law.specs.ec_language.Letters.{Text, same_text}
 use Rattle.ec_ctypes.specs.trees.Types.{TyData}
-use Rattle.ec_typing.specs.Tables.{find, put}
-use Rattle.ec_typing.specs.Expressions.{Members}
+use Rattle.ec_place_law.specs.ec_typing.Tables.{find, put}
+use Rattle.ec_place_law.specs.ec_typing.Expressions.{Members}
 use Rattle.ec_place_law.specs.Structs.{EachStructIn, EachMember, AreNamed}
 use Rattle.ec_closing_law.specs.Closing.{AreDistinct, IsSizedIn, AreSized}
 use Rattle.ec_closing_law.proofs.Lists.{none_not, false_not}

@@ -5,8 +5,8 @@ use Rattle.std.specs.Int.{next_multiple_of}
 use Rattle.ec_ctypes.specs.declared.types.sizes.Shape.{Shape}
 use Rattle.ec_ctypes.specs.trees.Types.{TyData, void, arithmetic, pointer, array, structure, MemberData}
 use Rattle.ec_ctypes.specs.Layout.{repeated, shape_among, with_member, with_members, no_members, struct_shape}
-use Rattle.ec_typing.specs.Worlds.{is_listed, StructInfo, is_complete, World}
-use Rattle.ec_typing.specs.Expressions.{Members, typed_members}
+use Rattle.ec_place_law.specs.ec_typing.Worlds.{is_listed, StructInfo, is_complete, World}
+use Rattle.ec_place_law.specs.ec_typing.Expressions.{Members, typed_members}
 use Rattle.ec_place_law.specs.Structs.{EachStruct, EachStructIn, IsAmong, EachMember}
 use Rattle.ec_closing_law.specs.Closing.{IsSized, members_at, shapes_at, IsInOrder, AreInOrder}
 use Rattle.ec_closing_law.proofs.Lists.{false_not, get_map, each_behind}

@@ -5,9 +5,9 @@ use Rattle.ec_ctypes.specs.trees.Types.{TyData}
 use Rattle.ec_ctypes.specs.trees.Stmts.{StmtList}
 use Rattle.ec_ctypes.specs.trees.Embedded.{EmbData}
 use Rattle.ec_ctypes.specs.trees.Units.{ParamData, FuncData, TopData, include_top, directive_top, decl_top, func_top, mark_top, UnitData}
-use Rattle.ec_language.specs.Letters.{Text}
-use Rattle.ec_typing.specs.Worlds.{Place, EntryData}
-use Rattle.ec_typing.specs.Programs.{result_rule, plain_param, array_param, param_type, declare_param, param, params, begin_function, know_function, body_rule, function_rule, directive_rule, top_rule, tops_rule, main_rule, unit_rule}
+use Rattle.ec_place_law.specs.ec_language.Letters.{Text}
+use Rattle.ec_place_law.specs.ec_typing.Worlds.{Place, EntryData}
+use Rattle.ec_place_law.specs.ec_typing.Programs.{result_rule, plain_param, array_param, param_type, declare_param, param, params, begin_function, know_function, body_rule, function_rule, directive_rule, top_rule, tops_rule, main_rule, unit_rule}
 use Rattle.ec_closing_law.proofs.Rules.{Keeping, chained, asked, pure_keeps, demand_keeps, names_keep, place_keeps, enter_keeps, leave_keeps, free_name_keeps, declare_keeps, number_keeps}
 use Rattle.ec_closing_law.proofs.Operands.{elements_keeps, within_keeps, complete_keeps}
 use Rattle.ec_closing_law.proofs.Expressions.{base_keeps, lengths_keep}

@@ -6,9 +6,9 @@ use Rattle.ec_base.specs.declared.fault.LimitKind.{LimitKind}
 use Rattle.ec_base.specs.declared.line.Line.{Line}
 use Rattle.ec_ctypes.specs.trees.Types.{TyData}
 use Rattle.ec_ctypes.specs.Layout.{struct_shape}
-use Rattle.ec_language.specs.Letters.{Text}
-use Rattle.ec_typing.specs.Worlds.{Place, EntryData, MembersData, unlisted, begun, listed, is_listed, StructInfo, ScopeData, World, Rule, chain, pure, ask, change, note, demand, keep_within, instead, place, left_to, enter, leave, scoped, declare, know_better, declare_label, free_name, free_tag, number_as, new_struct}
-use Rattle.ec_typing.specs.Expressions.{Members, typed_members}
+use Rattle.ec_place_law.specs.ec_language.Letters.{Text}
+use Rattle.ec_place_law.specs.ec_typing.Worlds.{Place, EntryData, MembersData, unlisted, begun, listed, is_listed, StructInfo, ScopeData, World, Rule, chain, pure, ask, change, note, demand, keep_within, instead, place, left_to, enter, leave, scoped, declare, know_better, declare_label, free_name, free_tag, number_as, new_struct}
+use Rattle.ec_place_law.specs.ec_typing.Expressions.{Members, typed_members}
 use Rattle.ec_place_law.specs.Structs.{IsAmong, EachMember}
 use Rattle.ec_closing_law.specs.Closing.{AreDistinct, AreSized, members_at, shapes_at, IsInOrder, StructsInOrder, AreInTheirOrder}
 use Rattle.ec_closing_law.proofs.Lists.{none_not, false_not, get_behind, get_front, get_last, none_at_end, set_elsewhere, set_here, among_front, among_last}

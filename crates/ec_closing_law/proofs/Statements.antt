@@ -5,11 +5,11 @@ use Rattle.ec_ctypes.specs.trees.Types.{TyData}
 use Rattle.ec_ctypes.specs.trees.Exprs.{ExprData, BaseData, words, varchar, tagged, struct_base, DimList, InitOption, no_init, some_init, DeclaratorData, declarator, DeclaratorList, no_declarators, declarators, DeclData, decl}
 use Rattle.ec_ctypes.specs.trees.Stmts.{StmtData, stmt, StmtKindData, empty_stmt, expr_stmt, block_stmt, if_stmt, while_stmt, do_stmt, for_stmt, break_stmt, continue_stmt, return_stmt, goto_stmt, label_stmt, decl_stmt, emb_stmt, mark_stmt, StmtList, no_stmts, stmts, StmtOption, no_stmt, some_stmt}
 use Rattle.ec_ctypes.specs.trees.Embedded.{EmbData}
-use Rattle.ec_language.specs.Letters.{Text}
-use Rattle.ec_typing.specs.Operands.{OperandData}
-use Rattle.ec_typing.specs.Worlds.{Place}
-use Rattle.ec_typing.specs.Expressions.{is_varchar, has_init}
-use Rattle.ec_typing.specs.Statements.{object_rule, initial, object_type, object_item, object_items, declared_tag, tag_alone, specifier, declaration, Around, as_body, looping, as_item, condition_rule, condition, optional, optional_condition, return_rule, return_nothing, return_by, embedded_at, statement, statement_kind, statements, otherwise}
+use Rattle.ec_place_law.specs.ec_language.Letters.{Text}
+use Rattle.ec_place_law.specs.ec_typing.Operands.{OperandData}
+use Rattle.ec_place_law.specs.ec_typing.Worlds.{Place}
+use Rattle.ec_place_law.specs.ec_typing.Expressions.{is_varchar, has_init}
+use Rattle.ec_place_law.specs.ec_typing.Statements.{object_rule, initial, object_type, object_item, object_items, declared_tag, tag_alone, specifier, declaration, Around, as_body, looping, as_item, condition_rule, condition, optional, optional_condition, return_rule, return_nothing, return_by, embedded_at, statement, statement_kind, statements, otherwise}
 use Rattle.ec_closing_law.proofs.Rules.{Keeping, chained, asked, pure_keeps, demand_keeps, place_keeps, chosen, if_some, scoped_keeps, free_tag_keeps, declare_keeps, better_keeps, label_keeps, number_keeps}
 use Rattle.ec_closing_law.proofs.Operands.{elements_keeps, within_keeps, complete_keeps}
 use Rattle.ec_closing_law.proofs.Expressions.{tagged_keeps, varchar_object_keeps, valued, expr_keeps, base_keeps, lengths_keep, last_keeps, outer_keep}

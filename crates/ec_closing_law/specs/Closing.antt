@@ -3,9 +3,9 @@ use Rattle.std.specs.Prelude.{◌≡◌, ℕ, zero, suc, true, List, [], ◌∷�
 use Rattle.ec_ctypes.specs.declared.types.sizes.Shape.{Shape}
 use Rattle.ec_ctypes.specs.trees.Types.{TyData, void, arithmetic, pointer, array, structure}
 use Rattle.ec_ctypes.specs.Layout.{struct_shape}
-use Rattle.ec_typing.specs.Tables.{find}
-use Rattle.ec_typing.specs.Worlds.{MembersData, listed, is_listed, StructInfo, World, Rule}
-use Rattle.ec_typing.specs.Expressions.{Members, typed_members}
+use Rattle.ec_place_law.specs.ec_typing.Tables.{find}
+use Rattle.ec_place_law.specs.ec_typing.Worlds.{MembersData, listed, is_listed, StructInfo, World, Rule}
+use Rattle.ec_place_law.specs.ec_typing.Expressions.{Members, typed_members}
 use Rattle.ec_place_law.specs.Structs.{IsAmong, EachMember}
 
 -- no two of these have one name

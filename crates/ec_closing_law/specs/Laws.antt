@@ -5,14 +5,14 @@ use Rattle.ec_ctypes.specs.trees.Exprs.{ExprData, ExprList, BaseData, DimList, I
 use Rattle.ec_ctypes.specs.trees.Stmts.{StmtData, StmtList}
 use Rattle.ec_ctypes.specs.trees.Embedded.{EmbData}
 use Rattle.ec_ctypes.specs.trees.Units.{FuncData, TopData, UnitData}
-use Rattle.ec_typing.specs.Tables.{Named}
-use Rattle.ec_typing.specs.Known.{ArgumentsData}
-use Rattle.ec_typing.specs.Worlds.{Place, World}
-use Rattle.ec_typing.specs.Expressions.{expr, args, base, lengths}
-use Rattle.ec_typing.specs.Initializers.{initializer}
-use Rattle.ec_typing.specs.Embedded.{handlers_rule, embedded_rule}
-use Rattle.ec_typing.specs.Statements.{Around, declaration, statement, statements}
-use Rattle.ec_typing.specs.Programs.{function_rule, tops_rule, unit_rule, start}
+use Rattle.ec_place_law.specs.ec_typing.Tables.{Named}
+use Rattle.ec_place_law.specs.ec_typing.Known.{ArgumentsData}
+use Rattle.ec_place_law.specs.ec_typing.Worlds.{Place, World}
+use Rattle.ec_place_law.specs.ec_typing.Expressions.{expr, args, base, lengths}
+use Rattle.ec_place_law.specs.ec_typing.Initializers.{initializer}
+use Rattle.ec_place_law.specs.ec_typing.Embedded.{handlers_rule, embedded_rule}
+use Rattle.ec_place_law.specs.ec_typing.Statements.{Around, declaration, statement, statements}
+use Rattle.ec_place_law.specs.ec_typing.Programs.{function_rule, tops_rule, unit_rule, start}
 use Rattle.ec_place_law.specs.Structs.{ClosedAreListed}
 use Rattle.ec_closing_law.specs.Closing.{AreInTheirOrder, KeepsOrder, ListedStay, HaveTypes, HaveShapes}
 

@@ -3,4 +3,6 @@
 
 mod laws;
 
+pub use ec_place_law;
+pub use ec_place_law::ec_expression_law;
 pub use laws::{closed_with_types_are_listed, structs_are_closed_in_order};

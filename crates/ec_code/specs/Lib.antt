@@ -1,3 +1,4 @@
+pub use Rattle.ec_values.specs as ec_values
 pub mod Trees
 pub mod Objects
 pub mod Views

@@ -1,8 +1,8 @@
 -- The trees of code, as those of the definition.
 use Rattle.std.specs.Prelude.{ℕ, List, map, Option, Some, None, option_map}
-use Rattle.ec_objects.specs.Kinds.{kind_type}
-use Rattle.ec_resolved.specs.Resolved as of
-use Rattle.ec_resolved.specs.Programs as programs
+use Rattle.ec_formats.specs.ec_objects.Kinds.{kind_type}
+use Rattle.ec_values.specs.ec_resolved.Resolved as of
+use Rattle.ec_values.specs.ec_resolved.Programs as programs
 use Rattle.ec_formats.specs.Known.{known_view}
 use Rattle.ec_values.specs.Words.{word_view}
 use Rattle.ec_code.specs.Trees.{Step, one, two, leaf_view, walked, exps_of, stms_of}

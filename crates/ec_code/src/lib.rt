@@ -8,6 +8,8 @@ mod program;
 mod statement;
 mod step;
 
+pub use ec_values;
+pub use ec_values::ec_bytes;
 pub use expression::{Expression, Full, FullStep, Head, Plain, PlainStep};
 pub use program::{Function, GlobalVariable, Literal, ObjectSize, Program, Stored};
 pub use statement::{Loop, Statement};

@@ -1,7 +1,7 @@
 //! Expressions are made from what stands at their left: each operator adds a step.
 
 ghost use Rattle.std.specs.Prelude.{◌≡◌, IfOk};
-ghost use Rattle.ec_resolved.specs.Resolved as of;
+ghost use Rattle.ec_values.specs.ec_resolved.Resolved as of;
 ghost use Rattle.ec_formats.specs.Known.{known_view};
 ghost use Rattle.ec_code.specs.Trees.{leaf_view, one_made, stepped, two_made};
 ghost use Rattle.ec_code.specs.Views.{expression_view, expressions_view, full_step_view, full_view, head_view, plain_step_view, plain_view};

@@ -7,7 +7,7 @@ use Rattle.ec_ctypes.specs.trees.Types.{TyData, void, arithmetic, pointer, array
 use Rattle.ec_objects.specs.Memory.{number}
 use Rattle.ec_resolved.specs.Resolved.{Exp, constant}
 use Rattle.ec_resolving.specs.Conversions as form
-use Rattle.ec_typing.specs.Worlds.{World}
+use Rattle.ec_type_rules.specs.ec_typing.Worlds.{World}
 use Rattle.ec_conversions.specs.Scalars.{binary_of, bumped_of, compound_of, element_of, scalar_in, unary_of}
 
 pub binary : (w : World) (op : BinOp) (s t : TyData) (x y : Exp) → form.binary_exp w op s x t y ≡ binary_of op (scalar_in w s) x (scalar_in w t) y

@@ -10,7 +10,7 @@ use Rattle.ec_objects.specs.Memory.{integer_type, pointer_type}
 use Rattle.ec_resolved.specs.Operations.{pointer_plus, plus_pointer}
 use Rattle.ec_resolved.specs.Resolved.{Exp, operate, faulty}
 use Rattle.ec_resolving.specs.Conversions as form
-use Rattle.ec_typing.specs.Worlds.{World}
+use Rattle.ec_type_rules.specs.ec_typing.Worlds.{World}
 use Rattle.ec_conversions.specs.declared.scalar.Scalar.{Scalar}
 use Rattle.ec_conversions.specs.declared.scalar.Scalar.TheVariants.{Integer, Pointer}
 

@@ -5,7 +5,7 @@ ghost use Rattle.ec_ctypes.specs.views.Types.{ty_view};
 ghost use Rattle.ec_objects.specs.Memory.{pointer_type, scalar_type};
 ghost use Rattle.ec_resolved.specs.Resolved.{Exp};
 ghost use Rattle.ec_resolving.specs.Conversions as form;
-ghost use Rattle.ec_typing.specs.Worlds.{World};
+ghost use Rattle.ec_type_rules.specs.ec_typing.Worlds.{World};
 ghost use Rattle.ec_conversions.specs.Forms.{joined_by};
 ghost use Rattle.ec_conversions.specs.Scalars.{bumped_of, compound_of, struct_size, updated_integer};
 

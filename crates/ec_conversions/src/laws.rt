@@ -8,7 +8,7 @@ ghost use Rattle.ec_ctypes.specs.trees.Types.{TyData};
 ghost use Rattle.ec_objects.specs.Memory.{number};
 ghost use Rattle.ec_resolved.specs.Resolved.{Exp, constant};
 ghost use Rattle.ec_resolving.specs.Conversions as form;
-ghost use Rattle.ec_typing.specs.Worlds.{World};
+ghost use Rattle.ec_type_rules.specs.ec_typing.Worlds.{World};
 ghost use Rattle.ec_conversions.specs.Scalars.{binary_of, bumped_of, compound_of, element_of, scalar_in, unary_of};
 
 /// What operators make of values depends on what `Scalar` has of their types alone.

@@ -2,7 +2,7 @@
 
 ghost use Rattle.std.specs.Prelude.{◌≡◌};
 ghost use Rattle.ec_ctypes.specs.views.Types.{ty_view};
-ghost use Rattle.ec_typing.specs.Worlds.{World};
+ghost use Rattle.ec_type_rules.specs.ec_typing.Worlds.{World};
 ghost use Rattle.ec_conversions.specs.Scalars.{scalar_in, target_size};
 
 use ec_ctypes::{Arith, Ty};

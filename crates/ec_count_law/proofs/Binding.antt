@@ -2,15 +2,15 @@
 use Rattle.std.proofs.Common.{◌≡◌, ◌∙◌, ℕ, zero, suc, ◌+◌, Bool, true, false, List, [], ◌∷◌, map, refl, sym, subst, Option, Some, None, if◌then◌else◌, arith, slice_get}
 use Rattle.std.specs.Prelude.{Result, Ok, Err}
 use Rattle.ec_base.specs.declared.stop.Stop.{Stop}
-use Rattle.ec_bound_shape.specs.Counts.{is_counted, are_counted}
+use Rattle.ec_block_law.specs.ec_bound_shape.Counts.{is_counted, are_counted}
 use Rattle.ec_ctypes.specs.trees.Checked.{BoundData, TypedData}
 use Rattle.ec_ctypes.specs.trees.Embedded.{EmbData}
 use Rattle.ec_language.specs.First.{Violation, comes_before, earlier, first_of, stop_at}
 use Rattle.ec_statement_parts.specs.Cursors.{declare_opened}
 use Rattle.ec_hosts.specs.Bound.{program_of, faults_of, violation_at, violations_at, answer_by, bound_answer, statement_bound}
 use Rattle.ec_hosts.specs.Faults.{row_at}
-use Rattle.ec_phases.specs.Sources.{with_bound, bound_from}
-use Rattle.ec_pointer_law.proofs.Basics.{both_true}
+use Rattle.ec_block_law.specs.ec_phases.Sources.{with_bound, bound_from}
+use Rattle.ec_block_law.proofs.ec_pointer_law_proofs.Basics.{both_true}
 use Rattle.ec_count_law.proofs.Numbers.{none_not, some_is}
 
 ok_is : {A E : Type 0} {a b : A} → ◌≡◌ {A = Result A E} (Ok a) (Ok b) → a ≡ b

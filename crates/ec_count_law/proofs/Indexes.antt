@@ -11,10 +11,10 @@ use Rattle.ec_typing.specs.Answers.{struct_order, renumbered, numbered_from, nam
 use Rattle.ec_typing.specs.Embedded.{denoted_by, denoted_in}
 use Rattle.ec_typing.specs.Types.{is_void}
 use Rattle.ec_typing.specs.Worlds.{EntryData, object, function, World, look_up}
-use Rattle.ec_place_law.specs.References.{IsIndex, IsReference, IsTypedEntry, IndexHasType, IndexesHaveTypes, NamesAreDeclared}
-use Rattle.ec_place_law.specs.Structs.{IsWithin}
-use Rattle.ec_reference_law.specs.Found.{AreReferences, AllIndexesHaveTypes}
-use Rattle.ec_reference_law.specs.Rows.{is_typed_name, indexes_are_typed}
+use Rattle.ec_block_law.specs.ec_place_law.References.{IsIndex, IsReference, IsTypedEntry, IndexHasType, IndexesHaveTypes, NamesAreDeclared}
+use Rattle.ec_block_law.specs.ec_place_law.Structs.{IsWithin}
+use Rattle.ec_block_law.specs.ec_reference_law.Found.{AreReferences, AllIndexesHaveTypes}
+use Rattle.ec_block_law.specs.ec_reference_law.Rows.{is_typed_name, indexes_are_typed}
 use Rattle.ec_count_law.proofs.Numbers.{none_not, some_is, map_joined}
 
 -- ---- lists

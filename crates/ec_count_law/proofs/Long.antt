@@ -3,12 +3,12 @@ use Rattle.std.proofs.Common.{◌≡◌, ℕ, true, List, [], ◌∷◌, ◌++�
 use Rattle.std.specs.Prelude.{◌&&◌, nat_le, option_map}
 use Rattle.std.proofs.lemmas.Bool.Decides.{nat_tests}
 use Rattle.ec_arguments.specs.Rules.{is_small, element_size, fits_element, indicator_size, fits_indicator, fits_indicators, fits_place}
-use Rattle.ec_bound_shape.specs.Counts.{has_long_count, has_long_counts, have_long_counts}
+use Rattle.ec_block_law.specs.ec_bound_shape.Counts.{has_long_count, has_long_counts, have_long_counts}
 use Rattle.ec_ctypes.specs.trees.Checked.{IndicatorData, PlaceData}
-use Rattle.ec_expansion.specs.Calls.{indicator_of}
-use Rattle.ec_fit_law.specs.Fits.{place_of}
-use Rattle.ec_written_shape.specs.Bounds.{is_long}
-use Rattle.ec_pointer_law.proofs.Basics.{false_not, left_true, right_true, both_true}
+use Rattle.ec_block_law.specs.ec_expansion.Calls.{indicator_of}
+use Rattle.ec_block_law.specs.ec_fit_law.Fits.{place_of}
+use Rattle.ec_block_law.specs.ec_written_shape.Bounds.{is_long}
+use Rattle.ec_block_law.proofs.ec_pointer_law_proofs.Basics.{false_not, left_true, right_true, both_true}
 
 more_small : (n : ℕ) → nat_le n 16777216 ≡ true → nat_le n 9223372036854775807 ≡ true
 more_small n e = grind (arith, nat_tests)

@@ -1,11 +1,11 @@
 -- The statements of a source have their numbers in the order of the text, and a form of each is found at its place.
 use Rattle.std.proofs.Common.{◌≡◌, ◌∙◌, ℕ, zero, suc, ◌+◌, ◌<◌, List, [], ◌∷◌, ◌++◌, length, map, sym, subst, Option, Some, None, refl, arith, slice_get}
 use Rattle.ec_ctypes.specs.trees.Units.{UnitData}
-use Rattle.ec_bound_shape.specs.Numbers.{numbers_from}
+use Rattle.ec_block_law.specs.ec_bound_shape.Numbers.{numbers_from}
 use Rattle.ec_hosts.specs.Programs.{Denoted}
 use Rattle.ec_typing.specs.Worlds.{World}
 use Rattle.ec_resolving.specs.Storage.{Storage, StatementForm}
-use Rattle.ec_known_law.specs.Known.{IsFound, AreFound}
+use Rattle.ec_block_law.specs.ec_known_law.Known.{IsFound, AreFound}
 
 -- ---- options and lists
 

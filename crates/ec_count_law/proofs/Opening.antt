@@ -10,7 +10,7 @@ use Rattle.ec_language.specs.Letters.{Text, same_word}
 use Rattle.ec_hosts.specs.Faults.{fault_unless, same_denoted, row_at, cursor_part, open_faults, opening_faults}
 use Rattle.ec_hosts.specs.Programs.{Denoted}
 use Rattle.ec_statement_parts.specs.Cursors.{declared_cursor, opened_cursor, declare_from, declared_above, declare_opened}
-use Rattle.ec_shape_law.specs.Shapes.{AllAreRead}
+use Rattle.ec_block_law.specs.ec_shape_law.Shapes.{AllAreRead}
 use Rattle.ec_count_law.proofs.Numbers.{none_not, some_is}
 
 -- ---- lists

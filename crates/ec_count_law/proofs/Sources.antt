@@ -2,21 +2,21 @@
 use Rattle.std.proofs.Common.{◌≡◌, ◌∙◌, ℕ, ◌<◌, true, false, List, [], ◌++◌, length, refl, sym, subst, Option, Some, None, slice_get}
 use Rattle.std.specs.Prelude.{Ok}
 use Rattle.ec_base.specs.declared.fault.FaultKind.TheVariants.{F20}
-use Rattle.ec_bound_shape.specs.Counts.{is_counted, are_counted}
-use Rattle.ec_bound_shape.specs.Numbers.{tops_numbers, numbers_from}
+use Rattle.ec_block_law.specs.ec_bound_shape.Counts.{is_counted, are_counted}
+use Rattle.ec_block_law.specs.ec_bound_shape.Numbers.{tops_numbers, numbers_from}
 use Rattle.ec_ctypes.specs.trees.Checked.{MarkData, BoundData, TypedData}
 use Rattle.ec_ctypes.specs.trees.Embedded.{EmbData, EmbKindData, declare_cursor, open_cursor}
 use Rattle.ec_ctypes.specs.trees.Units.{UnitData}
 use Rattle.ec_language.specs.Letters.{Text}
-use Rattle.ec_closing_law.specs.Closing.{ListedStay}
-use Rattle.ec_closing_law.specs.Laws.{HadTypes, WithTypesAreListed}
+use Rattle.ec_block_law.specs.ec_closing_law.Closing.{ListedStay}
+use Rattle.ec_block_law.specs.ec_closing_law.Laws.{HadTypes, WithTypesAreListed}
 use Rattle.ec_hosts.specs.Bound as bound
 use Rattle.ec_hosts.specs.Bound.{cursor_parts, part_places, faults_of, statement_bound}
 use Rattle.ec_hosts.specs.Faults.{row_at, cursor_part, opening_faults, uses_faults}
 use Rattle.ec_hosts.specs.Programs.{Denoted, ProgramData}
 use Rattle.ec_hosts.specs.Uses.{uses_of}
-use Rattle.ec_phases.specs.Sources.{bound_from}
-use Rattle.ec_sections.specs.Declared.{functions_of}
+use Rattle.ec_block_law.specs.ec_phases.Sources.{bound_from}
+use Rattle.ec_hosts.specs.ec_sections.Declared.{functions_of}
 use Rattle.ec_statement_parts.specs.Cursors.{declare_opened}
 use Rattle.ec_statement_parts.specs.References.{References, references, all_names, names_of, names_of_option}
 use Rattle.ec_typing.specs.Answers.{checked, names_of as names_of_tables, typed_of}
@@ -27,21 +27,21 @@ use Rattle.ec_typing.specs.Programs.{has_main, main_rule, start}
 use Rattle.ec_typing.specs.Worlds.{Place, MembersData, unlisted, begun, listed, is_listed, World, place, look_up, chain as check_chain}
 use Rattle.ec_resolving.specs.Programs.{no_storage, walked}
 use Rattle.ec_resolving.specs.Storage.{Storage}
-use Rattle.ec_expression_law.specs.Rules.{none_before, none_behind}
+use Rattle.ec_block_law.specs.ec_expression_law.Rules.{none_before, none_behind}
 use Rattle.ec_growth_law.specs.Growth.{is_unlisted, Grows}
 use Rattle.ec_growth_law.proofs.Rules.{Growing, chained as chained_grow, place_grows, demand_grows, demand_same, grows_further}
-use Rattle.ec_known_law.specs.Known.{IsKnown}
-use Rattle.ec_place_law.specs.References.{NamesAreDeclared, tables_of}
-use Rattle.ec_place_law.specs.Statements.{ReferencesAre}
-use Rattle.ec_place_law.specs.Structs.{ClosedAreListed, IsWithin}
-use Rattle.ec_table_law.specs.Tables.{AreSound}
-use Rattle.ec_reference_law.specs.Found.{ReferencesFound}
-use Rattle.ec_reference_law.specs.Rows.{indexes_are_typed, IndexesAreTyped}
-use Rattle.ec_shape_law.specs.Shapes.{AllAreRead}
-use Rattle.ec_program_law.specs.Programs.{AreAllFound}
+use Rattle.ec_block_law.specs.ec_known_law.Known.{IsKnown}
+use Rattle.ec_block_law.specs.ec_place_law.References.{NamesAreDeclared, tables_of}
+use Rattle.ec_block_law.specs.ec_place_law.Statements.{ReferencesAre}
+use Rattle.ec_block_law.specs.ec_place_law.Structs.{ClosedAreListed, IsWithin}
+use Rattle.ec_block_law.specs.ec_table_law.Tables.{AreSound}
+use Rattle.ec_block_law.specs.ec_reference_law.Found.{ReferencesFound}
+use Rattle.ec_block_law.specs.ec_reference_law.Rows.{indexes_are_typed, IndexesAreTyped}
+use Rattle.ec_block_law.specs.ec_shape_law.Shapes.{AllAreRead}
+use Rattle.ec_block_law.specs.ec_program_law.Programs.{AreAllFound}
 use Rattle.ec_block_law.specs.Accepted.{IsAccepted, StatementLaws}
-use Rattle.ec_pointer_law.proofs.Taken.{ReferencesArePlaces}
-use Rattle.ec_pointer_law.proofs.UsesStand.{UsesStand, statement_uses}
+use Rattle.ec_block_law.proofs.ec_pointer_law_proofs.Taken.{ReferencesArePlaces}
+use Rattle.ec_block_law.proofs.ec_pointer_law_proofs.UsesStand.{UsesStand, statement_uses}
 use Rattle.ec_count_law.specs.Counted.{SourcesAreCounted}
 use Rattle.ec_count_law.proofs.Binding.{faultless, all_counted}
 use Rattle.ec_count_law.proofs.Indexes.{indexes_have_types}

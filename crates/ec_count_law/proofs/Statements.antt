@@ -1,6 +1,6 @@
 -- What is bound for the hosts of a statement, where it stands, has numbers of type long.
 use Rattle.std.proofs.Common.{◌≡◌, ◌∙◌, ℕ, true, false, List, [], ◌∷◌, ◌++◌, map, take, drop, Option, Some, None, refl}
-use Rattle.ec_bound_shape.specs.Counts.{has_long_counts, have_long_counts, is_counted}
+use Rattle.ec_block_law.specs.ec_bound_shape.Counts.{has_long_counts, have_long_counts, is_counted}
 use Rattle.ec_ctypes.specs.declared.embedded.emb.Item.{Item}
 use Rattle.ec_ctypes.specs.trees.Checked.{PlaceData}
 use Rattle.ec_ctypes.specs.trees.Embedded.{HostData, InputData, host_input, const_input, InsData, listed_ins, area_ins, OutsData, no_outs, listed_outs, area_outs, PartData, bytes_part, host_part, EmbData, EmbKindData, server_text, open_cursor, execute, get_count, get_items, set_count, set_items}
@@ -17,17 +17,17 @@ use Rattle.ec_hosts.specs.Uses.{RoleData, input_role, output_role, number_role, 
 use Rattle.ec_typing.specs.Types.{is_void}
 use Rattle.ec_typing.specs.Worlds.{Place, World}
 use Rattle.ec_resolving.specs.Storage.{Storage, ReferenceForm}
-use Rattle.ec_direct.specs.Statements.{Around}
-use Rattle.ec_argument_law.specs.Bound.{cursor_of}
-use Rattle.ec_place_law.specs.References.{NamesAreDeclared, tables_of, IsPlaceOf}
-use Rattle.ec_place_law.specs.Structs.{IsListed, EachStruct, IsWithin, Stays}
-use Rattle.ec_host_law.specs.Hosts.{CursorStands}
-use Rattle.ec_fit_law.specs.Fits as fits
-use Rattle.ec_fit_law.specs.Fits.{AllFit, HasType, OptionHasType, HostFits, HostsFit}
-use Rattle.ec_pointer_law.proofs.Basics.{both_true}
-use Rattle.ec_pointer_law.proofs.Clean.{ValueKnown, IndicatorKnown, host_value_known, without_indicator_fault, host_indicator_known}
-use Rattle.ec_pointer_law.proofs.Taken.{ReferencesArePlaces}
-use Rattle.ec_pointer_law.proofs.UsesStand.{RefStands, UseStands, UsesStand, statement_uses, parts_uses, text_first, option_first, input_first, part_first, parts_first, ins_first}
+use Rattle.ec_block_law.specs.ec_direct.Statements.{Around}
+use Rattle.ec_block_law.specs.ec_argument_law.Bound.{cursor_of}
+use Rattle.ec_block_law.specs.ec_place_law.References.{NamesAreDeclared, tables_of, IsPlaceOf}
+use Rattle.ec_block_law.specs.ec_place_law.Structs.{IsListed, EachStruct, IsWithin, Stays}
+use Rattle.ec_block_law.specs.ec_host_law.Hosts.{CursorStands}
+use Rattle.ec_block_law.specs.ec_fit_law.Fits as fits
+use Rattle.ec_block_law.specs.ec_fit_law.Fits.{AllFit, HasType, OptionHasType, HostFits, HostsFit}
+use Rattle.ec_block_law.proofs.ec_pointer_law_proofs.Basics.{both_true}
+use Rattle.ec_block_law.proofs.ec_pointer_law_proofs.Clean.{ValueKnown, IndicatorKnown, host_value_known, without_indicator_fault, host_indicator_known}
+use Rattle.ec_block_law.proofs.ec_pointer_law_proofs.Taken.{ReferencesArePlaces}
+use Rattle.ec_block_law.proofs.ec_pointer_law_proofs.UsesStand.{RefStands, UseStands, UsesStand, statement_uses, parts_uses, text_first, option_first, input_first, part_first, parts_first, ins_first}
 use Rattle.ec_count_law.specs.Counted.{StatementsAreCounted}
 use Rattle.ec_count_law.proofs.Long.{place_long, front_long}
 

@@ -3,18 +3,18 @@ use Rattle.std.specs.Prelude.{◌≡◌, ℕ, true, List, Option}
 use Rattle.ec_ctypes.specs.trees.Checked.{TypedData, BoundData}
 use Rattle.ec_ctypes.specs.trees.Embedded.{EmbData}
 use Rattle.ec_language.specs.Letters.{Text}
-use Rattle.ec_bound_shape.specs.Counts.{is_counted, are_counted}
+use Rattle.ec_block_law.specs.ec_bound_shape.Counts.{is_counted, are_counted}
 use Rattle.ec_hosts.specs.Bound.{statement_bound}
 use Rattle.ec_typing.specs.Worlds.{Place, World}
 use Rattle.ec_resolving.specs.Storage.{Storage, ReferenceForm}
-use Rattle.ec_direct.specs.Statements.{Around}
-use Rattle.ec_argument_law.specs.Bound.{cursor_of}
-use Rattle.ec_place_law.specs.References.{NamesAreDeclared, tables_of}
-use Rattle.ec_place_law.specs.Structs.{IsWithin}
-use Rattle.ec_table_law.specs.Tables.{AreSound}
-use Rattle.ec_fit_law.specs.Fits.{HostsFit}
-use Rattle.ec_host_law.specs.Hosts.{StatementStands}
-use Rattle.ec_program_law.specs.Programs.{AreAllFound}
+use Rattle.ec_block_law.specs.ec_direct.Statements.{Around}
+use Rattle.ec_block_law.specs.ec_argument_law.Bound.{cursor_of}
+use Rattle.ec_block_law.specs.ec_place_law.References.{NamesAreDeclared, tables_of}
+use Rattle.ec_block_law.specs.ec_place_law.Structs.{IsWithin}
+use Rattle.ec_block_law.specs.ec_table_law.Tables.{AreSound}
+use Rattle.ec_block_law.specs.ec_fit_law.Fits.{HostsFit}
+use Rattle.ec_block_law.specs.ec_host_law.Hosts.{StatementStands}
+use Rattle.ec_block_law.specs.ec_program_law.Programs.{AreAllFound}
 use Rattle.ec_block_law.specs.Accepted.{IsAccepted, StatementLaws}
 
 -- one statement, where it stands

@@ -2,8 +2,8 @@
 
 ghost use Rattle.ec_count_law.specs.Counted.{StatementsAreCounted, SourcesAreCounted};
 
-use ec_closing_law::closed_with_types_are_listed;
-use ec_place_law::{references_are_places, what_grows_stays};
+use ec_block_law::ec_closing_law::closed_with_types_are_listed;
+use ec_block_law::ec_place_law::{references_are_places, what_grows_stays};
 
 /// What is bound for a statement in which no host is at fault has sizes and counts of type long, where it stands.
 #[tactic(none)]

@@ -10,4 +10,5 @@ mod statements;
 mod texts;
 mod units;
 
+pub use ec_exact;
 pub use programs::parse;

@@ -1,3 +1,4 @@
+pub use Rattle.ec_base.specs as ec_base
 pub mod Arithmetic
 pub mod Layout
 pub mod LayoutExamples

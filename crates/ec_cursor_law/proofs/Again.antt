@@ -5,7 +5,7 @@ use Rattle.ec_ctypes.specs.trees.Exprs.{ExprData, integer, identifier, index, me
 use Rattle.ec_ctypes.specs.trees.Types.{TyData, void, arithmetic, pointer, array, structure}
 use Rattle.ec_ctypes.specs.trees.Units.{UnitData}
 use Rattle.ec_language.specs.Letters.{Text}
-use Rattle.ec_statement_parts.specs.References.{References, names_in, all_names}
+use Rattle.ec_typing.specs.ec_statement_parts.References.{References, names_in, all_names}
 use Rattle.ec_typing.specs.Embedded as checked
 use Rattle.ec_typing.specs.Embedded.{is_function_name, max_members, members_in, members_rule}
 use Rattle.ec_typing.specs.Expressions as checked_parts
@@ -17,10 +17,10 @@ use Rattle.ec_resolving.specs.Embedded.{reference_rule, reference_of, references
 use Rattle.ec_resolving.specs.Expressions.{expr}
 use Rattle.ec_resolving.specs.Operands.{found, no_expression, value_rule, index_rule, member_rule, arrow_rule}
 use Rattle.ec_resolving.specs.Storage.{Storage, reached, chain, pure}
-use Rattle.ec_growth_law.specs.Growth.{Begins, Grows}
-use Rattle.ec_place_law.specs.References.{IsIndex, IsReference}
-use Rattle.ec_place_law.specs.Structs.{IsListed, EachStructIn, ClosedAreListed}
-use Rattle.ec_known_law.specs.Known.{IsKnown}
+use Rattle.ec_reference_law.specs.ec_growth_law.Growth.{Begins, Grows}
+use Rattle.ec_reference_law.specs.ec_place_law.References.{IsIndex, IsReference}
+use Rattle.ec_reference_law.specs.ec_place_law.Structs.{IsListed, EachStructIn, ClosedAreListed}
+use Rattle.ec_reference_law.specs.ec_known_law.Known.{IsKnown}
 use Rattle.ec_reference_law.specs.Found.{AreReferences}
 use Rattle.ec_reference_law.proofs.Finding.{rule_checked, rule_resolved, checked_by, resolved_by}
 use Rattle.ec_reference_law.proofs.Parts.{full_not, first_clean, rest_clean}

@@ -14,7 +14,7 @@ use Rattle.ec_resolved.specs.Resolved.{Exp, constant, faulty, operate}
 use Rattle.ec_resolving.specs.Conversions.{size_in, element_exp}
 use Rattle.ec_resolving.specs.Storage.{Storage, Resolving, reached, followed, chain, pure, checks, ask}
 use Rattle.ec_resolving.specs.Operands.{Found, found, with_form, as_place, over_types, value_exp, value_rule, index_rule, offset_among, member_at, member_exp, member_rule, arrow_rule}
-use Rattle.ec_place_law.specs.Structs.{IsListed, EachStructIn, AreListed}
+use Rattle.ec_reference_law.specs.ec_place_law.Structs.{IsListed, EachStructIn, AreListed}
 use Rattle.ec_reference_law.proofs.Parts.{full_not}
 use Rattle.ec_cursor_law.proofs.Growing.{listed_of, complete_listed}
 

@@ -12,12 +12,12 @@ use Rattle.ec_typing.specs.Tables.{find}
 use Rattle.ec_typing.specs.Worlds.{MembersData, unlisted, begun, listed, is_listed, StructInfo, World, members_of, shapes_in, is_complete}
 use Rattle.ec_resolving.specs.Conversions.{size_in, size_or_none, within_limit}
 use Rattle.ec_resolving.specs.Operands.{offset_among}
-use Rattle.ec_growth_law.specs.Growth.{is_unlisted, Grows}
-use Rattle.ec_place_law.specs.Structs.{IsListed, EachStructIn, AreListed, EachMember, IsAmong, ClosedAreListed, IsWithin}
-use Rattle.ec_place_law.proofs.GrowthStays.{grown}
-use Rattle.ec_place_law.proofs.Lists.{none_not, false_not, some_is}
-use Rattle.ec_place_law.proofs.Shapes.{Typed, typed_by, Agree, member_agrees}
-use Rattle.ec_place_law.proofs.TablesSame.{each_member, At, found_at, among_front, closed_listed, stay_shape}
+use Rattle.ec_reference_law.specs.ec_growth_law.Growth.{is_unlisted, Grows}
+use Rattle.ec_reference_law.specs.ec_place_law.Structs.{IsListed, EachStructIn, AreListed, EachMember, IsAmong, ClosedAreListed, IsWithin}
+use Rattle.ec_reference_law.proofs.ec_place_law_proofs.GrowthStays.{grown}
+use Rattle.ec_reference_law.proofs.ec_place_law_proofs.Lists.{none_not, false_not, some_is}
+use Rattle.ec_reference_law.proofs.ec_place_law_proofs.Shapes.{Typed, typed_by, Agree, member_agrees}
+use Rattle.ec_reference_law.proofs.ec_place_law_proofs.TablesSame.{each_member, At, found_at, among_front, closed_listed, stay_shape}
 
 -- ---- structs that are listed
 

@@ -5,8 +5,8 @@ use Rattle.ec_base.specs.declared.fault.FaultKind.TheVariants.{F11, F14}
 use Rattle.ec_ctypes.specs.trees.Types.{TyData, structure}
 use Rattle.ec_ctypes.specs.trees.Units.{UnitData}
 use Rattle.ec_language.specs.Letters.{Text, same_text}
-use Rattle.ec_hosts.specs.Programs.{is_among}
-use Rattle.ec_sections.specs.Declared.{functions_of}
+use Rattle.ec_reference_law.specs.ec_hosts.Programs.{is_among}
+use Rattle.ec_reference_law.specs.ec_sections.Declared.{functions_of}
 use Rattle.ec_typing.specs.Embedded.{is_function_entry, denoted_by, denoted_in}
 use Rattle.ec_typing.specs.Known.{known_function}
 use Rattle.ec_typing.specs.Operands.{OperandData, unknown, object_operand, null_operand, integer_operand, predefined, name_rule as check_name, named_by as check_named}
@@ -15,11 +15,11 @@ use Rattle.ec_typing.specs.Types.{int_type, is_void}
 use Rattle.ec_typing.specs.Worlds.{Place, EntryData, object, function, World, Out, out, Rule, look_up, note, followed as check_followed, chain as check_chain, pure as check_pure, ask as check_ask}
 use Rattle.ec_resolving.specs.Operands.{Found, found, named_exp, name_rule}
 use Rattle.ec_resolving.specs.Storage.{Storage, Reached, reached, chain, pure, checks, ask, stored, site_exp}
-use Rattle.ec_growth_law.specs.Growth.{Begins, Grows}
-use Rattle.ec_place_law.specs.References.{IsNoVoid, IsDeclared}
-use Rattle.ec_place_law.specs.Structs.{IsListed, EachStructIn}
-use Rattle.ec_place_law.proofs.Lists.{Given, none_not, false_not, some_is, get_front}
-use Rattle.ec_known_law.specs.Known.{IsKnown}
+use Rattle.ec_reference_law.specs.ec_growth_law.Growth.{Begins, Grows}
+use Rattle.ec_reference_law.specs.ec_place_law.References.{IsNoVoid, IsDeclared}
+use Rattle.ec_reference_law.specs.ec_place_law.Structs.{IsListed, EachStructIn}
+use Rattle.ec_reference_law.proofs.ec_place_law_proofs.Lists.{Given, none_not, false_not, some_is, get_front}
+use Rattle.ec_reference_law.specs.ec_known_law.Known.{IsKnown}
 use Rattle.ec_reference_law.proofs.KnownNames.{entry_known}
 use Rattle.ec_reference_law.proofs.Parts.{full_not}
 use Rattle.ec_cursor_law.specs.Cursors.{is_no_function, are_no_functions}

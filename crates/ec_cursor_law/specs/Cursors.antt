@@ -1,17 +1,17 @@
 -- The hosts of a cursor, where a statement opens it: they are what they were where it was declared.
 use Rattle.std.specs.Prelude.{◌≡◌, ℕ, Bool, true, not, ◌&&◌, List, [], ◌∷◌, Option, Some, None}
 use Rattle.ec_ctypes.specs.trees.Units.{UnitData}
-use Rattle.ec_hosts.specs.Programs.{Denoted, is_among}
-use Rattle.ec_sections.specs.Declared.{functions_of}
-use Rattle.ec_statement_parts.specs.References.{References, all_names}
+use Rattle.ec_reference_law.specs.ec_hosts.Programs.{Denoted, is_among}
+use Rattle.ec_reference_law.specs.ec_sections.Declared.{functions_of}
+use Rattle.ec_typing.specs.ec_statement_parts.References.{References, all_names}
 use Rattle.ec_typing.specs.Embedded as checked
 use Rattle.ec_typing.specs.Embedded.{denoted_in}
 use Rattle.ec_typing.specs.Worlds.{Place, World}
 use Rattle.ec_resolving.specs.Embedded.{references_rule}
 use Rattle.ec_resolving.specs.Storage.{Storage}
-use Rattle.ec_growth_law.specs.Growth.{Begins, Grows}
-use Rattle.ec_place_law.specs.Structs.{ClosedAreListed}
-use Rattle.ec_known_law.specs.Known.{IsKnown}
+use Rattle.ec_reference_law.specs.ec_growth_law.Growth.{Begins, Grows}
+use Rattle.ec_reference_law.specs.ec_place_law.Structs.{ClosedAreListed}
+use Rattle.ec_reference_law.specs.ec_known_law.Known.{IsKnown}
 use Rattle.ec_reference_law.specs.Found.{AreReferences}
 
 -- a declaration of none of these functions

@@ -3,4 +3,5 @@
 
 mod laws;
 
+pub use ec_reference_law::ec_closing_law;
 pub use laws::references_are_found_again;

@@ -1,3 +1,4 @@
+pub use Rattle.ec_arguments.specs as ec_arguments
 pub mod ByType
 pub mod Cases
 pub mod Reads

@@ -1,3 +1,4 @@
+pub use Rattle.ec_sections.specs as ec_sections
 pub mod Answers
 pub mod Counting
 pub mod Scanning

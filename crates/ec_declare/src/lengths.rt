@@ -5,7 +5,7 @@ ghost use Rattle.ec_ctypes.specs.views.Exprs.{expr_view, expr_option_view, dim_o
 ghost use Rattle.ec_ctypes.specs.views.Types.{ty_view};
 ghost use Rattle.ec_declare.specs.Seen.{plain_option_view};
 ghost use Rattle.ec_sections.specs.Lengths as spec;
-ghost use Rattle.ec_typing.specs.Types as rule;
+ghost use Rattle.ec_sections.specs.ec_typing.Types as rule;
 
 use ec_ctypes::{Arith, BinOp, Expr, Ty, UnOp, promote, usual};
 use ec_type_rules::{Constant, binary_constant, unary_constant};

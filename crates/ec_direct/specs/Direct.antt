@@ -1,18 +1,18 @@
 -- The direct meaning of a program: what each embedded statement does where it stands, by its places and their types.
 use Rattle.std.specs.Prelude.{ℕ, ◌==◌, false, List, [], ◌∷◌, slice_get, Option, Some, None, option_and_then, if◌then◌else◌}
-use Rattle.ec_ctypes.specs.trees.Checked.{TypedData}
-use Rattle.ec_ctypes.specs.trees.Embedded.{EmbData}
+use Rattle.ec_expansion.specs.ec_ctypes.trees.Checked.{TypedData}
+use Rattle.ec_expansion.specs.ec_ctypes.trees.Embedded.{EmbData}
 use Rattle.ec_hosts.specs.Bound.{program_of, cursor_parts}
 use Rattle.ec_hosts.specs.Faults.{row_at, cursor_part}
 use Rattle.ec_expansion.specs.Calls.{prepared_opened}
-use Rattle.ec_statement_parts.specs.Cursors.{opened_cursor, declared_above, declare_opened}
-use Rattle.ec_resolved.specs.Resolved.{Exp, embedded, library}
+use Rattle.ec_expansion.specs.ec_statement_parts.Cursors.{opened_cursor, declared_above, declare_opened}
+use Rattle.ec_resolving.specs.ec_resolved.Resolved.{Exp, embedded, library}
 use Rattle.ec_resolving.specs.Storage.{StatementForm, ReferenceForm}
 use Rattle.ec_resolving.specs.Programs.{resolve, embedded_statements_of}
-use Rattle.ec_evaluation.specs.State.{Answer, State, stuck}
-use Rattle.ec_evaluation.specs.Results.{Res, on_done, over, turn}
-use Rattle.ec_evaluation.specs.Evaluate.{World, Context, Step}
-use Rattle.ec_evaluation.specs.Whole.{Observed, program_meaning, without_atoms}
+use Rattle.ec_calls.specs.ec_evaluation.State.{Answer, State, stuck}
+use Rattle.ec_calls.specs.ec_evaluation.Results.{Res, on_done, over, turn}
+use Rattle.ec_calls.specs.ec_evaluation.Evaluate.{World, Context, Step}
+use Rattle.ec_calls.specs.ec_evaluation.Whole.{Observed, program_meaning, without_atoms}
 use Rattle.ec_calls.specs.Steps.{settled}
 use Rattle.ec_direct.specs.Statements.{Statement, Cursor, statement_of}
 use Rattle.ec_direct.specs.Places.{placed}

@@ -1,10 +1,10 @@
 -- What a statement does once its places are known and its turn is taken: it reads its texts and values, sets the communication area, finds its connection, its prepared statement and its descriptors, begins a transaction where that is due, sends its request, and stores the answer.
 use Rattle.std.specs.Prelude.{ℕ, List, [], ◌∷◌, length, Option, Some, None}
 use Rattle.std.specs.Fmt.{decimal}
-use Rattle.ec_arguments.specs.Arguments.{TextArg}
-use Rattle.ec_ctypes.specs.declared.embedded.emb.Item.{Item as Kind}
-use Rattle.ec_ctypes.specs.trees.Types.{StructData}
-use Rattle.ec_evaluation.specs.State.{Item, State}
+use Rattle.ec_expansion.specs.ec_arguments.Arguments.{TextArg}
+use Rattle.ec_expansion.specs.ec_ctypes.declared.embedded.emb.Item.{Item as Kind}
+use Rattle.ec_expansion.specs.ec_ctypes.trees.Types.{StructData}
+use Rattle.ec_calls.specs.ec_evaluation.State.{Item, State}
 use Rattle.ec_calls.specs.Outcomes.{Text, Field, Outcome, gives, next, present, begun_area}
 use Rattle.ec_calls.specs.Connections.{connection_for, asked, begun}
 use Rattle.ec_calls.specs.Inputs.{text_read, given_read}

@@ -1,12 +1,12 @@
 -- The places of a statement: each is an expression that is evaluated once, from left to right, in the order of the statement's call (texts first, and each leaf before its indicator).
 use Rattle.std.specs.Prelude.{ℕ, List, [], ◌∷◌, Option, Some, None}
-use Rattle.ec_arguments.specs.Arguments.{TextArg, absent, word, held}
-use Rattle.ec_ctypes.specs.declared.embedded.emb.Item.{Item}
+use Rattle.ec_expansion.specs.ec_arguments.Arguments.{TextArg, absent, word, held}
+use Rattle.ec_expansion.specs.ec_ctypes.declared.embedded.emb.Item.{Item}
 use Rattle.ec_hosts.specs.Leaves.{LeafData}
-use Rattle.ec_resolved.specs.Resolved.{Exp}
-use Rattle.ec_evaluation.specs.State.{State}
-use Rattle.ec_evaluation.specs.Results.{Res, on_value, at_address}
-use Rattle.ec_evaluation.specs.Evaluate.{World, Context, Step, eval}
+use Rattle.ec_resolving.specs.ec_resolved.Resolved.{Exp}
+use Rattle.ec_calls.specs.ec_evaluation.State.{State}
+use Rattle.ec_calls.specs.ec_evaluation.Results.{Res, on_value, at_address}
+use Rattle.ec_calls.specs.ec_evaluation.Evaluate.{World, Context, Step, eval}
 use Rattle.ec_direct.specs.Leaves.{Leaf}
 use Rattle.ec_direct.specs.Statements.{Input, stored, constant, Sent, Outputs, nowhere, into_leaves, into_area, Asked, sends, executes, reads_text, opens, Statement, runs, connects, disconnects, sets_connection, sets_autocommit, controls, prepares, deallocates, allocates, frees, gets_count, sets_count, gets_items, sets_items}
 

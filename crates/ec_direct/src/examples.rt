@@ -2,9 +2,9 @@
 #![tactic(none)]
 
 ghost use Rattle.std.specs.Prelude.{◌≡◌, [], ◌∷◌, Some, None, codes};
-ghost use Rattle.ec_base.specs.declared.stop.Trap.TheVariants.{BadLen};
+ghost use Rattle.ec_expansion.specs.ec_base.declared.stop.Trap.TheVariants.{BadLen};
 ghost use Rattle.ec_calls.specs.Examples.{column, rows_of, done, denied};
-ghost use Rattle.ec_evaluation.specs.State.{exited, trapped, turns_spent};
+ghost use Rattle.ec_calls.specs.ec_evaluation.State.{exited, trapped, turns_spent};
 ghost use Rattle.ec_direct.specs.Examples.{shows, run, ask};
 ghost use Rattle.ec_direct.specs.Sources.{one_row, code_and_host, with_indicator, counted_text, too_long_text, three_chars, none_found_goes, no_statement, whenever_is_text, two_handlers, array_of_three, read_at_open, fetch_loop, structs};
 

@@ -4,22 +4,22 @@ use Rattle.std.specs.Prelude.{slice_get}
 use Rattle.ec_ctypes.specs.trees.Checked.{MarkData, BoundData}
 use Rattle.ec_ctypes.specs.trees.Embedded.{EmbData}
 use Rattle.ec_ctypes.specs.trees.Units.{TopData, UnitData}
-use Rattle.ec_language.specs.Letters.{Text}
+use Rattle.ec_statement_parts.specs.ec_language.Letters.{Text}
 use Rattle.ec_statement_parts.specs.Handlers.{is_directive}
 use Rattle.ec_statement_parts.specs.References.{references}
 use Rattle.ec_typing.specs.Embedded as checked
 use Rattle.ec_typing.specs.Embedded.{denoted_in, variables_of}
 use Rattle.ec_typing.specs.Worlds.{Place, World, Out}
-use Rattle.ec_expansion.specs.Programs.{embedded}
-use Rattle.ec_hosts.specs.Programs.{Denoted}
-use Rattle.ec_resolving.specs.Embedded.{references_rule, embedded_rule}
-use Rattle.ec_resolving.specs.Storage.{ReferenceForm, StatementForm, Storage, with_statement, reached}
-use Rattle.ec_expression_law.specs.Worlds.{AreAlike}
-use Rattle.ec_expression_law.specs.Alike.{SameStorage}
-use Rattle.ec_growth_law.specs.Growth.{Grows}
-use Rattle.ec_growth_law.proofs.Rules.{begins_itself}
-use Rattle.ec_known_law.specs.Known.{IsKnown, IsFound, AreFound, Keeps}
-use Rattle.ec_known_law.specs.Laws.{EmbeddedStatementsKeep}
+use Rattle.ec_program_law.specs.ec_expansion.Programs.{embedded}
+use Rattle.ec_program_law.specs.ec_hosts.Programs.{Denoted}
+use Rattle.ec_program_law.specs.ec_resolving.Embedded.{references_rule, embedded_rule}
+use Rattle.ec_program_law.specs.ec_resolving.Storage.{ReferenceForm, StatementForm, Storage, with_statement, reached}
+use Rattle.ec_program_law.specs.ec_expression_law.Worlds.{AreAlike}
+use Rattle.ec_program_law.specs.ec_expression_law.Alike.{SameStorage}
+use Rattle.ec_program_law.specs.ec_growth_law.Growth.{Grows}
+use Rattle.ec_program_law.proofs.ec_growth_law_proofs.Rules.{begins_itself}
+use Rattle.ec_program_law.specs.ec_known_law.Known.{IsKnown, IsFound, AreFound, Keeps}
+use Rattle.ec_program_law.specs.ec_known_law.Laws.{EmbeddedStatementsKeep}
 use Rattle.ec_program_law.specs.Copied.{Whole, AreToCome, FindNothing}
 use Rattle.ec_program_law.proofs.Coming.{found_further, at_still}
 use Rattle.ec_program_law.specs.Embedded.{DirectiveIsGone}

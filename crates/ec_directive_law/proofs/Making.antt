@@ -3,17 +3,17 @@ use Rattle.std.proofs.Common.{◌≡◌, ◌∙◌, ℕ, Bool, true, false, List
 use Rattle.std.proofs.lemmas.Bool.{false≢true}
 use Rattle.ec_ctypes.specs.trees.Embedded.{EmbData}
 use Rattle.ec_ctypes.specs.trees.Exprs.{ExprData, integer, character, identifier, index, member, arrow}
-use Rattle.ec_language.specs.Letters.{Text}
+use Rattle.ec_statement_parts.specs.ec_language.Letters.{Text}
 use Rattle.ec_statement_parts.specs.Handlers.{is_directive}
 use Rattle.ec_statement_parts.specs.References.{References, references}
 use Rattle.ec_typing.specs.Tables.{Named}
 use Rattle.ec_typing.specs.Embedded.{denote, variables_of}
 use Rattle.ec_typing.specs.Operands.{OperandData}
 use Rattle.ec_typing.specs.Worlds.{Place, World, Rule, change}
-use Rattle.ec_resolving.specs.Storage.{ReferenceForm, StatementForm, ActionForms, no_actions, Storage, with_statement, Resolving, reached, chain, pure, checks, ask, stored, arrange}
-use Rattle.ec_resolving.specs.Operands.{Found, with_form, name_rule, value_rule, index_rule, member_rule, arrow_rule}
-use Rattle.ec_resolving.specs.Expressions.{expr}
-use Rattle.ec_resolving.specs.Embedded.{reference_rule, references_rule, actions_rule, embedded_rule}
+use Rattle.ec_program_law.specs.ec_resolving.Storage.{ReferenceForm, StatementForm, ActionForms, no_actions, Storage, with_statement, Resolving, reached, chain, pure, checks, ask, stored, arrange}
+use Rattle.ec_program_law.specs.ec_resolving.Operands.{Found, with_form, name_rule, value_rule, index_rule, member_rule, arrow_rule}
+use Rattle.ec_program_law.specs.ec_resolving.Expressions.{expr}
+use Rattle.ec_program_law.specs.ec_resolving.Embedded.{reference_rule, references_rule, actions_rule, embedded_rule}
 use Rattle.ec_directive_law.specs.References.{MakesNothing, MakeNothing}
 use Rattle.ec_directive_law.proofs.Staying.{Stays, name_stays, value_stays, index_stays, member_stays, arrow_stays, denoting}
 

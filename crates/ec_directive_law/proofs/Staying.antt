@@ -8,7 +8,7 @@ use Rattle.ec_base.specs.declared.fault.LimitKind.{LimitKind}
 use Rattle.ec_ctypes.specs.trees.Types.{TyData, structure}
 use Rattle.ec_ctypes.specs.trees.Embedded.{EmbData}
 use Rattle.ec_ctypes.specs.trees.Exprs.{ExprData, integer, character, identifier, index, member, arrow}
-use Rattle.ec_language.specs.Letters.{Text, same_text}
+use Rattle.ec_statement_parts.specs.ec_language.Letters.{Text, same_text}
 use Rattle.ec_statement_parts.specs.Handlers.{is_directive}
 use Rattle.ec_statement_parts.specs.References.{References, references}
 use Rattle.ec_typing.specs.Tables.{Named}
@@ -18,7 +18,7 @@ use Rattle.ec_typing.specs.Operands.{OperandData, unknown, object_operand, null_
 use Rattle.ec_typing.specs.Worlds.{Place, EntryData, object, function, World, Rule, chain, pure, ask, change, note, demand, keep_within}
 use Rattle.ec_typing.specs.Expressions.{expr}
 use Rattle.ec_typing.specs.Embedded.{reference_rule, members_rule, references_rule, actions_rule, denoted_in, denote, variables_of, embedded_rule}
-use Rattle.ec_expression_law.specs.Rules.{none_before, none_behind}
+use Rattle.ec_program_law.specs.ec_expression_law.Rules.{none_before, none_behind}
 use Rattle.ec_directive_law.specs.References.{MakesNothing, MakeNothing}
 
 pub record Stays {A : Type 0} (m : Rule A) : Type 0 where

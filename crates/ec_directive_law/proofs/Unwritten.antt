@@ -4,10 +4,10 @@ use Rattle.std.proofs.lemmas.Bool.{false≢true}
 use Rattle.std.specs.Prelude.{slice_get, option_map, option_and_then}
 use Rattle.ec_ctypes.specs.trees.Checked.{MarkData, BoundData}
 use Rattle.ec_ctypes.specs.trees.Embedded.{EmbData, EmbKindData, declare_cursor, whenever, include_sqlca}
-use Rattle.ec_language.specs.Letters.{Text}
+use Rattle.ec_statement_parts.specs.ec_language.Letters.{Text}
 use Rattle.ec_statement_parts.specs.Handlers.{is_directive}
-use Rattle.ec_expansion.specs.Calls.{call_by, prepared_opened}
-use Rattle.ec_expansion.specs.Programs.{block_of, block_for, embedded}
+use Rattle.ec_program_law.specs.ec_expansion.Calls.{call_by, prepared_opened}
+use Rattle.ec_program_law.specs.ec_expansion.Programs.{block_of, block_for, embedded}
 
 no_call : (name : Option Text) (e : EmbData) (b : BoundData) (k : EmbKindData) → is_directive (record e { kind = k }) ≡ true → call_by name k b ≡ None
 no_call name e b (whenever c a) d = refl

@@ -3,12 +3,12 @@
 ghost use Rattle.std.specs.Prelude.{◌≡◌, ℕ, true, List, Some, slice_get};
 ghost use Rattle.ec_ctypes.specs.trees.Checked.{MarkData, BoundData, TypedData};
 ghost use Rattle.ec_ctypes.specs.trees.Embedded.{EmbData};
-ghost use Rattle.ec_expansion.specs.Programs.{embedded};
-ghost use Rattle.ec_resolving.specs.Storage.{LibraryCall, StatementForm};
+ghost use Rattle.ec_program_law.specs.ec_expansion.Programs.{embedded};
+ghost use Rattle.ec_program_law.specs.ec_resolving.Storage.{LibraryCall, StatementForm};
 ghost use Rattle.ec_statement_parts.specs.Handlers.{is_directive};
 ghost use Rattle.ec_statement_parts.specs.References.{references};
 ghost use Rattle.ec_typing.specs.Worlds.{World};
-ghost use Rattle.ec_known_law.specs.Laws.{EmbeddedStatementsKeep};
+ghost use Rattle.ec_program_law.specs.ec_known_law.Laws.{EmbeddedStatementsKeep};
 ghost use Rattle.ec_program_law.specs.Embedded.{DirectiveIsGone};
 ghost use Rattle.ec_program_law.specs.Programs.{whole_by};
 ghost use Rattle.ec_directive_law.specs.References.{MakeNothing};

@@ -2,7 +2,7 @@
 use Rattle.std.proofs.Common.{◌≡◌, ℕ, suc, ◌-◌, Bool, true, false, List, [], ◌∷◌, ◌++◌, drop, length, refl, ap, sym, ◌∙◌, subst, codes, Option, Some, None, arith, length-append}
 use Rattle.std.proofs.lemmas.Bool.{false≢true}
 use Rattle.std.proofs.Math.Seq.{drop-append_seam}
-use Rattle.ec_ctypes.specs.trees.Embedded.{EmbKindData}
+use Rattle.ec_language.specs.ec_ctypes.trees.Embedded.{EmbKindData}
 use Rattle.ec_shapes.specs.declared.failure.Failure.TheVariants as failure
 use Rattle.ec_shapes.specs.Beginnings.{Beginning, Begins, beginning}
 use Rattle.ec_shapes.specs.ReadShapes.{done, stopped, stuck, and_then, is_deterministic, read, last, dead_at, over_at, judged}

@@ -1,3 +1,4 @@
+pub use Rattle.ec_language.proofs as ec_language_proofs
 mod Deterministic
 pub mod Found
 pub mod OneAnswer

@@ -1,11 +1,11 @@
 -- WHENEVER and INCLUDE, and how DECLARE of a cursor begins (PostgreSQL manual, "Error Handling" and "Embedded SQL Commands"), as shapes, with what each makes.
 use Rattle.std.specs.Prelude.{[], ◌∷◌, codes}
 use Rattle.std.proofs.Common.{inl, inr}
-use Rattle.ec_ctypes.specs.declared.embedded.emb.Cond.{Cond}
-use Rattle.ec_ctypes.specs.declared.embedded.emb.Cond.TheVariants as cond
-use Rattle.ec_ctypes.specs.trees.Embedded.{ActionData, continue_action, goto_action, print_action, stop_action, break_action, next_action, call_action, EmbKindData, whenever, include_sqlca}
-use Rattle.ec_ctypes.specs.trees.Exprs.{ExprData, character, ExprList, no_exprs}
-use Rattle.ec_ctypes.specs.views.Exprs.{exprs_of}
+use Rattle.ec_language.specs.ec_ctypes.declared.embedded.emb.Cond.{Cond}
+use Rattle.ec_language.specs.ec_ctypes.declared.embedded.emb.Cond.TheVariants as cond
+use Rattle.ec_language.specs.ec_ctypes.trees.Embedded.{ActionData, continue_action, goto_action, print_action, stop_action, break_action, next_action, call_action, EmbKindData, whenever, include_sqlca}
+use Rattle.ec_language.specs.ec_ctypes.trees.Exprs.{ExprData, character, ExprList, no_exprs}
+use Rattle.ec_language.specs.ec_ctypes.views.Exprs.{exprs_of}
 use Rattle.ec_shapes.specs.Shapes.{one, both, either}
 use Rattle.ec_language.specs.Constants.{character_value}
 use Rattle.ec_language.specs.Letters.{Text}

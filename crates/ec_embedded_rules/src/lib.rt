@@ -8,5 +8,6 @@ mod statements;
 mod surroundings;
 mod variables;
 
+pub use ec_parts;
 pub use statements::{directive_rule, embedded_at};
 pub use surroundings::{Around, as_body, as_item, looping};

@@ -1,7 +1,7 @@
 -- The laws hold of a step that takes a turn, makes a request, and takes its answer or waits for it.
 use Rattle.std.proofs.Common.{◌≡◌, ℕ, zero, suc, inl, inr, List, [], ◌∷◌, ◌++◌, refl, sym, subst, append-nil}
 use Rattle.std.specs.Prelude.{◌⊎◌, None}
-use Rattle.ec_link.specs.declared.request.Request.TheVariants.{Close}
+use Rattle.ec_observed.specs.ec_link.declared.request.Request.TheVariants.{Close}
 use Rattle.ec_evaluation.specs.State.{Answer, State, turns_spent, waits}
 use Rattle.ec_evaluation.specs.Results.{Res, on, over, on_value, without_answer, turn}
 use Rattle.ec_evaluation.specs.Expanded.{itself, written_program}

@@ -1,11 +1,11 @@
 -- The induction over the tree and the turns, once for all pairs of steps that agree.
 use Rattle.std.proofs.Common.{◌≡◌, ℕ, zero, suc, ◌+◌, inl, inr, List, [], ◌∷◌, ◌++◌, map, Option, Some, None, Bool, true, false, Result, Ok, Err, refl, sym, ap, subst, arith}
 use Rattle.std.specs.Prelude.{not as negation, option_map, slice_get, nat_eq, ◌||◌, pos, ◌⊎◌, ℤ}
-use Rattle.ec_base.specs.declared.stop.Trap.{Trap}
-use Rattle.ec_base.specs.declared.stop.Trap.TheVariants.{NoValue}
-use Rattle.ec_functions.specs.Functions.{Effect, answers, traps as traps_there, ends, misfit as no_call, effect_of, status_of}
-use Rattle.ec_objects.specs.Cells.{set_cells}
-use Rattle.ec_objects.specs.Memory.{Memory, ValueData, number, address, number_of, ScalarType, scalar_size, last_number, make, moved, cells_at, load as loaded, store as stored, copy as copied, put as put_bytes, unset, fill, with_object}
+use Rattle.ec_observed.specs.ec_base.declared.stop.Trap.{Trap}
+use Rattle.ec_observed.specs.ec_base.declared.stop.Trap.TheVariants.{NoValue}
+use Rattle.ec_resolved.specs.ec_functions.Functions.{Effect, answers, traps as traps_there, ends, misfit as no_call, effect_of, status_of}
+use Rattle.ec_resolved.specs.ec_objects.Cells.{set_cells}
+use Rattle.ec_resolved.specs.ec_objects.Memory.{Memory, ValueData, number, address, number_of, ScalarType, scalar_size, last_number, make, moved, cells_at, load as loaded, store as stored, copy as copied, put as put_bytes, unset, fill, with_object}
 use Rattle.ec_resolved.specs.Labels.{holds, holds_any}
 use Rattle.ec_resolved.specs.Operations.{is_true, truth, value_as, negated, flipped, number_worked, Worked, gives, traps, misfit, worked}
 use Rattle.ec_resolved.specs.Programs.{Function, Program, opening_objects}

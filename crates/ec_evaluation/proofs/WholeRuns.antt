@@ -1,7 +1,7 @@
 -- The laws on whole runs, from the induction.
 use Rattle.std.proofs.Common.{◌≡◌, ℕ, zero, suc, ◌+◌, ◌≤◌, inl, inr, List, [], ◌∷◌, ◌++◌, map, refl, sym, ap, ◌∙◌, subst, arith, append_assoc, append-nil}
 use Rattle.std.specs.Prelude.{slice_get, Option}
-use Rattle.ec_link.specs.declared.request.Request.{Request}
+use Rattle.ec_observed.specs.ec_link.declared.request.Request.{Request}
 use Rattle.ec_resolved.specs.Programs.{Function, Program, opening_objects}
 use Rattle.ec_resolved.specs.Resolved.{Stm, on_line, nothing, evaluate, declare, initialize, block, choose, loop, leave, next, return, goto, label, embedded_statement, Stms, no_stms, stms}
 use Rattle.ec_evaluation.specs.State.{Answer, State, Ending, exited, trapped, turns_spent, waits, stuck}

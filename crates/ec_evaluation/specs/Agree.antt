@@ -1,8 +1,8 @@
 -- When two steps do the same, and what that says of whole runs. The second may have more turns and further answers.
 use Rattle.std.specs.Prelude.{◌≡◌, ◌⊎◌, ℕ, suc, ◌+◌, ◌≤◌, List, [], ◌∷◌, ◌++◌, false, Option}
-use Rattle.ec_link.specs.declared.logged.Logged.{Logged}
-use Rattle.ec_link.specs.declared.request.Request.{Request}
-use Rattle.ec_objects.specs.Memory.{Memory, ValueData}
+use Rattle.ec_observed.specs.ec_link.declared.logged.Logged.{Logged}
+use Rattle.ec_observed.specs.ec_link.declared.request.Request.{Request}
+use Rattle.ec_resolved.specs.ec_objects.Memory.{Memory, ValueData}
 use Rattle.ec_resolved.specs.Labels.{holds}
 use Rattle.ec_resolved.specs.Resolved.{embedded, library, Stm}
 use Rattle.ec_evaluation.specs.State.{Answer, State, Ending, exited, trapped, turns_spent, waits, stuck}

@@ -1,7 +1,7 @@
 -- What an expression does (ISO/IEC 9899:1999, 6.5). Operands and arguments are evaluated from left to right, and the place of an assignment before its value.
 use Rattle.std.specs.Prelude.{ℕ, pos, Bool, true, false, not as negation, List, [], ◌∷◌, ◌++◌, slice_get, Option}
-use Rattle.ec_functions.specs.Functions.{effect_of}
-use Rattle.ec_objects.specs.Memory.{ValueData, number, address, pointer_to, moved, cells_at, load as loaded, store as stored, copy as copied, put as put_bytes}
+use Rattle.ec_resolved.specs.ec_functions.Functions.{effect_of}
+use Rattle.ec_resolved.specs.ec_objects.Memory.{ValueData, number, address, pointer_to, moved, cells_at, load as loaded, store as stored, copy as copied, put as put_bytes}
 use Rattle.ec_resolved.specs.Operations.{is_true, truth, value_as, negated, flipped, number_worked, worked}
 use Rattle.ec_resolved.specs.Resolved.{Update, Exp, object, slot, member, constant, load, whole, store, copy, put, update, convert, negate, flip, not, operate, both, either, call, known, library_call, faulty, Exps, no_exps, exps, Atom, library, Stm, Stms}
 use Rattle.ec_evaluation.specs.State.{State, stuck}

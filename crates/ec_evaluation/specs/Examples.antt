@@ -1,11 +1,11 @@
 -- Programs as examples write them.
 use Rattle.std.specs.Prelude.{ℕ, pos, negsuc, Bool, true, false, List, [], ◌∷◌, ◌++◌, Some, None, codes}
-use Rattle.ec_ctypes.specs.declared.types.arith.Arith.TheVariants.{Bool as Boolean, Char, Short, Int, UInt}
-use Rattle.ec_functions.specs.Formats.{Field, absent, plain, integer, signed_decimal}
-use Rattle.ec_functions.specs.Functions.{standard_output, print, putchar}
-use Rattle.ec_link.specs.declared.reply.Reply.TheVariants.{Broken}
-use Rattle.ec_link.specs.declared.request.Request.TheVariants.{Close}
-use Rattle.ec_objects.specs.Memory.{Memory, number, address, ScalarType, integer_type}
+use Rattle.ec_resolved.specs.ec_ctypes.declared.types.arith.Arith.TheVariants.{Bool as Boolean, Char, Short, Int, UInt}
+use Rattle.ec_resolved.specs.ec_functions.Formats.{Field, absent, plain, integer, signed_decimal}
+use Rattle.ec_resolved.specs.ec_functions.Functions.{standard_output, print, putchar}
+use Rattle.ec_observed.specs.ec_link.declared.reply.Reply.TheVariants.{Broken}
+use Rattle.ec_observed.specs.ec_link.declared.request.Request.TheVariants.{Close}
+use Rattle.ec_resolved.specs.ec_objects.Memory.{Memory, number, address, ScalarType, integer_type}
 use Rattle.ec_resolved.specs.Operations.{Operation, plus, divided, compare, less, integers, pointer_plus}
 use Rattle.ec_resolved.specs.Programs.{Function, Program}
 use Rattle.ec_resolved.specs.Resolved.{Exp, object, constant, load, store, update, convert, operate, known, library_call, Exps, no_exps, exps, Stm, on_line, evaluate, block, loop, return, Stms, no_stms, stms}

@@ -1,6 +1,6 @@
 -- What a statement does (ISO/IEC 9899:1999, 6.8), run from its start or looking for a label. Embedded statements are the step's.
 use Rattle.std.specs.Prelude.{ℕ, zero, suc, nat_eq, Bool, true, false, List, [], slice_get, map, Option, Some, None}
-use Rattle.ec_objects.specs.Memory.{ValueData, scalar_size, last_number, unset, fill}
+use Rattle.ec_resolved.specs.ec_objects.Memory.{ValueData, scalar_size, last_number, unset, fill}
 use Rattle.ec_resolved.specs.Labels.{holds, holds_any}
 use Rattle.ec_resolved.specs.Operations.{is_true}
 use Rattle.ec_resolved.specs.Programs.{Function}

@@ -1,9 +1,9 @@
 -- What a part of a program leads to, and how the parts round it go on from there.
 use Rattle.std.specs.Prelude.{ℕ, zero, suc, pos, ℤ, Bool, true, false, List, [], ◌∷◌, ◌++◌, Option, Some, None, Result, Ok, Err}
-use Rattle.ec_base.specs.declared.stop.Trap.{Trap}
-use Rattle.ec_base.specs.declared.stop.Trap.TheVariants.{NoValue}
-use Rattle.ec_functions.specs.Functions.{Effect, answers, traps as traps_there, ends, misfit as no_call, status_of}
-use Rattle.ec_objects.specs.Memory.{Memory, ValueData, number, address, number_of, ScalarType, end_to, make, store}
+use Rattle.ec_observed.specs.ec_base.declared.stop.Trap.{Trap}
+use Rattle.ec_observed.specs.ec_base.declared.stop.Trap.TheVariants.{NoValue}
+use Rattle.ec_resolved.specs.ec_functions.Functions.{Effect, answers, traps as traps_there, ends, misfit as no_call, status_of}
+use Rattle.ec_resolved.specs.ec_objects.Memory.{Memory, ValueData, number, address, number_of, ScalarType, end_to, make, store}
 use Rattle.ec_resolved.specs.Operations.{Worked, gives, traps, misfit}
 use Rattle.ec_evaluation.specs.State.{State, Ending, exited, trapped, turns_spent, stuck}
 

@@ -1,10 +1,10 @@
 -- The state of a run: its memory, what it printed, its connections to servers, what was said to them, the answers that are still to come, and the turns that are left.
 use Rattle.std.specs.Prelude.{ℕ, ℤ, Bool, List, Option}
-use Rattle.ec_base.specs.declared.stop.Trap.{Trap}
-use Rattle.ec_link.specs.declared.logged.Logged.{Logged}
-use Rattle.ec_link.specs.declared.reply.Tx.{Tx}
-use Rattle.ec_link.specs.declared.request.Request.{Request}
-use Rattle.ec_objects.specs.Memory.{Memory}
+use Rattle.ec_observed.specs.ec_base.declared.stop.Trap.{Trap}
+use Rattle.ec_observed.specs.ec_link.declared.logged.Logged.{Logged}
+use Rattle.ec_observed.specs.ec_link.declared.reply.Tx.{Tx}
+use Rattle.ec_observed.specs.ec_link.declared.request.Request.{Request}
+use Rattle.ec_resolved.specs.ec_objects.Memory.{Memory}
 pub use Rattle.ec_observed.specs.Observed.{Answer}
 
 -- a connection: its name, its slot, whether autocommit is on, the transaction state that was told last, and the texts that are prepared, each with its name

@@ -1,9 +1,9 @@
 -- A whole run: the objects of the program are made, and its first `main` is run. This costs no turn.
 use Rattle.std.specs.Prelude.{ℕ, true, List, [], ◌∷◌, slice_get, Option, Some, None}
-use Rattle.ec_link.specs.declared.logged.Logged.{Logged}
-use Rattle.ec_link.specs.declared.reply.Tx.TheVariants.{Idle}
-use Rattle.ec_objects.specs.Cells.{set_cells}
-use Rattle.ec_objects.specs.Memory.{Memory, with_object}
+use Rattle.ec_observed.specs.ec_link.declared.logged.Logged.{Logged}
+use Rattle.ec_observed.specs.ec_link.declared.reply.Tx.TheVariants.{Idle}
+use Rattle.ec_resolved.specs.ec_objects.Cells.{set_cells}
+use Rattle.ec_resolved.specs.ec_objects.Memory.{Memory, with_object}
 use Rattle.ec_resolved.specs.Programs.{Function, Program, opening_objects}
 use Rattle.ec_evaluation.specs.State.{Answer, Connection, State, Ending, stuck}
 use Rattle.ec_evaluation.specs.Results.{Res, value, on, broke, continued, went, back, over, tried, made, finished}

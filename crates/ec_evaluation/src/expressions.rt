@@ -1,10 +1,10 @@
 //! What expressions do, as the contracts of functions that do nothing.
 
 ghost use Rattle.std.specs.Prelude.{◌≡◌, ◌-◌, ◌^◌, true, false, pos, negsuc, [], ◌∷◌, codes};
-ghost use Rattle.ec_base.specs.declared.stop.Trap.TheVariants as trap;
-ghost use Rattle.ec_ctypes.specs.declared.types.arith.Arith.TheVariants as arith;
-ghost use Rattle.ec_functions.specs.Functions.{strlen};
-ghost use Rattle.ec_objects.specs.Memory.{number, address, integer_type, pointer_type, pointer_to};
+ghost use Rattle.ec_observed.specs.ec_base.declared.stop.Trap.TheVariants as trap;
+ghost use Rattle.ec_resolved.specs.ec_ctypes.declared.types.arith.Arith.TheVariants as arith;
+ghost use Rattle.ec_resolved.specs.ec_functions.Functions.{strlen};
+ghost use Rattle.ec_resolved.specs.ec_objects.Memory.{number, address, integer_type, pointer_type, pointer_to};
 ghost use Rattle.ec_resolved.specs.Operations.{plus, minus, integers, pointer_plus, pointer_minus};
 ghost use Rattle.ec_resolved.specs.Resolved.{slot, constant, member, load, whole, store, copy, put as put_bytes, convert, negate, flip, not, both, either, call, known, faulty};
 ghost use Rattle.ec_evaluation.specs.State.{exited, trapped, stuck};

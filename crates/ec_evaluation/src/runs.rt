@@ -1,10 +1,10 @@
 //! What calls and whole runs do, as the contracts of functions that do nothing.
 
 ghost use Rattle.std.specs.Prelude.{◌≡◌, ℕ, true, false, pos, List, [], ◌∷◌, ◌++◌, map, Some, None, Err, codes};
-ghost use Rattle.ec_base.specs.declared.stop.Trap.TheVariants as trap;
-ghost use Rattle.ec_functions.specs.Functions.{exit};
-ghost use Rattle.ec_objects.specs.Cells.{set_cells, unset_cells};
-ghost use Rattle.ec_objects.specs.Memory.{ScalarType, ValueData, number, alive, ended, make, scalar_size, with_object};
+ghost use Rattle.ec_observed.specs.ec_base.declared.stop.Trap.TheVariants as trap;
+ghost use Rattle.ec_resolved.specs.ec_functions.Functions.{exit};
+ghost use Rattle.ec_resolved.specs.ec_objects.Cells.{set_cells, unset_cells};
+ghost use Rattle.ec_resolved.specs.ec_objects.Memory.{ScalarType, ValueData, number, alive, ended, make, scalar_size, with_object};
 ghost use Rattle.ec_resolved.specs.Programs.{Function, sqlca_bytes};
 ghost use Rattle.ec_resolved.specs.Resolved.{Stms, slot, call, known, on_line, nothing, block, choose, loop, not, return, embedded_statement, library_call};
 ghost use Rattle.ec_evaluation.specs.State.{State, exited, trapped, turns_spent, waits, stuck};
@@ -13,8 +13,8 @@ ghost use Rattle.ec_evaluation.specs.Evaluate.{Context, Step, World};
 ghost use Rattle.ec_evaluation.specs.Execute.{run, called};
 ghost use Rattle.ec_evaluation.specs.Whole.{opened, opening_state, program_meaning, without_atoms};
 ghost use Rattle.ec_evaluation.specs.Examples.{int, lit, below, get, set, add, is_less, increase, args, put, print_int, all, at, does, gives, while, braces, program, with_functions, main_with, function, global, run_of, shows, ends, leaves, asking_run, broken};
-ghost use Rattle.ec_link.specs.declared.reply.Reply.TheVariants.{Broken};
-ghost use Rattle.ec_link.specs.declared.request.Request.TheVariants.{Close};
+ghost use Rattle.ec_observed.specs.ec_link.declared.reply.Reply.TheVariants.{Broken};
+ghost use Rattle.ec_observed.specs.ec_link.declared.request.Request.TheVariants.{Close};
 
 /// Calls by value, and recursion. All parameters are made, then stored, before the objects of the body.
 pub fn call_examples()

@@ -1,9 +1,9 @@
 //! What statements do, as the contracts of functions that do nothing.
 
 ghost use Rattle.std.specs.Prelude.{◌≡◌, true, false, pos, [], ◌∷◌, Some, None, codes};
-ghost use Rattle.ec_base.specs.declared.stop.Trap.TheVariants as trap;
-ghost use Rattle.ec_objects.specs.Cells.{set_cells, unset_cells};
-ghost use Rattle.ec_objects.specs.Memory.{alive, ended, pointer_type};
+ghost use Rattle.ec_observed.specs.ec_base.declared.stop.Trap.TheVariants as trap;
+ghost use Rattle.ec_resolved.specs.ec_objects.Cells.{set_cells, unset_cells};
+ghost use Rattle.ec_resolved.specs.ec_objects.Memory.{alive, ended, pointer_type};
 ghost use Rattle.ec_resolved.specs.Resolved.{slot, member, load, store, not, call, on_line, nothing, declare, initialize, block, choose, loop, leave, next, return, goto, label};
 ghost use Rattle.ec_evaluation.specs.State.{exited, trapped, turns_spent};
 ghost use Rattle.ec_evaluation.specs.Examples.{int, lit, get, set, add, divide, is_less, increase, args, put, print_int, all, at, does, gives, while, braces, program, with_functions, function, global, shows, ends, leaves};

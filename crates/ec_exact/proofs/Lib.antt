@@ -1,3 +1,4 @@
+pub use Rattle.ec_language.proofs as ec_language_proofs
 pub mod Answered
 mod Assignments
 mod Begins

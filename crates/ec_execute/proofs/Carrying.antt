@@ -15,7 +15,7 @@ use Rattle.ec_link.specs.Rack.{slots_of, log_of}
 use Rattle.ec_link.specs.Slot.{states}
 use Rattle.ec_link.specs.SlotState.{ready_slot}
 use Rattle.ec_calling.specs.Making.{known_of}
-use Rattle.ec_calls.specs.Steps.{library_step}
+use Rattle.ec_execution.specs.ec_calls.Steps.{library_step}
 use Rattle.ec_evaluation.specs.State.{Connection}
 use Rattle.ec_evaluation.specs.Whole.{program_meaning, ready_connections, ready_name}
 use Rattle.ec_execution.specs.Programs.{Executable, meaning}
@@ -23,11 +23,11 @@ use Rattle.ec_interp.specs.declared.end.RunEnd.{RunEnd as MachineEnd}
 use Rattle.ec_interp.specs.Ran as ran
 use Rattle.ec_objects.specs.Memory.{Memory}
 use Rattle.ec_observed.specs.Observed.{answers_in}
-use Rattle.ec_runtime.specs.Calling.{GivesFirst, MayAsk, Opens, TakesFirst, conn_of, connection_of, ready_connection}
-use Rattle.ec_runtime.specs.Does.{connections_of, current_of}
-use Rattle.ec_runtime.specs.Opening.{open_view}
-use Rattle.ec_runtime.specs.declared.open.Open.{Open}
-use Rattle.ec_runtime.specs.declared.library.Library.{Library}
+use Rattle.ec_calling.specs.ec_runtime.Calling.{GivesFirst, MayAsk, Opens, TakesFirst, conn_of, connection_of, ready_connection}
+use Rattle.ec_calling.specs.ec_runtime.Does.{connections_of, current_of}
+use Rattle.ec_calling.specs.ec_runtime.Opening.{open_view}
+use Rattle.ec_calling.specs.ec_runtime.declared.open.Open.{Open}
+use Rattle.ec_calling.specs.ec_runtime.declared.library.Library.{Library}
 use Rattle.ec_execute.specs.declared.running.RunEnd.{RunEnd}
 use Rattle.ec_execute.specs.declared.running.RunEnd.TheVariants as ends
 use Rattle.ec_execute.specs.Ends.{Performs, end_of}

@@ -13,7 +13,7 @@ use Rattle.ec_sections.specs.Answers.{hosts_answer}
 use Rattle.ec_typing.specs.Answers.{answer_by, check_answer, checked, stop_of_unit, violations}
 use Rattle.ec_typing.specs.Worlds.{World}
 use Rattle.ec_read_written.specs.Answers as reading
-use Rattle.ec_written.specs.Written.{plain, checked_with, checked_plain, checked_written, ReadsWritten}
+use Rattle.ec_execution.specs.ec_written.Written.{plain, checked_with, checked_plain, checked_written, ReadsWritten}
 use Rattle.ec_execution.specs.Laws.{HasOneProgram}
 use Rattle.ec_execution.specs.Programs.{resolved, IsProgram}
 use Rattle.ec_execution.specs.Programs.IsProgram.{left_of}

@@ -1,3 +1,5 @@
+pub use Rattle.ec_execution.specs as ec_execution
+pub use Rattle.ec_calling.specs.ec_runtime as ec_runtime
 pub mod Answers
 pub mod Ends
 pub mod Executables

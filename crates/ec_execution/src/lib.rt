@@ -4,4 +4,5 @@
 
 mod laws;
 
+pub use ec_library_calls;
 pub use laws::written_programs_are_single;

@@ -1,10 +1,10 @@
 -- What is written of expressions, declarations and what a function begins with stands on one line.
 use Rattle.std.proofs.Common.{◌≡◌, ℕ, zero, suc, Bool, true, false, nat_lt, List, [], ◌∷◌, ◌++◌, Option, Some, None, refl, ap, ◌∙◌}
-use Rattle.ec_ctypes.specs.trees.Exprs.{ExprData, integer, character, string, identifier, unary, binary, assign, bump, call, call_other, index, member, arrow, cast, size_type, size_expr, ExprList, no_exprs, exprs, BaseData, words, varchar, tagged, struct_base, DimData, open_dim, dim, DimList, no_dims, dims, InitData, one, many, InitList, no_inits, inits, InitOption, no_init, some_init, DeclaratorData, declarator, DeclaratorList, no_declarators, declarators, DeclData, decl, DeclList, no_decls, decls}
-use Rattle.ec_ctypes.specs.trees.Tokens.{TokData}
-use Rattle.ec_ctypes.specs.trees.Units.{ParamData}
-use Rattle.ec_language.specs.Letters.{Text}
-use Rattle.ec_language.specs.Productions.{or_rank}
+use Rattle.ec_arguments.specs.ec_ctypes.trees.Exprs.{ExprData, integer, character, string, identifier, unary, binary, assign, bump, call, call_other, index, member, arrow, cast, size_type, size_expr, ExprList, no_exprs, exprs, BaseData, words, varchar, tagged, struct_base, DimData, open_dim, dim, DimList, no_dims, dims, InitData, one, many, InitList, no_inits, inits, InitOption, no_init, some_init, DeclaratorData, declarator, DeclaratorList, no_declarators, declarators, DeclData, decl, DeclList, no_decls, decls}
+use Rattle.ec_arguments.specs.ec_ctypes.trees.Tokens.{TokData}
+use Rattle.ec_arguments.specs.ec_ctypes.trees.Units.{ParamData}
+use Rattle.ec_statement_parts.specs.ec_language.Letters.{Text}
+use Rattle.ec_statement_parts.specs.ec_language.Productions.{or_rank}
 use Rattle.ec_writing.specs.Chunks.{the, blank, line_end, line_mark, Chunks, line_behind}
 use Rattle.ec_writing.specs.Expressions.{Level, ranked, tighter, rank_of, height, level, in_parens, at_place, postfixed, before_dot, more_word_chunks, word_chunks, star_chunks, stars_behind, typed, bumped_chunks, arguments, struct_head, expr_chunks, list_chunks, more_chunks, base_chunks, members_chunks, dim_chunks, dims_chunks, init_chunks, inits_chunks, more_inits_chunks, initializer_chunks, declarator_chunks, more_declarators_chunks, declarators_chunks, decl_chunks}
 use Rattle.ec_writing.specs.Programs.{option_chunks, return_chunks, head_chunks, param_name, param_chunks, more_params_chunks, params_inside, params_chunks}

@@ -4,23 +4,23 @@ use Rattle.std.specs.Prelude.{if◌then◌else◌}
 use Rattle.ec_base.specs.declared.fault.FaultKind.TheVariants.{F14, F19}
 use Rattle.ec_ctypes.specs.trees.Types.{TyData, void, arithmetic, pointer, array, structure}
 use Rattle.ec_ctypes.specs.trees.Exprs.{ExprData, string, InitData, one, many, InitList, no_inits, inits, InitOption, no_init, some_init}
-use Rattle.ec_expansion.specs.Declarations.{written_expr, written_init, written_inits, written_initializer}
-use Rattle.ec_objects.specs.Memory.{ScalarType, scalar_type}
-use Rattle.ec_resolved.specs.Resolved.{Exp}
-use Rattle.ec_typing.specs.Known.{literal_in}
-use Rattle.ec_typing.specs.Types.{is_scalar, is_char_array}
-use Rattle.ec_typing.specs.Constants.{ConstData, variable, trapping, known}
-use Rattle.ec_typing.specs.Worlds.{Place, World, Rule, chain as check_chain, pure as check_pure, demand}
-use Rattle.ec_typing.specs.Operands.{OperandData}
-use Rattle.ec_typing.specs.Initializers as checked
-use Rattle.ec_typing.specs.Initializers.{FrameData, elements_left, any_elements, members_left, Frames, Slot, next_part, parts_of, member_types, first_part, first_type, behind_first, going_in, max_depth, is_whole, is_text_for, is_literal, is_text_alone, has_inner_braces, literal_length, elements_begun, with_length, completed, completed_in_braces, completed_by, braced_frames, is_fixed_value}
-use Rattle.ec_typing.specs.Statements as statements
-use Rattle.ec_resolving.specs.Agreement.{nothing_of, operand_of, type_of}
-use Rattle.ec_resolving.specs.Conversions.{within_limit, as_known_type}
-use Rattle.ec_resolving.specs.Storage.{Storage, Resolving, chain, pure, ask, arrange, without_last_literal}
-use Rattle.ec_resolving.specs.Operands.{Found}
-use Rattle.ec_resolving.specs.Initializers.{PartData, scalar_part, text_part, struct_part, scalar_stored, value_stored, stored_at, text_for, known_exp, fixed_exp, init_value, Spot, spot_at, spot_behind, take_spot, behind_spot, shape_or_none, part_shape, next_spot, spots_behind_first, spots_in, Left, left, next_in, goal_type, goal_by, goal_of, Filled, initializer, fill, fill_part, place_in_object, part_stored, parts_stored}
-use Rattle.ec_resolving.specs.Statements.{initial}
+use Rattle.ec_statement_law.specs.ec_expansion.Declarations.{written_expr, written_init, written_inits, written_initializer}
+use Rattle.ec_statement_law.specs.ec_objects.Memory.{ScalarType, scalar_type}
+use Rattle.ec_statement_law.specs.ec_resolved.Resolved.{Exp}
+use Rattle.ec_statement_law.specs.ec_typing.Known.{literal_in}
+use Rattle.ec_statement_law.specs.ec_typing.Types.{is_scalar, is_char_array}
+use Rattle.ec_statement_law.specs.ec_typing.Constants.{ConstData, variable, trapping, known}
+use Rattle.ec_statement_law.specs.ec_typing.Worlds.{Place, World, Rule, chain as check_chain, pure as check_pure, demand}
+use Rattle.ec_statement_law.specs.ec_typing.Operands.{OperandData}
+use Rattle.ec_statement_law.specs.ec_typing.Initializers as checked
+use Rattle.ec_statement_law.specs.ec_typing.Initializers.{FrameData, elements_left, any_elements, members_left, Frames, Slot, next_part, parts_of, member_types, first_part, first_type, behind_first, going_in, max_depth, is_whole, is_text_for, is_literal, is_text_alone, has_inner_braces, literal_length, elements_begun, with_length, completed, completed_in_braces, completed_by, braced_frames, is_fixed_value}
+use Rattle.ec_statement_law.specs.ec_typing.Statements as statements
+use Rattle.ec_statement_law.specs.ec_resolving.Agreement.{nothing_of, operand_of, type_of}
+use Rattle.ec_statement_law.specs.ec_resolving.Conversions.{within_limit, as_known_type}
+use Rattle.ec_statement_law.specs.ec_resolving.Storage.{Storage, Resolving, chain, pure, ask, arrange, without_last_literal}
+use Rattle.ec_statement_law.specs.ec_resolving.Operands.{Found}
+use Rattle.ec_statement_law.specs.ec_resolving.Initializers.{PartData, scalar_part, text_part, struct_part, scalar_stored, value_stored, stored_at, text_for, known_exp, fixed_exp, init_value, Spot, spot_at, spot_behind, take_spot, behind_spot, shape_or_none, part_shape, next_spot, spots_behind_first, spots_in, Left, left, next_in, goal_type, goal_by, goal_of, Filled, initializer, fill, fill_part, place_in_object, part_stored, parts_stored}
+use Rattle.ec_statement_law.specs.ec_resolving.Statements.{initial}
 use Rattle.ec_statement_law.specs.Blocks.{have_call}
 use Rattle.ec_statement_law.specs.Clean.{CallsNone}
 use Rattle.ec_expression_law.specs.Worlds.{AreAlike}

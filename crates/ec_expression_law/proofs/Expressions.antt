@@ -7,20 +7,20 @@ use Rattle.ec_base.specs.declared.line.Line.{Line}
 use Rattle.ec_ctypes.specs.declared.tree.expr.UnOp.TheVariants.{Addr, Deref, Plus, Minus, Not, Flip}
 use Rattle.ec_ctypes.specs.trees.Types.{TyData}
 use Rattle.ec_ctypes.specs.trees.Exprs.{ExprData, integer, character, string, identifier, unary, binary, assign, bump, call, call_other, index, member, arrow, cast, size_type, size_expr, ExprList, no_exprs, exprs, BaseData, words, varchar, tagged, struct_base, DimData, open_dim, dim, DimList, no_dims, dims, InitData, one, many, InitList, no_inits, inits, InitOption, no_init, some_init, DeclaratorData, declarator, DeclaratorList, no_declarators, declarators, DeclData, decl, DeclList, no_decls, decls}
-use Rattle.ec_expansion.specs.Declarations.{at_line, last_dim, outer_dims, joined_decls, varchar_struct, written_expr, written_exprs, written_base, written_members, written_member, varchar_members_of, varchar_member, written_dim, written_dims, written_init, written_inits, written_initializer, written_declarator, written_declarators}
-use Rattle.ec_language.specs.Letters.{Text}
-use Rattle.ec_sections.specs.Lengths.{ends_in_length}
-use Rattle.ec_typing.specs.Types.{words_type}
-use Rattle.ec_typing.specs.Known.{ArgumentsData, all_expressions, stream_first, with_symbols, is_stream, has_stream, literal_in, literal_at}
-use Rattle.ec_typing.specs.Worlds.{Place, World, Rule, chain as check_chain, pure as check_pure, note, demand, place}
-use Rattle.ec_typing.specs.Operands as checked_operands
-use Rattle.ec_typing.specs.Operands.{OperandData, unknown, declared_type, elements_rule}
-use Rattle.ec_typing.specs.Expressions as checked
-use Rattle.ec_typing.specs.Expressions.{Members, has_init, varchar_member as varchar_rule}
-use Rattle.ec_resolving.specs.Agreement.{itself, operand_of}
-use Rattle.ec_resolving.specs.Expressions.{expr, args, base, members, member_decl, member_items, member_item, lengths, last_length, outer_lengths, length_at, init_parts, init_exprs, all_init_exprs}
-use Rattle.ec_resolving.specs.Operands.{Found, no_expression, value_rule, operands_of, channel_of}
-use Rattle.ec_resolving.specs.Storage.{Resolving, chain, pure, checks}
+use Rattle.ec_statement_law.specs.ec_expansion.Declarations.{at_line, last_dim, outer_dims, joined_decls, varchar_struct, written_expr, written_exprs, written_base, written_members, written_member, varchar_members_of, varchar_member, written_dim, written_dims, written_init, written_inits, written_initializer, written_declarator, written_declarators}
+use Rattle.ec_statement_law.specs.ec_language.Letters.{Text}
+use Rattle.ec_statement_law.specs.ec_sections.Lengths.{ends_in_length}
+use Rattle.ec_statement_law.specs.ec_typing.Types.{words_type}
+use Rattle.ec_statement_law.specs.ec_typing.Known.{ArgumentsData, all_expressions, stream_first, with_symbols, is_stream, has_stream, literal_in, literal_at}
+use Rattle.ec_statement_law.specs.ec_typing.Worlds.{Place, World, Rule, chain as check_chain, pure as check_pure, note, demand, place}
+use Rattle.ec_statement_law.specs.ec_typing.Operands as checked_operands
+use Rattle.ec_statement_law.specs.ec_typing.Operands.{OperandData, unknown, declared_type, elements_rule}
+use Rattle.ec_statement_law.specs.ec_typing.Expressions as checked
+use Rattle.ec_statement_law.specs.ec_typing.Expressions.{Members, has_init, varchar_member as varchar_rule}
+use Rattle.ec_statement_law.specs.ec_resolving.Agreement.{itself, operand_of}
+use Rattle.ec_statement_law.specs.ec_resolving.Expressions.{expr, args, base, members, member_decl, member_items, member_item, lengths, last_length, outer_lengths, length_at, init_parts, init_exprs, all_init_exprs}
+use Rattle.ec_statement_law.specs.ec_resolving.Operands.{Found, no_expression, value_rule, operands_of, channel_of}
+use Rattle.ec_statement_law.specs.ec_resolving.Storage.{Resolving, chain, pure, checks}
 use Rattle.ec_expression_law.specs.Alike.{IsAlike}
 use Rattle.ec_expression_law.specs.Lengths.{HaveLengths, HaveLengthsIn, BaseHasLengths, MembersHaveLengths, DeclHasLengths, ItemsHaveLengths, ItemHasLengths, DimsHaveLengths, DimHasLengths, InitHasLengths, PartHasLengths, PartsHaveLengths}
 use Rattle.ec_expression_law.specs.Silent.{Nothing, FoundCallsNone, AllCallNone}

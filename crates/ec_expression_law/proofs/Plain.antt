@@ -9,20 +9,20 @@ use Rattle.ec_ctypes.specs.declared.tree.expr.UnOp.{UnOp}
 use Rattle.ec_ctypes.specs.declared.tree.expr.UnOp.TheVariants.{Addr, Deref, Plus, Minus, Not, Flip}
 use Rattle.ec_ctypes.specs.trees.Types.{TyData, arithmetic}
 use Rattle.ec_ctypes.specs.trees.Exprs.{ExprData, integer, character, unary, binary, DimData, open_dim, dim, DimList, no_dims, dims}
-use Rattle.ec_expansion.specs.Declarations.{written_expr, written_dim, written_dims, last_dim}
-use Rattle.ec_objects.specs.Memory.{number}
-use Rattle.ec_resolved.specs.Resolved.{Exp, constant}
-use Rattle.ec_resolving.specs.Conversions.{sign_exp, integers_exp}
-use Rattle.ec_resolving.specs.Expressions.{expr, lengths, last_length, length_at}
-use Rattle.ec_resolving.specs.Operands.{Found, found, value_rule, unary_rule, binary_rule}
-use Rattle.ec_resolving.specs.Storage.{Storage, Reached, reached, Resolving, chain, followed, pure, ask, checks}
-use Rattle.ec_sections.specs.Lengths.{Plain, plain_integer, plain_unary, plain_binary, plain, is_length_value, is_length, ends_in_length}
-use Rattle.ec_typing.specs.Constants.{variable, trapping, known, unary_constant, binary_constant}
-use Rattle.ec_typing.specs.Types.{integer_operation}
-use Rattle.ec_typing.specs.Worlds.{Place, World, Out, out, Rule, chain as check_chain, followed as check_followed, pure as check_pure, ask as check_ask}
-use Rattle.ec_typing.specs.Operands as checked
-use Rattle.ec_typing.specs.Operands.{OperandData, computed, typed, sign_rule}
-use Rattle.ec_typing.specs.Expressions as checked_parts
+use Rattle.ec_statement_law.specs.ec_expansion.Declarations.{written_expr, written_dim, written_dims, last_dim}
+use Rattle.ec_statement_law.specs.ec_objects.Memory.{number}
+use Rattle.ec_statement_law.specs.ec_resolved.Resolved.{Exp, constant}
+use Rattle.ec_statement_law.specs.ec_resolving.Conversions.{sign_exp, integers_exp}
+use Rattle.ec_statement_law.specs.ec_resolving.Expressions.{expr, lengths, last_length, length_at}
+use Rattle.ec_statement_law.specs.ec_resolving.Operands.{Found, found, value_rule, unary_rule, binary_rule}
+use Rattle.ec_statement_law.specs.ec_resolving.Storage.{Storage, Reached, reached, Resolving, chain, followed, pure, ask, checks}
+use Rattle.ec_statement_law.specs.ec_sections.Lengths.{Plain, plain_integer, plain_unary, plain_binary, plain, is_length_value, is_length, ends_in_length}
+use Rattle.ec_statement_law.specs.ec_typing.Constants.{variable, trapping, known, unary_constant, binary_constant}
+use Rattle.ec_statement_law.specs.ec_typing.Types.{integer_operation}
+use Rattle.ec_statement_law.specs.ec_typing.Worlds.{Place, World, Out, out, Rule, chain as check_chain, followed as check_followed, pure as check_pure, ask as check_ask}
+use Rattle.ec_statement_law.specs.ec_typing.Operands as checked
+use Rattle.ec_statement_law.specs.ec_typing.Operands.{OperandData, computed, typed, sign_rule}
+use Rattle.ec_statement_law.specs.ec_typing.Expressions as checked_parts
 
 -- ---- one rule and then another, of which both are known
 

@@ -11,19 +11,19 @@ use Rattle.ec_ctypes.specs.Layout.{struct_shape}
 use Rattle.ec_ctypes.specs.declared.types.sizes.Shape.{Shape}
 use Rattle.ec_ctypes.specs.trees.Types.{TyData, array, structure}
 use Rattle.ec_ctypes.specs.trees.Exprs.{words, DimList, no_dims, no_init}
-use Rattle.ec_expansion.specs.Declarations.{at_line, plain_member, varchar_members as written_varchar, varchar_struct as written_struct, last_dim, written_dims}
-use Rattle.ec_language.specs.Letters.{Text}
-use Rattle.ec_sections.specs.Lengths.{ends_in_length}
-use Rattle.ec_typing.specs.Known.{is_reserved_tag}
-use Rattle.ec_typing.specs.Tables.{find, put}
-use Rattle.ec_typing.specs.Types.{int_type, char_type}
-use Rattle.ec_typing.specs.Worlds.{Place, World, Out, out, Rule, StructInfo, begun, chain as check_chain, pure as check_pure, ask as check_ask, change, demand, note, free_tag, with_tag, keep_within, place, free_name, struct_named, new_struct, set_struct, is_within, max_size}
-use Rattle.ec_typing.specs.Operands.{elements_rule, declared_type, within_rule, complete_rule}
-use Rattle.ec_typing.specs.Expressions as checked
-use Rattle.ec_typing.specs.Expressions.{Members, has_init, type_or_fault, typed_members, begin_struct, closed_struct, end_struct, member_named, varchar_members, varchar_info, varchar_struct, varchar_member, varchar_object, varchar_tag, tagged_struct, begin_by}
-use Rattle.ec_resolving.specs.Agreement.{itself}
-use Rattle.ec_resolving.specs.Expressions.{base, members, member_decl, lengths}
-use Rattle.ec_resolving.specs.Storage.{Storage, Reached, reached, beside, chain, pure, checks}
+use Rattle.ec_statement_law.specs.ec_expansion.Declarations.{at_line, plain_member, varchar_members as written_varchar, varchar_struct as written_struct, last_dim, written_dims}
+use Rattle.ec_statement_law.specs.ec_language.Letters.{Text}
+use Rattle.ec_statement_law.specs.ec_sections.Lengths.{ends_in_length}
+use Rattle.ec_statement_law.specs.ec_typing.Known.{is_reserved_tag}
+use Rattle.ec_statement_law.specs.ec_typing.Tables.{find, put}
+use Rattle.ec_statement_law.specs.ec_typing.Types.{int_type, char_type}
+use Rattle.ec_statement_law.specs.ec_typing.Worlds.{Place, World, Out, out, Rule, StructInfo, begun, chain as check_chain, pure as check_pure, ask as check_ask, change, demand, note, free_tag, with_tag, keep_within, place, free_name, struct_named, new_struct, set_struct, is_within, max_size}
+use Rattle.ec_statement_law.specs.ec_typing.Operands.{elements_rule, declared_type, within_rule, complete_rule}
+use Rattle.ec_statement_law.specs.ec_typing.Expressions as checked
+use Rattle.ec_statement_law.specs.ec_typing.Expressions.{Members, has_init, type_or_fault, typed_members, begin_struct, closed_struct, end_struct, member_named, varchar_members, varchar_info, varchar_struct, varchar_member, varchar_object, varchar_tag, tagged_struct, begin_by}
+use Rattle.ec_statement_law.specs.ec_resolving.Agreement.{itself}
+use Rattle.ec_statement_law.specs.ec_resolving.Expressions.{base, members, member_decl, lengths}
+use Rattle.ec_statement_law.specs.ec_resolving.Storage.{Storage, Reached, reached, beside, chain, pure, checks}
 use Rattle.ec_expression_law.specs.Alike.{SameStorage, FindAlike}
 use Rattle.ec_expression_law.specs.Silent.{Nothing}
 use Rattle.ec_expression_law.specs.Worlds.{SameStruct, SameStructs, AreAlike}

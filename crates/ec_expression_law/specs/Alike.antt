@@ -1,7 +1,7 @@
 -- That a rule finds in what is written what it finds in the source.
 use Rattle.std.specs.Prelude.{◌≡◌, []}
-use Rattle.ec_typing.specs.Worlds.{World, Out, Rule}
-use Rattle.ec_resolving.specs.Storage.{Storage, Reached, Resolving}
+use Rattle.ec_statement_law.specs.ec_typing.Worlds.{World, Out, Rule}
+use Rattle.ec_statement_law.specs.ec_resolving.Storage.{Storage, Reached, Resolving}
 use Rattle.ec_expression_law.specs.Worlds.{AreAlike}
 
 -- where things are in a source, and in what is written of it

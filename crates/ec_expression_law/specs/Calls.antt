@@ -6,21 +6,21 @@ use Rattle.ec_ctypes.specs.Texts.{library_text}
 use Rattle.ec_ctypes.specs.declared.checked.library.LibName.{LibName}
 use Rattle.ec_ctypes.specs.declared.checked.library.LibName.TheVariants as library
 use Rattle.ec_ctypes.specs.trees.Exprs.{ExprList, call}
-use Rattle.ec_functions.specs.Formats.{format_parts}
-use Rattle.ec_language.specs.Letters.{Text, same_text}
-use Rattle.ec_language.proofs.Marks.{same_text_is}
-use Rattle.ec_typing.specs.Tables.{Named, find, is_one_of}
-use Rattle.ec_typing.specs.Known.{KnownData, plain, formatted, known_function, is_reserved, calls, library_calls, ArgumentsData, all_expressions, stream_first, with_symbols, arguments_of, takes_stream, has_stream, literal_at}
-use Rattle.ec_typing.specs.Formats.{is_format_of}
-use Rattle.ec_typing.specs.Library.{named_among, library_call}
-use Rattle.ec_typing.specs.Worlds.{Place, EntryData, object, function, ScopeData, World, or_else, look_up, look_up_in, chain as check_chain, ask as check_ask, note}
-use Rattle.ec_typing.specs.Operands as checked
-use Rattle.ec_typing.specs.Operands.{OperandData, types_of, is_stream_or_typeless, format_rule, known_rule, undeclared_call, call_by}
-use Rattle.ec_typing.specs.Expressions as checked_parts
-use Rattle.ec_resolving.specs.Agreement.{itself, operand_of}
-use Rattle.ec_resolving.specs.Expressions.{expr, args}
-use Rattle.ec_resolving.specs.Operands.{Found, as_value, with_form, operands_of, channel_of, printing, known_call, call_exp, library_exp, function_called, call_rule}
-use Rattle.ec_resolving.specs.Storage.{chain, ask}
+use Rattle.ec_statement_law.specs.ec_functions.Formats.{format_parts}
+use Rattle.ec_statement_law.specs.ec_language.Letters.{Text, same_text}
+use Rattle.ec_statement_law.proofs.ec_language_proofs.Marks.{same_text_is}
+use Rattle.ec_statement_law.specs.ec_typing.Tables.{Named, find, is_one_of}
+use Rattle.ec_statement_law.specs.ec_typing.Known.{KnownData, plain, formatted, known_function, is_reserved, calls, library_calls, ArgumentsData, all_expressions, stream_first, with_symbols, arguments_of, takes_stream, has_stream, literal_at}
+use Rattle.ec_statement_law.specs.ec_typing.Formats.{is_format_of}
+use Rattle.ec_statement_law.specs.ec_typing.Library.{named_among, library_call}
+use Rattle.ec_statement_law.specs.ec_typing.Worlds.{Place, EntryData, object, function, ScopeData, World, or_else, look_up, look_up_in, chain as check_chain, ask as check_ask, note}
+use Rattle.ec_statement_law.specs.ec_typing.Operands as checked
+use Rattle.ec_statement_law.specs.ec_typing.Operands.{OperandData, types_of, is_stream_or_typeless, format_rule, known_rule, undeclared_call, call_by}
+use Rattle.ec_statement_law.specs.ec_typing.Expressions as checked_parts
+use Rattle.ec_statement_law.specs.ec_resolving.Agreement.{itself, operand_of}
+use Rattle.ec_statement_law.specs.ec_resolving.Expressions.{expr, args}
+use Rattle.ec_statement_law.specs.ec_resolving.Operands.{Found, as_value, with_form, operands_of, channel_of, printing, known_call, call_exp, library_exp, function_called, call_rule}
+use Rattle.ec_statement_law.specs.ec_resolving.Storage.{chain, ask}
 use Rattle.ec_statement_law.specs.Clean.{CallsNone}
 use Rattle.ec_expression_law.specs.Alike.{FindAlike, IsAlike}
 use Rattle.ec_expression_law.specs.Silent.{Nothing, FoundCallsNone, AllCallNone}

@@ -8,13 +8,13 @@ use Rattle.ec_ctypes.specs.declared.tree.expr.BinOp.{BinOp}
 use Rattle.ec_ctypes.specs.declared.tree.expr.UnOp.{UnOp}
 use Rattle.ec_ctypes.specs.declared.tree.expr.UnOp.TheVariants.{Addr, Deref, Plus, Minus, Not, Flip}
 use Rattle.ec_ctypes.specs.trees.Types.{TyData}
-use Rattle.ec_language.specs.Letters.{Text, same_text}
-use Rattle.ec_typing.specs.Tables.{find, is_one_of}
-use Rattle.ec_typing.specs.Types.{is_void, is_structure, is_array, binary_type, element_type, is_compound, is_counter, is_assignable, may_be_cast, struct_number, pointed_to}
-use Rattle.ec_typing.specs.Known.{known_functions, known_function, names_in, reserved_words, begins_with, raised, is_reserved_tag}
-use Rattle.ec_typing.specs.Worlds.{pure as check_pure, Place, EntryData, object, function, MembersData, unlisted, begun, listed, StructInfo, free_name, free_tag, new_struct, set_struct}
-use Rattle.ec_typing.specs.Operands.{OperandData, typed, allowed, predefined, named_by, name_rule, value_rule, address_rule, target, found_or_types, target_rule, unary_type, sign_rule, unary_rule, is_null, binary_rule, element_by, index_rule, may_be_set, assigned, assign_rule, compound_rule, bump_rule, arguments_rule, member_by, member_in, member_rule, arrow_rule, scalar_cast, cast_to, cast_rule, size_rule, has_complete_elements, pointers, elements_rule, positive, length_by, length_rule, within_rule, complete_rule}
-use Rattle.ec_typing.specs.Expressions.{Members, type_or_fault, tag_type, tag_rule, tagged_struct, begin_again, begin_by, begin_struct, typed_members, end_struct, member_named}
+use Rattle.ec_statement_law.specs.ec_language.Letters.{Text, same_text}
+use Rattle.ec_statement_law.specs.ec_typing.Tables.{find, is_one_of}
+use Rattle.ec_statement_law.specs.ec_typing.Types.{is_void, is_structure, is_array, binary_type, element_type, is_compound, is_counter, is_assignable, may_be_cast, struct_number, pointed_to}
+use Rattle.ec_statement_law.specs.ec_typing.Known.{known_functions, known_function, names_in, reserved_words, begins_with, raised, is_reserved_tag}
+use Rattle.ec_statement_law.specs.ec_typing.Worlds.{pure as check_pure, Place, EntryData, object, function, MembersData, unlisted, begun, listed, StructInfo, free_name, free_tag, new_struct, set_struct}
+use Rattle.ec_statement_law.specs.ec_typing.Operands.{OperandData, typed, allowed, predefined, named_by, name_rule, value_rule, address_rule, target, found_or_types, target_rule, unary_type, sign_rule, unary_rule, is_null, binary_rule, element_by, index_rule, may_be_set, assigned, assign_rule, compound_rule, bump_rule, arguments_rule, member_by, member_in, member_rule, arrow_rule, scalar_cast, cast_to, cast_rule, size_rule, has_complete_elements, pointers, elements_rule, positive, length_by, length_rule, within_rule, complete_rule}
+use Rattle.ec_statement_law.specs.ec_typing.Expressions.{Members, type_or_fault, tag_type, tag_rule, tagged_struct, begin_again, begin_by, begin_struct, typed_members, end_struct, member_named}
 use Rattle.ec_expression_law.specs.Worlds.{SameStruct}
 use Rattle.ec_expression_law.specs.Known.{next_struct_same, with_structs, with_closed, with_tags, joined_same, set_same, same_struct, look_up_same, tag_up_same, members_same, shapes_same, shape_same, complete_same, completes_same, within_same, member_type_same, first_same}
 use Rattle.ec_expression_law.specs.Rules.{CheckAlike, asked_alike, check_chain_alike, check_pure_alike, check_ask_alike, change_alike, noted_first, demand_alike, within_alike, check_choice, check_either, given_alike, QuietAlike, asked_quietly, demand_quietly, pure_quietly}

@@ -9,22 +9,22 @@ use Rattle.ec_ctypes.specs.declared.tree.expr.UnOp.{UnOp}
 use Rattle.ec_ctypes.specs.declared.tree.expr.UnOp.TheVariants.{Addr, Deref, Plus, Minus, Not, Flip}
 use Rattle.ec_ctypes.specs.trees.Types.{TyData, void, arithmetic, pointer, array, structure}
 use Rattle.ec_ctypes.specs.trees.Exprs.{ExprData, ExprList}
-use Rattle.ec_functions.specs.Formats.{Part, format_parts}
-use Rattle.ec_functions.specs.Functions.{Channel, Known}
-use Rattle.ec_language.specs.Letters.{Text, same_text}
-use Rattle.ec_objects.specs.Memory.{number, ScalarType, integer_type, pointer_type, scalar_type}
-use Rattle.ec_resolved.specs.Operations.{Comparison, Operation, pointer_plus, plus_pointer}
-use Rattle.ec_resolved.specs.Resolved.{Exp, constant, copy, operate, whole, convert, faulty}
-use Rattle.ec_resolving.specs.Conversions.{same_kind, converted_to, between, as_type, as_known_type, promoted_value, read_at, operation_in, comparison_of, left_type, right_type, operated, integers_exp, compared, pointers_exp, pointer_exp, reversed_exp, binary_exp, element_exp, sign_exp, unary_exp, stored_scalar, assigned, updated, pointer_step, compound, bumped, size_in, as_arith, as_pointer}
-use Rattle.ec_resolving.specs.Operands.{Found, over_types, over_type, predefined_exp, named_exp, value_exp, discarded, member_at, member_exp, offset_among, cast_form, size_exp, exps_of, passed, own_call, plain_functions, plain_call, printing, known_call, call_exp, place_in, channel_of, unary_found, is_call_alone, without_use, done_alone}
-use Rattle.ec_resolving.specs.Storage.{Site, numbered, slotted, nowhere, site_exp}
+use Rattle.ec_statement_law.specs.ec_functions.Formats.{Part, format_parts}
+use Rattle.ec_statement_law.specs.ec_functions.Functions.{Channel, Known}
+use Rattle.ec_statement_law.specs.ec_language.Letters.{Text, same_text}
+use Rattle.ec_statement_law.specs.ec_objects.Memory.{number, ScalarType, integer_type, pointer_type, scalar_type}
+use Rattle.ec_statement_law.specs.ec_resolved.Operations.{Comparison, Operation, pointer_plus, plus_pointer}
+use Rattle.ec_statement_law.specs.ec_resolved.Resolved.{Exp, constant, copy, operate, whole, convert, faulty}
+use Rattle.ec_statement_law.specs.ec_resolving.Conversions.{same_kind, converted_to, between, as_type, as_known_type, promoted_value, read_at, operation_in, comparison_of, left_type, right_type, operated, integers_exp, compared, pointers_exp, pointer_exp, reversed_exp, binary_exp, element_exp, sign_exp, unary_exp, stored_scalar, assigned, updated, pointer_step, compound, bumped, size_in, as_arith, as_pointer}
+use Rattle.ec_statement_law.specs.ec_resolving.Operands.{Found, over_types, over_type, predefined_exp, named_exp, value_exp, discarded, member_at, member_exp, offset_among, cast_form, size_exp, exps_of, passed, own_call, plain_functions, plain_call, printing, known_call, call_exp, place_in, channel_of, unary_found, is_call_alone, without_use, done_alone}
+use Rattle.ec_statement_law.specs.ec_resolving.Storage.{Site, numbered, slotted, nowhere, site_exp}
 use Rattle.ec_statement_law.specs.Blocks.{have_call}
 use Rattle.ec_statement_law.specs.Clean.{CallsNone}
-use Rattle.ec_typing.specs.Tables.{Named, find}
-use Rattle.ec_typing.specs.Known.{KnownData, plain, formatted, known_function, literal_at}
-use Rattle.ec_typing.specs.Types.{is_void, is_structure, decayed}
-use Rattle.ec_typing.specs.Worlds.{EntryData, object, function, World, is_complete, members_of}
-use Rattle.ec_typing.specs.Operands.{OperandData}
+use Rattle.ec_statement_law.specs.ec_typing.Tables.{Named, find}
+use Rattle.ec_statement_law.specs.ec_typing.Known.{KnownData, plain, formatted, known_function, literal_at}
+use Rattle.ec_statement_law.specs.ec_typing.Types.{is_void, is_structure, decayed}
+use Rattle.ec_statement_law.specs.ec_typing.Worlds.{EntryData, object, function, World, is_complete, members_of}
+use Rattle.ec_statement_law.specs.ec_typing.Operands.{OperandData}
 use Rattle.ec_expression_law.specs.Known.{size_same, complete_same, members_same, offset_same}
 use Rattle.ec_expression_law.specs.Silent.{FoundCallsNone, AllCallNone}
 use Rattle.ec_expression_law.specs.Worlds.{AreAlike}

@@ -3,13 +3,13 @@ use Rattle.std.specs.Prelude.{◌≡◌, ℕ, zero, suc, List, [], ◌∷◌, �
 use Rattle.std.proofs.Common.{refl}
 use Rattle.ec_ctypes.specs.Layout.{shape_among, no_members, member_behind}
 use Rattle.ec_ctypes.specs.trees.Types.{TyData, void, arithmetic, pointer, array, structure}
-use Rattle.ec_language.specs.Letters.{Text}
-use Rattle.ec_typing.specs.Tables.{Named, find, put}
-use Rattle.ec_typing.specs.Worlds.{MembersData, unlisted, begun, listed, StructInfo, World, or_else, look_up, look_up_in, tag_up, tag_in, entered, with_tag, members_of, shapes_in, shape_in, is_listed, is_complete, is_within, arrays_within}
-use Rattle.ec_typing.specs.Operands.{member_type}
-use Rattle.ec_typing.specs.Expressions.{Members, first_types, first_of_members, typed_members}
-use Rattle.ec_resolving.specs.Conversions.{size_in, within_limit, size_or_none}
-use Rattle.ec_resolving.specs.Operands.{offset_among}
+use Rattle.ec_statement_law.specs.ec_language.Letters.{Text}
+use Rattle.ec_statement_law.specs.ec_typing.Tables.{Named, find, put}
+use Rattle.ec_statement_law.specs.ec_typing.Worlds.{MembersData, unlisted, begun, listed, StructInfo, World, or_else, look_up, look_up_in, tag_up, tag_in, entered, with_tag, members_of, shapes_in, shape_in, is_listed, is_complete, is_within, arrays_within}
+use Rattle.ec_statement_law.specs.ec_typing.Operands.{member_type}
+use Rattle.ec_statement_law.specs.ec_typing.Expressions.{Members, first_types, first_of_members, typed_members}
+use Rattle.ec_statement_law.specs.ec_resolving.Conversions.{size_in, within_limit, size_or_none}
+use Rattle.ec_statement_law.specs.ec_resolving.Operands.{offset_among}
 use Rattle.ec_expression_law.specs.Worlds.{SameStruct, SameStructs, AreAlike}
 
 -- ---- structs, one by one

@@ -2,13 +2,13 @@
 use Rattle.std.specs.Prelude.{ℕ, Bool, Option}
 use Rattle.ec_ctypes.specs.trees.Exprs.{ExprData, BaseData, DimList, InitData}
 use Rattle.ec_ctypes.specs.trees.Types.{TyData}
-use Rattle.ec_expansion.specs.Declarations.{written_expr, written_base, written_dims, written_init}
-use Rattle.ec_typing.specs.Worlds.{Place}
-use Rattle.ec_typing.specs.Expressions as checked
-use Rattle.ec_typing.specs.Initializers as checked_initializers
-use Rattle.ec_resolving.specs.Agreement.{itself, operand_of, type_of}
-use Rattle.ec_resolving.specs.Expressions.{expr, base, lengths}
-use Rattle.ec_resolving.specs.Initializers.{initializer}
+use Rattle.ec_statement_law.specs.ec_expansion.Declarations.{written_expr, written_base, written_dims, written_init}
+use Rattle.ec_statement_law.specs.ec_typing.Worlds.{Place}
+use Rattle.ec_statement_law.specs.ec_typing.Expressions as checked
+use Rattle.ec_statement_law.specs.ec_typing.Initializers as checked_initializers
+use Rattle.ec_statement_law.specs.ec_resolving.Agreement.{itself, operand_of, type_of}
+use Rattle.ec_statement_law.specs.ec_resolving.Expressions.{expr, base, lengths}
+use Rattle.ec_statement_law.specs.ec_resolving.Initializers.{initializer}
 use Rattle.ec_expression_law.specs.Alike.{IsAlike}
 use Rattle.ec_expression_law.specs.Lengths.{HaveLengths, BaseHasLengths, DimsHaveLengths, PartHasLengths}
 use Rattle.ec_expression_law.specs.Silent.{Nothing, FoundCallsNone, InitializerCallsNone}

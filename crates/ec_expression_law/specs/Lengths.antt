@@ -1,8 +1,8 @@
 -- Trees in which each VARCHAR ends in a length that is a constant of 1 or more, as the marks and VARCHARs of an accepted source do (PostgreSQL manual, 36.4.4).
 use Rattle.std.specs.Prelude.{◌≡◌, Bool, true, false}
 use Rattle.ec_ctypes.specs.trees.Exprs.{ExprData, integer, character, string, identifier, unary, binary, assign, bump, call, call_other, index, member, arrow, cast, size_type, size_expr, ExprList, no_exprs, exprs, BaseData, words, varchar, tagged, struct_base, DimData, open_dim, dim, DimList, no_dims, dims, InitData, one, many, InitList, no_inits, inits, InitOption, no_init, some_init, DeclaratorData, declarator, DeclaratorList, no_declarators, declarators, DeclData, decl, DeclList, no_decls, decls}
-use Rattle.ec_sections.specs.Lengths.{ends_in_length}
-use Rattle.ec_typing.specs.Expressions.{is_varchar}
+use Rattle.ec_statement_law.specs.ec_sections.Lengths.{ends_in_length}
+use Rattle.ec_statement_law.specs.ec_typing.Expressions.{is_varchar}
 
 -- the array lengths of a declarator, of a VARCHAR or not
 abbrev pub EndsInLength : Bool → DimList → Type 0

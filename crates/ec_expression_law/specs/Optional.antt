@@ -2,11 +2,11 @@
 use Rattle.std.specs.Prelude.{ℕ, Bool, Option}
 use Rattle.ec_ctypes.specs.trees.Exprs.{InitOption}
 use Rattle.ec_ctypes.specs.trees.Types.{TyData}
-use Rattle.ec_expansion.specs.Declarations.{written_initializer}
-use Rattle.ec_typing.specs.Worlds.{Place}
-use Rattle.ec_typing.specs.Statements as checked
-use Rattle.ec_resolving.specs.Agreement.{type_of}
-use Rattle.ec_resolving.specs.Statements.{initial}
+use Rattle.ec_statement_law.specs.ec_expansion.Declarations.{written_initializer}
+use Rattle.ec_statement_law.specs.ec_typing.Worlds.{Place}
+use Rattle.ec_statement_law.specs.ec_typing.Statements as checked
+use Rattle.ec_statement_law.specs.ec_resolving.Agreement.{type_of}
+use Rattle.ec_statement_law.specs.ec_resolving.Statements.{initial}
 use Rattle.ec_expression_law.specs.Alike.{IsAlike}
 use Rattle.ec_expression_law.specs.Lengths.{InitHasLengths}
 use Rattle.ec_expression_law.specs.Silent.{InitializerCallsNone}

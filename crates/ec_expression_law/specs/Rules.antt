@@ -7,12 +7,12 @@ use Rattle.ec_base.specs.declared.fault.LimitKind.{LimitKind}
 use Rattle.ec_base.specs.declared.stop.Stop.TheVariants.{Refused}
 use Rattle.ec_base.specs.declared.line.Line.{Line}
 use Rattle.ec_ctypes.specs.trees.Types.{TyData}
-use Rattle.ec_language.specs.First.{Violation}
-use Rattle.ec_typing.specs.Worlds.{Place, World, Out, Rule, chain as check_chain, followed as check_followed, pure as check_pure, ask as check_ask, change, note, demand, keep_within, instead, place}
-use Rattle.ec_typing.specs.Operands.{OperandData, unknown, given}
-use Rattle.ec_resolving.specs.Storage.{Storage, Reached, Resolving, chain, followed, pure, checks, ask, stored, arrange}
-use Rattle.ec_resolving.specs.Operands.{Found, with_form}
-use Rattle.ec_resolving.specs.Agreement.{itself, operand_of}
+use Rattle.ec_statement_law.specs.ec_language.First.{Violation}
+use Rattle.ec_statement_law.specs.ec_typing.Worlds.{Place, World, Out, Rule, chain as check_chain, followed as check_followed, pure as check_pure, ask as check_ask, change, note, demand, keep_within, instead, place}
+use Rattle.ec_statement_law.specs.ec_typing.Operands.{OperandData, unknown, given}
+use Rattle.ec_statement_law.specs.ec_resolving.Storage.{Storage, Reached, Resolving, chain, followed, pure, checks, ask, stored, arrange}
+use Rattle.ec_statement_law.specs.ec_resolving.Operands.{Found, with_form}
+use Rattle.ec_statement_law.specs.ec_resolving.Agreement.{itself, operand_of}
 use Rattle.ec_expression_law.specs.Worlds.{AreAlike}
 use Rattle.ec_expression_law.specs.Alike.{SameStorage, AddsNone, FindAlike, IsAlike}
 use Rattle.ec_expression_law.specs.Known.{with_places}

@@ -1,8 +1,8 @@
 -- What is found that calls no library.
 use Rattle.std.specs.Prelude.{List, [], ◌∷◌, Option}
 use Rattle.ec_ctypes.specs.trees.Types.{TyData}
-use Rattle.ec_resolving.specs.Operands.{Found}
-use Rattle.ec_resolving.specs.Initializers.{PartData, scalar_part, text_part, struct_part}
+use Rattle.ec_statement_law.specs.ec_resolving.Operands.{Found}
+use Rattle.ec_statement_law.specs.ec_resolving.Initializers.{PartData, scalar_part, text_part, struct_part}
 use Rattle.ec_statement_law.specs.Clean.{CallsNone}
 
 -- a type or a length calls nothing

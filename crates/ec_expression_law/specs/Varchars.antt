@@ -1,15 +1,15 @@
 -- What holds of the objects of VARCHARs, whose structs have tags, and of their array lengths but for the last.
 use Rattle.std.specs.Prelude.{◌≡◌, ℕ, true, Some}
 use Rattle.ec_ctypes.specs.trees.Exprs.{DimList}
-use Rattle.ec_expansion.specs.Declarations.{varchar_tag, varchar_struct, last_dim, outer_dims, written_dims}
-use Rattle.ec_language.specs.Letters.{Text}
-use Rattle.ec_sections.specs.Lengths.{ends_in_length}
-use Rattle.ec_typing.specs.Worlds.{Place, chain as check_chain}
-use Rattle.ec_typing.specs.Expressions as checked
-use Rattle.ec_typing.specs.Expressions.{varchar_object}
-use Rattle.ec_resolving.specs.Agreement.{itself}
-use Rattle.ec_resolving.specs.Expressions.{base, lengths, last_length, outer_lengths}
-use Rattle.ec_resolving.specs.Storage.{chain, checks}
+use Rattle.ec_statement_law.specs.ec_expansion.Declarations.{varchar_tag, varchar_struct, last_dim, outer_dims, written_dims}
+use Rattle.ec_statement_law.specs.ec_language.Letters.{Text}
+use Rattle.ec_statement_law.specs.ec_sections.Lengths.{ends_in_length}
+use Rattle.ec_statement_law.specs.ec_typing.Worlds.{Place, chain as check_chain}
+use Rattle.ec_statement_law.specs.ec_typing.Expressions as checked
+use Rattle.ec_statement_law.specs.ec_typing.Expressions.{varchar_object}
+use Rattle.ec_statement_law.specs.ec_resolving.Agreement.{itself}
+use Rattle.ec_statement_law.specs.ec_resolving.Expressions.{base, lengths, last_length, outer_lengths}
+use Rattle.ec_statement_law.specs.ec_resolving.Storage.{chain, checks}
 use Rattle.ec_expression_law.specs.Alike.{IsAlike}
 use Rattle.ec_expression_law.specs.Lengths.{DimsHaveLengths}
 use Rattle.ec_expression_law.specs.Silent.{Nothing}

@@ -5,15 +5,15 @@ use Rattle.ec_ctypes.specs.declared.tree.expr.BinOp.{BinOp}
 use Rattle.ec_ctypes.specs.declared.tree.expr.UnOp.{UnOp}
 use Rattle.ec_ctypes.specs.declared.tree.expr.UnOp.TheVariants.{Addr, Deref, Plus, Minus, Not, Flip}
 use Rattle.ec_ctypes.specs.trees.Types.{TyData}
-use Rattle.ec_language.specs.Letters.{Text}
-use Rattle.ec_typing.specs.Types.{struct_number}
-use Rattle.ec_typing.specs.Worlds.{Place, pure as check_pure}
-use Rattle.ec_typing.specs.Operands as checked
-use Rattle.ec_typing.specs.Operands.{OperandData, literal_operand}
-use Rattle.ec_resolved.specs.Resolved.{object}
-use Rattle.ec_resolving.specs.Agreement.{operand_of}
-use Rattle.ec_resolving.specs.Storage.{Storage, with_literal}
-use Rattle.ec_resolving.specs.Operands.{Found, found, as_value, as_place, over_types, over_type, named_exp, name_rule, literal_rule, value_exp, value_rule, address_rule, unary_found, unary_rule, binary_rule, index_rule, assign_rule, compound_rule, bump_rule, member_rule, target_struct, arrow_rule, cast_rule, size_rule}
+use Rattle.ec_statement_law.specs.ec_language.Letters.{Text}
+use Rattle.ec_statement_law.specs.ec_typing.Types.{struct_number}
+use Rattle.ec_statement_law.specs.ec_typing.Worlds.{Place, pure as check_pure}
+use Rattle.ec_statement_law.specs.ec_typing.Operands as checked
+use Rattle.ec_statement_law.specs.ec_typing.Operands.{OperandData, literal_operand}
+use Rattle.ec_statement_law.specs.ec_resolved.Resolved.{object}
+use Rattle.ec_statement_law.specs.ec_resolving.Agreement.{operand_of}
+use Rattle.ec_statement_law.specs.ec_resolving.Storage.{Storage, with_literal}
+use Rattle.ec_statement_law.specs.ec_resolving.Operands.{Found, found, as_value, as_place, over_types, over_type, named_exp, name_rule, literal_rule, value_exp, value_rule, address_rule, unary_found, unary_rule, binary_rule, index_rule, assign_rule, compound_rule, bump_rule, member_rule, target_struct, arrow_rule, cast_rule, size_rule}
 use Rattle.ec_statement_law.specs.Clean.{CallsNone}
 use Rattle.ec_expression_law.specs.Alike.{SameStorage, AddsNone, IsAlike}
 use Rattle.ec_expression_law.specs.Silent.{Nothing, FoundCallsNone}

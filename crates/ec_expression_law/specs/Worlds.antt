@@ -1,9 +1,9 @@
 -- What is known at a place of a source, and what is known at the same place of what is written of it.
 use Rattle.std.specs.Prelude.{◌≡◌, true, false, List, [], ◌∷◌, None}
-use Rattle.ec_language.specs.Letters.{Text}
-use Rattle.ec_typing.specs.Tables.{find}
-use Rattle.ec_typing.specs.Known.{is_reserved}
-use Rattle.ec_typing.specs.Worlds.{StructInfo, ScopeData, World}
+use Rattle.ec_statement_law.specs.ec_language.Letters.{Text}
+use Rattle.ec_statement_law.specs.ec_typing.Tables.{find}
+use Rattle.ec_statement_law.specs.ec_typing.Known.{is_reserved}
+use Rattle.ec_statement_law.specs.ec_typing.Worlds.{StructInfo, ScopeData, World}
 
 -- A struct, and what it is in what is written. The struct of a VARCHAR is one like others there
 pub record SameStruct (s t : StructInfo) : Type 0 where

@@ -1,8 +1,8 @@
 //! What initializers store.
 
 ghost use Rattle.std.specs.Prelude.{◌≡◌, false, List};
-ghost use Rattle.ec_resolved.specs.Resolved.{Exp};
-ghost use Rattle.ec_resolving.specs.Initializers.{PartData, parts_stored};
+ghost use Rattle.ec_statement_law.specs.ec_resolved.Resolved.{Exp};
+ghost use Rattle.ec_statement_law.specs.ec_resolving.Initializers.{PartData, parts_stored};
 ghost use Rattle.ec_statement_law.specs.Blocks.{have_call};
 ghost use Rattle.ec_statement_law.specs.Clean.{CallsNone};
 ghost use Rattle.ec_expression_law.specs.Laws.{ExpressionsAreAlike, InitializersAreAlike};

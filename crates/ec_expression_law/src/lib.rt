@@ -6,6 +6,7 @@ mod initializers;
 mod laws;
 mod varchars;
 
+pub use ec_statement_law;
 pub use initializers::{
     stored_parts_call_no_library, written_initializers_are_alike,
     written_optional_initializers_are_alike,

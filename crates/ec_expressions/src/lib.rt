@@ -8,4 +8,7 @@ mod members;
 mod spines;
 mod walk;
 
+pub use ec_members::{ec_conversions, ec_forms, ec_storage};
+pub use ec_walk;
+pub use ec_walk::{ec_rules, ec_type_rules};
 pub use walk::{base, call, expr, last_length, lengths, outer_lengths};

@@ -9,12 +9,12 @@ use Rattle.ec_ctypes.specs.declared.types.arith.Arith.TheVariants as arithmetics
 use Rattle.ec_ctypes.specs.declared.types.sizes.Shape.{Shape}
 use Rattle.ec_ctypes.specs.trees.Types.{TyData, void, arithmetic, pointer, array, structure, StructData}
 use Rattle.ec_ctypes.specs.Layout.{scalar, repeated, struct_shape, shape_of}
-use Rattle.ec_hosts.specs.Elements.{Symbol, arith_symbol, char_symbol, capacity, varchar_symbol, struct_symbol, symbol_of, is_element}
+use Rattle.ec_table_law.specs.ec_hosts.Elements.{Symbol, arith_symbol, char_symbol, capacity, varchar_symbol, struct_symbol, symbol_of, is_element}
 use Rattle.ec_typing.specs.Worlds.{MembersData, unlisted, begun, listed, World, shapes_in, shape_in, is_within}
 use Rattle.ec_typing.specs.Expressions.{Members, typed_members, varchar_members}
 use Rattle.ec_typing.specs.Answers.{struct_order, place_of, renumbered, listed_members, struct_data, structs_of}
-use Rattle.ec_place_law.specs.Structs.{IsListed, AreListed}
-use Rattle.ec_closing_law.proofs.Lists.{false_not, get_map}
+use Rattle.ec_table_law.specs.ec_place_law.Structs.{IsListed, AreListed}
+use Rattle.ec_table_law.proofs.ec_closing_law_proofs.Lists.{false_not, get_map}
 use Rattle.ec_table_law.specs.Tables.{is_fitting, IsVarchar, AreSound}
 use Rattle.ec_fit_law.proofs.Options.{first_true, up_to, itself}
 use Rattle.ec_fit_law.proofs.Types.{ShapesAreSame, Good, Here, in_table, here}

@@ -7,17 +7,17 @@ use Rattle.ec_base.specs.declared.fault.FaultKind.TheVariants.{F22, F23, F24}
 use Rattle.ec_ctypes.specs.trees.Embedded.{HostData}
 use Rattle.ec_ctypes.specs.trees.Exprs.{ExprData}
 use Rattle.ec_ctypes.specs.trees.Types.{TyData, StructData}
-use Rattle.ec_expansion.specs.Calls.{indicator_of}
-use Rattle.ec_hosts.specs.Elements.{is_element}
-use Rattle.ec_hosts.specs.Faults.{fault_unless, suits_role, is_array_input, value_faults, may_have_indicator, shape_faults, indicator_type_faults, indicator_faults, reference_faults, host_faults}
-use Rattle.ec_hosts.specs.Leaves.{LeafData, ShapeData, shape_of_host, leaves_by, leaves, paired, leaves_or_none, hosted}
-use Rattle.ec_hosts.specs.Places.{symbol_or_none, symbol_in, size_of, indicator_place}
-use Rattle.ec_hosts.specs.Programs.{ProgramData, Denoted, reference_type}
-use Rattle.ec_hosts.specs.Uses.{RoleData, text_role, input_role, output_role, number_role, item_role}
+use Rattle.ec_table_law.specs.ec_expansion.Calls.{indicator_of}
+use Rattle.ec_table_law.specs.ec_hosts.Elements.{is_element}
+use Rattle.ec_table_law.specs.ec_hosts.Faults.{fault_unless, suits_role, is_array_input, value_faults, may_have_indicator, shape_faults, indicator_type_faults, indicator_faults, reference_faults, host_faults}
+use Rattle.ec_table_law.specs.ec_hosts.Leaves.{LeafData, ShapeData, shape_of_host, leaves_by, leaves, paired, leaves_or_none, hosted}
+use Rattle.ec_table_law.specs.ec_hosts.Places.{symbol_or_none, symbol_in, size_of, indicator_place}
+use Rattle.ec_table_law.specs.ec_hosts.Programs.{ProgramData, Denoted, reference_type}
+use Rattle.ec_table_law.specs.ec_hosts.Uses.{RoleData, text_role, input_role, output_role, number_role, item_role}
 use Rattle.ec_typing.specs.Answers.{struct_order, renumbered, structs_of}
 use Rattle.ec_typing.specs.Worlds.{World}
-use Rattle.ec_place_law.specs.References.{tables_of}
-use Rattle.ec_closing_law.proofs.Lists.{false_not, some_is}
+use Rattle.ec_table_law.specs.ec_place_law.References.{tables_of}
+use Rattle.ec_table_law.proofs.ec_closing_law_proofs.Lists.{false_not, some_is}
 use Rattle.ec_table_law.specs.Tables.{AreSound}
 use Rattle.ec_fit_law.specs.Fits.{is_value, is_one, PairFits, AllFit, AreSome, HasType, OptionHasType, HostFits}
 use Rattle.ec_fit_law.proofs.Options.{Given, given, Follows, follows, no_first, no_second, not_true}

@@ -6,14 +6,14 @@ use Rattle.ec_arguments.specs.Rules.{indicator_size, element_size}
 use Rattle.ec_ctypes.specs.declared.types.arith.Arith.{Arith}
 use Rattle.ec_ctypes.specs.declared.types.arith.Arith.TheVariants as arithmetics
 use Rattle.ec_ctypes.specs.trees.Types.{TyData, arithmetic, array, StructData}
-use Rattle.ec_hosts.specs.Elements.{Symbol, arith_symbol, symbol_of, is_indicator}
-use Rattle.ec_hosts.specs.Faults.{fault_unless, leaf_count, same_count, are_indicators, is_indicator_array, struct_faults, shape_faults}
+use Rattle.ec_table_law.specs.ec_hosts.Elements.{Symbol, arith_symbol, symbol_of, is_indicator}
+use Rattle.ec_table_law.specs.ec_hosts.Faults.{fault_unless, leaf_count, same_count, are_indicators, is_indicator_array, struct_faults, shape_faults}
 use Rattle.ec_base.specs.declared.fault.FaultKind.{FaultKind}
 use Rattle.ec_base.specs.declared.fault.FaultKind.TheVariants.{F23, F25}
-use Rattle.ec_hosts.specs.Leaves.{LeafData, ShapeData, one_element, elements, one_struct, many_structs, shape_of_host, own_leaf, leaves_by, leaves, leaves_or_none}
+use Rattle.ec_table_law.specs.ec_hosts.Leaves.{LeafData, ShapeData, one_element, elements, one_struct, many_structs, shape_of_host, own_leaf, leaves_by, leaves, leaves_or_none}
 use Rattle.ec_typing.specs.Worlds.{World}
 use Rattle.ec_typing.specs.Answers.{structs_of}
-use Rattle.ec_closing_law.proofs.Lists.{false_not, some_is}
+use Rattle.ec_table_law.proofs.ec_closing_law_proofs.Lists.{false_not, some_is}
 use Rattle.ec_table_law.specs.Tables.{AreSound}
 use Rattle.ec_fit_law.proofs.Options.{cons_not, no_first, no_second, first_true, second_true, itself}
 use Rattle.ec_fit_law.proofs.Types.{ShapesAreSame, Good}

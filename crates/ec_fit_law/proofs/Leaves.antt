@@ -5,13 +5,13 @@ use Rattle.ec_arguments.specs.Rules.{element_size}
 use Rattle.ec_ctypes.specs.declared.types.sizes.Shape.{Shape}
 use Rattle.ec_ctypes.specs.trees.Types.{TyData, void, arithmetic, pointer, array, structure, StructData}
 use Rattle.ec_ctypes.specs.Layout.{shape_of, limited}
-use Rattle.ec_hosts.specs.Elements.{Symbol, symbol_of, is_element, plain_struct}
-use Rattle.ec_hosts.specs.Faults.{is_plain_array}
-use Rattle.ec_hosts.specs.Leaves.{LeafData, Way, ways, ShapeData, one_element, elements, one_struct, many_structs, is_pointer, array_shape, other_shape, shape_of_host, leaf_of_struct, leaf_of_structs, own_leaf, leaves_by, leaves}
-use Rattle.ec_hosts.specs.Places.{size_of}
+use Rattle.ec_table_law.specs.ec_hosts.Elements.{Symbol, symbol_of, is_element, plain_struct}
+use Rattle.ec_table_law.specs.ec_hosts.Faults.{is_plain_array}
+use Rattle.ec_table_law.specs.ec_hosts.Leaves.{LeafData, Way, ways, ShapeData, one_element, elements, one_struct, many_structs, is_pointer, array_shape, other_shape, shape_of_host, leaf_of_struct, leaf_of_structs, own_leaf, leaves_by, leaves}
+use Rattle.ec_table_law.specs.ec_hosts.Places.{size_of}
 use Rattle.ec_typing.specs.Worlds.{World}
 use Rattle.ec_typing.specs.Answers.{structs_of}
-use Rattle.ec_closing_law.proofs.Lists.{none_not, some_is}
+use Rattle.ec_table_law.proofs.ec_closing_law_proofs.Lists.{none_not, some_is}
 use Rattle.ec_table_law.specs.Tables.{AreSound}
 use Rattle.ec_fit_law.proofs.Options.{Mapped, mapped, true_not, not_false, up_to, itself, count_within}
 use Rattle.ec_fit_law.proofs.Types.{ShapesAreSame, Good}

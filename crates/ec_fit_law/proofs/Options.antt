@@ -1,8 +1,8 @@
 -- Values and lists that there are.
 use Rattle.std.proofs.Common.{◌≡◌, ℕ, ◌*◌, ◌≤◌, Bool, true, false, not, ◌&&◌, List, [], ◌∷◌, ◌++◌, Option, Some, None, refl, subst, option_map, is_some, arith}
 use Rattle.std.specs.Prelude.{option_and_then}
-use Rattle.ec_hosts.specs.Leaves.{both}
-use Rattle.ec_closing_law.proofs.Lists.{none_not, false_not, some_is}
+use Rattle.ec_table_law.specs.ec_hosts.Leaves.{both}
+use Rattle.ec_table_law.proofs.ec_closing_law_proofs.Lists.{none_not, false_not, some_is}
 
 -- ---- options
 

@@ -9,9 +9,9 @@ use Rattle.ec_typing.specs.Statements.{type_or_void}
 use Rattle.ec_typing.specs.Worlds.{listed, World, shapes_in, shape_in, is_within}
 use Rattle.ec_typing.specs.Expressions.{Members, typed_members}
 use Rattle.ec_typing.specs.Answers.{struct_order, place_of, renumbered, struct_members, listed_members, struct_data, structs_of}
-use Rattle.ec_place_law.specs.Structs.{IsListed, EachStructIn, AreListed, EachMember}
-use Rattle.ec_closing_law.specs.Closing.{members_at, AreSomeTyped}
-use Rattle.ec_closing_law.proofs.Lists.{none_not, false_not, some_is, get_map}
+use Rattle.ec_table_law.specs.ec_place_law.Structs.{IsListed, EachStructIn, AreListed, EachMember}
+use Rattle.ec_table_law.specs.ec_closing_law.Closing.{members_at, AreSomeTyped}
+use Rattle.ec_table_law.proofs.ec_closing_law_proofs.Lists.{none_not, false_not, some_is, get_map}
 use Rattle.ec_table_law.specs.Tables.{is_fitting, IsFittingIn, AreFitting, AreSound}
 use Rattle.ec_fit_law.proofs.Options.{Follows, follows, Mapped, mapped, first_true, second_true, up_to}
 use Rattle.ec_fit_law.proofs.Types.{ShapesAreSame, element_or, count_or, number_or, IsArray, IsStructure, Good, Here, in_table, here}

@@ -5,16 +5,16 @@ use Rattle.ec_ctypes.specs.declared.types.sizes.Shape.{Shape}
 use Rattle.ec_ctypes.specs.trees.Types.{TyData, void, arithmetic, pointer, array, structure, StructData}
 use Rattle.ec_ctypes.specs.trees.Exprs.{ExprData, identifier, index, member, arrow}
 use Rattle.ec_ctypes.specs.Layout.{shape_of, struct_shape}
-use Rattle.ec_language.specs.Letters.{Text, same_text}
-use Rattle.ec_hosts.specs.Programs.{Denoted, element_of, member_among, member_type, type_along, is_among, declared_type, variable_type, variable_of, reference_type}
+use Rattle.ec_typing.specs.ec_language.Letters.{Text, same_text}
+use Rattle.ec_table_law.specs.ec_hosts.Programs.{Denoted, element_of, member_among, member_type, type_along, is_among, declared_type, variable_type, variable_of, reference_type}
 use Rattle.ec_typing.specs.Statements.{type_or_void}
 use Rattle.ec_typing.specs.Worlds.{MembersData, unlisted, begun, listed, StructInfo, World, shapes_in, shape_in, is_within}
 use Rattle.ec_typing.specs.Expressions.{Members, typed_members}
 use Rattle.ec_typing.specs.Answers.{unclosed, struct_order, place_of, renumbered, struct_members, listed_members, struct_data, structs_of, numbered_from}
-use Rattle.ec_place_law.specs.References.{tables_of}
-use Rattle.ec_place_law.specs.Structs.{IsListed, AreListed, IsAmong, EachMember, IsClosed, AreClosed, IsWithin}
-use Rattle.ec_closing_law.proofs.Lists.{none_not, false_not, some_is, get_map, get_front, among_by, each_behind, each_among}
-use Rattle.ec_closing_law.proofs.Orders.{each_member}
+use Rattle.ec_table_law.specs.ec_place_law.References.{tables_of}
+use Rattle.ec_table_law.specs.ec_place_law.Structs.{IsListed, AreListed, IsAmong, EachMember, IsClosed, AreClosed, IsWithin}
+use Rattle.ec_table_law.proofs.ec_closing_law_proofs.Lists.{none_not, false_not, some_is, get_map, get_front, among_by, each_behind, each_among}
+use Rattle.ec_table_law.proofs.ec_closing_law_proofs.Orders.{each_member}
 use Rattle.ec_table_law.specs.Tables.{is_fitting, IsFittingIn, AreFitting, AreSound}
 use Rattle.ec_fit_law.proofs.Options.{Follows, follows, second_true}
 

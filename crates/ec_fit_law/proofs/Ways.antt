@@ -4,12 +4,12 @@ use Rattle.std.specs.Prelude.{option_and_then}
 use Rattle.ec_ctypes.specs.declared.types.sizes.Shape.{Shape}
 use Rattle.ec_ctypes.specs.trees.Types.{TyData, void, arithmetic, pointer, array, structure, MemberData, StructData}
 use Rattle.ec_ctypes.specs.Layout.{shape_of}
-use Rattle.ec_language.specs.Letters.{Text}
-use Rattle.ec_hosts.specs.Elements.{is_element, plain_if, plain_number, plain_struct}
-use Rattle.ec_hosts.specs.Leaves.{Way, with_step, member_ways, members_ways, ways_within, ways}
+use Rattle.ec_typing.specs.ec_language.Letters.{Text}
+use Rattle.ec_table_law.specs.ec_hosts.Elements.{is_element, plain_if, plain_number, plain_struct}
+use Rattle.ec_table_law.specs.ec_hosts.Leaves.{Way, with_step, member_ways, members_ways, ways_within, ways}
 use Rattle.ec_typing.specs.Worlds.{World}
 use Rattle.ec_typing.specs.Answers.{structs_of}
-use Rattle.ec_closing_law.proofs.Lists.{none_not, some_is}
+use Rattle.ec_table_law.proofs.ec_closing_law_proofs.Lists.{none_not, some_is}
 use Rattle.ec_table_law.specs.Tables.{AreSound}
 use Rattle.ec_fit_law.proofs.Options.{Follows, follows, Mapped, mapped, Joined, joined, up_to}
 use Rattle.ec_fit_law.proofs.Types.{ShapesAreSame, Good}

@@ -6,16 +6,16 @@ use Rattle.ec_ctypes.specs.trees.Checked.{PlaceData}
 use Rattle.ec_ctypes.specs.trees.Embedded.{HostData}
 use Rattle.ec_ctypes.specs.trees.Exprs.{ExprData}
 use Rattle.ec_ctypes.specs.trees.Types.{TyData, StructData}
-use Rattle.ec_expansion.specs.Calls.{indicator_of}
-use Rattle.ec_hosts.specs.Faults.{host_faults}
-use Rattle.ec_hosts.specs.Leaves.{Pair, hosted}
-use Rattle.ec_hosts.specs.Places.{leaf_place}
-use Rattle.ec_hosts.specs.Programs.{ProgramData, Denoted, reference_type}
-use Rattle.ec_hosts.specs.Uses.{RoleData, text_role, input_role, output_role, number_role, item_role}
+use Rattle.ec_table_law.specs.ec_expansion.Calls.{indicator_of}
+use Rattle.ec_table_law.specs.ec_hosts.Faults.{host_faults}
+use Rattle.ec_table_law.specs.ec_hosts.Leaves.{Pair, hosted}
+use Rattle.ec_table_law.specs.ec_hosts.Places.{leaf_place}
+use Rattle.ec_table_law.specs.ec_hosts.Programs.{ProgramData, Denoted, reference_type}
+use Rattle.ec_table_law.specs.ec_hosts.Uses.{RoleData, text_role, input_role, output_role, number_role, item_role}
 use Rattle.ec_typing.specs.Answers.{struct_order, renumbered}
 use Rattle.ec_typing.specs.Worlds.{World}
-use Rattle.ec_place_law.specs.References.{IsReference, tables_of}
-use Rattle.ec_place_law.specs.Structs.{AreListed}
+use Rattle.ec_table_law.specs.ec_place_law.References.{IsReference, tables_of}
+use Rattle.ec_table_law.specs.ec_place_law.Structs.{AreListed}
 use Rattle.ec_table_law.specs.Tables.{AreSound}
 
 -- a place as an argument of a call

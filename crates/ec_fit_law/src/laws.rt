@@ -2,7 +2,7 @@
 
 ghost use Rattle.ec_fit_law.specs.Fits.{HostsFitTheirCalls};
 
-use ec_place_law::sizes_are_those_of_the_tables;
+use ec_table_law::ec_place_law::sizes_are_those_of_the_tables;
 
 /// The leaves of a host that isn't at fault fit a call: their symbols, lengths, counts and distances and those of their
 /// indicators are numbers that a call may have, a value that is read once has one element, and there is a leaf.

@@ -3,4 +3,6 @@
 
 mod laws;
 
+pub use ec_table_law;
+pub use ec_table_law::ec_place_law;
 pub use laws::hosts_fit_their_calls;

@@ -11,9 +11,9 @@ use Rattle.ec_statement_parts.specs.References.{References, references}
 use Rattle.ec_typing.specs.Tables.{Named}
 use Rattle.ec_typing.specs.Worlds.{Place}
 use Rattle.ec_typing.specs.Embedded.{reference_rule, members_rule, references_rule, action_rule, actions_rule, handlers_rule, denote, embedded_rule}
-use Rattle.ec_directive_law.specs.References.{MakesNothing, MakeNothing}
-use Rattle.ec_known_law.proofs.SitesIdle.{demand_idle, keep_idle}
-use Rattle.ec_test_law.specs.Plain.{IsPlain, ArePlain, IsPlainOption, HasPlainActions}
+use Rattle.ec_shape_law.specs.ec_directive_law.References.{MakesNothing, MakeNothing}
+use Rattle.ec_type_law.proofs.ec_known_law_proofs.SitesIdle.{demand_idle, keep_idle}
+use Rattle.ec_type_law.specs.ec_test_law.Plain.{IsPlain, ArePlain, IsPlainOption, HasPlainActions}
 use Rattle.ec_type_law.specs.Flat.{IsFlat, AreFlat}
 use Rattle.ec_flat_law.proofs.Counts.{expr_structs, exprs_structs}
 use Rattle.ec_flat_law.proofs.FirstRules.{Adds, chained, within, idle, pure_adds, asked, instead_adds, same_adds, chosen}

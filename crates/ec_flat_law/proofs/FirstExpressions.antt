@@ -10,9 +10,9 @@ use Rattle.ec_typing.specs.Known.{ArgumentsData, all_expressions, is_identifier,
 use Rattle.ec_typing.specs.Operands.{OperandData, value_rule, unary_rule}
 use Rattle.ec_typing.specs.Worlds.{Place, MembersData, unlisted, begun, listed, StructInfo, Rule, chain, struct_named}
 use Rattle.ec_typing.specs.Expressions.{Members, tagged_struct, closed_struct, begin_again, begin_by, begin_struct, end_struct, is_varchar, varchar_struct, varchar_object, varchar_member, expr, args, base, members, member_decl, member_items, member_item, lengths, last_length, outer_lengths, length_at, init_parts, init_exprs, all_init_exprs}
-use Rattle.ec_known_law.proofs.SitesIdle.{fault, demand_idle, keep_idle, free_tag_idle}
-use Rattle.ec_known_law.proofs.SitesChecks.{words_idle, tag_idle, named_idle}
-use Rattle.ec_known_law.proofs.SitesOperands.{elements_idle, name_idle, value_idle, address_idle, unary_idle, binary_idle, index_idle, assign_idle, compound_idle, bump_idle, call_idle, member_idle, arrow_idle, cast_idle, size_idle, length_idle}
+use Rattle.ec_type_law.proofs.ec_known_law_proofs.SitesIdle.{fault, demand_idle, keep_idle, free_tag_idle}
+use Rattle.ec_type_law.proofs.ec_known_law_proofs.SitesChecks.{words_idle, tag_idle, named_idle}
+use Rattle.ec_type_law.proofs.ec_known_law_proofs.SitesOperands.{elements_idle, name_idle, value_idle, address_idle, unary_idle, binary_idle, index_idle, assign_idle, compound_idle, bump_idle, call_idle, member_idle, arrow_idle, cast_idle, size_idle, length_idle}
 use Rattle.ec_type_law.specs.Flat.{IsFlat, AreFlat, BaseIsFlat, MembersAreFlat, DeclIsFlat, ItemsAreFlat, ItemIsFlat, DimsAreFlat, DimIsFlat, InitIsFlat, PartIsFlat, PartsAreFlat}
 use Rattle.ec_flat_law.proofs.Counts.{expr_structs, exprs_structs, base_structs, members_structs, decl_structs, items_structs, item_structs, dims_structs, dim_structs, init_structs, part_structs, parts_structs, last_structs, outer_structs, all_dims}
 use Rattle.ec_flat_law.proofs.FirstRules.{AreShort, members_first, Adds, chained, chained_with, within, nothing, idle, then_idle, pure_adds, asked, asked_with, noted, same_adds, place_adds, chosen, close_adds, new_struct_adds, set_struct_adds}

@@ -4,8 +4,8 @@ use Rattle.ec_ctypes.specs.trees.Types.{TyData}
 use Rattle.ec_ctypes.specs.trees.Exprs.{ExprData, InitData, one, many, InitList, no_inits, inits}
 use Rattle.ec_typing.specs.Worlds.{Place}
 use Rattle.ec_typing.specs.Initializers.{Frames, init_value, braces_rule, initializer, fill, fill_part}
-use Rattle.ec_known_law.proofs.SitesIdle.{Idle, pure_idle, demand_idle}
-use Rattle.ec_known_law.proofs.SitesChecks.{fixed_idle, part_idle, slot_idle, single_idle}
+use Rattle.ec_type_law.proofs.ec_known_law_proofs.SitesIdle.{Idle, pure_idle, demand_idle}
+use Rattle.ec_type_law.proofs.ec_known_law_proofs.SitesChecks.{fixed_idle, part_idle, slot_idle, single_idle}
 use Rattle.ec_type_law.specs.Flat.{IsFlat, PartIsFlat, PartsAreFlat}
 use Rattle.ec_flat_law.proofs.Counts.{expr_structs, part_structs, parts_structs}
 use Rattle.ec_flat_law.proofs.FirstRules.{Adds, chained, within, nothing, idle, then_idle, pure_adds, asked}

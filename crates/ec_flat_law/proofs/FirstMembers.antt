@@ -8,8 +8,8 @@ use Rattle.ec_typing.specs.Expressions.{Members, member_named, has_init, init_pa
 use Rattle.ec_typing.specs.Operands.{pointers, array_of, arrays, declared_type, elements_rule, within_rule, complete_rule}
 use Rattle.ec_typing.specs.Tables.{put}
 use Rattle.ec_typing.specs.Worlds.{Place, World, Rule, chain, pure, ask, note, demand, place, is_complete}
-use Rattle.ec_closing_law.proofs.Lists.{false_not}
-use Rattle.ec_known_law.proofs.EntriesTypes.{is_no_array, IsNoArray, base_gives}
+use Rattle.ec_type_law.proofs.ec_closing_law_proofs.Lists.{false_not}
+use Rattle.ec_type_law.proofs.ec_known_law_proofs.EntriesTypes.{is_no_array, IsNoArray, base_gives}
 use Rattle.ec_type_law.specs.Flat.{dims_count, MembersAreFlat, DeclIsFlat, ItemsAreFlat, ItemIsFlat}
 use Rattle.ec_flat_law.proofs.FirstRules.{depth, IsUpTo, AreShort}
 

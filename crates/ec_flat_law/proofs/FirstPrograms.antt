@@ -9,11 +9,11 @@ use Rattle.ec_language.specs.Tokens.{max_tokens}
 use Rattle.ec_typing.specs.Answers.{checked}
 use Rattle.ec_typing.specs.Worlds.{Place, EntryData}
 use Rattle.ec_typing.specs.Programs.{declare_param, param, params, begin_function, know_function, body_rule, function_rule, directive_rule, top_rule, tops_rule, main_rule, unit_rule, start}
-use Rattle.ec_closing_law.proofs.Lists.{none_not, some_is}
-use Rattle.ec_known_law.proofs.SitesIdle.{Idle, demand_idle, free_name_idle}
-use Rattle.ec_known_law.proofs.SitesChecks.{result_idle, param_type_idle}
-use Rattle.ec_known_law.proofs.SitesOperands.{elements_idle}
-use Rattle.ec_phases.specs.Sources.{ReadsTree, statements}
+use Rattle.ec_type_law.proofs.ec_closing_law_proofs.Lists.{none_not, some_is}
+use Rattle.ec_type_law.proofs.ec_known_law_proofs.SitesIdle.{Idle, demand_idle, free_name_idle}
+use Rattle.ec_type_law.proofs.ec_known_law_proofs.SitesChecks.{result_idle, param_type_idle}
+use Rattle.ec_type_law.proofs.ec_known_law_proofs.SitesOperands.{elements_idle}
+use Rattle.ec_type_law.specs.ec_phases.Sources.{ReadsTree, statements}
 use Rattle.ec_shape_law.specs.Shapes.{AllAreRead}
 use Rattle.ec_type_law.specs.Flat.{ParamsAreFlat, BodyIsFlat, BaseIsFlat, DimsAreFlat, TopIsFlat, TopsAreFlat}
 use Rattle.ec_type_law.specs.Types.{max_nesting, StructsAreShallow}

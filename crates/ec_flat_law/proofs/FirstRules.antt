@@ -7,8 +7,8 @@ use Rattle.ec_ctypes.specs.trees.Types.{TyData, void, arithmetic, pointer, array
 use Rattle.ec_language.specs.Letters.{Text}
 use Rattle.ec_typing.specs.Expressions.{Members, first_types, first_of_members}
 use Rattle.ec_typing.specs.Worlds.{Place, EntryData, StructInfo, ScopeData, World, Rule, chain, pure, ask, change, note, instead, place, left_to, enter, leave, scoped, declare, know_better, declare_label, number_as, new_struct, set_struct}
-use Rattle.ec_closing_law.proofs.Lists.{none_not, some_is}
-use Rattle.ec_known_law.proofs.SitesIdle.{Idle, demand_idle, free_name_idle}
+use Rattle.ec_type_law.proofs.ec_closing_law_proofs.Lists.{none_not, some_is}
+use Rattle.ec_type_law.proofs.ec_known_law_proofs.SitesIdle.{Idle, demand_idle, free_name_idle}
 
 -- ---- first types
 

@@ -9,10 +9,10 @@ use Rattle.ec_typing.specs.Operands.{OperandData}
 use Rattle.ec_typing.specs.Worlds.{Place, unlisted}
 use Rattle.ec_typing.specs.Expressions.{is_varchar, has_init}
 use Rattle.ec_typing.specs.Statements.{initial, object_type, object_item, object_items, declared_tag, tag_alone, specifier, declaration, Around, as_body, looping, as_item, condition_rule, condition, optional, optional_condition, return_rule, return_nothing, return_by, embedded_at, statement, statement_kind, statements, otherwise}
-use Rattle.ec_known_law.proofs.SitesIdle as idle_by
-use Rattle.ec_known_law.proofs.SitesIdle.{Idle, pure_idle, demand_idle, free_tag_idle}
-use Rattle.ec_known_law.proofs.SitesChecks.{object_idle}
-use Rattle.ec_known_law.proofs.SitesOperands.{elements_idle, within_idle}
+use Rattle.ec_type_law.proofs.ec_known_law_proofs.SitesIdle as idle_by
+use Rattle.ec_type_law.proofs.ec_known_law_proofs.SitesIdle.{Idle, pure_idle, demand_idle, free_tag_idle}
+use Rattle.ec_type_law.proofs.ec_known_law_proofs.SitesChecks.{object_idle}
+use Rattle.ec_type_law.proofs.ec_known_law_proofs.SitesOperands.{elements_idle, within_idle}
 use Rattle.ec_type_law.specs.Flat.{IsFlat, BaseIsFlat, DeclIsFlat, ItemsAreFlat, ItemIsFlat, DimsAreFlat, InitIsFlat, OptionIsFlat, StmtIsFlat, KindIsFlat, StmtsAreFlat, OtherIsFlat}
 use Rattle.ec_flat_law.proofs.Counts.{expr_structs, base_structs, decl_structs, items_structs, item_structs, dims_structs, init_structs, option_structs, stmt_structs, kind_structs, stmts_structs, other_structs, last_structs, outer_structs, all_dims}
 use Rattle.ec_flat_law.proofs.FirstRules.{Adds, chained, within, nothing, idle, then_idle, pure_adds, asked, place_adds, scoped_adds, declare_adds, better_adds, label_adds, number_adds}

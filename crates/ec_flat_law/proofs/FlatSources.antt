@@ -3,9 +3,9 @@ use Rattle.std.proofs.Common.{◌≡◌, List, Result, Ok, Err, sym, ap, subst}
 use Rattle.ec_base.specs.declared.stop.Stop.{Stop}
 use Rattle.ec_ctypes.specs.trees.Embedded.{EmbData}
 use Rattle.ec_ctypes.specs.trees.Units.{UnitData}
-use Rattle.ec_hosts.specs.Examples.{with_statements}
+use Rattle.ec_type_law.specs.ec_hosts.Examples.{with_statements}
 use Rattle.ec_language.specs.Letters.{Text}
-use Rattle.ec_phases.specs.Sources.{ReadsTree, statements}
+use Rattle.ec_type_law.specs.ec_phases.Sources.{ReadsTree, statements}
 use Rattle.ec_type_law.specs.Flat.{TopsAreFlat}
 use Rattle.ec_flat_law.proofs.FlatTrees.{tree_is_flat}
 

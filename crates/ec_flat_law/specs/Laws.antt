@@ -4,7 +4,7 @@ use Rattle.ec_ctypes.specs.trees.Tokens.{TokenData}
 use Rattle.ec_ctypes.specs.trees.Units.{UnitData}
 use Rattle.ec_language.specs.Letters.{Text}
 use Rattle.ec_language.specs.Syntax.{TreeOrStop}
-use Rattle.ec_phases.specs.Sources.{ReadsTree}
+use Rattle.ec_type_law.specs.ec_phases.Sources.{ReadsTree}
 use Rattle.ec_typing.specs.Answers.{checked, violations}
 use Rattle.ec_type_law.specs.Flat.{TopsAreFlat}
 use Rattle.ec_type_law.specs.Types.{StructsAreShallow}

@@ -1,6 +1,6 @@
 //! The known functions, and formats that are taken apart.
 
-use ec_base::{Bytes, List};
+use ec_functions::ec_base::{Bytes, List};
 
 /// One of the outputs.
 #[derive(Clone, Copy, Debug, PartialEq, Eq)]

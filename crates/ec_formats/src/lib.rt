@@ -3,4 +3,5 @@
 
 mod known;
 
+pub use ec_functions::ec_objects;
 pub use known::{Amount, Channel, Field, Known, Part, Style};

@@ -14,8 +14,8 @@ use Rattle.ec_resolving.specs.Operands.{as_value, over_type, unary_found, with_f
 use Rattle.ec_resolving.specs.Storage.{Reached, chain, pure, checks, ask}
 use Rattle.ec_scopes.specs.Seen.{world_of, IsDone}
 use Rattle.ec_storage.specs.Stored.{storage_of}
-use Rattle.ec_typing.specs.Operands.{OperandData}
-use Rattle.ec_typing.specs.Worlds.{World, Rule}
+use Rattle.ec_type_rules.specs.ec_typing.Operands.{OperandData}
+use Rattle.ec_type_rules.specs.ec_typing.Worlds.{World, Rule}
 use Rattle.ec_forms.specs.declared.found.Found.{Found}
 use Rattle.ec_forms.specs.declared.resolver.Resolver.{Resolver}
 use Rattle.ec_forms.specs.Seen.{found_view, IsReached}

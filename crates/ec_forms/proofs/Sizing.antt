@@ -4,7 +4,7 @@ use Rattle.ec_ctypes.specs.declared.types.sizes.Shape.{Shape}
 use Rattle.ec_resolving.specs.Conversions.{within_limit}
 use Rattle.ec_scopes.specs.declared.measures.Measure.TheVariants.{Within, TooLarge}
 use Rattle.ec_scopes.specs.Measures.{measured}
-use Rattle.ec_typing.specs.Worlds.{max_size}
+use Rattle.ec_type_rules.specs.ec_typing.Worlds.{max_size}
 use Rattle.ec_forms.specs.Readings.{shape_by}
 
 pub shape_measured : (o : Option Shape) → shape_by (measured o) ≡ within_limit o

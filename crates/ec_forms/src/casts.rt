@@ -15,7 +15,7 @@ ghost use Rattle.ec_rules.specs.Seen.{operand_view};
 ghost use Rattle.ec_scopes.specs.Entries.{place_view};
 ghost use Rattle.ec_scopes.specs.Seen.{world_of};
 ghost use Rattle.ec_type_rules.specs.Views.{type_view};
-ghost use Rattle.ec_typing.specs.Types as types;
+ghost use Rattle.ec_type_rules.specs.ec_typing.Types as types;
 ghost use Rattle.ec_forms.specs.Readings.{cast_by};
 ghost use Rattle.ec_forms.specs.Seen.{found_view, from, IsReached, Reaches};
 
@@ -24,6 +24,7 @@ use crate::resolver::Resolver;
 use crate::sizes::size_of;
 use crate::values::{Reading, discarding, read, reading_of};
 use ec_base::OutOfMemory;
+use ec_code::ec_values::Word;
 use ec_code::{Expression, Leaf};
 use ec_conversions::{Conversion, converted, scalar_conversion};
 use ec_ctypes::Ty;
@@ -31,7 +32,6 @@ use ec_objects::Kind;
 use ec_rules::{Operand, cast_rule as checked_cast, size_rule as checked_size};
 use ec_scopes::{Checker, Place};
 use ec_type_rules::is_void;
-use ec_values::Word;
 use std::alloc::Global;
 
 /// The scalar type of a value of this type: an array is a pointer.

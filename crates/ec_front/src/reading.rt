@@ -9,9 +9,9 @@ ghost use Rattle.ec_front.specs.Answers.{TellsReading, TellsRest, IsOnly};
 
 use ec_base::{LimitKind, List, Stop};
 use ec_clex::tokens;
+use ec_csyntax::ec_exact::readings_are_single;
 use ec_csyntax::parse;
 use ec_ctypes::{Piece, Token, Unit};
-use ec_exact::readings_are_single;
 use ec_split::split;
 use std::alloc::Global;
 

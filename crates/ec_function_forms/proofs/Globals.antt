@@ -10,7 +10,7 @@ use Rattle.ec_ctypes.specs.views.Units.{top_view}
 use Rattle.ec_resolving.specs.Programs.{globals_in, globals_of_decl}
 use Rattle.ec_resolving.specs.Statements.{declarators_in}
 use Rattle.ec_scopes.proofs.Loops.{drop_item}
-use Rattle.ec_walk.proofs.Trees.{decl_seen}
+use Rattle.ec_statement_forms.proofs.ec_walk_proofs.Trees.{decl_seen}
 use Rattle.ec_function_forms.specs.Counting.{globals_of}
 
 declarators_counted : (ds : List Declarator) → length ds ≡ declarators_in (declarators_view ds)

@@ -2,7 +2,7 @@
 use Rattle.std.specs.Prelude.{ℕ, List, [], ◌∷◌, ◌++◌, replicate, Option, Some, Result, Ok, Err, codes}
 use Prim.Native.String.{String}
 use Rattle.std.specs.Option.{option_and_then}
-use Rattle.ec_base.specs.declared.stop.Trap.{Trap}
+use Rattle.ec_objects.specs.ec_base.declared.stop.Trap.{Trap}
 use Rattle.ec_objects.specs.Cells.{Cell, set_cells, unset_cells}
 use Rattle.ec_objects.specs.Memory.{Memory, ObjectData, alive, ended, ValueData, pointer_to, little_endian_bytes}
 use Rattle.ec_functions.specs.Formats.{format_parts}

@@ -1,9 +1,9 @@
 -- The functions that a program may call without defining them, and what a call of one does. Its arguments are values; it reads and writes memory, and puts bytes on the two outputs.
 use Rattle.std.specs.Prelude.{ℕ, ◌-◌, ◌^◌, min, if◌then◌else◌, ℤ, pos, unsigned_abs, int_lt, List, [], ◌∷◌, ◌++◌, length, Option, Some, None, Result, Ok, Err, codes}
 use Rattle.std.specs.Int.{int_rem_euclid}
-use Rattle.ec_base.specs.declared.stop.Trap.{Trap}
-use Rattle.ec_ctypes.specs.declared.types.arith.Arith.TheVariants.{UChar, Int}
-use Rattle.ec_ctypes.specs.Arithmetic.{converted}
+use Rattle.ec_objects.specs.ec_base.declared.stop.Trap.{Trap}
+use Rattle.ec_objects.specs.ec_ctypes.declared.types.arith.Arith.TheVariants.{UChar, Int}
+use Rattle.ec_objects.specs.ec_ctypes.Arithmetic.{converted}
 use Rattle.ec_objects.specs.Memory.{Memory, ValueData, number, address, number_of, integer_type, pointer_to, load, span, text_at}
 use Rattle.ec_functions.specs.Formats.{Part}
 use Rattle.ec_functions.specs.Printing.{printed}

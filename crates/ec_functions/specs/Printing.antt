@@ -1,9 +1,9 @@
 -- What printf puts (ISO/IEC 9899:1999, 7.19.6.1). All arguments and texts are read before the first byte is put, so what is put is one list of bytes.
 use Rattle.std.specs.Prelude.{ℕ, zero, suc, ◌+◌, ◌-◌, ◌/◌, ◌%◌, Bool, true, false, ◌||◌, nat_lt, if◌then◌else◌, ℤ, pos, negsuc, unsigned_abs, int_lt, List, [], ◌∷◌, ◌++◌, length, replicate, Option, Some, None, Result, Ok, Err}
-use Rattle.ec_base.specs.declared.stop.Trap.{Trap}
-use Rattle.ec_ctypes.specs.declared.types.arith.Arith.{Arith}
-use Rattle.ec_ctypes.specs.declared.types.arith.Arith.TheVariants.{UChar, Int, UInt, Long, ULong}
-use Rattle.ec_ctypes.specs.Arithmetic.{converted}
+use Rattle.ec_objects.specs.ec_base.declared.stop.Trap.{Trap}
+use Rattle.ec_objects.specs.ec_ctypes.declared.types.arith.Arith.{Arith}
+use Rattle.ec_objects.specs.ec_ctypes.declared.types.arith.Arith.TheVariants.{UChar, Int, UInt, Long, ULong}
+use Rattle.ec_objects.specs.ec_ctypes.Arithmetic.{converted}
 use Rattle.ec_objects.specs.Memory.{Memory, ValueData, number, address, text_at, text_up_to}
 use Rattle.ec_functions.specs.Formats.{Amount, absent, given, from_argument, Style, signed_decimal, unsigned_decimal, hexadecimal, capital_hexadecimal, octal, Field, Part, plain, integer, character, text}
 

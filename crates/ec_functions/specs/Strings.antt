@@ -1,7 +1,7 @@
 -- The functions of string.h (ISO/IEC 9899:1999, 7.21), over a memory.
 use Rattle.std.specs.Prelude.{ℕ, zero, suc, ◌+◌, ◌-◌, Bool, true, false, ◌==◌, nat_lt, if◌then◌else◌, ℤ, pos, negsuc, List, [], ◌∷◌, ◌++◌, drop, length, replicate, Some, None, Result, Ok, Err}
-use Rattle.ec_base.specs.declared.stop.Trap.{Trap}
-use Rattle.ec_base.specs.declared.stop.Trap.TheVariants.{Outside, Unset}
+use Rattle.ec_objects.specs.ec_base.declared.stop.Trap.{Trap}
+use Rattle.ec_objects.specs.ec_base.declared.stop.Trap.TheVariants.{Outside, Unset}
 use Rattle.ec_objects.specs.Cells.{Cell}
 use Rattle.ec_objects.specs.Memory.{Memory, and_then, object_cells, object_of, offset_of, text_at, text_up_to, put, copy, fill}
 

@@ -1,7 +1,7 @@
 //! What calls of the known functions do, as the contracts of functions that do nothing.
 
 ghost use Rattle.std.specs.Prelude.{◌≡◌, ℕ, ◌+◌, ◌^◌, ◌≤◌, pos, negsuc, List, [], ◌∷◌, ◌++◌, length, replicate, Some, None, codes};
-ghost use Rattle.ec_base.specs.declared.stop.Trap.TheVariants as trap;
+ghost use Rattle.ec_objects.specs.ec_base.declared.stop.Trap.TheVariants as trap;
 ghost use Rattle.ec_objects.specs.Cells.{set_cells, unset_cells};
 ghost use Rattle.ec_objects.specs.Memory.{alive, pointer_to, number, address};
 ghost use Rattle.ec_functions.specs.Formats.{plain};

@@ -6,6 +6,8 @@ mod formats;
 mod function_examples;
 mod printing_examples;
 
+pub use ec_objects;
+pub use ec_objects::ec_base;
 pub use formats::{format_examples, refused_formats};
 pub use function_examples::{
     comparing_examples, copying_examples, ending_examples, putting_examples,

@@ -1,7 +1,7 @@
 //! What `printf` puts, as the contracts of functions that do nothing.
 
 ghost use Rattle.std.specs.Prelude.{◌≡◌, ◌+◌, ◌*◌, ◌^◌, ◌-◌, pos, negsuc, [], ◌∷◌, Some, None, Ok};
-ghost use Rattle.ec_base.specs.declared.stop.Trap.TheVariants as trap;
+ghost use Rattle.ec_objects.specs.ec_base.declared.stop.Trap.TheVariants as trap;
 ghost use Rattle.ec_objects.specs.Memory.{number, address};
 ghost use Rattle.ec_functions.specs.Examples.{shown, puts_text, puts_trap, abc, xyz, a_unset, gone};
 

@@ -1,13 +1,13 @@
 -- What is known grows by expressions, and by types and declarators in them.
 use Rattle.std.proofs.Common.{◌≡◌, ℕ, Bool, true, false, [], ◌∷◌, refl, sym, ap, subst, ◌∙◌, Option, Some, None}
 use Rattle.std.specs.Prelude.{option_map, slice_set}
-use Rattle.ec_base.specs.declared.fault.FaultKind.TheVariants.{F10}
-use Rattle.ec_base.specs.declared.fault.LimitKind.TheVariants.{L1}
+use Rattle.ec_ctypes.specs.ec_base.declared.fault.FaultKind.TheVariants.{F10}
+use Rattle.ec_ctypes.specs.ec_base.declared.fault.LimitKind.TheVariants.{L1}
 use Rattle.ec_ctypes.specs.declared.tree.expr.UnOp.{UnOp}
 use Rattle.ec_ctypes.specs.declared.tree.expr.UnOp.TheVariants.{Addr, Deref, Plus, Minus, Not, Flip}
 use Rattle.ec_ctypes.specs.trees.Types.{TyData}
 use Rattle.ec_ctypes.specs.trees.Exprs.{ExprData, integer, character, string, identifier, unary, binary, assign, bump, call, call_other, index, member, arrow, cast, size_type, size_expr, ExprList, no_exprs, exprs, BaseData, words, varchar, tagged, struct_base, DimData, open_dim, dim, DimList, no_dims, dims, InitData, one, many, InitList, no_inits, inits, InitOption, no_init, some_init, DeclaratorData, declarator, DeclaratorList, no_declarators, declarators, DeclData, decl, DeclList, no_decls, decls}
-use Rattle.ec_language.specs.Letters.{Text}
+use Rattle.ec_typing.specs.ec_language.Letters.{Text}
 use Rattle.ec_typing.specs.Known.{ArgumentsData, all_expressions, is_identifier, is_no_expression}
 use Rattle.ec_typing.specs.Operands.{OperandData, value_rule, unary_rule}
 use Rattle.ec_typing.specs.Worlds.{Place, MembersData, unlisted, begun, listed, StructInfo, Rule, World, chain, pure, ask, change, note, set_struct, struct_named, members_of}

@@ -5,7 +5,7 @@ use Rattle.ec_ctypes.specs.trees.Types.{TyData}
 use Rattle.ec_ctypes.specs.trees.Stmts.{StmtList}
 use Rattle.ec_ctypes.specs.trees.Embedded.{EmbData}
 use Rattle.ec_ctypes.specs.trees.Units.{ParamData, FuncData, TopData, include_top, directive_top, decl_top, func_top, mark_top}
-use Rattle.ec_language.specs.Letters.{Text}
+use Rattle.ec_typing.specs.ec_language.Letters.{Text}
 use Rattle.ec_typing.specs.Worlds.{Place, EntryData}
 use Rattle.ec_typing.specs.Programs.{result_rule, plain_param, array_param, param_type, declare_param, param, params, begin_function, know_function, body_rule, function_rule, directive_rule, top_rule, tops_rule}
 use Rattle.ec_growth_law.proofs.Rules.{Growing, chained, asked, pure_grows, demand_grows, names_grow, place_grows, enter_grows, leave_grows, free_name_grows, declare_grows, number_grows}

@@ -6,14 +6,14 @@ use Rattle.ec_base.specs.declared.fault.FaultKind.{FaultKind}
 use Rattle.ec_ctypes.specs.declared.embedded.emb.Item.{Item}
 use Rattle.ec_ctypes.specs.trees.Embedded.{HostData, TextArgData, word_arg, host_arg, host_with_indicator, InputData, host_input, const_input, InsData, listed_ins, area_ins, PartData, bytes_part, host_part}
 use Rattle.ec_ctypes.specs.trees.Exprs.{ExprData}
-use Rattle.ec_hosts.specs.Faults.{host_faults, host_count, value_part, indicator_part, uses_faults}
-use Rattle.ec_hosts.specs.Programs.{ProgramData, Denoted, names_count}
-use Rattle.ec_hosts.specs.Uses.{RoleData, input_role, output_role, item_role, UseData, Uses, text_uses, text_option_uses, input_uses, part_uses, output_uses, get_uses, set_uses, each_uses, ins_uses}
+use Rattle.ec_table_law.specs.ec_hosts.Faults.{host_faults, host_count, value_part, indicator_part, uses_faults}
+use Rattle.ec_table_law.specs.ec_hosts.Programs.{ProgramData, Denoted, names_count}
+use Rattle.ec_table_law.specs.ec_hosts.Uses.{RoleData, input_role, output_role, item_role, UseData, Uses, text_uses, text_option_uses, input_uses, part_uses, output_uses, get_uses, set_uses, each_uses, ins_uses}
 use Rattle.ec_statement_parts.specs.References.{References, of_host, of_text, of_text_option, of_input, of_part, of_get_item, of_set_item, of_all, of_ins}
 use Rattle.ec_typing.specs.Worlds.{Place, World}
-use Rattle.ec_resolving.specs.Storage.{Storage}
-use Rattle.ec_direct.specs.Statements.{Around, Made, behind, each_of, host_leaves, input, part, text_arg, text_option, sent, get_leaves, set_inputs}
-use Rattle.ec_place_law.specs.Statements.{ReferencesAre}
+use Rattle.ec_table_law.specs.ec_resolving.Storage.{Storage}
+use Rattle.ec_table_law.specs.ec_direct.Statements.{Around, Made, behind, each_of, host_leaves, input, part, text_arg, text_option, sent, get_leaves, set_inputs}
+use Rattle.ec_table_law.specs.ec_place_law.Statements.{ReferencesAre}
 
 -- ---- empty lists
 

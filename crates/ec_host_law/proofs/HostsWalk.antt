@@ -8,20 +8,20 @@ use Rattle.ec_ctypes.specs.declared.embedded.emb.Item.{Item}
 use Rattle.ec_ctypes.specs.trees.Embedded.{HostData, TextArgData, word_arg, host_arg, host_with_indicator, InputData, host_input, const_input, InsData, listed_ins, area_ins, OutsData, no_outs, listed_outs, area_outs, PartData, bytes_part, host_part, EmbData, EmbKindData, connect, set_connection, disconnect, autocommit, trans, server_text, declare_cursor, open_cursor, execute_immediate, prepare, execute, deallocate, allocate_area, free_area, get_count, get_items, set_count, set_items, whenever, include_sqlca}
 use Rattle.ec_ctypes.specs.trees.Exprs.{ExprData}
 use Rattle.ec_ctypes.specs.trees.Types.{TyData, StructData}
-use Rattle.ec_expansion.specs.Calls.{text_of}
-use Rattle.ec_hosts.specs.Elements.{is_element, is_text}
-use Rattle.ec_hosts.specs.Faults.{fault_unless, suits_role, is_array_input, value_faults, indicator_faults, reference_faults, host_count, value_part, indicator_part, uses_faults}
-use Rattle.ec_hosts.specs.Leaves.{hosted}
-use Rattle.ec_hosts.specs.Programs.{ProgramData, Denoted, reference_type}
-use Rattle.ec_hosts.specs.Uses.{RoleData, text_role, input_role, number_role, item_role, Uses, text_uses, text_option_uses, input_uses, part_uses, output_uses, get_uses, set_uses, each_uses, ins_uses, outs_uses, kind_uses}
+use Rattle.ec_table_law.specs.ec_expansion.Calls.{text_of}
+use Rattle.ec_table_law.specs.ec_hosts.Elements.{is_element, is_text}
+use Rattle.ec_table_law.specs.ec_hosts.Faults.{fault_unless, suits_role, is_array_input, value_faults, indicator_faults, reference_faults, host_count, value_part, indicator_part, uses_faults}
+use Rattle.ec_table_law.specs.ec_hosts.Leaves.{hosted}
+use Rattle.ec_table_law.specs.ec_hosts.Programs.{ProgramData, Denoted, reference_type}
+use Rattle.ec_table_law.specs.ec_hosts.Uses.{RoleData, text_role, input_role, number_role, item_role, Uses, text_uses, text_option_uses, input_uses, part_uses, output_uses, get_uses, set_uses, each_uses, ins_uses, outs_uses, kind_uses}
 use Rattle.ec_statement_parts.specs.Handlers.{is_directive}
 use Rattle.ec_statement_parts.specs.References.{References, of_host, of_text, of_text_option, of_input, of_part, of_get_item, of_set_item, of_all, of_ins, of_outs, of_kind}
 use Rattle.ec_typing.specs.Worlds.{Place, World}
-use Rattle.ec_resolved.specs.Resolved.{Exp}
-use Rattle.ec_resolving.specs.Storage.{Storage}
-use Rattle.ec_direct.specs.Statements.{Around, Cursor, each_of, host_leaves, input, part, text_arg, text_option, sent, type_of}
-use Rattle.ec_argument_law.specs.Bound.{IsOne, HostIs, HostTextIs, TextIs, OptionIs, InputIs, InputsAre, InsAre, PartIs, PartsAre, HostsAre, OutputsAre, OneHostIs, OneInputIs, GetsAre, SetsAre, KindIs}
-use Rattle.ec_place_law.specs.Statements.{pointer_exp, ReferenceIs, ReferencesAre, NamesText}
+use Rattle.ec_table_law.specs.ec_resolved.Resolved.{Exp}
+use Rattle.ec_table_law.specs.ec_resolving.Storage.{Storage}
+use Rattle.ec_table_law.specs.ec_direct.Statements.{Around, Cursor, each_of, host_leaves, input, part, text_arg, text_option, sent, type_of}
+use Rattle.ec_table_law.specs.ec_argument_law.Bound.{IsOne, HostIs, HostTextIs, TextIs, OptionIs, InputIs, InputsAre, InsAre, PartIs, PartsAre, HostsAre, OutputsAre, OneHostIs, OneInputIs, GetsAre, SetsAre, KindIs}
+use Rattle.ec_table_law.specs.ec_place_law.Statements.{pointer_exp, ReferenceIs, ReferencesAre, NamesText}
 use Rattle.ec_host_law.specs.Hosts.{CursorStands, StatementStands, StatementLeads}
 use Rattle.ec_host_law.proofs.Cuts.{some_not, nil_front, nil_back, input_goes, part_goes, output_goes, get_goes, set_goes, text_goes, option_goes, parts_go, ins_go, Stands, faults_in, first, rest}
 

@@ -6,19 +6,19 @@ use Rattle.std.specs.Cmp.Lexicographic as lexicographic
 use Rattle.ec_arguments.specs.Arguments.{absent, held}
 use Rattle.ec_ctypes.specs.trees.Exprs.{ExprData, identifier, index, member, arrow}
 use Rattle.ec_ctypes.specs.trees.Types.{TyData, void, arithmetic, pointer, array, structure, MemberData, StructData}
-use Rattle.ec_expansion.specs.Calls.{text_of}
-use Rattle.ec_hosts.specs.Elements.{capacity, varchar_symbol, struct_symbol, is_text}
-use Rattle.ec_hosts.specs.Programs.{Denoted, ProgramData, member_among, type_along, variable_type, variable_of, reference_type}
-use Rattle.ec_language.specs.Letters.{Text, same_text}
+use Rattle.ec_table_law.specs.ec_expansion.Calls.{text_of}
+use Rattle.ec_table_law.specs.ec_hosts.Elements.{capacity, varchar_symbol, struct_symbol, is_text}
+use Rattle.ec_table_law.specs.ec_hosts.Programs.{Denoted, ProgramData, member_among, type_along, variable_type, variable_of, reference_type}
+use Rattle.ec_statement_parts.specs.ec_language.Letters.{Text, same_text}
 use Rattle.ec_typing.specs.Answers.{struct_order, renumbered, listed_members, struct_data, structs_of}
 use Rattle.ec_typing.specs.Embedded.{denoted_by}
 use Rattle.ec_typing.specs.Expressions.{varchar_members}
 use Rattle.ec_typing.specs.Known.{is_reserved}
 use Rattle.ec_typing.specs.Types.{char_type}
 use Rattle.ec_typing.specs.Worlds.{listed, StructInfo, ScopeData, World, or_else, look_up, look_up_in}
-use Rattle.ec_expression_law.specs.Worlds.{KeepsReserved, AllKeepReserved}
-use Rattle.ec_place_law.specs.References.{IsReference, variable_in}
-use Rattle.ec_place_law.specs.Statements.{NamesText}
+use Rattle.ec_table_law.specs.ec_expression_law.Worlds.{KeepsReserved, AllKeepReserved}
+use Rattle.ec_table_law.specs.ec_place_law.References.{IsReference, variable_in}
+use Rattle.ec_table_law.specs.ec_place_law.Statements.{NamesText}
 use Rattle.ec_table_law.specs.Tables.{IsVarchar, VarcharsAre}
 
 false_not : {C : Type 0} → false ≡ true → C

@@ -2,22 +2,22 @@
 use Rattle.std.specs.Prelude.{◌≡◌, ℕ, true, false, List, [], Option}
 use Rattle.ec_ctypes.specs.trees.Embedded.{PartData, open_cursor, EmbData}
 use Rattle.ec_ctypes.specs.trees.Types.{TyData}
-use Rattle.ec_language.specs.Letters.{Text}
-use Rattle.ec_hosts.specs.Elements.{is_text}
-use Rattle.ec_hosts.specs.Faults.{uses_faults}
-use Rattle.ec_hosts.specs.Programs.{ProgramData}
-use Rattle.ec_hosts.specs.Uses.{part_uses, each_uses, uses_of}
+use Rattle.ec_statement_parts.specs.ec_language.Letters.{Text}
+use Rattle.ec_table_law.specs.ec_hosts.Elements.{is_text}
+use Rattle.ec_table_law.specs.ec_hosts.Faults.{uses_faults}
+use Rattle.ec_table_law.specs.ec_hosts.Programs.{ProgramData}
+use Rattle.ec_table_law.specs.ec_hosts.Uses.{part_uses, each_uses, uses_of}
 use Rattle.ec_statement_parts.specs.Handlers.{is_directive}
 use Rattle.ec_statement_parts.specs.References.{of_part, of_all, references}
 use Rattle.ec_typing.specs.Answers.{structs_of}
 use Rattle.ec_typing.specs.Worlds.{Place, World}
-use Rattle.ec_resolving.specs.Storage.{Storage, ReferenceForm}
-use Rattle.ec_direct.specs.Statements.{Around, Cursor, text_option}
-use Rattle.ec_argument_law.specs.Bound.{cursor_of, OptionIs, KindIs, PartsAre}
-use Rattle.ec_expression_law.specs.Worlds.{KeepsReserved, AllKeepReserved}
-use Rattle.ec_place_law.specs.References.{NamesAreDeclared, tables_of}
-use Rattle.ec_place_law.specs.Statements.{pointer_exp, ReferencesAre, NamesText}
-use Rattle.ec_place_law.specs.Structs.{IsWithin}
+use Rattle.ec_table_law.specs.ec_resolving.Storage.{Storage, ReferenceForm}
+use Rattle.ec_table_law.specs.ec_direct.Statements.{Around, Cursor, text_option}
+use Rattle.ec_table_law.specs.ec_argument_law.Bound.{cursor_of, OptionIs, KindIs, PartsAre}
+use Rattle.ec_table_law.specs.ec_expression_law.Worlds.{KeepsReserved, AllKeepReserved}
+use Rattle.ec_table_law.specs.ec_place_law.References.{NamesAreDeclared, tables_of}
+use Rattle.ec_table_law.specs.ec_place_law.Statements.{pointer_exp, ReferencesAre, NamesText}
+use Rattle.ec_table_law.specs.ec_place_law.Structs.{IsWithin}
 use Rattle.ec_table_law.specs.Tables.{VarcharsAre}
 
 -- where a statement stands

@@ -2,7 +2,9 @@
 
 ghost use Rattle.ec_host_law.specs.Hosts.{TextsAreNamed, PartsLead, StatementsLead};
 
-use ec_place_law::{elements_are_one_leaf, hosts_lead_to_their_places, texts_lead_to_their_places};
+use ec_table_law::ec_place_law::{
+    elements_are_one_leaf, hosts_lead_to_their_places, texts_lead_to_their_places,
+};
 
 /// A type that may stand for a name or a text is a pointer, an array or the struct of a VARCHAR, whose characters are an array.
 #[tactic(none)]

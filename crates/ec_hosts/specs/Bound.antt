@@ -1,17 +1,17 @@
 -- An embedded statement with its hosts as places, or the fault that it is refused for.
 use Rattle.std.specs.Prelude.{ℕ, ◌+◌, List, [], ◌∷◌, ◌++◌, map, take, drop, length, Option, Some, None, option_and_then, Result, Ok, Err}
-use Rattle.ec_base.specs.declared.fault.FaultKind.{FaultKind}
-use Rattle.ec_base.specs.declared.stop.Stop.{Stop}
-use Rattle.ec_base.specs.declared.stop.Stop.TheVariants.{Refused}
-use Rattle.ec_ctypes.specs.declared.embedded.emb.Item.{Item}
-use Rattle.ec_ctypes.specs.trees.Exprs.{ExprData, string}
-use Rattle.ec_ctypes.specs.trees.Checked.{PlaceData, BoundData, TypedData}
-use Rattle.ec_ctypes.specs.trees.Embedded.{HostData, TextArgData, word_arg, host_arg, host_with_indicator, InputData, host_input, const_input, InsData, listed_ins, area_ins, OutsData, no_outs, listed_outs, area_outs, PartData, bytes_part, host_part, EmbData, connect, set_connection, disconnect, autocommit, trans, server_text, declare_cursor, open_cursor, execute_immediate, prepare, execute, deallocate, allocate_area, free_area, get_count, get_items, set_count, set_items, whenever, include_sqlca}
-use Rattle.ec_language.specs.Letters.{Text}
-use Rattle.ec_language.specs.First.{Violation, first_of, stop_at}
+use Rattle.ec_typing.specs.ec_base.declared.fault.FaultKind.{FaultKind}
+use Rattle.ec_typing.specs.ec_base.declared.stop.Stop.{Stop}
+use Rattle.ec_typing.specs.ec_base.declared.stop.Stop.TheVariants.{Refused}
+use Rattle.ec_typing.specs.ec_ctypes.declared.embedded.emb.Item.{Item}
+use Rattle.ec_typing.specs.ec_ctypes.trees.Exprs.{ExprData, string}
+use Rattle.ec_typing.specs.ec_ctypes.trees.Checked.{PlaceData, BoundData, TypedData}
+use Rattle.ec_typing.specs.ec_ctypes.trees.Embedded.{HostData, TextArgData, word_arg, host_arg, host_with_indicator, InputData, host_input, const_input, InsData, listed_ins, area_ins, OutsData, no_outs, listed_outs, area_outs, PartData, bytes_part, host_part, EmbData, connect, set_connection, disconnect, autocommit, trans, server_text, declare_cursor, open_cursor, execute_immediate, prepare, execute, deallocate, allocate_area, free_area, get_count, get_items, set_count, set_items, whenever, include_sqlca}
+use Rattle.ec_typing.specs.ec_language.Letters.{Text}
+use Rattle.ec_typing.specs.ec_language.First.{Violation, first_of, stop_at}
 use Rattle.ec_embedded.specs.SentText.{parameters}
 use Rattle.ec_sections.specs.Declared.{functions_of}
-use Rattle.ec_statement_parts.specs.Cursors.{declare_opened}
+use Rattle.ec_typing.specs.ec_statement_parts.Cursors.{declare_opened}
 use Rattle.ec_hosts.specs.Leaves.{Pair, hosted}
 use Rattle.ec_hosts.specs.Places.{leaf_place, constant_place, descriptor_place, text_pointer, no_text}
 use Rattle.ec_hosts.specs.Programs.{ProgramData, Denoted, reference_type, names_count}

@@ -1,10 +1,10 @@
 -- What one element of a host is, by its type alone (PostgreSQL manual, "Using Host Variables").
 use Rattle.std.specs.Prelude.{ℕ, zero, suc, Bool, true, false, List, [], ◌∷◌, slice_get, Option, Some, None, option_and_then, is_some}
-use Rattle.ec_ctypes.specs.declared.types.arith.Arith.{Arith}
-use Rattle.ec_ctypes.specs.declared.types.arith.Arith.TheVariants as arith
-use Rattle.ec_ctypes.specs.declared.checked.library.Sym.{Sym}
-use Rattle.ec_ctypes.specs.declared.checked.library.Sym.TheVariants as sym
-use Rattle.ec_ctypes.specs.trees.Types.{TyData, void, arithmetic, pointer, array, structure, MemberData, StructData}
+use Rattle.ec_typing.specs.ec_ctypes.declared.types.arith.Arith.{Arith}
+use Rattle.ec_typing.specs.ec_ctypes.declared.types.arith.Arith.TheVariants as arith
+use Rattle.ec_typing.specs.ec_ctypes.declared.checked.library.Sym.{Sym}
+use Rattle.ec_typing.specs.ec_ctypes.declared.checked.library.Sym.TheVariants as sym
+use Rattle.ec_typing.specs.ec_ctypes.trees.Types.{TyData, void, arithmetic, pointer, array, structure, MemberData, StructData}
 
 -- the symbol of a type, and the length of a text: 0 for a pointer to one, and for all that is no text
 abbrev pub Symbol : Type 0

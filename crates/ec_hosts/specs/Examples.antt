@@ -1,34 +1,34 @@
 -- Whole sources, as examples write them, with what the phases up to the hosts say of them.
 use Rattle.std.specs.Prelude.{ℕ, ◌+◌, Bool, true, false, List, [], ◌∷◌, ◌++◌, slice_get, codes, Option, Some, None, option_map, Result, Ok, Err}
 use Prim.Native.String.{String}
-use Rattle.ec_base.specs.declared.fault.FaultKind.{FaultKind}
-use Rattle.ec_base.specs.declared.fault.LimitKind.{LimitKind}
-use Rattle.ec_base.specs.declared.stop.Stop.{Stop}
-use Rattle.ec_base.specs.declared.stop.Stop.TheVariants.{Refused, Limit}
-use Rattle.ec_ctypes.specs.declared.text.piece.Piece.{Piece}
-use Rattle.ec_ctypes.specs.declared.text.piece.PieceKind.{PieceKind}
-use Rattle.ec_ctypes.specs.declared.text.piece.PieceKind.TheVariants.{Emb}
-use Rattle.ec_ctypes.specs.declared.types.arith.Arith.TheVariants.{Int}
-use Rattle.ec_ctypes.specs.declared.tree.expr.UnOp.TheVariants.{Addr}
-use Rattle.ec_ctypes.specs.declared.checked.library.Sym.{Sym}
-use Rattle.ec_ctypes.specs.declared.checked.library.Sym.TheVariants as sym
-use Rattle.ec_ctypes.specs.trees.Tokens.{emb_token, TokenData}
-use Rattle.ec_ctypes.specs.trees.Types.{arithmetic}
-use Rattle.ec_ctypes.specs.trees.Exprs.{ExprData, integer, identifier, unary, index, member}
-use Rattle.ec_ctypes.specs.trees.Embedded.{EmbData}
-use Rattle.ec_ctypes.specs.trees.Checked.{IndicatorData, PlaceData, BoundData, TypedData}
-use Rattle.ec_ctypes.specs.trees.Units.{UnitData}
-use Rattle.ec_language.specs.Letters.{Text}
-use Rattle.ec_language.specs.Line.{newlines}
-use Rattle.ec_language.specs.ReadPieces.{read_pieces}
-use Rattle.ec_language.specs.ReadTokens.{read_tokens, statement_units}
-use Rattle.ec_language.specs.SqlTokens.{SqlToken}
-use Rattle.ec_language.specs.SyntaxAnswer.{read_syntax}
-use Rattle.ec_language.specs.Tokens.{sql_answer}
+use Rattle.ec_typing.specs.ec_base.declared.fault.FaultKind.{FaultKind}
+use Rattle.ec_typing.specs.ec_base.declared.fault.LimitKind.{LimitKind}
+use Rattle.ec_typing.specs.ec_base.declared.stop.Stop.{Stop}
+use Rattle.ec_typing.specs.ec_base.declared.stop.Stop.TheVariants.{Refused, Limit}
+use Rattle.ec_typing.specs.ec_ctypes.declared.text.piece.Piece.{Piece}
+use Rattle.ec_typing.specs.ec_ctypes.declared.text.piece.PieceKind.{PieceKind}
+use Rattle.ec_typing.specs.ec_ctypes.declared.text.piece.PieceKind.TheVariants.{Emb}
+use Rattle.ec_typing.specs.ec_ctypes.declared.types.arith.Arith.TheVariants.{Int}
+use Rattle.ec_typing.specs.ec_ctypes.declared.tree.expr.UnOp.TheVariants.{Addr}
+use Rattle.ec_typing.specs.ec_ctypes.declared.checked.library.Sym.{Sym}
+use Rattle.ec_typing.specs.ec_ctypes.declared.checked.library.Sym.TheVariants as sym
+use Rattle.ec_typing.specs.ec_ctypes.trees.Tokens.{emb_token, TokenData}
+use Rattle.ec_typing.specs.ec_ctypes.trees.Types.{arithmetic}
+use Rattle.ec_typing.specs.ec_ctypes.trees.Exprs.{ExprData, integer, identifier, unary, index, member}
+use Rattle.ec_typing.specs.ec_ctypes.trees.Embedded.{EmbData}
+use Rattle.ec_typing.specs.ec_ctypes.trees.Checked.{IndicatorData, PlaceData, BoundData, TypedData}
+use Rattle.ec_typing.specs.ec_ctypes.trees.Units.{UnitData}
+use Rattle.ec_typing.specs.ec_language.Letters.{Text}
+use Rattle.ec_typing.specs.ec_language.Line.{newlines}
+use Rattle.ec_typing.specs.ec_language.ReadPieces.{read_pieces}
+use Rattle.ec_typing.specs.ec_language.ReadTokens.{read_tokens, statement_units}
+use Rattle.ec_typing.specs.ec_language.SqlTokens.{SqlToken}
+use Rattle.ec_typing.specs.ec_language.SyntaxAnswer.{read_syntax}
+use Rattle.ec_typing.specs.ec_language.Tokens.{sql_answer}
 use Rattle.ec_embedded.specs.Answers.{placed}
 use Rattle.ec_embedded.specs.Statements.{answer}
 use Rattle.ec_sections.specs.Answers.{hosts_answer}
-use Rattle.ec_statement_parts.specs.Handlers.{marks_in}
+use Rattle.ec_typing.specs.ec_statement_parts.Handlers.{marks_in}
 use Rattle.ec_typing.specs.Answers.{check_answer}
 use Rattle.ec_hosts.specs.Bound.{bound_answer}
 

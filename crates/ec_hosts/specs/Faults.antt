@@ -1,13 +1,13 @@
 -- The faults of hosts (F21 to F25) and cursors (F26 to F28).
 use Rattle.std.specs.Prelude.{ℕ, ◌+◌, Bool, true, false, not, ◌&&◌, ◌==◌, nat_le, List, [], ◌∷◌, ◌++◌, take, drop, length, slice_get, Option, Some, None, is_some}
 use Rattle.std.specs.List.{list_all}
-use Rattle.ec_base.specs.declared.fault.FaultKind.{FaultKind}
-use Rattle.ec_base.specs.declared.fault.FaultKind.TheVariants.{F21, F22, F23, F24, F25, F26, F27, F28}
-use Rattle.ec_ctypes.specs.trees.Types.{TyData, array, StructData}
-use Rattle.ec_ctypes.specs.trees.Exprs.{ExprData}
-use Rattle.ec_ctypes.specs.trees.Embedded.{HostData, EmbData}
-use Rattle.ec_statement_parts.specs.Cursors.{declared_cursor, opened_cursor, declared_above}
-use Rattle.ec_statement_parts.specs.References.{names_of}
+use Rattle.ec_typing.specs.ec_base.declared.fault.FaultKind.{FaultKind}
+use Rattle.ec_typing.specs.ec_base.declared.fault.FaultKind.TheVariants.{F21, F22, F23, F24, F25, F26, F27, F28}
+use Rattle.ec_typing.specs.ec_ctypes.trees.Types.{TyData, array, StructData}
+use Rattle.ec_typing.specs.ec_ctypes.trees.Exprs.{ExprData}
+use Rattle.ec_typing.specs.ec_ctypes.trees.Embedded.{HostData, EmbData}
+use Rattle.ec_typing.specs.ec_statement_parts.Cursors.{declared_cursor, opened_cursor, declared_above}
+use Rattle.ec_typing.specs.ec_statement_parts.References.{names_of}
 use Rattle.ec_hosts.specs.Elements.{is_element, is_indicator, is_text}
 use Rattle.ec_hosts.specs.Leaves.{LeafData, ShapeData, one_element, elements, one_struct, many_structs, shape_of_host, leaves}
 use Rattle.ec_hosts.specs.Programs.{ProgramData, Denoted, reference_type, is_host, variable_of, has_variable_indexes, names_count, option_count}

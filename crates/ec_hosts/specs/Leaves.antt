@@ -1,7 +1,7 @@
 -- The leaves that a host stands for, by its type alone: itself, or the members of its struct in order, inner structs too (PostgreSQL manual, "Host Variables with Nonprimitive Types").
 use Rattle.std.specs.Prelude.{ℕ, zero, suc, Bool, true, false, List, [], ◌∷◌, ◌++◌, map, length, slice_get, Option, Some, None, option_map, option_and_then}
-use Rattle.ec_ctypes.specs.trees.Types.{TyData, void, arithmetic, pointer, array, structure, MemberData, StructData}
-use Rattle.ec_language.specs.Letters.{Text}
+use Rattle.ec_typing.specs.ec_ctypes.trees.Types.{TyData, void, arithmetic, pointer, array, structure, MemberData, StructData}
+use Rattle.ec_typing.specs.ec_language.Letters.{Text}
 use Rattle.ec_hosts.specs.Elements.{is_element, plain_struct}
 
 -- the members that lead to a leaf, each with the number of its struct

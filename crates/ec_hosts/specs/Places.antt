@@ -1,13 +1,13 @@
 -- A leaf as the library is given it: symbol, pointer, length, number of elements, distance, and the same of its indicator (PostgreSQL manual, 36.17).
 use Rattle.std.specs.Prelude.{ℕ, Bool, true, false, List, [], ◌∷◌, codes, Option, Some, None}
-use Rattle.ec_ctypes.specs.declared.types.arith.Arith.TheVariants.{Int}
-use Rattle.ec_ctypes.specs.declared.tree.expr.UnOp.TheVariants.{Addr}
-use Rattle.ec_ctypes.specs.declared.checked.library.Sym.TheVariants.{Const, Descriptor, NoIndicator}
-use Rattle.ec_ctypes.specs.trees.Types.{TyData, arithmetic, array, structure, StructData}
-use Rattle.ec_ctypes.specs.trees.Exprs.{ExprData, integer, string, identifier, unary, index, member}
-use Rattle.ec_ctypes.specs.trees.Checked.{IndicatorData, PlaceData}
-use Rattle.ec_ctypes.specs.Layout.{shape_of, limited}
-use Rattle.ec_language.specs.Letters.{Text}
+use Rattle.ec_typing.specs.ec_ctypes.declared.types.arith.Arith.TheVariants.{Int}
+use Rattle.ec_typing.specs.ec_ctypes.declared.tree.expr.UnOp.TheVariants.{Addr}
+use Rattle.ec_typing.specs.ec_ctypes.declared.checked.library.Sym.TheVariants.{Const, Descriptor, NoIndicator}
+use Rattle.ec_typing.specs.ec_ctypes.trees.Types.{TyData, arithmetic, array, structure, StructData}
+use Rattle.ec_typing.specs.ec_ctypes.trees.Exprs.{ExprData, integer, string, identifier, unary, index, member}
+use Rattle.ec_typing.specs.ec_ctypes.trees.Checked.{IndicatorData, PlaceData}
+use Rattle.ec_typing.specs.ec_ctypes.Layout.{shape_of, limited}
+use Rattle.ec_typing.specs.ec_language.Letters.{Text}
 use Rattle.ec_hosts.specs.Elements.{Symbol, symbol_of}
 use Rattle.ec_hosts.specs.Leaves.{Path, LeafData, Pair}
 

@@ -1,9 +1,9 @@
 -- The types of references, by the declarations that their variables denote.
 use Rattle.std.specs.Prelude.{ℕ, Bool, true, false, ◌&&◌, ◌||◌, ◌==◌, List, [], ◌∷◌, length, slice_get, Option, Some, None, option_map, option_and_then, is_some}
-use Rattle.ec_ctypes.specs.trees.Types.{TyData, pointer, array, structure, MemberData, StructData}
-use Rattle.ec_ctypes.specs.trees.Exprs.{ExprData, identifier, index, member, arrow}
-use Rattle.ec_language.specs.Letters.{Text, same_text}
-use Rattle.ec_statement_parts.specs.References.{names_in}
+use Rattle.ec_typing.specs.ec_ctypes.trees.Types.{TyData, pointer, array, structure, MemberData, StructData}
+use Rattle.ec_typing.specs.ec_ctypes.trees.Exprs.{ExprData, identifier, index, member, arrow}
+use Rattle.ec_typing.specs.ec_language.Letters.{Text, same_text}
+use Rattle.ec_typing.specs.ec_statement_parts.References.{names_in}
 
 -- what hosts are looked at with: the structs, the types of the declarations by their numbers, and the numbers of those in a section and of functions
 pub record ProgramData : Type 0 where

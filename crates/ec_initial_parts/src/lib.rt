@@ -7,6 +7,8 @@ mod known;
 mod local;
 mod part;
 
+pub use ec_code;
+pub use ec_values;
 pub use known::known_parts;
 pub use local::stores;
 pub use part::Part;

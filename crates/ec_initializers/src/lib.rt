@@ -6,4 +6,6 @@ mod fill;
 mod frames;
 mod parts;
 
+pub use ec_walk;
+pub use ec_walk::{ec_rules, ec_type_rules};
 pub use fill::initializer;

@@ -1,1 +1,2 @@
+pub use Rattle.ec_sections.specs as ec_sections
 pub mod Phases

@@ -11,7 +11,7 @@ ghost use Rattle.ec_known.specs.Taking.{types_view};
 
 use crate::formats::is_character;
 use crate::words::is_word;
-use ec_base::{List, OutOfMemory};
+use ec_ctypes::ec_base::{List, OutOfMemory};
 use ec_ctypes::{Expr, LibName, Sym, Ty};
 use ec_cut::{Argument, cut};
 use std::alloc::Global;

@@ -1,7 +1,7 @@
 //! The names that may not be declared.
 
 ghost use Rattle.std.specs.Prelude.{◌≡◌, map};
-ghost use Rattle.ec_language.specs.Letters.{same_text};
+ghost use Rattle.ec_typing.specs.ec_language.Letters.{same_text};
 ghost use Rattle.ec_typing.specs.Known as spec;
 ghost use Rattle.ec_typing.specs.Tables as tables;
 

@@ -1,7 +1,7 @@
 //! Tables of words.
 
 ghost use Rattle.std.specs.Prelude.{◌≡◌, map};
-ghost use Rattle.ec_language.specs.Letters.{same_text};
+ghost use Rattle.ec_typing.specs.ec_language.Letters.{same_text};
 ghost use Rattle.ec_typing.specs.Known as spec;
 ghost use Rattle.ec_typing.specs.Tables.{is_one_of};
 

@@ -5,9 +5,9 @@ use Rattle.ec_base.specs.declared.fault.FaultKind.TheVariants.{F10, F12, F14}
 use Rattle.ec_ctypes.specs.trees.Types.{TyData, void, arithmetic, pointer, array, structure}
 use Rattle.ec_ctypes.specs.trees.Exprs.{InitOption, DeclaratorData, declarator, DeclaratorList, no_declarators, declarators, DeclData, decl}
 use Rattle.ec_ctypes.specs.trees.Units.{ParamData, UnitData}
-use Rattle.ec_hosts.specs.Programs.{is_among}
+use Rattle.ec_closing_law.specs.ec_hosts.Programs.{is_among}
 use Rattle.ec_language.specs.Letters.{Text}
-use Rattle.ec_sections.specs.Declared.{functions_of}
+use Rattle.ec_closing_law.specs.ec_sections.Declared.{functions_of}
 use Rattle.ec_typing.specs.Expressions.{is_varchar, has_init}
 use Rattle.ec_typing.specs.Known.{is_reserved}
 use Rattle.ec_typing.specs.Operands.{within_rule}
@@ -15,13 +15,13 @@ use Rattle.ec_typing.specs.Programs.{param_type, declare_param, param, params, b
 use Rattle.ec_typing.specs.Statements.{type_or_void, initial, object_item, object_items, declaration}
 use Rattle.ec_typing.specs.Tables.{Named, find, put}
 use Rattle.ec_typing.specs.Worlds.{Place, EntryData, object, function, ScopeData, World, Rule, chain, pure, ask, change, demand, with_name, left_to, entered, enter, leave, free_name, declare, know_better, next_number, number_as}
-use Rattle.ec_growth_law.specs.Growth.{is_unlisted, Grows}
-use Rattle.ec_growth_law.proofs.Rules as growth
-use Rattle.ec_growth_law.proofs.Rules.{Growing, stays_in_front}
-use Rattle.ec_growth_law.proofs.Expressions.{base_grows, lengths_grow}
-use Rattle.ec_growth_law.proofs.Operands.{elements_grows, within_grows}
+use Rattle.ec_closing_law.specs.ec_growth_law.Growth.{is_unlisted, Grows}
+use Rattle.ec_closing_law.proofs.ec_growth_law_proofs.Rules as growth
+use Rattle.ec_closing_law.proofs.ec_growth_law_proofs.Rules.{Growing, stays_in_front}
+use Rattle.ec_closing_law.proofs.ec_growth_law_proofs.Expressions.{base_grows, lengths_grow}
+use Rattle.ec_closing_law.proofs.ec_growth_law_proofs.Operands.{elements_grows, within_grows}
 use Rattle.ec_closing_law.proofs.Lists.{none_not, get_last}
-use Rattle.ec_place_law.specs.Structs.{IsListed, EachStruct, EachStructIn}
+use Rattle.ec_closing_law.specs.ec_place_law.Structs.{IsListed, EachStruct, EachStructIn}
 use Rattle.ec_known_law.specs.Known.{IsEntry, AreEntries, InScopes}
 use Rattle.ec_known_law.proofs.NamesRules.{stay_further, Staying, place_stays}
 use Rattle.ec_known_law.proofs.NamesExpressions.{base_stays, lengths_stay}

@@ -12,8 +12,8 @@ use Rattle.ec_typing.specs.Programs.{kept, may_be_param, plain_param, pointer_to
 use Rattle.ec_typing.specs.Statements.{waits_for_length, object_rule, initial}
 use Rattle.ec_typing.specs.Types.{words_type, word_types, type_in_rows, is_char_array, same_words}
 use Rattle.ec_typing.specs.Worlds.{Place, MembersData, unlisted, begun, listed, is_listed, StructInfo, World, Rule, chain, pure, ask, note, members_of, is_complete, tag_up}
-use Rattle.ec_place_law.specs.Structs.{IsListed, EachStruct, EachStructIn}
-use Rattle.ec_place_law.specs.References.{IsNoVoid}
+use Rattle.ec_closing_law.specs.ec_place_law.Structs.{IsListed, EachStruct, EachStructIn}
+use Rattle.ec_closing_law.specs.ec_place_law.References.{IsNoVoid}
 use Rattle.ec_closing_law.proofs.Lists.{false_not}
 
 -- this holds of the structs in a type, and it is not void

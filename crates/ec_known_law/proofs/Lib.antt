@@ -1,3 +1,5 @@
+pub use Rattle.ec_closing_law.proofs as ec_closing_law_proofs
+pub use Rattle.ec_closing_law.proofs.ec_place_law_proofs as ec_place_law_proofs
 pub mod EntriesKept
 pub mod EntriesTables
 pub mod EntriesTypes

@@ -6,8 +6,8 @@ use Rattle.ec_ctypes.specs.trees.Types.{TyData}
 use Rattle.ec_ctypes.specs.trees.Exprs.{ExprData, call}
 use Rattle.ec_ctypes.specs.trees.Embedded.{ActionData, continue_action, goto_action, print_action, stop_action, break_action, next_action, call_action, EmbData}
 use Rattle.ec_language.specs.Letters.{Text}
-use Rattle.ec_statement_parts.specs.Handlers.{is_directive, handler}
-use Rattle.ec_statement_parts.specs.References.{References, references}
+use Rattle.ec_typing.specs.ec_statement_parts.Handlers.{is_directive, handler}
+use Rattle.ec_typing.specs.ec_statement_parts.References.{References, references}
 use Rattle.ec_typing.specs.Tables.{Named}
 use Rattle.ec_typing.specs.Worlds.{Place}
 use Rattle.ec_typing.specs.Embedded.{reference_rule, members_rule, references_rule, action_rule, actions_rule, handlers_rule, denote, embedded_rule}

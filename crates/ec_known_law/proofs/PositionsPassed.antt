@@ -7,7 +7,7 @@ use Rattle.ec_ctypes.specs.trees.Stmts.{StmtData, stmt, StmtKindData, empty_stmt
 use Rattle.ec_ctypes.specs.trees.Embedded.{EmbData}
 use Rattle.ec_ctypes.specs.trees.Units.{ParamData, FuncData, TopData, include_top, directive_top, decl_top, func_top, mark_top}
 use Rattle.ec_language.specs.Letters.{Text}
-use Rattle.ec_sections.specs.Declared.{DeclaredData, an_object, declared_items, declared_by, declared_in, declared_in_kind, declared_in_all, declared_in_option, declared_params, declared_in_body, declared_function, declared_in_top, declared_in_tops}
+use Rattle.ec_closing_law.specs.ec_sections.Declared.{DeclaredData, an_object, declared_items, declared_by, declared_in, declared_in_kind, declared_in_all, declared_in_option, declared_params, declared_in_body, declared_function, declared_in_top, declared_in_tops}
 use Rattle.ec_typing.specs.Worlds.{Place, EntryData}
 use Rattle.ec_typing.specs.Expressions.{is_varchar, has_init}
 use Rattle.ec_typing.specs.Statements.{object_item, object_items, declaration, Around, as_body, looping, as_item, embedded_at, statement, statement_kind, statements, otherwise}

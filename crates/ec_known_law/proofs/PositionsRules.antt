@@ -3,8 +3,8 @@ use Rattle.std.proofs.Common.{◌≡◌, ◌∙◌, ◌+◌, ◌||◌, ◌==◌,
 use Rattle.std.proofs.lemmas.Bool.Decides.{nat_tests}
 use Rattle.ec_ctypes.specs.trees.Types.{TyData}
 use Rattle.ec_language.specs.Letters.{Text}
-use Rattle.ec_hosts.specs.Programs.{is_among}
-use Rattle.ec_sections.specs.Declared.{DeclaredData, Declared, numbers_from}
+use Rattle.ec_closing_law.specs.ec_hosts.Programs.{is_among}
+use Rattle.ec_closing_law.specs.ec_sections.Declared.{DeclaredData, Declared, numbers_from}
 use Rattle.ec_typing.specs.Worlds.{Place, EntryData, ScopeData, World, Rule, chain, pure, ask, change, left_to, enter, leave, scoped, declare, know_better, number_as}
 use Rattle.ec_known_law.proofs.NamesRules as names
 use Rattle.ec_known_law.proofs.NamesRules.{Staying}

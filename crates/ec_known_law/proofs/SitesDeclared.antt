@@ -6,10 +6,10 @@ use Rattle.ec_ctypes.specs.trees.Units.{ParamData}
 use Rattle.ec_language.specs.Letters.{Text}
 use Rattle.ec_typing.specs.Expressions.{has_init, is_varchar}
 use Rattle.ec_typing.specs.Worlds.{Place}
-use Rattle.ec_resolving.specs.Initializers.{PartData}
-use Rattle.ec_resolving.specs.Programs.{param, params}
-use Rattle.ec_resolving.specs.Statements.{initial, object_made, object_type, object_item, object_items, specifier, declaration}
-use Rattle.ec_resolving.specs.Storage.{Site, numbered, slotted, nowhere}
+use Rattle.ec_closing_law.specs.ec_resolving.Initializers.{PartData}
+use Rattle.ec_closing_law.specs.ec_resolving.Programs.{param, params}
+use Rattle.ec_closing_law.specs.ec_resolving.Statements.{initial, object_made, object_type, object_item, object_items, specifier, declaration}
+use Rattle.ec_closing_law.specs.ec_resolving.Storage.{Site, numbered, slotted, nowhere}
 use Rattle.ec_known_law.proofs.SitesChecks.{object_idle, param_type_idle, place_still, declare_still, better_still, declare_param_still, varchar_object_still, tag_alone_still}
 use Rattle.ec_known_law.proofs.SitesRules.{Stands, chained, pure_stands, ask_stands, stored_stands, arrange_stands, checks_stand, Leads, then_leads, stands_lead, site_leads, number_leads}
 use Rattle.ec_known_law.proofs.SitesWalk.{idle_stands, base_stands, lengths_stand, last_stands, outer_stand, initializer_stands}

@@ -3,9 +3,9 @@ use Rattle.std.proofs.Common.{◌≡◌, ◌∙◌, ℕ, suc, ◌+◌, Bool, tru
 use Rattle.std.specs.Prelude.{length}
 use Rattle.ec_ctypes.specs.trees.Types.{TyData}
 use Rattle.ec_typing.specs.Worlds.{World, Rule, change, number_as}
-use Rattle.ec_resolving.specs.Storage.{Storage, Site, with_site, Resolving, chain, pure, checks, ask, stored, arrange}
-use Rattle.ec_growth_law.specs.Growth.{Begins}
-use Rattle.ec_growth_law.proofs.Rules.{begins_itself, begins_joined, begins_further}
+use Rattle.ec_closing_law.specs.ec_resolving.Storage.{Storage, Site, with_site, Resolving, chain, pure, checks, ask, stored, arrange}
+use Rattle.ec_closing_law.specs.ec_growth_law.Growth.{Begins}
+use Rattle.ec_closing_law.proofs.ec_growth_law_proofs.Rules.{begins_itself, begins_joined, begins_further}
 use Rattle.ec_known_law.proofs.SitesChecks.{Still}
 
 -- ---- it declares nothing

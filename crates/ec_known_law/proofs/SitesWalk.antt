@@ -12,11 +12,11 @@ use Rattle.ec_typing.specs.Expressions as checked_parts
 use Rattle.ec_typing.specs.Expressions.{Members, is_varchar}
 use Rattle.ec_typing.specs.Initializers.{is_text_for}
 use Rattle.ec_typing.specs.Worlds.{Place, Rule, chain as check_chain}
-use Rattle.ec_resolving.specs.Storage.{Resolving, chain, pure, checks}
-use Rattle.ec_resolving.specs.Operands.{Found, with_form, unary_found, name_rule, literal_rule, value_rule, address_rule, unary_rule, library_exp, function_called, called, call_rule, operands_of, is_library_literal}
-use Rattle.ec_resolving.specs.Expressions.{library_literal, expr, args, base, members, member_decl, member_items, member_item, lengths, last_length, outer_lengths, length_at, init_parts, init_exprs, all_init_exprs}
-use Rattle.ec_resolving.specs.Initializers.{stored_at, init_value, Left, initializer, fill, fill_part}
-use Rattle.ec_resolving.proofs.Agreeing.{expr_finds}
+use Rattle.ec_closing_law.specs.ec_resolving.Storage.{Resolving, chain, pure, checks}
+use Rattle.ec_closing_law.specs.ec_resolving.Operands.{Found, with_form, unary_found, name_rule, literal_rule, value_rule, address_rule, unary_rule, library_exp, function_called, called, call_rule, operands_of, is_library_literal}
+use Rattle.ec_closing_law.specs.ec_resolving.Expressions.{library_literal, expr, args, base, members, member_decl, member_items, member_item, lengths, last_length, outer_lengths, length_at, init_parts, init_exprs, all_init_exprs}
+use Rattle.ec_closing_law.specs.ec_resolving.Initializers.{stored_at, init_value, Left, initializer, fill, fill_part}
+use Rattle.ec_closing_law.proofs.ec_resolving_proofs.Agreeing.{expr_finds}
 use Rattle.ec_known_law.proofs.SitesIdle.{Idle}
 use Rattle.ec_known_law.proofs.SitesOperands.{name_idle, value_idle, address_idle, unary_idle, binary_idle, index_idle, assign_idle, compound_idle, bump_idle, call_idle, member_idle, arrow_idle, cast_idle, size_idle, length_idle}
 use Rattle.ec_known_law.proofs.SitesChecks.{words_idle, tag_idle, named_idle, fixed_idle, part_idle, slot_idle, single_idle, idle_still, place_still, begin_still, end_still, varchar_member_still}

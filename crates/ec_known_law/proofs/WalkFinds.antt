@@ -11,13 +11,13 @@ use Rattle.ec_typing.specs.Operands.{within_rule}
 use Rattle.ec_typing.specs.Programs as checked_programs
 use Rattle.ec_typing.specs.Statements as checked_statements
 use Rattle.ec_typing.specs.Worlds.{Place, World, Rule, pure as check_pure}
-use Rattle.ec_resolving.specs.Agreement.{Finds, itself, nothing_of, operand_of, type_of}
-use Rattle.ec_resolving.specs.Initializers.{PartData, stored_at, fixed_exp, init_value, Left, left, Filled, initializer, fill, fill_part}
-use Rattle.ec_resolving.specs.Operands.{Found}
-use Rattle.ec_resolving.specs.Programs.{param, params}
-use Rattle.ec_resolving.specs.Statements.{initial, object_made, object_type, object_item, object_items, specifier, declaration}
-use Rattle.ec_resolving.specs.Storage.{Storage, Site, numbered, slotted, nowhere, Resolving, chain, pure}
-use Rattle.ec_resolving.proofs.Agreeing.{chain_finds, pure_finds, checks_find, ask_finds, ask_first, stored_first, arrange_first, Silent, ask_silent, arrange_silent, pure_silent, chain_silent, Quiet, quiet_first, nothing_quiet, demand_quiet, limit_quiet, asked_quiet, elements_quiet, value_finds, expr_finds, base_finds, lengths_find, last_length_finds, outer_lengths_find}
+use Rattle.ec_closing_law.specs.ec_resolving.Agreement.{Finds, itself, nothing_of, operand_of, type_of}
+use Rattle.ec_closing_law.specs.ec_resolving.Initializers.{PartData, stored_at, fixed_exp, init_value, Left, left, Filled, initializer, fill, fill_part}
+use Rattle.ec_closing_law.specs.ec_resolving.Operands.{Found}
+use Rattle.ec_closing_law.specs.ec_resolving.Programs.{param, params}
+use Rattle.ec_closing_law.specs.ec_resolving.Statements.{initial, object_made, object_type, object_item, object_items, specifier, declaration}
+use Rattle.ec_closing_law.specs.ec_resolving.Storage.{Storage, Site, numbered, slotted, nowhere, Resolving, chain, pure}
+use Rattle.ec_closing_law.proofs.ec_resolving_proofs.Agreeing.{chain_finds, pure_finds, checks_find, ask_finds, ask_first, stored_first, arrange_first, Silent, ask_silent, arrange_silent, pure_silent, chain_silent, Quiet, quiet_first, nothing_quiet, demand_quiet, limit_quiet, asked_quiet, elements_quiet, value_finds, expr_finds, base_finds, lengths_find, last_length_finds, outer_lengths_find}
 
 -- ---- what only tells faults
 

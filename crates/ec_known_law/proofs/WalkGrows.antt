@@ -9,10 +9,10 @@ use Rattle.ec_typing.specs.Expressions.{has_init}
 use Rattle.ec_typing.specs.Programs.{declare_param, param, params, begin_function, know_function}
 use Rattle.ec_typing.specs.Statements.{initial, object_type, object_item}
 use Rattle.ec_typing.specs.Worlds.{Place, EntryData}
-use Rattle.ec_growth_law.proofs.Rules.{begins_itself, begins_joined, Growing, chained, asked, pure_grows, demand_grows, change_grows, names_grow, declare_grows, better_grows, number_grows}
-use Rattle.ec_growth_law.proofs.Operands.{elements_grows, within_grows}
-use Rattle.ec_growth_law.proofs.Expressions.{varchar_object_grows, base_grows, lengths_grow, last_grows, outer_grow}
-use Rattle.ec_growth_law.proofs.Initializers.{initializer_grows}
+use Rattle.ec_closing_law.proofs.ec_growth_law_proofs.Rules.{begins_itself, begins_joined, Growing, chained, asked, pure_grows, demand_grows, change_grows, names_grow, declare_grows, better_grows, number_grows}
+use Rattle.ec_closing_law.proofs.ec_growth_law_proofs.Operands.{elements_grows, within_grows}
+use Rattle.ec_closing_law.proofs.ec_growth_law_proofs.Expressions.{varchar_object_grows, base_grows, lengths_grow, last_grows, outer_grow}
+use Rattle.ec_closing_law.proofs.ec_growth_law_proofs.Initializers.{initializer_grows}
 use Rattle.ec_known_law.proofs.SitesChecks.{object_idle, param_type_idle}
 use Rattle.ec_known_law.proofs.WalkRules.{idle_grows}
 

@@ -6,8 +6,8 @@ use Rattle.ec_ctypes.specs.trees.Exprs.{ExprData, call, BaseData, DimList, Decla
 use Rattle.ec_ctypes.specs.trees.Types.{TyData}
 use Rattle.ec_ctypes.specs.trees.Units.{ParamData, UnitData}
 use Rattle.ec_language.specs.Letters.{Text}
-use Rattle.ec_statement_parts.specs.Handlers.{is_directive, handler}
-use Rattle.ec_statement_parts.specs.References.{References, references}
+use Rattle.ec_typing.specs.ec_statement_parts.Handlers.{is_directive, handler}
+use Rattle.ec_typing.specs.ec_statement_parts.References.{References, references}
 use Rattle.ec_typing.specs.Tables.{Named}
 use Rattle.ec_typing.specs.Embedded.{denote, variables_of}
 use Rattle.ec_typing.specs.Expressions as checked
@@ -15,16 +15,16 @@ use Rattle.ec_typing.specs.Statements as checked_statements
 use Rattle.ec_typing.specs.Programs as checked_programs
 use Rattle.ec_typing.specs.Programs.{result_rule, begin_function, know_function}
 use Rattle.ec_typing.specs.Worlds.{Place, function, place, change, enter, leave, declare_label, number_as}
-use Rattle.ec_resolving.specs.Embedded.{reference_rule, references_rule, action_rule, actions_rule, handlers_rule, embedded_rule}
-use Rattle.ec_resolving.specs.Expressions.{expr, base, lengths}
-use Rattle.ec_resolving.specs.Operands.{value_rule}
-use Rattle.ec_resolving.specs.Programs.{params}
-use Rattle.ec_resolving.specs.Statements.{object_item, declaration, condition, alone, optional, optional_condition, return_by}
-use Rattle.ec_resolving.specs.Storage.{◌>>◌, chain, checks, arrange, with_site, nowhere}
-use Rattle.ec_resolving.proofs.Agreeing.{expr_finds, base_finds, lengths_find}
-use Rattle.ec_growth_law.proofs.Rules.{names_grow, place_grows, enter_grows, leave_grows, label_grows, number_grows}
-use Rattle.ec_growth_law.proofs.Expressions.{expr_grows, base_grows, lengths_grow}
-use Rattle.ec_growth_law.proofs.Statements.{declaration_grows}
+use Rattle.ec_closing_law.specs.ec_resolving.Embedded.{reference_rule, references_rule, action_rule, actions_rule, handlers_rule, embedded_rule}
+use Rattle.ec_closing_law.specs.ec_resolving.Expressions.{expr, base, lengths}
+use Rattle.ec_closing_law.specs.ec_resolving.Operands.{value_rule}
+use Rattle.ec_closing_law.specs.ec_resolving.Programs.{params}
+use Rattle.ec_closing_law.specs.ec_resolving.Statements.{object_item, declaration, condition, alone, optional, optional_condition, return_by}
+use Rattle.ec_closing_law.specs.ec_resolving.Storage.{◌>>◌, chain, checks, arrange, with_site, nowhere}
+use Rattle.ec_closing_law.proofs.ec_resolving_proofs.Agreeing.{expr_finds, base_finds, lengths_find}
+use Rattle.ec_closing_law.proofs.ec_growth_law_proofs.Rules.{names_grow, place_grows, enter_grows, leave_grows, label_grows, number_grows}
+use Rattle.ec_closing_law.proofs.ec_growth_law_proofs.Expressions.{expr_grows, base_grows, lengths_grow}
+use Rattle.ec_closing_law.proofs.ec_growth_law_proofs.Statements.{declaration_grows}
 use Rattle.ec_known_law.specs.Known.{Keeps}
 use Rattle.ec_known_law.specs.Laws.{WalkKeeps}
 use Rattle.ec_known_law.specs.Positions.{StartsBeforeAll, ItemsArePassed, FunctionsAreNumbered, TypesDeclareNone}

@@ -3,10 +3,10 @@ use Rattle.std.proofs.Common.{◌≡◌, Bool, true, false, sym, subst}
 use Rattle.std.specs.Prelude.{length}
 use Rattle.ec_ctypes.specs.trees.Units.{UnitData}
 use Rattle.ec_typing.specs.Worlds.{World, Rule}
-use Rattle.ec_resolving.specs.Agreement.{Finds}
-use Rattle.ec_resolving.specs.Storage.{Storage, Resolving, chain, pure, checks, ask, arrange}
-use Rattle.ec_growth_law.specs.Growth.{Grows}
-use Rattle.ec_growth_law.proofs.Rules.{begins_itself, begins_further, grows_itself, grows_further, Growing}
+use Rattle.ec_closing_law.specs.ec_resolving.Agreement.{Finds}
+use Rattle.ec_closing_law.specs.ec_resolving.Storage.{Storage, Resolving, chain, pure, checks, ask, arrange}
+use Rattle.ec_closing_law.specs.ec_growth_law.Growth.{Grows}
+use Rattle.ec_closing_law.proofs.ec_growth_law_proofs.Rules.{begins_itself, begins_further, grows_itself, grows_further, Growing}
 use Rattle.ec_known_law.specs.Known.{IsKnown, Keeps}
 use Rattle.ec_known_law.specs.Worlds.{IsKnownWorld, KeepsWorld}
 use Rattle.ec_known_law.proofs.SitesIdle.{Idle}

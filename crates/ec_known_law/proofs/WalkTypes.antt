@@ -1,7 +1,7 @@
 -- A type declares nothing, since the walk finds what the checks find.
 use Rattle.std.proofs.Common.{◌∙◌, [], sym, ap}
-use Rattle.ec_resolving.specs.Storage.{Storage}
-use Rattle.ec_resolving.proofs.Agreeing.{base_finds}
+use Rattle.ec_closing_law.specs.ec_resolving.Storage.{Storage}
+use Rattle.ec_closing_law.proofs.ec_resolving_proofs.Agreeing.{base_finds}
 use Rattle.ec_known_law.specs.Positions.{TypesDeclareNone}
 use Rattle.ec_known_law.proofs.SitesWalk.{base_stands}
 

@@ -4,16 +4,16 @@ use Rattle.ec_ctypes.specs.trees.Types.{TyData}
 use Rattle.ec_ctypes.specs.trees.Exprs.{ExprData, BaseData, words, varchar, tagged, struct_base, DimList, InitOption, no_init, some_init, DeclaratorData, declarator, DeclaratorList, no_declarators, declarators}
 use Rattle.ec_ctypes.specs.trees.Units.{ParamData}
 use Rattle.ec_language.specs.Letters.{Text}
-use Rattle.ec_statement_parts.specs.References.{References}
+use Rattle.ec_typing.specs.ec_statement_parts.References.{References}
 use Rattle.ec_typing.specs.Worlds.{Place, EntryData, unlisted, change}
 use Rattle.ec_typing.specs.Embedded.{reference_rule, members_rule, references_rule, denote}
 use Rattle.ec_typing.specs.Expressions.{has_init}
 use Rattle.ec_typing.specs.Statements.{object_rule, initial, object_type, object_item, declared_tag, tag_alone, specifier}
 use Rattle.ec_typing.specs.Programs.{result_rule, plain_param, array_param, param_type, declare_param, param, params, begin_function, know_function}
-use Rattle.ec_growth_law.proofs.Rules.{begins_itself, begins_joined, Growing, chained, asked, pure_grows, demand_grows, keep_grows, change_grows, names_grow, chosen, free_tag_grows, declare_grows, better_grows, number_grows}
-use Rattle.ec_growth_law.proofs.Operands.{elements_grows, within_grows, complete_grows}
-use Rattle.ec_growth_law.proofs.Expressions.{tagged_grows, varchar_object_grows, expr_grows, base_grows, lengths_grow, last_grows, outer_grow}
-use Rattle.ec_growth_law.proofs.Initializers.{initializer_grows}
+use Rattle.ec_closing_law.proofs.ec_growth_law_proofs.Rules.{begins_itself, begins_joined, Growing, chained, asked, pure_grows, demand_grows, keep_grows, change_grows, names_grow, chosen, free_tag_grows, declare_grows, better_grows, number_grows}
+use Rattle.ec_closing_law.proofs.ec_growth_law_proofs.Operands.{elements_grows, within_grows, complete_grows}
+use Rattle.ec_closing_law.proofs.ec_growth_law_proofs.Expressions.{tagged_grows, varchar_object_grows, expr_grows, base_grows, lengths_grow, last_grows, outer_grow}
+use Rattle.ec_closing_law.proofs.ec_growth_law_proofs.Initializers.{initializer_grows}
 
 -- ---- declarations
 

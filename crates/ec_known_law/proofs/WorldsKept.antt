@@ -3,11 +3,11 @@ use Rattle.std.proofs.Common.{false}
 use Rattle.ec_ctypes.specs.trees.Units.{UnitData}
 use Rattle.ec_typing.specs.Programs.{start}
 use Rattle.ec_typing.specs.Worlds.{Rule}
-use Rattle.ec_growth_law.proofs.Rules as growth
-use Rattle.ec_growth_law.proofs.Rules.{Growing}
-use Rattle.ec_growth_law.proofs.Expressions.{expr_grows, base_grows, lengths_grow}
-use Rattle.ec_growth_law.proofs.EmbeddedRules.{handlers_grows, embedded_grows}
-use Rattle.ec_growth_law.proofs.Statements as grown_statements
+use Rattle.ec_closing_law.proofs.ec_growth_law_proofs.Rules as growth
+use Rattle.ec_closing_law.proofs.ec_growth_law_proofs.Rules.{Growing}
+use Rattle.ec_closing_law.proofs.ec_growth_law_proofs.Expressions.{expr_grows, base_grows, lengths_grow}
+use Rattle.ec_closing_law.proofs.ec_growth_law_proofs.EmbeddedRules.{handlers_grows, embedded_grows}
+use Rattle.ec_closing_law.proofs.ec_growth_law_proofs.Statements as grown_statements
 use Rattle.ec_closing_law.proofs.Rules as order
 use Rattle.ec_closing_law.proofs.Closed.{starts_in_order}
 use Rattle.ec_closing_law.proofs.Expressions.{expr_keeps, base_keeps, lengths_keep}

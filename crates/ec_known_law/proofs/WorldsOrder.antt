@@ -4,7 +4,7 @@ use Rattle.ec_ctypes.specs.trees.Types.{TyData}
 use Rattle.ec_ctypes.specs.trees.Exprs.{ExprData, DimList, InitOption, no_init, some_init, DeclaratorData, declarator}
 use Rattle.ec_ctypes.specs.trees.Units.{ParamData}
 use Rattle.ec_language.specs.Letters.{Text}
-use Rattle.ec_statement_parts.specs.References.{References}
+use Rattle.ec_typing.specs.ec_statement_parts.References.{References}
 use Rattle.ec_typing.specs.Worlds.{Place, EntryData, change}
 use Rattle.ec_typing.specs.Embedded.{reference_rule, members_rule, references_rule, denote}
 use Rattle.ec_typing.specs.Expressions.{has_init}

@@ -3,19 +3,19 @@ use Rattle.std.specs.Prelude.{◌≡◌, true, false, List, [], ◌∷◌, Some,
 use Rattle.ec_ctypes.specs.trees.Embedded.{EmbData}
 use Rattle.ec_ctypes.specs.trees.Units.{UnitData}
 use Rattle.ec_language.specs.Letters.{Text}
-use Rattle.ec_hosts.specs.Programs.{Denoted, is_among}
-use Rattle.ec_sections.specs.Declared.{functions_of}
-use Rattle.ec_statement_parts.specs.References.{references}
+use Rattle.ec_closing_law.specs.ec_hosts.Programs.{Denoted, is_among}
+use Rattle.ec_closing_law.specs.ec_sections.Declared.{functions_of}
+use Rattle.ec_typing.specs.ec_statement_parts.References.{references}
 use Rattle.ec_typing.specs.Embedded as checked
 use Rattle.ec_typing.specs.Embedded.{denoted_in, variables_of}
 use Rattle.ec_typing.specs.Programs.{start}
 use Rattle.ec_typing.specs.Tables.{Named, find}
 use Rattle.ec_typing.specs.Worlds.{Place, EntryData, object, function, ScopeData, World}
-use Rattle.ec_resolving.specs.Embedded.{references_rule}
-use Rattle.ec_resolving.specs.Storage.{Storage, StatementForm, Resolving}
-use Rattle.ec_growth_law.specs.Growth.{Begins, Grows}
+use Rattle.ec_closing_law.specs.ec_resolving.Embedded.{references_rule}
+use Rattle.ec_closing_law.specs.ec_resolving.Storage.{Storage, StatementForm, Resolving}
+use Rattle.ec_closing_law.specs.ec_growth_law.Growth.{Begins, Grows}
 use Rattle.ec_closing_law.specs.Closing.{AreInTheirOrder}
-use Rattle.ec_place_law.specs.References.{IsDeclared}
+use Rattle.ec_closing_law.specs.ec_place_law.References.{IsDeclared}
 
 -- ---- names
 

@@ -6,17 +6,17 @@ use Rattle.ec_ctypes.specs.trees.Exprs.{ExprData, BaseData, DimList, DeclaratorD
 use Rattle.ec_ctypes.specs.trees.Types.{TyData}
 use Rattle.ec_ctypes.specs.trees.Units.{ParamData, UnitData}
 use Rattle.ec_language.specs.Letters.{Text}
-use Rattle.ec_hosts.specs.Programs.{is_among}
-use Rattle.ec_sections.specs.Declared.{functions_of}
-use Rattle.ec_statement_parts.specs.References.{References}
+use Rattle.ec_closing_law.specs.ec_hosts.Programs.{is_among}
+use Rattle.ec_closing_law.specs.ec_sections.Declared.{functions_of}
+use Rattle.ec_typing.specs.ec_statement_parts.References.{References}
 use Rattle.ec_typing.specs.Tables.{Named}
 use Rattle.ec_typing.specs.Programs.{start, result_rule, begin_function, know_function}
 use Rattle.ec_typing.specs.Worlds.{Place, function, place, change, enter, leave, declare_label, number_as}
-use Rattle.ec_resolving.specs.Expressions.{expr, base, lengths}
-use Rattle.ec_resolving.specs.Statements.{object_item, declaration, condition, alone, optional, optional_condition, return_by}
-use Rattle.ec_resolving.specs.Embedded.{references_rule, handlers_rule, embedded_rule}
-use Rattle.ec_resolving.specs.Programs.{params, no_storage}
-use Rattle.ec_resolving.specs.Storage.{◌>>◌, checks, arrange, with_site, nowhere}
+use Rattle.ec_closing_law.specs.ec_resolving.Expressions.{expr, base, lengths}
+use Rattle.ec_closing_law.specs.ec_resolving.Statements.{object_item, declaration, condition, alone, optional, optional_condition, return_by}
+use Rattle.ec_closing_law.specs.ec_resolving.Embedded.{references_rule, handlers_rule, embedded_rule}
+use Rattle.ec_closing_law.specs.ec_resolving.Programs.{params, no_storage}
+use Rattle.ec_closing_law.specs.ec_resolving.Storage.{◌>>◌, checks, arrange, with_site, nowhere}
 use Rattle.ec_known_law.specs.Known.{IsKnown, Keeps}
 use Rattle.ec_known_law.specs.Positions.{StartsBeforeAll, ItemsArePassed, FunctionsAreNumbered, TypesDeclareNone}
 

@@ -3,8 +3,8 @@ use Rattle.std.specs.Prelude.{◌≡◌, true, Bool, List, ◌∷◌, length, dr
 use Rattle.ec_ctypes.specs.trees.Embedded.{EmbData}
 use Rattle.ec_ctypes.specs.trees.Exprs.{BaseData}
 use Rattle.ec_ctypes.specs.trees.Units.{FuncData, TopData, func_top, UnitData}
-use Rattle.ec_hosts.specs.Programs.{is_among}
-use Rattle.ec_sections.specs.Declared.{declared_in_tops, functions_of}
+use Rattle.ec_closing_law.specs.ec_hosts.Programs.{is_among}
+use Rattle.ec_closing_law.specs.ec_sections.Declared.{declared_in_tops, functions_of}
 use Rattle.ec_typing.specs.Expressions.{base}
 use Rattle.ec_typing.specs.Programs.{start, top_rule}
 use Rattle.ec_typing.specs.Worlds.{Place, World}

@@ -6,16 +6,16 @@ use Rattle.ec_ctypes.specs.trees.Exprs.{ExprData, BaseData, DimList, DeclaratorD
 use Rattle.ec_ctypes.specs.trees.Types.{TyData}
 use Rattle.ec_ctypes.specs.trees.Units.{ParamData, UnitData}
 use Rattle.ec_language.specs.Letters.{Text}
-use Rattle.ec_hosts.specs.Programs.{is_among}
-use Rattle.ec_sections.specs.Declared.{functions_of}
-use Rattle.ec_statement_parts.specs.References.{References}
+use Rattle.ec_closing_law.specs.ec_hosts.Programs.{is_among}
+use Rattle.ec_closing_law.specs.ec_sections.Declared.{functions_of}
+use Rattle.ec_typing.specs.ec_statement_parts.References.{References}
 use Rattle.ec_typing.specs.Tables.{Named}
 use Rattle.ec_typing.specs.Embedded.{references_rule, denote, handlers_rule, embedded_rule}
 use Rattle.ec_typing.specs.Expressions.{expr, base, lengths}
 use Rattle.ec_typing.specs.Programs.{start, result_rule, params, begin_function, know_function}
 use Rattle.ec_typing.specs.Statements.{object_item, declaration}
 use Rattle.ec_typing.specs.Worlds.{Place, function, World, Rule, place, change, enter, leave, declare_label, number_as}
-use Rattle.ec_growth_law.specs.Growth.{Grows}
+use Rattle.ec_closing_law.specs.ec_growth_law.Growth.{Grows}
 use Rattle.ec_closing_law.specs.Closing.{AreInTheirOrder}
 use Rattle.ec_known_law.specs.Known.{AreEntries, InScopes}
 

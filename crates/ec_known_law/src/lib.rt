@@ -6,6 +6,8 @@ mod positions;
 mod walk;
 mod worlds;
 
+pub use ec_closing_law;
+pub use ec_closing_law::ec_expression_law;
 pub use kept::what_is_known_is_kept;
 pub use positions::declarations_are_numbered;
 pub use walk::the_walk_keeps_what_is_known;

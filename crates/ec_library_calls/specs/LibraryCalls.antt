@@ -10,7 +10,7 @@ use Rattle.ec_ctypes.specs.trees.Exprs.{ExprData, identifier, unary, binary, ass
 use Rattle.ec_ctypes.specs.trees.Stmts.{StmtData, stmt, StmtKindData, expr_stmt, block_stmt, if_stmt, while_stmt, do_stmt, for_stmt, return_stmt, label_stmt, decl_stmt, StmtList, no_stmts, stmts, StmtOption, no_stmt, some_stmt}
 use Rattle.ec_ctypes.specs.trees.Units.{TopData, decl_top, func_top, UnitData}
 use Rattle.ec_language.specs.Letters.{Text, same_text}
-use Rattle.ec_typing.specs.Library.{library_call}
+use Rattle.ec_known.specs.ec_typing.Library.{library_call}
 
 -- whether a function is called in an expression, evaluated or not
 abbrev pub calls_function : ExprData → Bool

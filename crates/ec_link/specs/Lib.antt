@@ -1,3 +1,4 @@
+pub use Rattle.ec_base.specs as ec_base
 pub mod Calls
 pub mod Conn
 pub mod Link

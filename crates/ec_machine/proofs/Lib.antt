@@ -1,3 +1,4 @@
+pub use Rattle.ec_plain.proofs as ec_plain_proofs
 pub mod Evaluating
 pub mod Fuel
 pub mod Moves

@@ -1,3 +1,4 @@
+pub use Rattle.ec_plain.specs as ec_plain
 pub mod Frames
 pub mod Goes
 pub mod Standing

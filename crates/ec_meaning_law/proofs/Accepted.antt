@@ -11,9 +11,9 @@ use Rattle.ec_language.specs.Letters.{Text, each}
 use Rattle.ec_language.specs.Pieces.{Pieces}
 use Rattle.ec_language.specs.Syntax.{TreeOrStop}
 use Rattle.ec_language.specs.Tokens.{Tokens}
-use Rattle.ec_bound_shape.specs.Numbers.{tops_numbers, numbers_from}
-use Rattle.ec_hosts.specs.Examples.{statement_places, with_statements}
-use Rattle.ec_phases.specs.Sources.{ReadsStatements, ReadsTree, statements, checked_with, checked_tree, bound_from, BoundProgram, program_with, bound_program, ReadsSource}
+use Rattle.ec_standing_law.specs.ec_bound_shape.Numbers.{tops_numbers, numbers_from}
+use Rattle.ec_object_law.specs.ec_hosts.Examples.{statement_places, with_statements}
+use Rattle.ec_translation.specs.ec_phases.Sources.{ReadsStatements, ReadsTree, statements, checked_with, checked_tree, bound_from, BoundProgram, program_with, bound_program, ReadsSource}
 use Rattle.ec_sections.specs.Answers.{hosts_answer}
 use Rattle.ec_source_shape.specs.SourceShape.{are_source_tokens, is_source_shape}
 use Rattle.ec_statement_parts.specs.Handlers.{marks_in}

@@ -6,9 +6,9 @@ use Rattle.ec_ctypes.specs.trees.Embedded.{EmbData}
 use Rattle.ec_ctypes.specs.trees.Stmts.{StmtKindData}
 use Rattle.ec_ctypes.specs.trees.Units.{UnitData}
 use Rattle.ec_language.specs.Letters.{Text, each}
-use Rattle.ec_bound_shape.specs.Numbers.{tops_numbers, numbers_from}
-use Rattle.ec_expansion.specs.Programs.{embedded, written_program}
-use Rattle.ec_phases.specs.Sources.{ReadsTree, bound_from, BoundProgram, ReadsSource}
+use Rattle.ec_standing_law.specs.ec_bound_shape.Numbers.{tops_numbers, numbers_from}
+use Rattle.ec_translation.specs.ec_expansion.Programs.{embedded, written_program}
+use Rattle.ec_translation.specs.ec_phases.Sources.{ReadsTree, bound_from, BoundProgram, ReadsSource}
 use Rattle.ec_sections.specs.Answers.{hosts_answer}
 use Rattle.ec_source_shape.specs.SourceShape.{is_source_shape}
 use Rattle.ec_statement_parts.specs.Handlers.{marks_in}
@@ -16,28 +16,28 @@ use Rattle.ec_typing.specs.Answers.{checked, violations, typed_of}
 use Rattle.ec_whenever.specs.Tables.{table_of, are_in_order}
 use Rattle.ec_writing.specs.Shapes.{is_byte}
 use Rattle.ec_resolved.specs.Programs.{Program}
-use Rattle.ec_resolving.specs.Programs.{resolve, embedded_statements_of, library_calls_of}
-use Rattle.ec_resolving.specs.Storage.{LibraryCall}
+use Rattle.ec_simulation.specs.ec_resolving.Programs.{resolve, embedded_statements_of, library_calls_of}
+use Rattle.ec_simulation.specs.ec_resolving.Storage.{LibraryCall}
 use Rattle.ec_evaluation.specs.State.{Answer}
 use Rattle.ec_evaluation.specs.Whole.{Observed, program_meaning}
-use Rattle.ec_calls.specs.Steps.{library_step}
-use Rattle.ec_direct.specs.Direct.{direct_meaning}
+use Rattle.ec_simulation.specs.ec_calls.Steps.{library_step}
+use Rattle.ec_simulation.specs.ec_direct.Direct.{direct_meaning}
 use Rattle.ec_simulation.specs.Written.{meaning_by, meaning_of_written}
-use Rattle.ec_statement_law.specs.Copies.{IsProgramCopy}
-use Rattle.ec_known_law.specs.Laws.{WalkKeeps}
-use Rattle.ec_table_law.specs.Laws.{TablesAreSound}
-use Rattle.ec_program_law.specs.Embedded.{EmbeddedAreCopied}
-use Rattle.ec_program_law.specs.Laws.{PartsAreAlike}
-use Rattle.ec_program_law.specs.Programs.{written_of, whole_of, blocks_of, blocks_in, IsWrittenCopy}
-use Rattle.ec_program_law.specs.Shape.{TopsStand}
-use Rattle.ec_reference_law.specs.Rows.{IndexesAreTyped}
-use Rattle.ec_type_law.specs.Types.{HasAllTypes, SourcesHaveTypes}
+use Rattle.ec_flat_law.specs.ec_statement_law.Copies.{IsProgramCopy}
+use Rattle.ec_standing_law.specs.ec_known_law.Laws.{WalkKeeps}
+use Rattle.ec_flat_law.specs.ec_table_law.Laws.{TablesAreSound}
+use Rattle.ec_standing_law.specs.ec_program_law.Embedded.{EmbeddedAreCopied}
+use Rattle.ec_standing_law.specs.ec_program_law.Laws.{PartsAreAlike}
+use Rattle.ec_standing_law.specs.ec_program_law.Programs.{written_of, whole_of, blocks_of, blocks_in, IsWrittenCopy}
+use Rattle.ec_standing_law.specs.ec_program_law.Shape.{TopsStand}
+use Rattle.ec_flat_law.specs.ec_reference_law.Rows.{IndexesAreTyped}
+use Rattle.ec_flat_law.specs.ec_type_law.Types.{HasAllTypes, SourcesHaveTypes}
 use Rattle.ec_object_law.specs.Objects.{CursorsAreOfObjects}
 use Rattle.ec_flat_law.specs.Laws.{SourcesAreFlat, SourcesAreShallow}
-use Rattle.ec_bound_shape.specs.Counts.{are_counted}
+use Rattle.ec_standing_law.specs.ec_bound_shape.Counts.{are_counted}
 use Rattle.ec_count_law.specs.Counted.{StatementsAreCounted, SourcesAreCounted}
-use Rattle.ec_shape_law.specs.Shapes.{AllAreRead, StatementsAreRead}
-use Rattle.ec_block_law.specs.Accepted.{IsAccepted, StatementLaws, StatementsAreCopied}
+use Rattle.ec_flat_law.specs.ec_shape_law.Shapes.{AllAreRead, StatementsAreRead}
+use Rattle.ec_object_law.specs.ec_block_law.Accepted.{IsAccepted, StatementLaws, StatementsAreCopied}
 use Rattle.ec_translation.specs.Accepted.{IsAcceptedText}
 use Rattle.ec_meaning_law.specs.Meanings.{MeanTheSame}
 use Rattle.ec_meaning_law.proofs.Accepted.{OfTree, OfSource, of_source, no_violation}

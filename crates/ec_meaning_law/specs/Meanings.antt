@@ -2,7 +2,7 @@
 use Rattle.std.specs.Prelude.{◌≡◌, ℕ, List, Option}
 use Rattle.ec_ctypes.specs.trees.Checked.{TypedData}
 use Rattle.ec_evaluation.specs.State.{Answer}
-use Rattle.ec_direct.specs.Direct.{direct_meaning}
+use Rattle.ec_simulation.specs.ec_direct.Direct.{direct_meaning}
 use Rattle.ec_simulation.specs.Written.{meaning_of_written}
 
 -- Both are asked the same, print the same, leave the same in every object and end the same, for every number of turns, each connection that is ready and all answers

@@ -4,4 +4,6 @@
 mod members;
 mod offsets;
 
+pub use ec_forms;
+pub use ec_forms::{ec_conversions, ec_storage};
 pub use members::{arrow_rule, member_rule};

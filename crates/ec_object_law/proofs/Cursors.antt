@@ -3,15 +3,15 @@ use Rattle.std.proofs.Common.{◌≡◌, ◌∙◌, ℕ, true, false, List, [], 
 use Rattle.std.specs.Prelude.{Ok}
 use Rattle.ec_ctypes.specs.trees.Checked.{TypedData, BoundData}
 use Rattle.ec_ctypes.specs.trees.Embedded.{EmbData}
-use Rattle.ec_cursor_law.specs.Cursors.{are_no_functions}
+use Rattle.ec_block_law.specs.ec_cursor_law.Cursors.{are_no_functions}
 use Rattle.ec_hosts.specs.Bound.{program_of}
 use Rattle.ec_hosts.specs.Faults.{uses_faults, row_at}
 use Rattle.ec_hosts.specs.Programs.{Denoted}
 use Rattle.ec_hosts.specs.Uses.{uses_of}
 use Rattle.ec_language.specs.Letters.{Text}
-use Rattle.ec_phases.specs.Sources.{bound_from}
+use Rattle.ec_block_law.specs.ec_phases.Sources.{bound_from}
 use Rattle.ec_sections.specs.Declared.{declared_in_tops, functions_of}
-use Rattle.ec_shape_law.specs.Shapes.{AllAreRead}
+use Rattle.ec_block_law.specs.ec_shape_law.Shapes.{AllAreRead}
 use Rattle.ec_statement_parts.specs.Cursors.{declared_cursor}
 use Rattle.ec_statement_parts.specs.References.{of_part, of_all}
 use Rattle.ec_typing.specs.Answers.{checked, typed_of}

@@ -3,10 +3,10 @@ use Rattle.std.proofs.Common.{◌≡◌, ◌∙◌, ℕ, List, [], ◌++◌, Opt
 use Rattle.ec_ctypes.specs.trees.Embedded.{EmbData, EmbKindData, PartData, connect, set_connection, disconnect, autocommit, trans, server_text, declare_cursor, open_cursor, execute_immediate, prepare, execute, deallocate, allocate_area, free_area, get_count, get_items, set_count, set_items, whenever, include_sqlca}
 use Rattle.ec_hosts.specs.Uses.{text_option_uses, part_uses, each_uses, kind_uses, uses_of}
 use Rattle.ec_language.specs.Letters.{Text}
-use Rattle.ec_shape_law.specs.Shapes.{IsAlone}
+use Rattle.ec_block_law.specs.ec_shape_law.Shapes.{IsAlone}
 use Rattle.ec_statement_parts.specs.Cursors.{declared_cursor, declare_opened}
 use Rattle.ec_statement_parts.specs.References.{of_part, of_all, of_kind, of_text_option, references, names_of_option}
-use Rattle.ec_closing_law.proofs.Lists.{none_not}
+use Rattle.ec_block_law.proofs.ec_closing_law_proofs.Lists.{none_not}
 
 -- of this kind
 record IsDeclare (kind : EmbKindData) : Type 0 where

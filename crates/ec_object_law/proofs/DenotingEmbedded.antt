@@ -11,8 +11,8 @@ use Rattle.ec_statement_parts.specs.References.{References}
 use Rattle.ec_typing.specs.Tables.{Named}
 use Rattle.ec_typing.specs.Worlds.{Place, Rule, instead}
 use Rattle.ec_typing.specs.Embedded.{reference_rule, members_rule, references_rule, action_rule, actions_rule, handlers_rule}
-use Rattle.ec_program_law.proofs.DenotingRules.{DenotesNone, chained, asked, pure_denotes, demand_denotes, keep_denotes, chosen}
-use Rattle.ec_program_law.proofs.DenotingExpressions.{expr_denotes}
+use Rattle.ec_block_law.proofs.ec_program_law_proofs.DenotingRules.{DenotesNone, chained, asked, pure_denotes, demand_denotes, keep_denotes, chosen}
+use Rattle.ec_block_law.proofs.ec_program_law_proofs.DenotingExpressions.{expr_denotes}
 
 instead_denotes : (at : Place) (kind : FaultKind) (m : Rule (Unit {0})) → DenotesNone m → DenotesNone (instead at kind m)
 unfolding instead

@@ -8,15 +8,15 @@ use Rattle.ec_ctypes.specs.trees.Checked.{TypedData, BoundData}
 use Rattle.ec_ctypes.specs.trees.Embedded.{EmbData, PartData, bytes_part, host_part}
 use Rattle.ec_ctypes.specs.trees.Exprs.{ExprData}
 use Rattle.ec_ctypes.specs.trees.Types.{TyData}
-use Rattle.ec_cursor_law.specs.Cursors.{is_no_function, are_no_functions}
+use Rattle.ec_block_law.specs.ec_cursor_law.Cursors.{is_no_function, are_no_functions}
 use Rattle.ec_hosts.specs.Bound.{program_of, faults_of, violation_at, violations_at, answer_by, bound_answer}
 use Rattle.ec_hosts.specs.Faults.{value_faults, indicator_faults, indicator_type_faults, may_have_indicator, fault_unless, reference_faults, host_faults, host_count, value_part, indicator_part, uses_faults, row_at, opening_faults, declaring_faults}
 use Rattle.ec_hosts.specs.Programs.{ProgramData, Denoted, is_among, declared_type, variable_type, variable_of, type_along, reference_type, names_count}
 use Rattle.ec_hosts.specs.Uses.{RoleData, input_role, part_uses, each_uses, uses_of}
 use Rattle.ec_language.specs.First.{Violation, comes_before, earlier, first_of, stop_at}
-use Rattle.ec_phases.specs.Sources.{with_bound, bound_from}
+use Rattle.ec_block_law.specs.ec_phases.Sources.{with_bound, bound_from}
 use Rattle.ec_statement_parts.specs.References.{References, of_part, of_all}
-use Rattle.ec_closing_law.proofs.Lists.{none_not, some_is, false_not}
+use Rattle.ec_block_law.proofs.ec_closing_law_proofs.Lists.{none_not, some_is, false_not}
 use Rattle.ec_object_law.proofs.Indexes.{both_true}
 use Rattle.ec_object_law.proofs.Walking.{both_none, RowIsFine}
 

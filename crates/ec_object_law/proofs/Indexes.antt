@@ -2,7 +2,7 @@
 use Rattle.std.proofs.Common.{◌≡◌, ◌∙◌, ℕ, Bool, true, not, List, [], ◌∷◌, ◌++◌, map, length, take, drop, Option, Some, None, refl, sym, ap, subst, append_assoc, ◌&&◌}
 use Rattle.ec_ctypes.specs.trees.Types.{TyData}
 use Rattle.ec_ctypes.specs.trees.Exprs.{ExprData, integer, character, string, identifier, index, member, arrow, call, unary, binary, assign, bump, call_other, cast, size_type, size_expr}
-use Rattle.ec_cursor_law.specs.Cursors.{is_no_function, are_no_functions}
+use Rattle.ec_block_law.specs.ec_cursor_law.Cursors.{is_no_function, are_no_functions}
 use Rattle.ec_language.specs.Letters.{Text}
 use Rattle.ec_statement_parts.specs.References.{References, names_in, all_names}
 use Rattle.ec_typing.specs.Tables.{Named, find}
@@ -10,12 +10,12 @@ use Rattle.ec_typing.specs.Operands.{unknown, value_rule, name_rule, named_by, i
 use Rattle.ec_typing.specs.Worlds.{Place, EntryData, object, function, ScopeData, Rule, World, chain, ask, note, look_up, look_up_in, or_else}
 use Rattle.ec_typing.specs.Expressions.{expr}
 use Rattle.ec_typing.specs.Embedded.{reference_rule, members_rule, references_rule, denoted_by, denoted_in}
-use Rattle.ec_place_law.specs.References.{IsIndex, IsReference, variable_in}
-use Rattle.ec_reference_law.specs.Found.{AreReferences}
-use Rattle.ec_known_law.proofs.NamesRules as stay
-use Rattle.ec_known_law.proofs.NamesRules.{NamesStay, stay_so, stay_further, Staying}
-use Rattle.ec_known_law.proofs.NamesExpressions as staying
-use Rattle.ec_known_law.proofs.NamesExpressions.{expr_stays}
+use Rattle.ec_block_law.specs.ec_place_law.References.{IsIndex, IsReference, variable_in}
+use Rattle.ec_block_law.specs.ec_reference_law.Found.{AreReferences}
+use Rattle.ec_block_law.proofs.ec_known_law_proofs.NamesRules as stay
+use Rattle.ec_block_law.proofs.ec_known_law_proofs.NamesRules.{NamesStay, stay_so, stay_further, Staying}
+use Rattle.ec_block_law.proofs.ec_known_law_proofs.NamesExpressions as staying
+use Rattle.ec_block_law.proofs.ec_known_law_proofs.NamesExpressions.{expr_stays}
 use Rattle.ec_object_law.proofs.Walking.{both_none, IsFine, AreFine, ScopesAreFine, RowIsFine}
 
 -- ---- what indexes stand for

@@ -1,10 +1,10 @@
 -- What the walk through a program keeps where nothing is wrong: the declarations that are still to come are those of what is still to come, no object has the number of a function, and in the rows so far no index of a cursor's hosts is a function.
 use Rattle.std.proofs.Common.{◌≡◌, ◌∙◌, ◌⊎◌, inl, inr, ℕ, zero, suc, ◌+◌, ◌<◌, ◌||◌, ◌==◌, Bool, true, false, List, [], ◌∷◌, ◌++◌, length, take, drop, Option, Some, refl, sym, ap, subst, append_assoc, slice_get, arith, if◌then◌else◌}
 use Rattle.std.proofs.lemmas.Bool.Decides.{nat_tests}
-use Rattle.ec_bound_shape.specs.Numbers.{numbers_from}
+use Rattle.ec_block_law.specs.ec_bound_shape.Numbers.{numbers_from}
 use Rattle.ec_ctypes.specs.trees.Embedded.{EmbData}
 use Rattle.ec_ctypes.specs.trees.Types.{TyData}
-use Rattle.ec_cursor_law.specs.Cursors.{are_no_functions}
+use Rattle.ec_block_law.specs.ec_cursor_law.Cursors.{are_no_functions}
 use Rattle.ec_hosts.specs.Programs.{Denoted, names_count, is_among}
 use Rattle.ec_language.specs.Letters.{Text}
 use Rattle.ec_sections.specs.Declared as declared
@@ -14,12 +14,12 @@ use Rattle.ec_statement_parts.specs.References.{References, references}
 use Rattle.ec_typing.specs.Tables.{Named, find, put}
 use Rattle.ec_typing.specs.Worlds.{EntryData, object, function, ScopeData, World, Rule, chain, pure, ask, change, left_to, enter, leave, scoped, number_as}
 use Rattle.ec_typing.specs.Programs.{put_outside, begin_function, know_function}
-use Rattle.ec_closing_law.proofs.Lists.{none_not}
-use Rattle.ec_known_law.proofs.EntriesTables.{find_put}
-use Rattle.ec_known_law.proofs.NamesRules as names
-use Rattle.ec_known_law.proofs.NamesRules.{Staying}
-use Rattle.ec_program_law.proofs.DenotingRules as denoting
-use Rattle.ec_program_law.proofs.DenotingRules.{DenotesNone}
+use Rattle.ec_block_law.proofs.ec_closing_law_proofs.Lists.{none_not}
+use Rattle.ec_block_law.proofs.ec_known_law_proofs.EntriesTables.{find_put}
+use Rattle.ec_block_law.proofs.ec_known_law_proofs.NamesRules as names
+use Rattle.ec_block_law.proofs.ec_known_law_proofs.NamesRules.{Staying}
+use Rattle.ec_block_law.proofs.ec_program_law_proofs.DenotingRules as denoting
+use Rattle.ec_block_law.proofs.ec_program_law_proofs.DenotingRules.{DenotesNone}
 
 -- ---- lists of declarations
 

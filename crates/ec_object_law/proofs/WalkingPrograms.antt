@@ -2,7 +2,7 @@
 use Rattle.std.proofs.Common.{◌≡◌, ◌∙◌, ℕ, ◌+◌, Bool, true, false, not, List, [], ◌∷◌, ◌++◌, length, drop, Option, Some, None, refl, sym, ap, append-nil, slice_get, arith}
 use Rattle.std.specs.Prelude.{is_some}
 use Rattle.ec_base.specs.declared.fault.FaultKind.TheVariants.{F14}
-use Rattle.ec_bound_shape.specs.Numbers.{numbers_from, body_numbers, top_numbers, tops_numbers}
+use Rattle.ec_block_law.specs.ec_bound_shape.Numbers.{numbers_from, body_numbers, top_numbers, tops_numbers}
 use Rattle.ec_ctypes.specs.trees.Types.{TyData}
 use Rattle.ec_ctypes.specs.trees.Stmts.{StmtList}
 use Rattle.ec_ctypes.specs.trees.Embedded.{EmbData}
@@ -13,15 +13,15 @@ use Rattle.ec_typing.specs.Statements.{type_or_void}
 use Rattle.ec_typing.specs.Programs.{declare_param, param, params, body_rule, function_rule, directive_rule, top_rule, tops_rule, unit_rule, main_rule, start}
 use Rattle.ec_typing.specs.Worlds.{Place, object, Rule, chain, pure, ask, change, next_number, number_as}
 use Rattle.ec_growth_law.proofs.Rules as growth
-use Rattle.ec_closing_law.proofs.Lists.{none_not}
-use Rattle.ec_known_law.proofs.NamesRules.{Staying, demand_stays, place_stays, free_name_stays}
-use Rattle.ec_known_law.proofs.NamesOperands.{elements_stays}
-use Rattle.ec_known_law.proofs.NamesExpressions.{base_stays, lengths_stay}
-use Rattle.ec_known_law.proofs.NamesStatements.{result_stays, param_type_stays, new_labels_stay}
-use Rattle.ec_program_law.proofs.DenotingRules.{DenotesNone, demand_denotes, place_denotes, free_name_denotes, changed}
-use Rattle.ec_program_law.proofs.DenotingOperands.{elements_denotes}
-use Rattle.ec_program_law.proofs.DenotingExpressions.{base_denotes, lengths_denote}
-use Rattle.ec_program_law.proofs.DenotingPrograms.{result_denotes, type_denotes}
+use Rattle.ec_block_law.proofs.ec_closing_law_proofs.Lists.{none_not}
+use Rattle.ec_block_law.proofs.ec_known_law_proofs.NamesRules.{Staying, demand_stays, place_stays, free_name_stays}
+use Rattle.ec_block_law.proofs.ec_known_law_proofs.NamesOperands.{elements_stays}
+use Rattle.ec_block_law.proofs.ec_known_law_proofs.NamesExpressions.{base_stays, lengths_stay}
+use Rattle.ec_block_law.proofs.ec_known_law_proofs.NamesStatements.{result_stays, param_type_stays, new_labels_stay}
+use Rattle.ec_block_law.proofs.ec_program_law_proofs.DenotingRules.{DenotesNone, demand_denotes, place_denotes, free_name_denotes, changed}
+use Rattle.ec_block_law.proofs.ec_program_law_proofs.DenotingOperands.{elements_denotes}
+use Rattle.ec_block_law.proofs.ec_program_law_proofs.DenotingExpressions.{base_denotes, lengths_denote}
+use Rattle.ec_block_law.proofs.ec_program_law_proofs.DenotingPrograms.{result_denotes, type_denotes}
 use Rattle.ec_object_law.proofs.Walking.{Known, Walking, one_longer, one_passed, still_known, both, behind, before, none, asked, pure_walks, number_walks, enter_walks, leave_walks, begin_walks, know_walks}
 use Rattle.ec_object_law.proofs.WalkingStatements.{AllAreReferences, declared_world, object_more, declaration_walks, embedded_walks, none_walks, statements_walk}
 

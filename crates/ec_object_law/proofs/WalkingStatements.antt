@@ -2,7 +2,7 @@
 use Rattle.std.proofs.Common.{◌≡◌, ◌∙◌, ◌⊎◌, inl, inr, ℕ, zero, suc, ◌+◌, Bool, false, not, ◌&&◌, List, [], ◌∷◌, ◌++◌, length, drop, Option, Some, None, refl, sym, ap, subst, slice_get, arith}
 use Rattle.std.specs.Prelude.{is_some}
 use Rattle.ec_base.specs.declared.fault.FaultKind.TheVariants.{F10, F12, F29}
-use Rattle.ec_bound_shape.specs.Numbers.{numbers_from, stmt_numbers, kind_numbers, stmts_numbers, else_numbers}
+use Rattle.ec_block_law.specs.ec_bound_shape.Numbers.{numbers_from, stmt_numbers, kind_numbers, stmts_numbers, else_numbers}
 use Rattle.ec_ctypes.specs.trees.Types.{TyData}
 use Rattle.ec_ctypes.specs.trees.Exprs.{InitOption, DeclaratorData, declarator, DeclaratorList, no_declarators, declarators, DeclData, decl}
 use Rattle.ec_ctypes.specs.trees.Stmts.{StmtData, stmt, StmtKindData, empty_stmt, expr_stmt, block_stmt, if_stmt, while_stmt, do_stmt, for_stmt, break_stmt, continue_stmt, return_stmt, goto_stmt, label_stmt, decl_stmt, emb_stmt, mark_stmt, StmtList, no_stmts, stmts, StmtOption, no_stmt, some_stmt}
@@ -21,18 +21,18 @@ use Rattle.ec_typing.specs.Statements.{type_or_void, initial, object_item, objec
 use Rattle.ec_typing.specs.Tables.{Named, find, put}
 use Rattle.ec_typing.specs.Worlds.{Place, EntryData, object, World, Rule, chain, pure, ask, change, demand, with_name, free_name, declare, know_better, next_number, number_as}
 use Rattle.ec_growth_law.proofs.Rules as growth
-use Rattle.ec_closing_law.proofs.Lists.{get_behind, get_last, some_is}
-use Rattle.ec_known_law.proofs.EntriesTables.{put_twice}
-use Rattle.ec_known_law.proofs.NamesRules.{stay_so, stay_further, demand_stays, place_stays, label_stays}
-use Rattle.ec_known_law.proofs.NamesOperands.{within_stays}
-use Rattle.ec_known_law.proofs.NamesExpressions.{expr_stays}
-use Rattle.ec_known_law.proofs.NamesEmbedded.{references_stays, handlers_stays}
-use Rattle.ec_known_law.proofs.NamesStatements.{object_stays, initial_stays, type_stays, specifier_stays, condition_stays, optional_stays, optional_condition_stays, return_stays}
-use Rattle.ec_reference_law.specs.Found.{AreReferences}
-use Rattle.ec_program_law.proofs.DenotingRules.{demand_denotes, place_denotes, label_denotes}
-use Rattle.ec_program_law.proofs.DenotingOperands.{within_denotes}
-use Rattle.ec_program_law.proofs.DenotingExpressions.{expr_denotes}
-use Rattle.ec_program_law.proofs.DenotingStatements.{object_denotes, initial_denotes, type_denotes, specifier_denotes, condition_denotes, optional_denotes, optional_condition_denotes, return_denotes}
+use Rattle.ec_block_law.proofs.ec_closing_law_proofs.Lists.{get_behind, get_last, some_is}
+use Rattle.ec_block_law.proofs.ec_known_law_proofs.EntriesTables.{put_twice}
+use Rattle.ec_block_law.proofs.ec_known_law_proofs.NamesRules.{stay_so, stay_further, demand_stays, place_stays, label_stays}
+use Rattle.ec_block_law.proofs.ec_known_law_proofs.NamesOperands.{within_stays}
+use Rattle.ec_block_law.proofs.ec_known_law_proofs.NamesExpressions.{expr_stays}
+use Rattle.ec_block_law.proofs.ec_known_law_proofs.NamesEmbedded.{references_stays, handlers_stays}
+use Rattle.ec_block_law.proofs.ec_known_law_proofs.NamesStatements.{object_stays, initial_stays, type_stays, specifier_stays, condition_stays, optional_stays, optional_condition_stays, return_stays}
+use Rattle.ec_block_law.specs.ec_reference_law.Found.{AreReferences}
+use Rattle.ec_block_law.proofs.ec_program_law_proofs.DenotingRules.{demand_denotes, place_denotes, label_denotes}
+use Rattle.ec_block_law.proofs.ec_program_law_proofs.DenotingOperands.{within_denotes}
+use Rattle.ec_block_law.proofs.ec_program_law_proofs.DenotingExpressions.{expr_denotes}
+use Rattle.ec_block_law.proofs.ec_program_law_proofs.DenotingStatements.{object_denotes, initial_denotes, type_denotes, specifier_denotes, condition_denotes, optional_denotes, optional_condition_denotes, return_denotes}
 use Rattle.ec_object_law.proofs.DenotingEmbedded.{references_denote, handlers_denote}
 use Rattle.ec_object_law.proofs.Declares.{opens_none}
 use Rattle.ec_object_law.proofs.Indexes.{AllNoFunctions, references_clean, all_no_functions_stay, row_fine}

@@ -1,10 +1,10 @@
 -- The numbers of objects are no functions' numbers, so a cursor's hosts are no functions.
 use Rattle.std.specs.Prelude.{◌≡◌, false, List, [], Ok, length}
 use Rattle.ec_ctypes.specs.trees.Checked.{TypedData, BoundData}
-use Rattle.ec_bound_shape.specs.Numbers.{tops_numbers, numbers_from}
-use Rattle.ec_phases.specs.Sources.{bound_from}
+use Rattle.ec_block_law.specs.ec_bound_shape.Numbers.{tops_numbers, numbers_from}
+use Rattle.ec_block_law.specs.ec_phases.Sources.{bound_from}
 use Rattle.ec_typing.specs.Answers.{checked, violations, typed_of}
-use Rattle.ec_shape_law.specs.Shapes.{AllAreRead}
+use Rattle.ec_block_law.specs.ec_shape_law.Shapes.{AllAreRead}
 use Rattle.ec_block_law.specs.Accepted.{CursorsHaveNoFunctions}
 
 -- of an accepted source, whose statements stand in its tree in their order

@@ -3,4 +3,6 @@
 
 mod laws;
 
+pub use ec_block_law;
+pub use ec_block_law::ec_cursor_law;
 pub use laws::cursors_are_of_objects;

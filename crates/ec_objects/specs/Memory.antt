@@ -3,8 +3,8 @@ use Rattle.std.specs.Prelude.{ℕ, zero, suc, ◌+◌, ◌-◌, ◌*◌, ◌/◌
 use Rattle.std.specs.Int.{int_rem_euclid}
 use Rattle.std.specs.declared.cmp.Ordering.{Ordering}
 use Rattle.std.specs.Ordering.{nat_cmp}
-use Rattle.ec_base.specs.declared.stop.Trap.{Trap}
-use Rattle.ec_base.specs.declared.stop.Trap.TheVariants.{Outside, Dead, Null, Unset, Spent}
+use Rattle.ec_ctypes.specs.ec_base.declared.stop.Trap.{Trap}
+use Rattle.ec_ctypes.specs.ec_base.declared.stop.Trap.TheVariants.{Outside, Dead, Null, Unset, Spent}
 use Rattle.ec_ctypes.specs.declared.types.arith.Arith.{Arith}
 use Rattle.ec_ctypes.specs.trees.Types.{TyData, void, arithmetic, pointer, array, structure}
 use Rattle.ec_ctypes.specs.Arithmetic.{IsValue, converted}

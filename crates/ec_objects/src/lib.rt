@@ -4,6 +4,8 @@
 mod kind;
 mod memory_laws;
 
+pub use ec_ctypes;
+pub use ec_ctypes::ec_base;
 pub use kind::Kind;
 pub use memory_laws::{
     access_examples, front_examples, object_examples, pointer_examples, text_examples,

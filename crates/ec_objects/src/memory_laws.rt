@@ -2,7 +2,7 @@
 
 ghost use Rattle.std.specs.Prelude.{◌≡◌, ℕ, ◌+◌, ◌<◌, ◌≤◌, ◌^◌, ◌-◌, pos, negsuc, [], ◌∷◌, length, Some, None, Ok, Err};
 ghost use Rattle.std.specs.declared.cmp.Ordering.TheVariants.{Less, Equal, Greater};
-ghost use Rattle.ec_base.specs.declared.stop.Trap.TheVariants as trap;
+ghost use Rattle.ec_ctypes.specs.ec_base.declared.stop.Trap.TheVariants as trap;
 ghost use Rattle.ec_ctypes.specs.declared.types.arith.Arith.TheVariants as arith;
 ghost use Rattle.ec_objects.specs.Memory.{Memory, alive, ended, text_up_to, difference, order, make_zeroed, pointer_to, integer_type, pointer_type, number, address, load, store, span, text_at, moved, make, end_to, copy, unset, fill, live_bytes, last_number, little_endian_bytes};
 ghost use Rattle.ec_objects.specs.MemoryExamples.{three_objects, first, second, third};

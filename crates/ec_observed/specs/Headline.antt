@@ -1,8 +1,8 @@
 -- What is promised of a call that reads a text: what it took from its input, and when it refuses it.
 use Rattle.std.specs.Prelude.{ℕ, ◌+◌, ◌^◌, ◌<◌, ◌≤◌, List, length, Option}
 use Rattle.std.specs.Io.KnownBytes.{Consumes, IsAtEnd}
-use Rattle.ec_base.specs.declared.fault.FaultKind.{FaultKind}
-use Rattle.ec_base.specs.Reading.{block}
+use Rattle.ec_link.specs.ec_base.declared.fault.FaultKind.{FaultKind}
+use Rattle.ec_link.specs.ec_base.Reading.{block}
 
 -- an input was read to its end, and had this text
 pub record IsRead (before after : Option (List ℕ)) (text : List ℕ) : Type 0 where

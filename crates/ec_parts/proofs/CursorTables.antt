@@ -6,8 +6,8 @@ use Rattle.ec_ctypes.specs.trees.Embedded.{EmbData}
 use Rattle.ec_language.specs.Letters.{Text, lower, same_text, same_word}
 use Rattle.ec_language.proofs.Marks.{same_text_is}
 use Rattle.ec_statement_parts.specs.Cursors.{declared_cursor, declare_from, declared_above}
-use Rattle.ec_typing.specs.Tables.{Named, find, put}
-use Rattle.ec_typing.specs.Worlds.{or_else}
+use Rattle.ec_scopes.specs.ec_typing.Tables.{Named, find, put}
+use Rattle.ec_scopes.specs.ec_typing.Worlds.{or_else}
 use Rattle.ec_parts.specs.Cursors.{with_cursor, cursors_from}
 
 -- ---- what is put into a table

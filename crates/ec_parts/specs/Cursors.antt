@@ -3,7 +3,7 @@ use Rattle.std.specs.Prelude.{ℕ, ◌+◌, List, [], ◌∷◌, map, Option, So
 use Rattle.ec_ctypes.specs.trees.Embedded.{EmbData}
 use Rattle.ec_language.specs.Letters.{Text, lower}
 use Rattle.ec_statement_parts.specs.Cursors.{declared_cursor}
-use Rattle.ec_typing.specs.Tables.{Named, find, put}
+use Rattle.ec_scopes.specs.ec_typing.Tables.{Named, find, put}
 
 -- the statement of this number declares the cursor; an earlier DECLARE of it stays
 abbrev pub with_cursor : Option Text → ℕ → Named ℕ → Named ℕ

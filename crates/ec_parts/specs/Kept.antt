@@ -4,7 +4,7 @@ use Rattle.ec_ctypes.specs.declared.checked.typed.HandlerTable.{HandlerTable}
 use Rattle.ec_ctypes.specs.declared.embedded.emb.Emb.{Emb}
 use Rattle.ec_ctypes.specs.views.Checked.{handlers_view}
 use Rattle.ec_ctypes.specs.views.Embedded.{emb_view}
-use Rattle.ec_typing.specs.Tables.{Named}
+use Rattle.ec_scopes.specs.ec_typing.Tables.{Named}
 use Rattle.ec_whenever.specs.Tables.{AnswersFor}
 use Rattle.ec_parts.specs.Cursors.{cursors_from}
 

@@ -18,8 +18,8 @@ use Rattle.ec_language.proofs.PieceParts.{one_answer}
 use Rattle.ec_language.proofs.ReadLaws.{one_list}
 use Rattle.ec_language.proofs.StatementTokens.{statements_have_tokens}
 use Rattle.ec_language.proofs.TextReads.{text_reads}
-use Rattle.ec_embedded.specs.Answers.{StatementOrStop}
-use Rattle.ec_embedded.proofs.OneAnswer.{piece_answered, one_of_piece}
+use Rattle.ec_hosts.specs.ec_embedded.Answers.{StatementOrStop}
+use Rattle.ec_hosts.proofs.ec_embedded_proofs.OneAnswer.{piece_answered, one_of_piece}
 use Rattle.ec_hosts.specs.Examples.{is_statement, statement_places, with_statement, with_statements}
 use Rattle.ec_phases.specs.Laws.{statement_count}
 use Rattle.ec_phases.specs.Sources.{ReadsStatements, end, other, stops, statement, ReadsTree, refused, statements, checked_tree, ReadsChecked, BoundProgram, bound_program, ReadsSource}

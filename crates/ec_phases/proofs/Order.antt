@@ -9,8 +9,8 @@ use Rattle.ec_ctypes.specs.declared.text.piece.Piece.{Piece}
 use Rattle.ec_ctypes.specs.trees.Embedded.{EmbData}
 use Rattle.ec_ctypes.specs.trees.Units.{UnitData}
 use Rattle.ec_language.specs.Letters.{Text}
-use Rattle.ec_embedded.specs.Answers.{placed}
-use Rattle.ec_embedded.specs.Findings.{Answer}
+use Rattle.ec_hosts.specs.ec_embedded.Answers.{placed}
+use Rattle.ec_hosts.specs.ec_embedded.Findings.{Answer}
 use Rattle.ec_whenever.specs.Tables.{is_behind, are_in_order}
 use Rattle.ec_hosts.specs.Examples.{with_statement, with_statements}
 use Rattle.ec_phases.specs.Sources.{ReadsStatements, end, other, stops, statement, ReadsTree, refused, statements}

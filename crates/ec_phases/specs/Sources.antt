@@ -11,10 +11,10 @@ use Rattle.ec_language.specs.Letters.{Text}
 use Rattle.ec_language.specs.Pieces.{Pieces}
 use Rattle.ec_language.specs.Syntax.{TreeOrStop}
 use Rattle.ec_language.specs.Tokens.{Tokens}
-use Rattle.ec_embedded.specs.Answers.{StatementOrStop}
-use Rattle.ec_sections.specs.Answers.{hosts_answer}
-use Rattle.ec_statement_parts.specs.Handlers.{marks_in}
-use Rattle.ec_typing.specs.Answers.{check_answer}
+use Rattle.ec_hosts.specs.ec_embedded.Answers.{StatementOrStop}
+use Rattle.ec_hosts.specs.ec_sections.Answers.{hosts_answer}
+use Rattle.ec_whenever.specs.ec_statement_parts.Handlers.{marks_in}
+use Rattle.ec_hosts.specs.ec_typing.Answers.{check_answer}
 use Rattle.ec_whenever.specs.Tables.{table_of}
 use Rattle.ec_hosts.specs.Bound.{bound_answer}
 use Rattle.ec_hosts.specs.Examples.{is_statement, statement_places, with_statement, with_statements}

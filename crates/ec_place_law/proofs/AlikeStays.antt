@@ -3,7 +3,7 @@ use Rattle.std.proofs.Common.{◌≡◌, ◌∙◌, ℕ, zero, suc, List, [], �
 use Rattle.std.specs.Prelude.{option_and_then}
 use Rattle.ec_ctypes.specs.Layout.{struct_shape}
 use Rattle.ec_ctypes.specs.trees.Types.{TyData}
-use Rattle.ec_language.specs.Letters.{Text}
+use Rattle.ec_typing.specs.ec_language.Letters.{Text}
 use Rattle.ec_typing.specs.Worlds.{StructInfo, World, or_else, look_up, look_up_in}
 use Rattle.ec_typing.specs.Tables.{find}
 use Rattle.ec_typing.specs.Expressions.{typed_members}

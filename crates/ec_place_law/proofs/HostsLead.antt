@@ -1,25 +1,25 @@
 -- The pointers that are written for a host lead to the places of its references.
 use Rattle.std.proofs.Common.{◌≡◌, ◌∙◌, ℕ, Bool, true, false, List, [], ◌∷◌, take, drop, Option, Some, None, refl, sym, subst, slice_get, option_map, codes}
 use Rattle.std.specs.Prelude.{option_and_then}
-use Rattle.ec_arguments.specs.Arguments.{held}
+use Rattle.ec_typing.specs.ec_arguments.Arguments.{held}
 use Rattle.ec_ctypes.specs.trees.Embedded.{HostData}
 use Rattle.ec_ctypes.specs.trees.Exprs.{ExprData, member as member_expr}
 use Rattle.ec_ctypes.specs.Layout.{member_of}
 use Rattle.ec_ctypes.specs.trees.Types.{TyData, void, arithmetic, pointer, array, structure, StructData}
-use Rattle.ec_expansion.specs.Calls.{text_of}
-use Rattle.ec_hosts.specs.Elements.{array_length, is_element}
-use Rattle.ec_hosts.specs.Leaves.{LeafData, paired, leaves, leaves_or_none, hosted, leaves_by, own_leaf, one_element, other_shape}
-use Rattle.ec_hosts.specs.Places.{leaf_pointer, text_pointer}
-use Rattle.ec_hosts.specs.Programs.{ProgramData, reference_type, names_count}
-use Rattle.ec_statement_parts.specs.References.{of_host}
+use Rattle.ec_expression_law.specs.ec_expansion.Calls.{text_of}
+use Rattle.ec_expression_law.specs.ec_hosts.Elements.{array_length, is_element}
+use Rattle.ec_expression_law.specs.ec_hosts.Leaves.{LeafData, paired, leaves, leaves_or_none, hosted, leaves_by, own_leaf, one_element, other_shape}
+use Rattle.ec_expression_law.specs.ec_hosts.Places.{leaf_pointer, text_pointer}
+use Rattle.ec_expression_law.specs.ec_hosts.Programs.{ProgramData, reference_type, names_count}
+use Rattle.ec_typing.specs.ec_statement_parts.References.{of_host}
 use Rattle.ec_typing.specs.Answers.{struct_order, place_of, renumbered, structs_of}
 use Rattle.ec_typing.specs.Types.{is_void}
 use Rattle.ec_typing.specs.Worlds.{Place, World}
-use Rattle.ec_objects.specs.Memory.{pointer_type}
-use Rattle.ec_resolved.specs.Resolved.{Exp, member, load, faulty}
-use Rattle.ec_resolving.specs.Storage.{Storage, ReferenceForm}
-use Rattle.ec_direct.specs.Leaves.{leaf_place, member_place}
-use Rattle.ec_direct.specs.Statements.{Around, behind, reference_at, text_place, type_of}
+use Rattle.ec_expression_law.specs.ec_objects.Memory.{pointer_type}
+use Rattle.ec_expression_law.specs.ec_resolved.Resolved.{Exp, member, load, faulty}
+use Rattle.ec_expression_law.specs.ec_resolving.Storage.{Storage, ReferenceForm}
+use Rattle.ec_expression_law.specs.ec_direct.Leaves.{leaf_place, member_place}
+use Rattle.ec_expression_law.specs.ec_direct.Statements.{Around, behind, reference_at, text_place, type_of}
 use Rattle.ec_argument_law.specs.Pointers.{IsPlace, IsPointer, target_of}
 use Rattle.ec_argument_law.specs.Bound.{IsOne, IndicatorIs, PairsAre, HostIs, PointsTo, HostTextIs}
 use Rattle.ec_argument_law.proofs.Pointers.{leaf_pointed, member_of_place}

@@ -2,9 +2,9 @@
 use Rattle.std.proofs.Common.{◌≡◌, ◌∙◌, ℕ, zero, suc, Bool, true, false, List, [], ◌∷◌, ◌++◌, map, length, Option, Some, None, refl, sym, subst, slice_get, option_map}
 use Rattle.std.specs.Prelude.{option_and_then}
 use Rattle.ec_ctypes.specs.trees.Types.{TyData, void, arithmetic, pointer, array, structure, MemberData, StructData}
-use Rattle.ec_language.specs.Letters.{Text}
-use Rattle.ec_hosts.specs.Elements.{is_element, plain_if, plain_number, plain_struct}
-use Rattle.ec_hosts.specs.Leaves.{LeafData, Way, both, with_step, member_ways, members_ways, ways_within, ways, ShapeData, one_element, elements, one_struct, many_structs, is_pointer, array_shape, other_shape, leaf_of_struct, leaf_of_structs, own_leaf, leaves_by, leaves}
+use Rattle.ec_typing.specs.ec_language.Letters.{Text}
+use Rattle.ec_expression_law.specs.ec_hosts.Elements.{is_element, plain_if, plain_number, plain_struct}
+use Rattle.ec_expression_law.specs.ec_hosts.Leaves.{LeafData, Way, both, with_step, member_ways, members_ways, ways_within, ways, ShapeData, one_element, elements, one_struct, many_structs, is_pointer, array_shape, other_shape, leaf_of_struct, leaf_of_structs, own_leaf, leaves_by, leaves}
 use Rattle.ec_typing.specs.Worlds.{World, is_listed}
 use Rattle.ec_typing.specs.Programs.{known_members}
 use Rattle.ec_typing.specs.Answers.{struct_order, place_of, renumbered, struct_members, structs_of}

@@ -1,3 +1,5 @@
+pub use Rattle.ec_growth_law.proofs as ec_growth_law_proofs
+pub use Rattle.ec_expression_law.proofs.ec_resolving_proofs as ec_resolving_proofs
 pub mod AlikeStays
 pub mod GrowthStays
 pub mod HostsLead

@@ -4,18 +4,18 @@ use Rattle.std.specs.Prelude.{option_and_then}
 use Rattle.ec_ctypes.specs.declared.types.sizes.Shape.{Shape}
 use Rattle.ec_ctypes.specs.trees.Types.{TyData, structure, MemberData}
 use Rattle.ec_ctypes.specs.Layout.{struct_shape, limited, member_behind, no_members, with_members}
-use Rattle.ec_language.specs.Letters.{Text, same_text}
-use Rattle.ec_hosts.specs.Places.{size_of}
-use Rattle.ec_hosts.specs.Programs as tables
-use Rattle.ec_hosts.specs.Programs.{member_among}
+use Rattle.ec_typing.specs.ec_language.Letters.{Text, same_text}
+use Rattle.ec_expression_law.specs.ec_hosts.Places.{size_of}
+use Rattle.ec_expression_law.specs.ec_hosts.Programs as tables
+use Rattle.ec_expression_law.specs.ec_hosts.Programs.{member_among}
 use Rattle.ec_typing.specs.Tables.{find}
 use Rattle.ec_typing.specs.Operands.{member_type}
 use Rattle.ec_typing.specs.Worlds.{MembersData, unlisted, begun, listed, World, shapes_in, shape_in, members_of}
 use Rattle.ec_typing.specs.Expressions.{Members}
 use Rattle.ec_typing.specs.Programs.{known_members}
 use Rattle.ec_typing.specs.Answers.{struct_order, place_of, renumbered, struct_members, structs_of}
-use Rattle.ec_resolving.specs.Conversions.{size_in, within_limit, size_or_none}
-use Rattle.ec_resolving.specs.Operands.{offset_among}
+use Rattle.ec_expression_law.specs.ec_resolving.Conversions.{size_in, within_limit, size_or_none}
+use Rattle.ec_expression_law.specs.ec_resolving.Operands.{offset_among}
 use Rattle.ec_argument_law.specs.Pointers.{HasMember}
 use Rattle.ec_place_law.specs.Structs.{IsListed, EachStruct, AreListed, IsAmong, EachMember, IsWithin}
 use Rattle.ec_place_law.specs.Places.{IsMember}

@@ -3,18 +3,18 @@ use Rattle.std.proofs.Common.{◌≡◌, ◌∙◌, ℕ, Bool, true, false, Some
 use Rattle.ec_ctypes.specs.declared.types.arith.Arith.{Arith}
 use Rattle.ec_ctypes.specs.trees.Exprs.{ExprData, index, arrow}
 use Rattle.ec_ctypes.specs.trees.Types.{TyData, arithmetic, pointer, array, structure}
-use Rattle.ec_language.specs.Letters.{Text}
-use Rattle.ec_objects.specs.Memory.{pointer_type}
-use Rattle.ec_resolved.specs.Operations.{pointer_plus}
-use Rattle.ec_resolved.specs.Resolved.{Exp, member, load, operate}
+use Rattle.ec_typing.specs.ec_language.Letters.{Text}
+use Rattle.ec_expression_law.specs.ec_objects.Memory.{pointer_type}
+use Rattle.ec_expression_law.specs.ec_resolved.Operations.{pointer_plus}
+use Rattle.ec_expression_law.specs.ec_resolved.Resolved.{Exp, member, load, operate}
 use Rattle.ec_typing.specs.Types.{element_type}
 use Rattle.ec_typing.specs.Operands as checked
 use Rattle.ec_typing.specs.Operands.{index_rule as check_index, arrow_rule as check_arrow, value_rule as check_value}
 use Rattle.ec_typing.specs.Operands.{OperandData, member_type, member_by, element_by, valued}
 use Rattle.ec_typing.specs.Worlds.{Place, World, members_of, is_complete, chain as check_chain, pure as check_pure, ask as check_ask}
-use Rattle.ec_resolving.specs.Conversions.{size_in}
-use Rattle.ec_resolving.specs.Storage.{Storage, Reached, reached, followed, chain, pure, checks, ask}
-use Rattle.ec_resolving.specs.Operands.{Found, found, offset_among, member_at, value_rule, index_rule, arrow_rule}
+use Rattle.ec_expression_law.specs.ec_resolving.Conversions.{size_in}
+use Rattle.ec_expression_law.specs.ec_resolving.Storage.{Storage, Reached, reached, followed, chain, pure, checks, ask}
+use Rattle.ec_expression_law.specs.ec_resolving.Operands.{Found, found, offset_among, member_at, value_rule, index_rule, arrow_rule}
 use Rattle.ec_argument_law.specs.Pointers.{value_of, IsPlace, IsPointer}
 
 module _ (at : Place) (s : Storage) (w : World) where

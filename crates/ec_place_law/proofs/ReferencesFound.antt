@@ -4,10 +4,10 @@ use Rattle.std.specs.Prelude.{option_and_then, is_some}
 use Rattle.ec_ctypes.specs.declared.types.arith.Arith.{Arith}
 use Rattle.ec_ctypes.specs.trees.Exprs.{ExprData, integer, identifier, index, member, arrow}
 use Rattle.ec_ctypes.specs.trees.Types.{TyData, void, arithmetic, pointer, array, structure, StructData}
-use Rattle.ec_language.specs.Letters.{Text, same_text}
-use Rattle.ec_base.specs.declared.fault.FaultKind.TheVariants.{F11, F14}
-use Rattle.ec_hosts.specs.Programs as tables
-use Rattle.ec_hosts.specs.Programs.{ProgramData, Denoted, variable_of, variable_type, declared_type, reference_type, type_along, element_of, is_among}
+use Rattle.ec_typing.specs.ec_language.Letters.{Text, same_text}
+use Rattle.ec_ctypes.specs.ec_base.declared.fault.FaultKind.TheVariants.{F11, F14}
+use Rattle.ec_expression_law.specs.ec_hosts.Programs as tables
+use Rattle.ec_expression_law.specs.ec_hosts.Programs.{ProgramData, Denoted, variable_of, variable_type, declared_type, reference_type, type_along, element_of, is_among}
 use Rattle.ec_typing.specs.Statements.{type_or_void}
 use Rattle.ec_typing.specs.Types.{int_type, is_void, is_structure, struct_number, decayed, element_type, only_if}
 use Rattle.ec_typing.specs.Known.{known_function}
@@ -19,14 +19,14 @@ use Rattle.ec_typing.specs.Expressions as checked_parts
 use Rattle.ec_typing.specs.Embedded as checked_embedded
 use Rattle.ec_typing.specs.Embedded.{is_function_entry, is_function_name, denoted_by}
 use Rattle.ec_typing.specs.Answers.{struct_order, renumbered, structs_of, numbered_from}
-use Rattle.ec_objects.specs.Memory.{number, pointer_type}
-use Rattle.ec_resolved.specs.Resolved.{Exp, load, constant}
-use Rattle.ec_resolving.specs.Agreement.{Finds, operand_of}
-use Rattle.ec_resolving.specs.Storage.{Storage, Resolving, Reached, reached, followed, chain, pure, checks, ask, stored}
-use Rattle.ec_resolving.specs.Operands.{Found, found, named_exp, value_exp, value_rule, no_expression}
-use Rattle.ec_resolving.specs.Expressions.{expr}
-use Rattle.ec_resolving.specs.Embedded.{reference_rule}
-use Rattle.ec_resolving.proofs.Agreeing.{chain_finds, value_finds, expr_finds}
+use Rattle.ec_expression_law.specs.ec_objects.Memory.{number, pointer_type}
+use Rattle.ec_expression_law.specs.ec_resolved.Resolved.{Exp, load, constant}
+use Rattle.ec_expression_law.specs.ec_resolving.Agreement.{Finds, operand_of}
+use Rattle.ec_expression_law.specs.ec_resolving.Storage.{Storage, Resolving, Reached, reached, followed, chain, pure, checks, ask, stored}
+use Rattle.ec_expression_law.specs.ec_resolving.Operands.{Found, found, named_exp, value_exp, value_rule, no_expression}
+use Rattle.ec_expression_law.specs.ec_resolving.Expressions.{expr}
+use Rattle.ec_expression_law.specs.ec_resolving.Embedded.{reference_rule}
+use Rattle.ec_expression_law.proofs.ec_resolving_proofs.Agreeing.{chain_finds, value_finds, expr_finds}
 use Rattle.ec_argument_law.specs.Pointers.{value_of, IsPlace, IsPointer}
 use Rattle.ec_argument_law.proofs.Pointers.{member_of_place}
 use Rattle.ec_place_law.specs.Structs.{IsListed, AreListed, IsWithin}

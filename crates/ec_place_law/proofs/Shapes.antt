@@ -6,7 +6,7 @@ use Rattle.std.specs.Cmp.Lexicographic.{pointwise, nat_list_eq_equiv}
 use Rattle.ec_ctypes.specs.declared.types.sizes.Shape.{Shape}
 use Rattle.ec_ctypes.specs.trees.Types.{TyData, MemberData}
 use Rattle.ec_ctypes.specs.Layout.{shape_among, with_member, with_members, no_members, struct_shape, offset_behind, member_behind}
-use Rattle.ec_language.specs.Letters.{Text, same_text}
+use Rattle.ec_typing.specs.ec_language.Letters.{Text, same_text}
 use Rattle.ec_typing.specs.Tables.{find}
 use Rattle.ec_typing.specs.Expressions.{Members, typed_members}
 use Rattle.ec_typing.specs.Programs.{known_members}

@@ -4,7 +4,7 @@ use Rattle.std.specs.Prelude.{option_and_then}
 use Rattle.ec_ctypes.specs.declared.types.sizes.Shape.{Shape}
 use Rattle.ec_ctypes.specs.trees.Types.{TyData, void, arithmetic, pointer, array, structure, MemberData, StructData}
 use Rattle.ec_ctypes.specs.Layout.{shape_among, repeated, struct_shape, shapes_behind, shapes_of, shape_of, member_of, member_behind, no_members}
-use Rattle.ec_language.specs.Letters.{Text}
+use Rattle.ec_typing.specs.ec_language.Letters.{Text}
 use Rattle.ec_typing.specs.Worlds.{listed, StructInfo, World, shapes_in, shape_in, members_of}
 use Rattle.ec_typing.specs.Expressions.{Members}
 use Rattle.ec_typing.specs.Programs.{known_members}

@@ -1,8 +1,8 @@
 -- What the tables tell of members and leaves, where a host stands.
 use Rattle.std.specs.Prelude.{◌≡◌, ℕ, List, [], ◌∷◌}
 use Rattle.ec_ctypes.specs.trees.Types.{TyData}
-use Rattle.ec_language.specs.Letters.{Text}
-use Rattle.ec_hosts.specs.Leaves.{LeafData}
+use Rattle.ec_typing.specs.ec_language.Letters.{Text}
+use Rattle.ec_expression_law.specs.ec_hosts.Leaves.{LeafData}
 use Rattle.ec_typing.specs.Worlds.{World}
 use Rattle.ec_typing.specs.Answers.{struct_order, renumbered, structs_of}
 use Rattle.ec_argument_law.specs.Pointers.{HasMember, LiesIn}

@@ -2,16 +2,16 @@
 use Rattle.std.specs.Prelude.{◌≡◌, ℕ, Bool, true, false, List, [], Option, Some, None, slice_get}
 use Rattle.ec_ctypes.specs.trees.Exprs.{ExprData, integer, identifier, index, member, arrow}
 use Rattle.ec_ctypes.specs.trees.Types.{TyData, arithmetic}
-use Rattle.ec_language.specs.Letters.{Text}
-use Rattle.ec_hosts.specs.Programs.{ProgramData, is_among}
+use Rattle.ec_typing.specs.ec_language.Letters.{Text}
+use Rattle.ec_expression_law.specs.ec_hosts.Programs.{ProgramData, is_among}
 use Rattle.ec_typing.specs.Statements.{type_or_void}
 use Rattle.ec_typing.specs.Types.{is_void}
 use Rattle.ec_typing.specs.Worlds.{Place, EntryData, object, function, World, look_up}
 use Rattle.ec_typing.specs.Answers.{struct_order, renumbered, structs_of, names_of}
-use Rattle.ec_resolved.specs.Resolved.{Exp}
-use Rattle.ec_resolving.specs.Storage.{Storage}
-use Rattle.ec_resolving.specs.Expressions.{expr}
-use Rattle.ec_resolving.specs.Embedded.{reference_rule}
+use Rattle.ec_expression_law.specs.ec_resolved.Resolved.{Exp}
+use Rattle.ec_expression_law.specs.ec_resolving.Storage.{Storage}
+use Rattle.ec_expression_law.specs.ec_resolving.Expressions.{expr}
+use Rattle.ec_expression_law.specs.ec_resolving.Embedded.{reference_rule}
 use Rattle.ec_argument_law.specs.Pointers.{IsPlace}
 use Rattle.ec_place_law.specs.Structs.{IsListed, EachStructIn, AreListed}
 

@@ -2,14 +2,14 @@
 use Rattle.std.specs.Prelude.{◌≡◌, ℕ, List, [], ◌∷◌, Some, take, codes}
 use Rattle.ec_ctypes.specs.trees.Exprs.{ExprData}
 use Rattle.ec_ctypes.specs.trees.Types.{TyData, void, arithmetic, pointer, array, structure, StructData}
-use Rattle.ec_hosts.specs.Programs.{variable_of, member_type, names_count}
-use Rattle.ec_statement_parts.specs.References.{References}
+use Rattle.ec_expression_law.specs.ec_hosts.Programs.{variable_of, member_type, names_count}
+use Rattle.ec_typing.specs.ec_statement_parts.References.{References}
 use Rattle.ec_typing.specs.Embedded.{reference_rule, denoted_by}
 use Rattle.ec_typing.specs.Worlds.{Place, World, look_up}
-use Rattle.ec_resolved.specs.Resolved.{Exp}
-use Rattle.ec_resolving.specs.Storage.{Storage}
-use Rattle.ec_resolving.specs.Expressions.{expr}
-use Rattle.ec_direct.specs.Statements.{Around, behind, reference_at}
+use Rattle.ec_expression_law.specs.ec_resolved.Resolved.{Exp}
+use Rattle.ec_expression_law.specs.ec_resolving.Storage.{Storage}
+use Rattle.ec_expression_law.specs.ec_resolving.Expressions.{expr}
+use Rattle.ec_expression_law.specs.ec_direct.Statements.{Around, behind, reference_at}
 use Rattle.ec_argument_law.specs.Pointers.{value_of}
 use Rattle.ec_place_law.specs.References.{IsReference, IndexesHaveTypes, variable_in}
 

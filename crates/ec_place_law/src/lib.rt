@@ -7,6 +7,7 @@ mod hosts;
 mod references;
 mod tables;
 
+pub use ec_expression_law;
 pub use growth::{what_grows_stays, what_is_written_stays};
 pub use hosts::{
     elements_are_one_leaf, hosts_lead_to_their_places, leaves_lie_in_their_hosts,

@@ -3,11 +3,11 @@
 ghost use Rattle.std.specs.Prelude.{◌≡◌, ℕ, false, List, [], Some};
 ghost use Rattle.ec_ctypes.specs.trees.Exprs.{ExprData};
 ghost use Rattle.ec_ctypes.specs.trees.Types.{TyData};
-ghost use Rattle.ec_hosts.specs.Programs.{Denoted, variable_of, reference_type};
+ghost use Rattle.ec_expression_law.specs.ec_hosts.Programs.{Denoted, variable_of, reference_type};
 ghost use Rattle.ec_typing.specs.Worlds.{Place, World, look_up};
 ghost use Rattle.ec_typing.specs.Embedded.{reference_rule, denoted_by};
 ghost use Rattle.ec_typing.specs.Types.{is_void};
-ghost use Rattle.ec_resolving.specs.Storage.{Storage};
+ghost use Rattle.ec_expression_law.specs.ec_resolving.Storage.{Storage};
 ghost use Rattle.ec_place_law.specs.Structs.{IsWithin};
 ghost use Rattle.ec_place_law.specs.References.{IsReference, IndexesHaveTypes, variable_in, NamesAreDeclared, tables_of, IsPlaceOf};
 

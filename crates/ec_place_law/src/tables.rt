@@ -3,12 +3,12 @@
 ghost use Rattle.std.specs.Prelude.{◌≡◌, ℕ, Some};
 ghost use Rattle.ec_ctypes.specs.trees.Types.{TyData, structure};
 ghost use Rattle.ec_ctypes.specs.Layout.{shape_of};
-ghost use Rattle.ec_language.specs.Letters.{Text};
-ghost use Rattle.ec_hosts.specs.Places.{size_of};
-ghost use Rattle.ec_hosts.specs.Programs.{member_type};
+ghost use Rattle.ec_typing.specs.ec_language.Letters.{Text};
+ghost use Rattle.ec_expression_law.specs.ec_hosts.Places.{size_of};
+ghost use Rattle.ec_expression_law.specs.ec_hosts.Programs.{member_type};
 ghost use Rattle.ec_typing.specs.Worlds.{World, shape_in};
 ghost use Rattle.ec_typing.specs.Answers.{struct_order, place_of, renumbered, structs_of};
-ghost use Rattle.ec_resolving.specs.Conversions.{size_in};
+ghost use Rattle.ec_expression_law.specs.ec_resolving.Conversions.{size_in};
 ghost use Rattle.ec_place_law.specs.Structs.{IsListed, AreListed, IsWithin};
 ghost use Rattle.ec_place_law.specs.Places.{IsMember};
 

@@ -17,8 +17,8 @@ use Rattle.ec_typing.specs.Expressions.{varchar_members}
 use Rattle.ec_typing.specs.Library.{points_to_text}
 use Rattle.ec_typing.specs.Types.{is_void}
 use Rattle.ec_typing.specs.Worlds.{listed, StructInfo, World}
-use Rattle.ec_argument_law.specs.Bound.{IsOne}
-use Rattle.ec_table_law.specs.Tables.{IsVarchar, VarcharsAre}
+use Rattle.ec_call_law.specs.ec_argument_law.Bound.{IsOne}
+use Rattle.ec_fit_law.specs.ec_table_law.Tables.{IsVarchar, VarcharsAre}
 use Rattle.ec_fit_law.specs.Fits.{is_value}
 use Rattle.ec_pointer_law.proofs.Basics.{false_not, cons_not, left_none, right_none, get_map}
 

@@ -10,7 +10,7 @@ use Rattle.ec_ctypes.specs.trees.Exprs.{ExprData, integer, character, string, id
 use Rattle.ec_ctypes.specs.trees.Types.{TyData, void, arithmetic, pointer, array, structure}
 use Rattle.ec_language.specs.Letters.{Text, same_text}
 use Rattle.ec_language.proofs.Marks.{same_text_is}
-use Rattle.ec_expansion.specs.Calls.{text_of}
+use Rattle.ec_call_law.specs.ec_expansion.Calls.{text_of}
 use Rattle.ec_hosts.specs.Leaves.{Path, LeafData}
 use Rattle.ec_hosts.specs.Places.{first_of_array, along, address, pointer_to, leaf_pointer}
 use Rattle.ec_typing.specs.Known.{with_symbols, is_symbol, is_reserved, symbols}
@@ -18,7 +18,7 @@ use Rattle.ec_typing.specs.Library.{named_among}
 use Rattle.ec_typing.specs.Tables.{is_one_of}
 use Rattle.ec_resolving.specs.Operands.{Found, is_library_literal, argument_of, name_argument, pointer_argument}
 use Rattle.ec_call_law.specs.Pointers.{IsSimple}
-use Rattle.ec_place_law.specs.References.{IsIndex, IsReference, variable_in}
+use Rattle.ec_fit_law.specs.ec_place_law.References.{IsIndex, IsReference, variable_in}
 use Rattle.ec_pointer_law.proofs.Basics.{false_not}
 
 -- ---- names that are not reserved

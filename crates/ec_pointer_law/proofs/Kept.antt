@@ -3,7 +3,7 @@ use Rattle.std.proofs.Common.{◌≡◌, ◌∙◌, ℕ, Bool, true, List, [], �
 use Rattle.std.specs.Prelude.{◌&&◌, nat_eq, option_map}
 use Rattle.ec_arguments.specs.Arguments.{TextArg, absent, word, held, Indicator, Place, Member, host, constant, descriptor, Statement, normal, prepared, immediate, opening, ItemMember, Call, run, connect, disconnect, set_connection, set_autocommit, control, prepare, deallocate, allocate_descriptor, deallocate_descriptor, get_count, set_count, get_items, set_items}
 use Rattle.ec_arguments.specs.Rules.{element_size, fits_element, fits_indicators, fits_place, is_single, is_value, is_target, are_hosts, are_targets, is_settable, are_settings, is_optional_text, is_given_text, are_inputs, are_outputs, is_statement, is_call}
-use Rattle.ec_written.specs.Calls.{text_with, indicator_with, place_with, member_with, item_with, statement_with, call_with}
+use Rattle.ec_call_law.specs.ec_written.Calls.{text_with, indicator_with, place_with, member_with, item_with, statement_with, call_with}
 use Rattle.ec_pointer_law.specs.Pointers.{RulesAreKept}
 use Rattle.ec_pointer_law.proofs.Basics.{left_true, right_true, both_true, both_kept}
 

@@ -8,7 +8,7 @@ use Rattle.ec_ctypes.specs.trees.Checked.{IndicatorData, PlaceData}
 use Rattle.ec_ctypes.specs.trees.Embedded.{HostData}
 use Rattle.ec_ctypes.specs.trees.Exprs.{ExprData, member as member_expr}
 use Rattle.ec_ctypes.specs.trees.Types.{TyData, void, arithmetic, pointer, array, structure}
-use Rattle.ec_expansion.specs.Calls.{text_of}
+use Rattle.ec_call_law.specs.ec_expansion.Calls.{text_of}
 use Rattle.ec_hosts.specs.Bound.{pairs_of, host_places}
 use Rattle.ec_hosts.specs.Elements.{is_text}
 use Rattle.ec_hosts.specs.Faults.{value_part, indicator_part}
@@ -25,14 +25,14 @@ use Rattle.ec_typing.specs.Types.{is_void}
 use Rattle.ec_typing.specs.Worlds.{Place, ScopeData, World, or_else, look_up, look_up_in}
 use Rattle.ec_resolved.specs.Resolved.{Exp, member}
 use Rattle.ec_resolving.specs.Storage.{Storage}
-use Rattle.ec_argument_law.specs.Bound.{IsOne}
-use Rattle.ec_argument_law.specs.Pointers.{IsPlace, IsPointer}
-use Rattle.ec_argument_law.proofs.Pointers.{leaf_pointed, member_of_place}
+use Rattle.ec_call_law.specs.ec_argument_law.Bound.{IsOne}
+use Rattle.ec_call_law.specs.ec_argument_law.Pointers.{IsPlace, IsPointer}
+use Rattle.ec_call_law.proofs.ec_argument_law_proofs.Pointers.{leaf_pointed, member_of_place}
 use Rattle.ec_call_law.specs.Pointers.{text_there}
-use Rattle.ec_expression_law.specs.Worlds.{AllKeepReserved}
-use Rattle.ec_place_law.specs.Places.{IsMember, AllLie}
-use Rattle.ec_place_law.specs.References.{IsReference, variable_in, tables_of, IsPlaceOf}
-use Rattle.ec_place_law.specs.Structs.{IsListed, EachStruct, AreListed, Stays}
+use Rattle.ec_call_law.specs.ec_expression_law.Worlds.{AllKeepReserved}
+use Rattle.ec_fit_law.specs.ec_place_law.Places.{IsMember, AllLie}
+use Rattle.ec_fit_law.specs.ec_place_law.References.{IsReference, variable_in, tables_of, IsPlaceOf}
+use Rattle.ec_fit_law.specs.ec_place_law.Structs.{IsListed, EachStruct, AreListed, Stays}
 use Rattle.ec_fit_law.specs.Fits.{place_of, is_value, is_one, AllFit, AreSome, HasType, HostFits}
 use Rattle.ec_pointer_law.proofs.Basics.{none_not, false_not}
 use Rattle.ec_pointer_law.proofs.Clean.{ValueKnown, IndicatorKnown, element_is_one, host_value_known, without_indicator_fault, host_indicator_known, chars_are_text, array_is_text, same_points, HasChars, varchar_chars}

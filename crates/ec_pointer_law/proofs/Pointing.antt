@@ -6,9 +6,9 @@ use Rattle.ec_ctypes.specs.declared.checked.library.Sym.TheVariants as symbols_o
 use Rattle.ec_ctypes.specs.trees.Exprs.{ExprData}
 use Rattle.ec_typing.specs.Worlds.{Place, World}
 use Rattle.ec_resolving.specs.Storage.{Storage}
-use Rattle.ec_argument_law.specs.Arguments.{IsArgument, AreArguments}
+use Rattle.ec_call_law.specs.ec_argument_law.Arguments.{IsArgument, AreArguments}
 use Rattle.ec_call_law.specs.Pointers.{IsSimple, AreSimple}
-use Rattle.ec_place_law.specs.Statements.{pointer_exp}
+use Rattle.ec_fit_law.specs.ec_place_law.Statements.{pointer_exp}
 
 module _ (at : Place) (s : Storage) (w : World) where
   pub record IsPointed (e : ExprData) : Type 0 where

@@ -1,12 +1,12 @@
 -- The laws, by those on places.
 use Rattle.std.proofs.Common.{ℕ, List}
-use Rattle.ec_place_law.specs.References.{NamesAreDeclared, tables_of}
-use Rattle.ec_place_law.specs.Structs.{IsWithin}
-use Rattle.ec_table_law.specs.Tables.{AreSound}
+use Rattle.ec_fit_law.specs.ec_place_law.References.{NamesAreDeclared, tables_of}
+use Rattle.ec_fit_law.specs.ec_place_law.Structs.{IsWithin}
+use Rattle.ec_fit_law.specs.ec_table_law.Tables.{AreSound}
 use Rattle.ec_typing.specs.Worlds.{World}
-use Rattle.ec_expression_law.specs.Worlds.{KeepsReserved, AllKeepReserved}
+use Rattle.ec_call_law.specs.ec_expression_law.Worlds.{KeepsReserved, AllKeepReserved}
 use Rattle.ec_fit_law.specs.Fits.{HostsFit}
-use Rattle.ec_argument_law.specs.Bound.{cursor_of}
+use Rattle.ec_call_law.specs.ec_argument_law.Bound.{cursor_of}
 use Rattle.ec_pointer_law.specs.Pointers.{CallsStand, StatementsHaveTargets}
 use Rattle.ec_pointer_law.proofs.Taken.{PlaceLaws, Here}
 use Rattle.ec_pointer_law.proofs.Targets.{statement_has}

@@ -10,11 +10,11 @@ use Rattle.ec_typing.specs.Embedded.{reference_rule, denoted_by}
 use Rattle.ec_typing.specs.Types.{is_void}
 use Rattle.ec_typing.specs.Worlds.{Place, World, look_up}
 use Rattle.ec_resolving.specs.Storage.{Storage}
-use Rattle.ec_expression_law.specs.Worlds.{KeepsReserved, AllKeepReserved}
-use Rattle.ec_place_law.specs.Places.{IsMember, AllLie}
-use Rattle.ec_place_law.specs.References.{IsReference, IndexesHaveTypes, variable_in, NamesAreDeclared, tables_of, IsPlaceOf}
-use Rattle.ec_place_law.specs.Structs.{IsListed, AreListed, IsWithin}
-use Rattle.ec_table_law.specs.Tables.{AreSound}
+use Rattle.ec_call_law.specs.ec_expression_law.Worlds.{KeepsReserved, AllKeepReserved}
+use Rattle.ec_fit_law.specs.ec_place_law.Places.{IsMember, AllLie}
+use Rattle.ec_fit_law.specs.ec_place_law.References.{IsReference, IndexesHaveTypes, variable_in, NamesAreDeclared, tables_of, IsPlaceOf}
+use Rattle.ec_fit_law.specs.ec_place_law.Structs.{IsListed, AreListed, IsWithin}
+use Rattle.ec_fit_law.specs.ec_table_law.Tables.{AreSound}
 use Rattle.ec_fit_law.specs.Fits.{HostsFit}
 
 abbrev pub ReferencesArePlaces : Type 0

@@ -10,11 +10,11 @@ use Rattle.ec_hosts.specs.Uses.{output_role, outs_uses, kind_uses}
 use Rattle.ec_typing.specs.Worlds.{Place, World}
 use Rattle.ec_resolved.specs.Resolved.{Exp}
 use Rattle.ec_resolving.specs.Storage.{Storage}
-use Rattle.ec_direct.specs.Leaves.{Leaf, leaf_at}
-use Rattle.ec_direct.specs.Statements as direct
-use Rattle.ec_direct.specs.Statements.{Around, Cursor, Statement, into_leaves, host_leaves, input, part, text_arg, text_option, sent, outputs, reference_at, indicator_at, first_of, get_leaves, set_inputs, gets_count, sets_count, gets_items, sets_items, executed, statement_of}
-use Rattle.ec_place_law.specs.References.{tables_of}
-use Rattle.ec_statement_law.specs.Calls.{HasLeaves, HasTargets}
+use Rattle.ec_call_law.specs.ec_direct.Leaves.{Leaf, leaf_at}
+use Rattle.ec_call_law.specs.ec_direct.Statements as direct
+use Rattle.ec_call_law.specs.ec_direct.Statements.{Around, Cursor, Statement, into_leaves, host_leaves, input, part, text_arg, text_option, sent, outputs, reference_at, indicator_at, first_of, get_leaves, set_inputs, gets_count, sets_count, gets_items, sets_items, executed, statement_of}
+use Rattle.ec_fit_law.specs.ec_place_law.References.{tables_of}
+use Rattle.ec_call_law.specs.ec_statement_law.Calls.{HasLeaves, HasTargets}
 use Rattle.ec_host_law.specs.Hosts.{StatementStands}
 use Rattle.ec_fit_law.specs.Fits.{AreSome}
 use Rattle.ec_pointer_law.specs.Pointers.{HasHosts, OutputsAreSome}

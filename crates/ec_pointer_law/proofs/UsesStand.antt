@@ -8,13 +8,13 @@ use Rattle.ec_hosts.specs.Bound.{Made, text_expr, text_option_expr, host_places,
 use Rattle.ec_hosts.specs.Faults.{host_faults, host_count, value_part, indicator_part, uses_faults}
 use Rattle.ec_hosts.specs.Programs.{ProgramData, Denoted, variable_of, names_count}
 use Rattle.ec_hosts.specs.Uses.{RoleData, input_role, output_role, number_role, item_role, Uses, text_uses, text_option_uses, input_uses, part_uses, output_uses, get_uses, set_uses, each_uses, ins_uses, outs_uses, uses_of}
-use Rattle.ec_statement_parts.specs.References.{References, of_option, of_host, of_text, of_text_option, of_input, of_part, of_get_item, of_set_item, of_all, of_ins, of_outs, references}
+use Rattle.ec_typing.specs.ec_statement_parts.References.{References, of_option, of_host, of_text, of_text_option, of_input, of_part, of_get_item, of_set_item, of_all, of_ins, of_outs, references}
 use Rattle.ec_typing.specs.Embedded.{reference_rule, denoted_by}
 use Rattle.ec_typing.specs.Worlds.{Place, World, look_up}
 use Rattle.ec_resolving.specs.Storage.{Storage}
-use Rattle.ec_direct.specs.Statements.{Around, behind}
-use Rattle.ec_place_law.specs.References.{IsReference, IndexesHaveTypes, variable_in}
-use Rattle.ec_place_law.specs.Statements.{ReferencesAre}
+use Rattle.ec_call_law.specs.ec_direct.Statements.{Around, behind}
+use Rattle.ec_fit_law.specs.ec_place_law.References.{IsReference, IndexesHaveTypes, variable_in}
+use Rattle.ec_fit_law.specs.ec_place_law.Statements.{ReferencesAre}
 use Rattle.ec_pointer_law.proofs.Basics.{left_none, right_none, map_front, and_none}
 
 -- ---- the references of uses are those of the parts of a statement

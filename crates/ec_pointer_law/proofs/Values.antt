@@ -2,7 +2,7 @@
 use Rattle.std.proofs.Common.{◌≡◌, ◌∙◌, ℕ, true, Some, refl, sym, subst}
 use Rattle.ec_ctypes.specs.trees.Exprs.{ExprData}
 use Rattle.ec_ctypes.specs.trees.Types.{TyData, pointer, array}
-use Rattle.ec_objects.specs.Memory.{pointer_type}
+use Rattle.ec_resolved.specs.ec_objects.Memory.{pointer_type}
 use Rattle.ec_resolved.specs.Resolved.{Exp, load}
 use Rattle.ec_typing.specs.Expressions as checked_parts
 use Rattle.ec_typing.specs.Library.{points_to_text}
@@ -13,7 +13,7 @@ use Rattle.ec_resolving.specs.Expressions as resolving
 use Rattle.ec_resolving.specs.Storage.{Storage, followed, chain, pure, checks, ask}
 use Rattle.ec_resolving.specs.Operands.{found, value_rule}
 use Rattle.ec_resolving.proofs.Agreeing.{chain_finds, value_finds, expr_finds}
-use Rattle.ec_argument_law.specs.Pointers.{value_of, IsPlace, IsPointer}
+use Rattle.ec_call_law.specs.ec_argument_law.Pointers.{value_of, IsPlace, IsPointer}
 use Rattle.ec_call_law.specs.Calls.{checked_value}
 use Rattle.ec_call_law.specs.Pointers.{leads_to_text, text_there}
 use Rattle.ec_pointer_law.proofs.Forms.{Form}

@@ -11,7 +11,7 @@ use Rattle.ec_ctypes.specs.declared.embedded.emb.Item.{Item}
 use Rattle.ec_ctypes.specs.trees.Checked.{IndicatorData, PlaceData}
 use Rattle.ec_ctypes.specs.trees.Embedded.{HostData, TextArgData, word_arg, host_arg, host_with_indicator, InputData, host_input, const_input, InsData, listed_ins, area_ins, OutsData, no_outs, listed_outs, area_outs, PartData, bytes_part, host_part, EmbData, EmbKindData, connect, set_connection, disconnect, autocommit, trans, server_text, declare_cursor, open_cursor, execute_immediate, prepare, execute, deallocate, allocate_area, free_area, get_count, get_items, set_count, set_items, whenever, include_sqlca}
 use Rattle.ec_ctypes.specs.trees.Exprs.{ExprData}
-use Rattle.ec_expansion.specs.Calls.{bytes_in, text_of, indicator_of, host_of, is_const, is_descriptor, member_of, member_at, items_from, kinds_of, opens, call_by}
+use Rattle.ec_call_law.specs.ec_expansion.Calls.{bytes_in, text_of, indicator_of, host_of, is_const, is_descriptor, member_of, member_at, items_from, kinds_of, opens, call_by}
 use Rattle.ec_hosts.specs.Bound as bound
 use Rattle.ec_hosts.specs.Bound.{cursor_parts, pairs_of, text_expr, text_option_expr, host_places, input_places, part_places, get_places, set_places, ins_places, outs_places, kind_bound, statement_bound}
 use Rattle.ec_hosts.specs.Faults.{cursor_part}
@@ -22,11 +22,11 @@ use Rattle.ec_hosts.specs.Uses.{RoleData, input_role, output_role, number_role, 
 use Rattle.ec_language.specs.Letters.{Text}
 use Rattle.ec_typing.specs.Worlds.{Place, World}
 use Rattle.ec_resolving.specs.Storage.{Storage, ReferenceForm}
-use Rattle.ec_direct.specs.Statements.{Around}
-use Rattle.ec_argument_law.specs.Bound.{cursor_of, IsOne}
+use Rattle.ec_call_law.specs.ec_direct.Statements.{Around}
+use Rattle.ec_call_law.specs.ec_argument_law.Bound.{cursor_of, IsOne}
 use Rattle.ec_call_law.specs.Calls.{cut_of}
 use Rattle.ec_call_law.specs.Pointers.{text_there}
-use Rattle.ec_place_law.specs.References.{tables_of}
+use Rattle.ec_fit_law.specs.ec_place_law.References.{tables_of}
 use Rattle.ec_host_law.specs.Hosts.{CursorStands, StatementStands}
 use Rattle.ec_fit_law.specs.Fits as fits
 use Rattle.ec_pointer_law.specs.Pointers.{AreSettable, ItemsAreSet, CallStands}

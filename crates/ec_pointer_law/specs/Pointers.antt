@@ -8,22 +8,22 @@ use Rattle.ec_ctypes.specs.trees.Embedded.{InputData, OutsData, no_outs, listed_
 use Rattle.ec_ctypes.specs.trees.Exprs.{ExprData}
 use Rattle.ec_ctypes.specs.trees.Types.{StructData}
 use Rattle.ec_language.specs.Letters.{Text}
-use Rattle.ec_expansion.specs.Calls.{call_by}
+use Rattle.ec_call_law.specs.ec_expansion.Calls.{call_by}
 use Rattle.ec_hosts.specs.Bound.{statement_bound}
 use Rattle.ec_typing.specs.Worlds.{Place, World}
-use Rattle.ec_written.specs.Calls.{call_with}
+use Rattle.ec_call_law.specs.ec_written.Calls.{call_with}
 use Rattle.ec_resolved.specs.Resolved.{Exp}
 use Rattle.ec_resolving.specs.Storage.{Storage, ReferenceForm}
-use Rattle.ec_direct.specs.Statements.{Around, Statement, statement_of}
-use Rattle.ec_statement_law.specs.Calls.{any_pointer, HasTargets}
-use Rattle.ec_argument_law.specs.Arguments.{AreArguments}
-use Rattle.ec_argument_law.specs.Bound.{cursor_of}
+use Rattle.ec_call_law.specs.ec_direct.Statements.{Around, Statement, statement_of}
+use Rattle.ec_call_law.specs.ec_statement_law.Calls.{any_pointer, HasTargets}
+use Rattle.ec_call_law.specs.ec_argument_law.Arguments.{AreArguments}
+use Rattle.ec_call_law.specs.ec_argument_law.Bound.{cursor_of}
 use Rattle.ec_call_law.specs.Calls.{cut_of}
 use Rattle.ec_call_law.specs.Pointers.{AreSimple, text_there}
-use Rattle.ec_place_law.specs.References.{NamesAreDeclared, tables_of}
-use Rattle.ec_place_law.specs.Statements.{pointer_exp}
-use Rattle.ec_place_law.specs.Structs.{IsWithin}
-use Rattle.ec_table_law.specs.Tables.{AreSound}
+use Rattle.ec_fit_law.specs.ec_place_law.References.{NamesAreDeclared, tables_of}
+use Rattle.ec_fit_law.specs.ec_place_law.Statements.{pointer_exp}
+use Rattle.ec_fit_law.specs.ec_place_law.Structs.{IsWithin}
+use Rattle.ec_fit_law.specs.ec_table_law.Tables.{AreSound}
 use Rattle.ec_fit_law.specs.Fits.{HostsFit}
 use Rattle.ec_host_law.specs.Hosts.{StatementStands}
 

@@ -2,7 +2,7 @@
 
 ghost use Rattle.ec_pointer_law.specs.Pointers.{CallsStand, StatementsHaveTargets, RulesAreKept};
 
-use ec_place_law::{
+use ec_fit_law::ec_place_law::{
     leaves_lie_in_their_hosts, members_are_those_of_the_tables, references_are_places,
 };
 

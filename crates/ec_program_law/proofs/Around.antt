@@ -3,9 +3,9 @@ use Rattle.std.proofs.Common.{◌≡◌, ℕ, ◌+◌, List, [], ◌∷◌, refl
 use Rattle.ec_typing.specs.Worlds.{ScopeData, World, left, left_to}
 use Rattle.ec_resolving.specs.Storage.{BlockObjects, Storage, inside_block, back_in_block}
 use Rattle.ec_growth_law.specs.Growth.{Grows}
-use Rattle.ec_expression_law.specs.Worlds.{AllKeepReserved, AreAlike}
-use Rattle.ec_expression_law.specs.Alike.{SameStorage}
-use Rattle.ec_expression_law.specs.Known.{with_places}
+use Rattle.ec_known_law.specs.ec_expression_law.Worlds.{AllKeepReserved, AreAlike}
+use Rattle.ec_known_law.specs.ec_expression_law.Alike.{SameStorage}
+use Rattle.ec_known_law.specs.ec_expression_law.Known.{with_places}
 
 pub with_places_here : (w v : World) → AreAlike w v → (n : ℕ) → AreAlike (record w { places = n }) v
 with_places_here w v alike n = with_places w v alike n v.places

@@ -2,8 +2,8 @@
 use Rattle.std.proofs.Common.{◌≡◌, ◌∙◌, List, [], ◌∷◌, ◌++◌, length, map, Option, Some, None, refl, sym, subst}
 use Rattle.std.specs.Prelude.{drop}
 use Rattle.ec_ctypes.specs.trees.Units.{TopData, UnitData}
-use Rattle.ec_hosts.specs.Programs.{Denoted}
-use Rattle.ec_sections.specs.Declared.{declared_in_tops}
+use Rattle.ec_bound_shape.specs.ec_hosts.Programs.{Denoted}
+use Rattle.ec_bound_shape.specs.ec_sections.Declared.{declared_in_tops}
 use Rattle.ec_typing.specs.Worlds.{World, Rule, ask as check_ask}
 use Rattle.ec_resolving.specs.Storage.{StatementForm, Storage, ask}
 use Rattle.ec_growth_law.specs.Growth.{Begins, Grows}

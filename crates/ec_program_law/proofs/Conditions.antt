@@ -17,15 +17,15 @@ use Rattle.ec_resolving.specs.Conversions.{as_known_type}
 use Rattle.ec_resolving.specs.Operands.{Found, as_value, value_exp, value_rule, discarded, is_call_alone, without_use, done_alone}
 use Rattle.ec_resolving.specs.Statements.{condition, alone, optional, optional_condition, return_by}
 use Rattle.ec_resolving.specs.Storage.{Resolving, chain, pure, ask}
-use Rattle.ec_statement_law.specs.Clean.{CallsNone, CallsNoneIn}
-use Rattle.ec_expression_law.specs.Worlds.{AreAlike}
-use Rattle.ec_expression_law.specs.Alike.{FindAlike, IsAlike}
-use Rattle.ec_expression_law.specs.Laws.{ExpressionsAreAlike}
-use Rattle.ec_expression_law.specs.Silent.{FoundCallsNone}
-use Rattle.ec_expression_law.specs.Rules.{QuietAlike, pure_quietly, demand_quietly, chain_alike, pure_alike, form_alike, adds_nothing}
-use Rattle.ec_expression_law.specs.Checks.{value_alike as value_checked}
-use Rattle.ec_expression_law.specs.Forms.{value_silent, as_known_silent, discarded_silent, done_same}
-use Rattle.ec_expression_law.specs.Lengths.{HaveLengths}
+use Rattle.ec_known_law.specs.ec_statement_law.Clean.{CallsNone, CallsNoneIn}
+use Rattle.ec_known_law.specs.ec_expression_law.Worlds.{AreAlike}
+use Rattle.ec_known_law.specs.ec_expression_law.Alike.{FindAlike, IsAlike}
+use Rattle.ec_known_law.specs.ec_expression_law.Laws.{ExpressionsAreAlike}
+use Rattle.ec_known_law.specs.ec_expression_law.Silent.{FoundCallsNone}
+use Rattle.ec_known_law.specs.ec_expression_law.Rules.{QuietAlike, pure_quietly, demand_quietly, chain_alike, pure_alike, form_alike, adds_nothing}
+use Rattle.ec_known_law.specs.ec_expression_law.Checks.{value_alike as value_checked}
+use Rattle.ec_known_law.specs.ec_expression_law.Forms.{value_silent, as_known_silent, discarded_silent, done_same}
+use Rattle.ec_known_law.specs.ec_expression_law.Lengths.{HaveLengths}
 use Rattle.ec_program_law.specs.Shape.{OptionHasLengths}
 
 -- ---- rules that only tell a fault, at the end

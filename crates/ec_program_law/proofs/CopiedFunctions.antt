@@ -28,16 +28,16 @@ use Rattle.ec_resolving.specs.Expressions.{base}
 use Rattle.ec_resolving.specs.Programs.{Body, params, body_rule, function_made, function_rule}
 use Rattle.ec_resolving.specs.Statements.{objects_in_all, statements}
 use Rattle.ec_resolving.specs.Storage.{nowhere, Storage, reached, Resolving, chain, pure, checks, ask, arrange, with_site, in_block}
-use Rattle.ec_statement_law.specs.Copies.{AreCopies, IsFunctionCopy, AreFunctionCopies}
-use Rattle.ec_expression_law.specs.Laws.{ExpressionsAreAlike, TypesAreAlike, LengthsAreAlike}
-use Rattle.ec_expression_law.specs.Lengths.{BaseHasLengths}
-use Rattle.ec_expression_law.specs.Silent.{Nothing}
-use Rattle.ec_expression_law.specs.Known.{entered_alike, with_labels}
-use Rattle.ec_expression_law.specs.Rules.{some_found, none_before, none_behind, QuietAlike, CheckAlike, change_alike, demand_quietly, checks_alike, ask_alike}
+use Rattle.ec_known_law.specs.ec_statement_law.Copies.{AreCopies, IsFunctionCopy, AreFunctionCopies}
+use Rattle.ec_known_law.specs.ec_expression_law.Laws.{ExpressionsAreAlike, TypesAreAlike, LengthsAreAlike}
+use Rattle.ec_known_law.specs.ec_expression_law.Lengths.{BaseHasLengths}
+use Rattle.ec_known_law.specs.ec_expression_law.Silent.{Nothing}
+use Rattle.ec_known_law.specs.ec_expression_law.Known.{entered_alike, with_labels}
+use Rattle.ec_known_law.specs.ec_expression_law.Rules.{some_found, none_before, none_behind, QuietAlike, CheckAlike, change_alike, demand_quietly, checks_alike, ask_alike}
 use Rattle.ec_growth_law.specs.Growth.{Grows}
 use Rattle.ec_growth_law.proofs.Rules.{leave_grows}
-use Rattle.ec_hosts.specs.Programs.{is_among}
-use Rattle.ec_sections.specs.Declared.{functions_of}
+use Rattle.ec_bound_shape.specs.ec_hosts.Programs.{is_among}
+use Rattle.ec_bound_shape.specs.ec_sections.Declared.{functions_of}
 use Rattle.ec_known_law.specs.Known.{Keeps}
 use Rattle.ec_known_law.specs.Laws.{WalkKeeps}
 use Rattle.ec_program_law.specs.Copied.{Whole, Ahead, in_function, at_top, FindCopies, IsCopied, Any}

@@ -24,13 +24,13 @@ use Rattle.ec_resolving.specs.Operands.{place_in}
 use Rattle.ec_resolving.specs.Programs.{directive_rule, tops_rule, globals_in, no_storage, program_by, walked, resolved_by, resolve}
 use Rattle.ec_resolving.specs.Statements.{declarators_in, declaration}
 use Rattle.ec_resolving.specs.Storage.{Storage, Resolving, chain, pure, checks}
-use Rattle.ec_statement_law.specs.Copies.{IsProgramCopy}
-use Rattle.ec_expression_law.specs.Worlds.{SameStructs, AreAlike}
-use Rattle.ec_expression_law.specs.Alike.{SameStorage}
-use Rattle.ec_expression_law.specs.Laws.{ExpressionsAreAlike, TypesAreAlike, LengthsAreAlike}
-use Rattle.ec_expression_law.specs.Known.{same_struct}
-use Rattle.ec_expression_law.specs.Lengths.{DeclHasLengths}
-use Rattle.ec_expression_law.specs.Rules.{some_found, none_before, none_behind}
+use Rattle.ec_known_law.specs.ec_statement_law.Copies.{IsProgramCopy}
+use Rattle.ec_known_law.specs.ec_expression_law.Worlds.{SameStructs, AreAlike}
+use Rattle.ec_known_law.specs.ec_expression_law.Alike.{SameStorage}
+use Rattle.ec_known_law.specs.ec_expression_law.Laws.{ExpressionsAreAlike, TypesAreAlike, LengthsAreAlike}
+use Rattle.ec_known_law.specs.ec_expression_law.Known.{same_struct}
+use Rattle.ec_known_law.specs.ec_expression_law.Lengths.{DeclHasLengths}
+use Rattle.ec_known_law.specs.ec_expression_law.Rules.{some_found, none_before, none_behind}
 use Rattle.ec_growth_law.specs.Growth.{Grows}
 use Rattle.ec_growth_law.proofs.Rules.{Growing, chained as chained_grow, place_grows, demand_grows}
 use Rattle.ec_growth_law.proofs.Programs.{tops_grow}

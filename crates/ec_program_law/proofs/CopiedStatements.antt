@@ -19,13 +19,13 @@ use Rattle.ec_resolving.specs.Agreement.{around_of}
 use Rattle.ec_resolving.specs.Operands.{place_in}
 use Rattle.ec_resolving.specs.Statements.{objects_in_all, behind_first_part, with_sizes, scoped, statement, statement_kind, statements, otherwise}
 use Rattle.ec_resolving.specs.Storage.{in_block}
-use Rattle.ec_statement_law.specs.Clean.{CallsNoneIn}
-use Rattle.ec_statement_law.specs.Copies.{IsCopy, standing, empty, evaluated, blocks, chooses, loops, leaves, continues, returns, jumps, labelled, AreCopies, end, both}
+use Rattle.ec_known_law.specs.ec_statement_law.Clean.{CallsNoneIn}
+use Rattle.ec_known_law.specs.ec_statement_law.Copies.{IsCopy, standing, empty, evaluated, blocks, chooses, loops, leaves, continues, returns, jumps, labelled, AreCopies, end, both}
 use Rattle.ec_growth_law.proofs.Rules.{Growing, chained as chained_grow, pure_grows, demand_grows, if_some as some_grows, scoped_grows}
 use Rattle.ec_growth_law.proofs.Expressions.{valued as valued_grows, expr_grows}
 use Rattle.ec_growth_law.proofs.Statements.{statement_grows}
-use Rattle.ec_expression_law.specs.Laws.{ExpressionsAreAlike}
-use Rattle.ec_expression_law.specs.Rules.{checks_alike, demand_quietly}
+use Rattle.ec_known_law.specs.ec_expression_law.Laws.{ExpressionsAreAlike}
+use Rattle.ec_known_law.specs.ec_expression_law.Rules.{checks_alike, demand_quietly}
 use Rattle.ec_known_law.specs.Laws.{WalkKeeps}
 use Rattle.ec_program_law.specs.Copied.{Whole, Ahead, in_function, IsCopied}
 use Rattle.ec_program_law.specs.Declared.{PlainAreAlike, VarcharsAreAlike}

@@ -6,10 +6,10 @@ use Rattle.ec_typing.specs.Worlds.{Place, World, Rule, chain as check_chain, pur
 use Rattle.ec_resolving.specs.Storage.{Reached, Resolving, chain, pure, checks, stored, arrange, in_block, inside_block, back_in_block}
 use Rattle.ec_resolving.specs.Statements.{scoped}
 use Rattle.ec_growth_law.specs.Growth.{Begins, Grows, GrowsBy}
-use Rattle.ec_statement_law.specs.Copies.{AreFunctionCopies}
-use Rattle.ec_expression_law.specs.Alike.{FindAlike, IsAlike}
-use Rattle.ec_expression_law.specs.Known.{entered_alike}
-use Rattle.ec_expression_law.specs.Rules.{none_before, none_behind, QuietAlike}
+use Rattle.ec_known_law.specs.ec_statement_law.Copies.{AreFunctionCopies}
+use Rattle.ec_known_law.specs.ec_expression_law.Alike.{FindAlike, IsAlike}
+use Rattle.ec_known_law.specs.ec_expression_law.Known.{entered_alike}
+use Rattle.ec_known_law.specs.ec_expression_law.Rules.{none_before, none_behind, QuietAlike}
 use Rattle.ec_known_law.specs.Known.{Keeps}
 use Rattle.ec_known_law.specs.Laws.{WalkKeeps}
 use Rattle.ec_program_law.specs.Copied.{Whole, Ahead, in_function, IsAt, FindCopies, IsCopied, FindNothing, IsGone}

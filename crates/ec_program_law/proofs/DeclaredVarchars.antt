@@ -12,13 +12,13 @@ use Rattle.ec_resolving.specs.Agreement.{itself, nothing_of}
 use Rattle.ec_resolving.specs.Expressions.{lengths, outer_lengths}
 use Rattle.ec_resolving.specs.Statements.{object_item, object_items, declaration}
 use Rattle.ec_resolving.specs.Storage.{Resolving, chain, pure}
-use Rattle.ec_expression_law.specs.Alike.{FindAlike, IsAlike}
-use Rattle.ec_expression_law.specs.Laws.{InitializersAreAlike}
-use Rattle.ec_expression_law.specs.Lengths.{DimsHaveLengths, ItemHasLengths, ItemsHaveLengths, DeclHasLengths}
-use Rattle.ec_expression_law.specs.Silent.{Nothing}
-use Rattle.ec_expression_law.specs.Varchars.{VarcharObjectsAreAlike, OuterLengthsAreAlike}
-use Rattle.ec_expression_law.specs.Rules.{none_before, none_behind, chain_alike, pure_alike, quiet_first, placed_here, placed_there}
-use Rattle.ec_expression_law.specs.Checks.{elements_quietly}
+use Rattle.ec_known_law.specs.ec_expression_law.Alike.{FindAlike, IsAlike}
+use Rattle.ec_known_law.specs.ec_expression_law.Laws.{InitializersAreAlike}
+use Rattle.ec_known_law.specs.ec_expression_law.Lengths.{DimsHaveLengths, ItemHasLengths, ItemsHaveLengths, DeclHasLengths}
+use Rattle.ec_known_law.specs.ec_expression_law.Silent.{Nothing}
+use Rattle.ec_known_law.specs.ec_expression_law.Varchars.{VarcharObjectsAreAlike, OuterLengthsAreAlike}
+use Rattle.ec_known_law.specs.ec_expression_law.Rules.{none_before, none_behind, chain_alike, pure_alike, quiet_first, placed_here, placed_there}
+use Rattle.ec_known_law.specs.ec_expression_law.Checks.{elements_quietly}
 use Rattle.ec_program_law.specs.Declared.{AllDeclare, DeclaresOne, checked_declarations, declarations, PlainAreAlike, VarcharsAreAlike, DeclarationsAreAlike}
 use Rattle.ec_program_law.proofs.Conditions.{made_alike}
 use Rattle.ec_program_law.proofs.Declaring.{typed_alike, one_of_all, all_joined}

@@ -21,17 +21,17 @@ use Rattle.ec_resolving.specs.Initializers.{PartData, scalar_part, text_part, st
 use Rattle.ec_resolving.specs.Statements.{size_of_type, initial, object_made, object_type, object_item, object_items, specifier, declaration}
 use Rattle.ec_resolving.specs.Expressions.{lengths}
 use Rattle.ec_resolving.specs.Storage.{Site, numbered, slotted, nowhere, Storage, next_site, with_site, with_object_of, Resolving, chain, checks, ask, stored, arrange}
-use Rattle.ec_statement_law.specs.Blocks.{has_call, have_call}
-use Rattle.ec_statement_law.specs.Copies.{unset, filled}
-use Rattle.ec_expression_law.specs.Worlds.{AreAlike}
-use Rattle.ec_expression_law.specs.Alike.{SameStorage, AddsNone, FindAlike, IsAlike}
-use Rattle.ec_expression_law.specs.Lengths.{BaseHasLengths, DimsHaveLengths, InitHasLengths, ItemHasLengths, ItemsHaveLengths}
-use Rattle.ec_expression_law.specs.Laws.{TypesAreAlike, LengthsAreAlike, InitializersAreAlike}
-use Rattle.ec_expression_law.specs.Silent.{Nothing, PartsCallNone, InitializerCallsNone}
-use Rattle.ec_expression_law.specs.Known.{complete_same, within_same, size_same, next_struct_same, with_structs, joined_same, same_struct, with_tags}
-use Rattle.ec_expression_law.specs.Forms.{neither_calls}
-use Rattle.ec_expression_law.specs.Rules.{CheckFinds, CheckAlike, check_chain_alike, check_pure_alike, check_ask_alike, change_alike, check_either, some_found, QuietAlike, pure_quietly, asked_quietly, chain_alike, pure_alike, checks_alike, ask_alike, ask_first, arrange_first, quiet_first, placed_alike}
-use Rattle.ec_expression_law.specs.Checks.{elements_quietly, complete_alike, free_tag_alike}
+use Rattle.ec_known_law.specs.ec_statement_law.Blocks.{has_call, have_call}
+use Rattle.ec_known_law.specs.ec_statement_law.Copies.{unset, filled}
+use Rattle.ec_known_law.specs.ec_expression_law.Worlds.{AreAlike}
+use Rattle.ec_known_law.specs.ec_expression_law.Alike.{SameStorage, AddsNone, FindAlike, IsAlike}
+use Rattle.ec_known_law.specs.ec_expression_law.Lengths.{BaseHasLengths, DimsHaveLengths, InitHasLengths, ItemHasLengths, ItemsHaveLengths}
+use Rattle.ec_known_law.specs.ec_expression_law.Laws.{TypesAreAlike, LengthsAreAlike, InitializersAreAlike}
+use Rattle.ec_known_law.specs.ec_expression_law.Silent.{Nothing, PartsCallNone, InitializerCallsNone}
+use Rattle.ec_known_law.specs.ec_expression_law.Known.{complete_same, within_same, size_same, next_struct_same, with_structs, joined_same, same_struct, with_tags}
+use Rattle.ec_known_law.specs.ec_expression_law.Forms.{neither_calls}
+use Rattle.ec_known_law.specs.ec_expression_law.Rules.{CheckFinds, CheckAlike, check_chain_alike, check_pure_alike, check_ask_alike, change_alike, check_either, some_found, QuietAlike, pure_quietly, asked_quietly, chain_alike, pure_alike, checks_alike, ask_alike, ask_first, arrange_first, quiet_first, placed_alike}
+use Rattle.ec_known_law.specs.ec_expression_law.Checks.{elements_quietly, complete_alike, free_tag_alike}
 use Rattle.ec_program_law.specs.Declared.{AllDeclare, DeclaresOne, PlainAreAlike}
 use Rattle.ec_program_law.proofs.Conditions.{made_alike as made_of_alike}
 use Rattle.ec_program_law.proofs.Names.{declare_first, better_alike, number_alike}

@@ -8,7 +8,7 @@ use Rattle.ec_ctypes.specs.trees.Exprs.{BaseData, varchar, DeclaratorList, no_de
 use Rattle.ec_ctypes.specs.trees.Stmts.{StmtData, stmt, StmtKindData, decl_stmt, emb_stmt, mark_stmt, StmtList, stmts as stmt_list}
 use Rattle.ec_expansion.specs.Declarations.{written_base, written_declarators, varchar_objects, at_line}
 use Rattle.ec_expansion.specs.Statements.{before_stmts, decl_stmts, optional_stmt, or_empty}
-use Rattle.ec_statement_parts.specs.Handlers.{is_directive}
+use Rattle.ec_typing.specs.ec_statement_parts.Handlers.{is_directive}
 use Rattle.ec_typing.specs.Tables.{Named}
 use Rattle.ec_typing.specs.Statements as checked
 use Rattle.ec_typing.specs.Worlds.{Place, place, Rule, chain as check_chain, pure as check_pure}
@@ -16,8 +16,8 @@ use Rattle.ec_resolved.specs.Resolved.{Stm, on_line, nothing, embedded_statement
 use Rattle.ec_resolving.specs.Agreement.{around_of}
 use Rattle.ec_resolving.specs.Statements.{list_of, together, object_items, embedded_at, embedded_by, statement, statement_kind, statements}
 use Rattle.ec_resolving.specs.Storage.{Resolving, chain, pure, checks}
-use Rattle.ec_statement_law.specs.Copies.{AreApart, ended, another, IsCopy, standing, empty, declared, blocks, embedded, AreCopies, end, both, gone, apart}
-use Rattle.ec_expression_law.specs.Lengths.{BaseHasLengths, ItemsHaveLengths}
+use Rattle.ec_known_law.specs.ec_statement_law.Copies.{AreApart, ended, another, IsCopy, standing, empty, declared, blocks, embedded, AreCopies, end, both, gone, apart}
+use Rattle.ec_known_law.specs.ec_expression_law.Lengths.{BaseHasLengths, ItemsHaveLengths}
 use Rattle.ec_typing.specs.Expressions.{is_varchar}
 use Rattle.ec_growth_law.proofs.Statements.{statements_grow}
 use Rattle.ec_known_law.specs.Laws.{WalkKeeps}

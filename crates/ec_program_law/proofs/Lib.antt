@@ -1,3 +1,4 @@
+pub use Rattle.ec_growth_law.proofs as ec_growth_law_proofs
 mod Around
 pub mod Coming
 mod Conditions

@@ -9,11 +9,11 @@ use Rattle.ec_typing.specs.Tables.{Named, find, put}
 use Rattle.ec_typing.specs.Known.{is_reserved}
 use Rattle.ec_typing.specs.Worlds.{Place, EntryData, ScopeData, World, Rule, chain as check_chain, pure as check_pure, ask as check_ask, change, note, demand, with_name, free_name, declare, know_better, declare_label, number_as}
 use Rattle.ec_resolving.specs.Storage.{Resolving, chain, checks}
-use Rattle.ec_expression_law.specs.Worlds.{KeepsReserved, AreAlike}
-use Rattle.ec_expression_law.specs.Alike.{IsAlike}
-use Rattle.ec_expression_law.specs.Known.{with_types, with_labels}
-use Rattle.ec_expression_law.specs.Rules.{none_before, some_found, CheckAlike, check_chain_alike, asked_alike, change_alike, demand_alike, checks_alike, chain_alike}
-use Rattle.ec_expression_law.specs.Checks.{free_name_alike}
+use Rattle.ec_known_law.specs.ec_expression_law.Worlds.{KeepsReserved, AreAlike}
+use Rattle.ec_known_law.specs.ec_expression_law.Alike.{IsAlike}
+use Rattle.ec_known_law.specs.ec_expression_law.Known.{with_types, with_labels}
+use Rattle.ec_known_law.specs.ec_expression_law.Rules.{none_before, some_found, CheckAlike, check_chain_alike, asked_alike, change_alike, demand_alike, checks_alike, chain_alike}
+use Rattle.ec_known_law.specs.ec_expression_law.Checks.{free_name_alike}
 
 -- ---- tables
 

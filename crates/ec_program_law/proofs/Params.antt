@@ -14,12 +14,12 @@ use Rattle.ec_typing.specs.Worlds.{Place, EntryData, object, ScopeData, next_num
 use Rattle.ec_resolving.specs.Agreement.{itself}
 use Rattle.ec_resolving.specs.Programs.{param, params}
 use Rattle.ec_resolving.specs.Storage.{next_site}
-use Rattle.ec_expression_law.specs.Worlds.{AllKeepReserved}
-use Rattle.ec_expression_law.specs.Alike.{IsAlike}
-use Rattle.ec_expression_law.specs.Laws.{TypesAreAlike, LengthsAreAlike}
-use Rattle.ec_expression_law.specs.Silent.{Nothing}
-use Rattle.ec_expression_law.specs.Rules.{CheckAlike, check_chain_alike, check_pure_alike, change_alike, demand_alike, chain_alike, pure_alike, checks_alike, ask_alike, ask_first, arrange_first, quiet_first}
-use Rattle.ec_expression_law.specs.Checks.{elements_quietly, within_limit_alike, complete_alike}
+use Rattle.ec_known_law.specs.ec_expression_law.Worlds.{AllKeepReserved}
+use Rattle.ec_known_law.specs.ec_expression_law.Alike.{IsAlike}
+use Rattle.ec_known_law.specs.ec_expression_law.Laws.{TypesAreAlike, LengthsAreAlike}
+use Rattle.ec_known_law.specs.ec_expression_law.Silent.{Nothing}
+use Rattle.ec_known_law.specs.ec_expression_law.Rules.{CheckAlike, check_chain_alike, check_pure_alike, change_alike, demand_alike, chain_alike, pure_alike, checks_alike, ask_alike, ask_first, arrange_first, quiet_first}
+use Rattle.ec_known_law.specs.ec_expression_law.Checks.{elements_quietly, within_limit_alike, complete_alike}
 use Rattle.ec_program_law.specs.Shape.{ParamsHaveLengths}
 use Rattle.ec_program_law.proofs.Declaring.{stored_known, next_same, site_same, site_adds, object_same, object_adds, sized_same}
 use Rattle.ec_program_law.proofs.Names.{with_name_kept, declare_alike, number_alike}

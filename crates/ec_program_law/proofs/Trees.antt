@@ -6,7 +6,7 @@ use Rattle.ec_ctypes.specs.trees.Exprs.{words, varchar, tagged, struct_base, dec
 use Rattle.ec_ctypes.specs.trees.Stmts.{StmtData, stmt, StmtKindData, empty_stmt, expr_stmt, block_stmt, if_stmt, while_stmt, do_stmt, for_stmt, break_stmt, continue_stmt, return_stmt, goto_stmt, label_stmt, decl_stmt, emb_stmt, mark_stmt, StmtList, no_stmts, stmts, StmtOption, no_stmt, some_stmt}
 use Rattle.ec_expansion.specs.Declarations.{written_declarators, varchar_objects, written_decl}
 use Rattle.ec_expansion.specs.Statements.{before_stmts, decl_stmts, optional_stmt, or_empty, written_stmt, written_kind, written_items, written_item, written_else}
-use Rattle.ec_statement_parts.specs.Handlers.{is_directive}
+use Rattle.ec_typing.specs.ec_statement_parts.Handlers.{is_directive}
 use Rattle.ec_typing.specs.Tables.{Named, put}
 use Rattle.ec_typing.specs.Statements.{labels_in, labels_in_kind, labels_in_all, labels_in_option}
 use Rattle.ec_resolving.specs.Statements.{declarators_in, objects_in, objects_in_kind, objects_in_all, objects_in_option}

@@ -5,11 +5,11 @@ use Rattle.ec_resolved.specs.Resolved.{Stm}
 use Rattle.ec_typing.specs.Worlds.{World, Out, Rule}
 use Rattle.ec_resolving.specs.Storage.{LibraryCall, StatementForm, Storage, Reached, Resolving}
 use Rattle.ec_growth_law.specs.Growth.{Begins, Grows}
-use Rattle.ec_statement_law.specs.Copies.{AreFunctionCopies}
-use Rattle.ec_expression_law.specs.Worlds.{AreAlike}
+use Rattle.ec_known_law.specs.ec_statement_law.Copies.{AreFunctionCopies}
+use Rattle.ec_known_law.specs.ec_expression_law.Worlds.{AreAlike}
 use Rattle.ec_known_law.specs.Known.{IsKnown, AreFound}
 use Rattle.ec_known_law.specs.Positions.{IsBefore}
-use Rattle.ec_expression_law.specs.Alike.{SameStorage}
+use Rattle.ec_known_law.specs.ec_expression_law.Alike.{SameStorage}
 
 -- A source and what is written of it, as they are known at the end
 pub record Whole : Type 1 where

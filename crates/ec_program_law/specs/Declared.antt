@@ -9,9 +9,9 @@ use Rattle.ec_resolved.specs.Resolved.{Stm}
 use Rattle.ec_resolving.specs.Storage.{Resolving, ◌>>=◌, pure}
 use Rattle.ec_resolving.specs.Statements.{object_item, declaration}
 use Rattle.ec_resolving.specs.Agreement.{nothing_of}
-use Rattle.ec_statement_law.specs.Copies.{Declares}
-use Rattle.ec_expression_law.specs.Alike.{IsAlike}
-use Rattle.ec_expression_law.specs.Lengths.{BaseHasLengths, DeclHasLengths, ItemsHaveLengths, ItemHasLengths}
+use Rattle.ec_known_law.specs.ec_statement_law.Copies.{Declares}
+use Rattle.ec_known_law.specs.ec_expression_law.Alike.{IsAlike}
+use Rattle.ec_known_law.specs.ec_expression_law.Lengths.{BaseHasLengths, DeclHasLengths, ItemsHaveLengths, ItemHasLengths}
 use Rattle.ec_typing.specs.Expressions.{is_varchar}
 
 -- one after the other

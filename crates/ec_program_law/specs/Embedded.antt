@@ -4,7 +4,7 @@ use Rattle.ec_ctypes.specs.trees.Embedded.{EmbData}
 use Rattle.ec_ctypes.specs.trees.Stmts.{StmtKindData}
 use Rattle.ec_ctypes.specs.trees.Types.{TyData}
 use Rattle.ec_ctypes.specs.trees.Units.{TopData}
-use Rattle.ec_statement_parts.specs.Handlers.{is_directive}
+use Rattle.ec_typing.specs.ec_statement_parts.Handlers.{is_directive}
 use Rattle.ec_typing.specs.Tables.{Named}
 use Rattle.ec_typing.specs.Worlds.{Place}
 use Rattle.ec_typing.specs.Embedded as checked_embedded

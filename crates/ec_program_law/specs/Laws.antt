@@ -12,10 +12,10 @@ use Rattle.ec_typing.specs.Programs as checked_programs
 use Rattle.ec_resolving.specs.Statements.{statement, statements}
 use Rattle.ec_resolving.specs.Programs.{function_rule, tops_rule}
 use Rattle.ec_resolving.specs.Agreement.{around_of}
-use Rattle.ec_statement_law.specs.Copies.{IsCopy, AreCopies}
-use Rattle.ec_expression_law.specs.Laws.{ExpressionsAreAlike, TypesAreAlike, LengthsAreAlike, InitializersAreAlike}
-use Rattle.ec_expression_law.specs.Lengths.{BaseHasLengths}
-use Rattle.ec_expression_law.specs.Varchars.{VarcharObjectsAreAlike, OuterLengthsAreAlike}
+use Rattle.ec_known_law.specs.ec_statement_law.Copies.{IsCopy, AreCopies}
+use Rattle.ec_known_law.specs.ec_expression_law.Laws.{ExpressionsAreAlike, TypesAreAlike, LengthsAreAlike, InitializersAreAlike}
+use Rattle.ec_known_law.specs.ec_expression_law.Lengths.{BaseHasLengths}
+use Rattle.ec_known_law.specs.ec_expression_law.Varchars.{VarcharObjectsAreAlike, OuterLengthsAreAlike}
 use Rattle.ec_program_law.specs.Copied.{Whole, in_function, at_top, IsCopied, Any}
 use Rattle.ec_program_law.specs.Embedded.{inside}
 use Rattle.ec_program_law.specs.Shape.{StandsAlone, ItemsStand, ParamsHaveLengths, BodyStands, TopsStand}

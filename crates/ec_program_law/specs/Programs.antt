@@ -11,8 +11,8 @@ use Rattle.ec_typing.specs.Worlds.{World}
 use Rattle.ec_resolved.specs.Resolved.{Stm}
 use Rattle.ec_resolving.specs.Programs.{walked, resolve, embedded_statements_of, library_calls_of}
 use Rattle.ec_resolving.specs.Storage.{LibraryCall, StatementForm}
-use Rattle.ec_statement_law.specs.Copies.{IsProgramCopy}
-use Rattle.ec_statement_law.specs.Whole.{IsWrittenAt}
+use Rattle.ec_known_law.specs.ec_statement_law.Copies.{IsProgramCopy}
+use Rattle.ec_known_law.specs.ec_statement_law.Whole.{IsWrittenAt}
 use Rattle.ec_known_law.specs.Known.{AreFound}
 use Rattle.ec_program_law.specs.Copied.{Whole}
 

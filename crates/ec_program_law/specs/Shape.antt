@@ -5,8 +5,8 @@ use Rattle.ec_ctypes.specs.trees.Embedded.{EmbData}
 use Rattle.ec_ctypes.specs.trees.Exprs.{ExprData}
 use Rattle.ec_ctypes.specs.trees.Stmts.{StmtData, stmt, StmtKindData, empty_stmt, expr_stmt, block_stmt, if_stmt, while_stmt, do_stmt, for_stmt, break_stmt, continue_stmt, return_stmt, goto_stmt, label_stmt, decl_stmt, emb_stmt, mark_stmt, StmtList, no_stmts, stmts, StmtOption, no_stmt, some_stmt}
 use Rattle.ec_ctypes.specs.trees.Units.{ParamData, TopData, include_top, directive_top, decl_top, func_top, mark_top}
-use Rattle.ec_statement_parts.specs.Handlers.{is_directive}
-use Rattle.ec_expression_law.specs.Lengths.{HaveLengths, BaseHasLengths, DimsHaveLengths, DeclHasLengths}
+use Rattle.ec_typing.specs.ec_statement_parts.Handlers.{is_directive}
+use Rattle.ec_known_law.specs.ec_expression_law.Lengths.{HaveLengths, BaseHasLengths, DimsHaveLengths, DeclHasLengths}
 
 abbrev pub OptionHasLengths : Option ExprData → Type 0
 OptionHasLengths None = Unit {0}

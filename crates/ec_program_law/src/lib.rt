@@ -9,6 +9,8 @@ mod programs;
 mod statements;
 
 pub use declarations::written_declarations_are_alike;
+pub use ec_bound_shape;
+pub use ec_known_law;
 pub use functions::written_functions_are_copied;
 pub use parts::written_parts_are_alike;
 pub use programs::written_programs_are_copies;

@@ -2,7 +2,7 @@
 
 ghost use Rattle.ec_program_law.specs.Laws.{PartsAreAlike};
 
-use ec_expression_law::{
+use ec_known_law::ec_expression_law::{
     written_expressions_are_alike, written_initializers_are_alike, written_varchars_are_alike,
 };
 

@@ -12,7 +12,7 @@ use Rattle.ec_ctypes.specs.views.Units.{unit_view}
 use Rattle.ec_language.specs.First.{Reads}
 use Rattle.ec_language.specs.Letters.{Text}
 use Rattle.ec_statement_parts.specs.Handlers.{marks_in}
-use Rattle.ec_typing.specs.Answers.{check_answer}
+use Rattle.ec_check.specs.ec_typing.Answers.{check_answer}
 use Rattle.ec_whenever.specs.Tables.{table_of}
 use Rattle.ec_check.specs.Answers.{Checks}
 use Rattle.ec_front.specs.Answers.{TellsReading}

@@ -3,27 +3,27 @@ use Rattle.std.proofs.Common.{◌≡◌, ◌∙◌, Bool, true, false, List, [],
 use Rattle.std.specs.Prelude.{is_some, pos}
 use Rattle.ec_ctypes.specs.trees.Exprs.{ExprData, integer, identifier, index, member, arrow}
 use Rattle.ec_ctypes.specs.trees.Types.{arithmetic}
-use Rattle.ec_language.specs.Letters.{Text, same_text}
-use Rattle.ec_expansion.specs.Declarations.{written_expr}
-use Rattle.ec_objects.specs.Memory.{number, address}
-use Rattle.ec_resolved.specs.Resolved.{constant, faulty}
+use Rattle.ec_typing.specs.ec_language.Letters.{Text, same_text}
+use Rattle.ec_known_law.specs.ec_expansion.Declarations.{written_expr}
+use Rattle.ec_known_law.specs.ec_objects.Memory.{number, address}
+use Rattle.ec_known_law.specs.ec_resolved.Resolved.{constant, faulty}
 use Rattle.ec_typing.specs.Embedded as checked
 use Rattle.ec_typing.specs.Embedded.{is_function_entry, is_function_name}
 use Rattle.ec_typing.specs.Expressions as checked_parts
 use Rattle.ec_typing.specs.Known.{known_function}
 use Rattle.ec_typing.specs.Operands.{OperandData, unknown}
 use Rattle.ec_typing.specs.Worlds.{Place, EntryData, object, function, World, Rule, look_up, chain as check_chain, pure as check_pure, ask as check_ask}
-use Rattle.ec_resolving.specs.Agreement.{operand_of}
-use Rattle.ec_resolving.specs.Embedded.{reference_rule}
-use Rattle.ec_resolving.specs.Expressions.{expr}
-use Rattle.ec_resolving.specs.Operands.{Found, no_expression, named_exp, predefined_exp}
-use Rattle.ec_resolving.specs.Storage.{Site, Storage, Resolving, chain, pure, checks, ask, stored, sqlca}
-use Rattle.ec_expression_law.specs.Alike.{SameStorage, FindAlike}
-use Rattle.ec_expression_law.specs.Laws.{ExpressionsAreAlike}
-use Rattle.ec_expression_law.specs.Lengths.{HaveLengths}
-use Rattle.ec_expression_law.specs.Silent.{FoundCallsNone}
-use Rattle.ec_expression_law.specs.Worlds.{AreAlike}
-use Rattle.ec_place_law.specs.References.{IsIndex, IsReference}
+use Rattle.ec_known_law.specs.ec_resolving.Agreement.{operand_of}
+use Rattle.ec_known_law.specs.ec_resolving.Embedded.{reference_rule}
+use Rattle.ec_known_law.specs.ec_resolving.Expressions.{expr}
+use Rattle.ec_known_law.specs.ec_resolving.Operands.{Found, no_expression, named_exp, predefined_exp}
+use Rattle.ec_known_law.specs.ec_resolving.Storage.{Site, Storage, Resolving, chain, pure, checks, ask, stored, sqlca}
+use Rattle.ec_known_law.specs.ec_expression_law.Alike.{SameStorage, FindAlike}
+use Rattle.ec_known_law.specs.ec_expression_law.Laws.{ExpressionsAreAlike}
+use Rattle.ec_known_law.specs.ec_expression_law.Lengths.{HaveLengths}
+use Rattle.ec_known_law.specs.ec_expression_law.Silent.{FoundCallsNone}
+use Rattle.ec_known_law.specs.ec_expression_law.Worlds.{AreAlike}
+use Rattle.ec_known_law.specs.ec_place_law.References.{IsIndex, IsReference}
 use Rattle.ec_reference_law.proofs.Parts.{false_not, texts_equal}
 
 -- ---- references as expressions

@@ -1,7 +1,7 @@
 -- What is known, scope by scope, tells what a name stands for.
 use Rattle.std.proofs.Common.{◌≡◌, List, [], ◌∷◌, Option, Some, None, refl, subst}
 use Rattle.ec_ctypes.specs.trees.Units.{UnitData}
-use Rattle.ec_language.specs.Letters.{Text}
+use Rattle.ec_typing.specs.ec_language.Letters.{Text}
 use Rattle.ec_typing.specs.Tables.{find}
 use Rattle.ec_typing.specs.Worlds.{EntryData, object, function, ScopeData, World, or_else, look_up, look_up_in}
 use Rattle.ec_known_law.specs.Known.{IsEntry, AreEntries, InScopes}

@@ -2,15 +2,15 @@
 use Rattle.std.proofs.Common.{◌≡◌, ◌∙◌, Bool, true, false, [], ◌∷◌, refl}
 use Rattle.ec_ctypes.specs.trees.Exprs.{ExprData, integer, identifier, index, member, arrow}
 use Rattle.ec_ctypes.specs.trees.Types.{arithmetic}
-use Rattle.ec_language.specs.Letters.{Text}
-use Rattle.ec_statement_parts.specs.References.{References}
+use Rattle.ec_typing.specs.ec_language.Letters.{Text}
+use Rattle.ec_typing.specs.ec_statement_parts.References.{References}
 use Rattle.ec_typing.specs.Operands.{OperandData}
 use Rattle.ec_typing.specs.Worlds.{Place, World, Rule}
-use Rattle.ec_resolving.specs.Storage.{Storage, Resolving, chain, pure, checks, ask, stored}
-use Rattle.ec_resolving.specs.Operands.{Found, with_form, name_rule, value_rule, index_rule, member_rule, arrow_rule}
-use Rattle.ec_resolving.specs.Expressions.{expr}
-use Rattle.ec_resolving.specs.Embedded.{reference_rule, references_rule}
-use Rattle.ec_place_law.specs.References.{IsIndex, IsReference}
+use Rattle.ec_known_law.specs.ec_resolving.Storage.{Storage, Resolving, chain, pure, checks, ask, stored}
+use Rattle.ec_known_law.specs.ec_resolving.Operands.{Found, with_form, name_rule, value_rule, index_rule, member_rule, arrow_rule}
+use Rattle.ec_known_law.specs.ec_resolving.Expressions.{expr}
+use Rattle.ec_known_law.specs.ec_resolving.Embedded.{reference_rule, references_rule}
+use Rattle.ec_known_law.specs.ec_place_law.References.{IsIndex, IsReference}
 use Rattle.ec_reference_law.specs.Found.{AreReferences}
 use Rattle.ec_reference_law.proofs.Staying.{Stays, name_stays, value_stays, index_stays, member_stays, arrow_stays}
 

@@ -1,7 +1,7 @@
 -- Options, lists and texts, and what is found by one rule behind another.
 use Rattle.std.proofs.Common.{◌≡◌, ◌∙◌, Bool, true, false, ◌&&◌, List, [], ◌∷◌, ◌++◌, map, drop, length, Option, Some, None, refl, sym, subst, eqb-true}
 use Rattle.std.specs.Prelude.{nat_eq}
-use Rattle.ec_language.specs.Letters.{Text, same_text}
+use Rattle.ec_typing.specs.ec_language.Letters.{Text, same_text}
 use Rattle.ec_typing.specs.Worlds.{World, Rule, chain}
 use Rattle.ec_reference_law.proofs.Staying.{Stays}
 

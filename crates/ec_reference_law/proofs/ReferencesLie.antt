@@ -2,21 +2,21 @@
 use Rattle.std.proofs.Common.{◌≡◌, ◌∙◌, List, [], ◌∷◌, ◌++◌, take, length, refl, sym, subst}
 use Rattle.ec_ctypes.specs.trees.Exprs.{ExprData, integer, identifier, index, member, arrow}
 use Rattle.ec_ctypes.specs.trees.Types.{arithmetic}
-use Rattle.ec_language.specs.Letters.{Text}
-use Rattle.ec_hosts.specs.Programs.{Denoted, variable_of, names_count}
-use Rattle.ec_statement_parts.specs.References.{ReferenceData, References, names_in, all_names}
+use Rattle.ec_typing.specs.ec_language.Letters.{Text}
+use Rattle.ec_known_law.specs.ec_hosts.Programs.{Denoted, variable_of, names_count}
+use Rattle.ec_typing.specs.ec_statement_parts.References.{ReferenceData, References, names_in, all_names}
 use Rattle.ec_typing.specs.Embedded as checked
 use Rattle.ec_typing.specs.Embedded.{denoted_by, denoted_in}
 use Rattle.ec_typing.specs.Operands.{OperandData}
 use Rattle.ec_typing.specs.Tables.{find}
 use Rattle.ec_typing.specs.Worlds.{Place, World, Rule, or_else, look_up, look_up_in, chain as check_chain}
-use Rattle.ec_resolving.specs.Embedded.{reference_rule, reference_of, references_rule}
-use Rattle.ec_resolving.specs.Storage.{Storage, ReferenceForm, reached, chain, pure}
-use Rattle.ec_direct.specs.Statements.{Around, behind}
-use Rattle.ec_expression_law.specs.Laws.{ExpressionsAreAlike}
-use Rattle.ec_expression_law.specs.Worlds.{AreAlike}
-use Rattle.ec_place_law.specs.References.{IsIndex, IsReference, IsTypedEntry, IndexHasType, IndexesHaveTypes, variable_in}
-use Rattle.ec_place_law.specs.Statements.{ReferenceIs, ReferencesAre}
+use Rattle.ec_known_law.specs.ec_resolving.Embedded.{reference_rule, reference_of, references_rule}
+use Rattle.ec_known_law.specs.ec_resolving.Storage.{Storage, ReferenceForm, reached, chain, pure}
+use Rattle.ec_known_law.specs.ec_direct.Statements.{Around, behind}
+use Rattle.ec_known_law.specs.ec_expression_law.Laws.{ExpressionsAreAlike}
+use Rattle.ec_known_law.specs.ec_expression_law.Worlds.{AreAlike}
+use Rattle.ec_known_law.specs.ec_place_law.References.{IsIndex, IsReference, IsTypedEntry, IndexHasType, IndexesHaveTypes, variable_in}
+use Rattle.ec_known_law.specs.ec_place_law.Statements.{ReferenceIs, ReferencesAre}
 use Rattle.ec_reference_law.specs.Found.{AreReferences, AllIndexesHaveTypes, ReferencesFound, ReferencesAreFound, ReferencesAreThere}
 use Rattle.ec_reference_law.proofs.Parts.{behind_front, first_clean, rest_clean}
 use Rattle.ec_reference_law.proofs.Staying.{reference_stays, members_stay, references_stay}

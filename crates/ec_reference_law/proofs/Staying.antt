@@ -6,15 +6,15 @@ use Rattle.ec_base.specs.declared.fault.FaultKind.TheVariants.{F11, F14}
 use Rattle.ec_base.specs.declared.fault.LimitKind.{LimitKind}
 use Rattle.ec_ctypes.specs.trees.Types.{TyData, arithmetic, structure}
 use Rattle.ec_ctypes.specs.trees.Exprs.{ExprData, integer, identifier, index, member, arrow}
-use Rattle.ec_language.specs.Letters.{Text, same_text}
-use Rattle.ec_statement_parts.specs.References.{References}
+use Rattle.ec_typing.specs.ec_language.Letters.{Text, same_text}
+use Rattle.ec_typing.specs.ec_statement_parts.References.{References}
 use Rattle.ec_typing.specs.Known.{known_function}
 use Rattle.ec_typing.specs.Types.{int_type}
 use Rattle.ec_typing.specs.Operands.{OperandData, unknown, object_operand, null_operand, integer_operand, given, predefined, named_by, name_rule, value_rule, element_by, index_rule, member_by, member_in, member_rule, arrow_rule}
 use Rattle.ec_typing.specs.Worlds.{Place, EntryData, object, function, World, Rule, chain, pure, ask, note, keep_within}
 use Rattle.ec_typing.specs.Expressions.{expr}
 use Rattle.ec_typing.specs.Embedded.{reference_rule, members_rule, references_rule}
-use Rattle.ec_place_law.specs.References.{IsIndex, IsReference}
+use Rattle.ec_known_law.specs.ec_place_law.References.{IsIndex, IsReference}
 use Rattle.ec_reference_law.specs.Found.{AreReferences}
 
 pub record Stays {A : Type 0} (m : Rule A) : Type 0 where

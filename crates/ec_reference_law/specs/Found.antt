@@ -1,18 +1,18 @@
 -- What is found of the references of a statement, in the source and where they are written.
 use Rattle.std.specs.Prelude.{◌≡◌, List, [], ◌∷◌, ◌++◌}
 use Rattle.ec_ctypes.specs.trees.Units.{UnitData}
-use Rattle.ec_hosts.specs.Programs.{Denoted}
-use Rattle.ec_sections.specs.Declared.{functions_of}
-use Rattle.ec_statement_parts.specs.References.{References, all_names}
+use Rattle.ec_known_law.specs.ec_hosts.Programs.{Denoted}
+use Rattle.ec_known_law.specs.ec_sections.Declared.{functions_of}
+use Rattle.ec_typing.specs.ec_statement_parts.References.{References, all_names}
 use Rattle.ec_typing.specs.Embedded as checked
 use Rattle.ec_typing.specs.Embedded.{denoted_in}
 use Rattle.ec_typing.specs.Worlds.{Place, World}
-use Rattle.ec_resolving.specs.Embedded.{references_rule}
-use Rattle.ec_resolving.specs.Storage.{Storage, ReferenceForm, reached}
-use Rattle.ec_expression_law.specs.Alike.{SameStorage}
-use Rattle.ec_expression_law.specs.Worlds.{AreAlike}
-use Rattle.ec_place_law.specs.References.{IsReference, IndexesHaveTypes, NamesAreDeclared}
-use Rattle.ec_place_law.specs.Statements.{ReferencesAre}
+use Rattle.ec_known_law.specs.ec_resolving.Embedded.{references_rule}
+use Rattle.ec_known_law.specs.ec_resolving.Storage.{Storage, ReferenceForm, reached}
+use Rattle.ec_known_law.specs.ec_expression_law.Alike.{SameStorage}
+use Rattle.ec_known_law.specs.ec_expression_law.Worlds.{AreAlike}
+use Rattle.ec_known_law.specs.ec_place_law.References.{IsReference, IndexesHaveTypes, NamesAreDeclared}
+use Rattle.ec_known_law.specs.ec_place_law.Statements.{ReferencesAre}
 use Rattle.ec_known_law.specs.Known.{IsKnown}
 
 -- each is a name with its suffixes

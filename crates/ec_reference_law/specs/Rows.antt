@@ -4,9 +4,9 @@ use Rattle.std.specs.List.{list_all}
 use Rattle.ec_ctypes.specs.trees.Checked.{TypedData}
 use Rattle.ec_ctypes.specs.trees.Embedded.{EmbData}
 use Rattle.ec_ctypes.specs.trees.Types.{TyData}
-use Rattle.ec_hosts.specs.Faults.{row_at}
-use Rattle.ec_hosts.specs.Programs.{Denoted, names_count}
-use Rattle.ec_statement_parts.specs.References.{References, references}
+use Rattle.ec_known_law.specs.ec_hosts.Faults.{row_at}
+use Rattle.ec_known_law.specs.ec_hosts.Programs.{Denoted, names_count}
+use Rattle.ec_typing.specs.ec_statement_parts.References.{References, references}
 use Rattle.ec_typing.specs.Types.{is_void}
 
 -- the declaration has a type: the table has void where there is none

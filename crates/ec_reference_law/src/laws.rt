@@ -1,6 +1,6 @@
 //! The references of a statement, in the source and where they are written.
 
-ghost use Rattle.ec_expression_law.specs.Laws.{ExpressionsAreAlike};
+ghost use Rattle.ec_known_law.specs.ec_expression_law.Laws.{ExpressionsAreAlike};
 ghost use Rattle.ec_reference_law.specs.Found.{ReferencesAreFound, ReferencesAreThere, KnownNamesAreDeclared};
 
 /// References in which nothing is wrong are found as they are where they are written, and nothing is made by them.

@@ -3,4 +3,5 @@
 
 mod laws;
 
+pub use ec_known_law::ec_closing_law;
 pub use laws::{known_names_are_declared, references_are_found, references_are_there};

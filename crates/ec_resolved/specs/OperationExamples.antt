@@ -1,7 +1,7 @@
 -- Operations on numbers of one type, as examples write them.
 use Rattle.std.specs.Prelude.{ℕ, ℤ, [], ◌∷◌, Some}
-use Rattle.ec_ctypes.specs.declared.types.arith.Arith.{Arith}
-use Rattle.ec_objects.specs.Memory.{Memory, ValueData, number, alive, ended, pointer_to}
+use Rattle.ec_functions.specs.ec_ctypes.declared.types.arith.Arith.{Arith}
+use Rattle.ec_functions.specs.ec_objects.Memory.{Memory, ValueData, number, alive, ended, pointer_to}
 use Rattle.ec_resolved.specs.Operations.{IntegerOperator, Comparison, Operation, integers, shift_left, shift_right, compare, Worked, worked}
 
 abbrev pub on : Arith → IntegerOperator → ℤ → ℤ → Worked

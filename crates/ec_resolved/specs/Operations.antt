@@ -1,12 +1,12 @@
 -- Operations on values whose types are known: what they give, and when they trap (ISO/IEC 9899:1999, 6.3.1, 6.3.2.3, 6.5.3 and 6.5.5 to 6.5.12).
 use Rattle.std.specs.Prelude.{ℕ, ◌^◌, Bool, true, false, not, ◌&&◌, if◌then◌else◌, ℤ, pos, negsuc, ◌+ℤ◌, ◌-ℤ◌, ◌*ℤ◌, neg_ℤ, int_le, int_lt, int_div, int_rem, unsigned_abs, bit_and, bit_or, bit_xor, Result, Ok, Err}
 use Rattle.std.specs.Int.{int_rem_euclid, int_div_euclid}
-use Rattle.ec_base.specs.declared.stop.Trap.{Trap}
-use Rattle.ec_base.specs.declared.stop.Trap.TheVariants.{Overflow, Shift, Zero}
-use Rattle.ec_ctypes.specs.declared.types.arith.Arith.{Arith}
-use Rattle.ec_ctypes.specs.declared.types.arith.Arith.TheVariants.{ULong}
-use Rattle.ec_ctypes.specs.Arithmetic.{is_signed, width, least, greatest, converted}
-use Rattle.ec_objects.specs.Memory.{Memory, and_then, ValueData, number, address, number_of, ScalarType, integer_type, pointer_type, moved, difference}
+use Rattle.ec_functions.specs.ec_base.declared.stop.Trap.{Trap}
+use Rattle.ec_functions.specs.ec_base.declared.stop.Trap.TheVariants.{Overflow, Shift, Zero}
+use Rattle.ec_functions.specs.ec_ctypes.declared.types.arith.Arith.{Arith}
+use Rattle.ec_functions.specs.ec_ctypes.declared.types.arith.Arith.TheVariants.{ULong}
+use Rattle.ec_functions.specs.ec_ctypes.Arithmetic.{is_signed, width, least, greatest, converted}
+use Rattle.ec_functions.specs.ec_objects.Memory.{Memory, and_then, ValueData, number, address, number_of, ScalarType, integer_type, pointer_type, moved, difference}
 
 -- ---- values
 

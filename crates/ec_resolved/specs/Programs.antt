@@ -1,7 +1,7 @@
 -- Resolved programs, and the objects that are there when one is opened.
 use Rattle.std.specs.Prelude.{ℕ, ◌∷◌, [], ◌++◌, List, map, replicate, Option, codes}
-use Rattle.ec_objects.specs.Cells.{written}
-use Rattle.ec_objects.specs.Memory.{ScalarType, ValueData, little_endian_bytes}
+use Rattle.ec_functions.specs.ec_objects.Cells.{written}
+use Rattle.ec_functions.specs.ec_objects.Memory.{ScalarType, ValueData, little_endian_bytes}
 use Rattle.ec_resolved.specs.Resolved.{Stms}
 
 -- a function: the types of its parameters, the sizes of the objects of its body's block, its body, and what a call gives where the body ends without `return`. Only `main` has that (5.1.2.2.3)

@@ -1,8 +1,8 @@
 -- What is left of a program once its names and types have done their work (ISO/IEC 9899:1999, 6.2.1, 6.3, 6.5, 6.7 and 6.8). An expression that is a place gives the address of its first byte, and so does one whose type is a struct or an array. A conversion is written out wherever there is one, and a type is there only as far as an access or an operation needs it.
 use Rattle.std.specs.Prelude.{ℕ, Bool, List, Option}
-use Rattle.ec_ctypes.specs.declared.types.arith.Arith.{Arith}
+use Rattle.ec_functions.specs.ec_ctypes.declared.types.arith.Arith.{Arith}
 use Rattle.ec_functions.specs.Functions.{Known}
-use Rattle.ec_objects.specs.Memory.{ScalarType, ValueData}
+use Rattle.ec_functions.specs.ec_objects.Memory.{ScalarType, ValueData}
 use Rattle.ec_resolved.specs.Operations.{Operation}
 
 -- `a op= b`, `++` and `--`: the type of the place, the type to which its old value is converted, the operation, and whether the old value is the answer. The result is converted to the type of the place

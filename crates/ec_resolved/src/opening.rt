@@ -2,8 +2,8 @@
 //! nothing.
 
 ghost use Rattle.std.specs.Prelude.{◌≡◌, true, false, pos, [], ◌∷◌, ◌++◌, length, Some, None, codes};
-ghost use Rattle.ec_objects.specs.Cells.{part_of};
-ghost use Rattle.ec_objects.specs.Memory.{number, little_endian};
+ghost use Rattle.ec_functions.specs.ec_objects.Cells.{part_of};
+ghost use Rattle.ec_functions.specs.ec_objects.Memory.{number, little_endian};
 ghost use Rattle.ec_resolved.specs.Labels.{holds};
 ghost use Rattle.ec_resolved.specs.Programs.{sqlca_bytes, global_bytes, literal_bytes, opening_objects};
 ghost use Rattle.ec_resolved.specs.Resolved.{constant, on_line, nothing, block, choose, loop, goto, label, embedded_statement, no_stms, stms};

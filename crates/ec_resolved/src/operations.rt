@@ -1,9 +1,9 @@
 //! What operations give and when they trap, as the contracts of functions that do nothing.
 
 ghost use Rattle.std.specs.Prelude.{◌≡◌, ◌+◌, ◌-◌, ◌^◌, true, false, pos, negsuc, [], Ok, Err};
-ghost use Rattle.ec_base.specs.declared.stop.Trap.TheVariants as trap;
-ghost use Rattle.ec_ctypes.specs.declared.types.arith.Arith.TheVariants as arith;
-ghost use Rattle.ec_objects.specs.Memory.{number, address, integer_type, pointer_type};
+ghost use Rattle.ec_functions.specs.ec_base.declared.stop.Trap.TheVariants as trap;
+ghost use Rattle.ec_functions.specs.ec_ctypes.declared.types.arith.Arith.TheVariants as arith;
+ghost use Rattle.ec_functions.specs.ec_objects.Memory.{number, address, integer_type, pointer_type};
 ghost use Rattle.ec_resolved.specs.Operations.{is_true, value_as, plus, minus, times, divided, remainder, bits_and, bits_or, bits_xor, equal, unequal, less, greater, at_most, at_least, negated, flipped, compare, integers, shift_left, pointer_plus, plus_pointer, pointer_minus, pointers_apart, gives, traps, misfit};
 ghost use Rattle.ec_resolved.specs.OperationExamples.{on, left, right, order, first, second, with};
 

@@ -1,14 +1,14 @@
 -- That the resolved walk finds what the checks find: by induction over the trees.
 use Rattle.std.proofs.Common.{◌≡◌, ◌∙◌, List, [], ◌∷◌, Bool, true, false, Option, Some, None, refl, sym}
 use Rattle.std.specs.Prelude.{ℕ, length}
-use Rattle.ec_base.specs.declared.fault.FaultKind.{FaultKind}
-use Rattle.ec_base.specs.declared.fault.LimitKind.{LimitKind}
-use Rattle.ec_ctypes.specs.declared.checked.library.LibName.{LibName}
-use Rattle.ec_ctypes.specs.declared.tree.expr.UnOp.{UnOp}
-use Rattle.ec_ctypes.specs.declared.tree.expr.UnOp.TheVariants.{Addr, Deref, Plus, Minus, Not, Flip}
-use Rattle.ec_ctypes.specs.trees.Types.{TyData}
-use Rattle.ec_ctypes.specs.trees.Exprs.{ExprData, integer, character, string, identifier, unary, binary, assign, bump, call, call_other, index, member, arrow, cast, size_type, size_expr, ExprList, no_exprs, exprs, BaseData, words, varchar, tagged, struct_base, DimData, open_dim, dim, DimList, no_dims, dims, InitData, one, many, InitList, no_inits, inits, InitOption, no_init, some_init, DeclaratorData, declarator, DeclaratorList, no_declarators, declarators, DeclData, decl, DeclList, no_decls, decls}
-use Rattle.ec_language.specs.Letters.{Text}
+use Rattle.ec_typing.specs.ec_base.declared.fault.FaultKind.{FaultKind}
+use Rattle.ec_typing.specs.ec_base.declared.fault.LimitKind.{LimitKind}
+use Rattle.ec_typing.specs.ec_ctypes.declared.checked.library.LibName.{LibName}
+use Rattle.ec_typing.specs.ec_ctypes.declared.tree.expr.UnOp.{UnOp}
+use Rattle.ec_typing.specs.ec_ctypes.declared.tree.expr.UnOp.TheVariants.{Addr, Deref, Plus, Minus, Not, Flip}
+use Rattle.ec_typing.specs.ec_ctypes.trees.Types.{TyData}
+use Rattle.ec_typing.specs.ec_ctypes.trees.Exprs.{ExprData, integer, character, string, identifier, unary, binary, assign, bump, call, call_other, index, member, arrow, cast, size_type, size_expr, ExprList, no_exprs, exprs, BaseData, words, varchar, tagged, struct_base, DimData, open_dim, dim, DimList, no_dims, dims, InitData, one, many, InitList, no_inits, inits, InitOption, no_init, some_init, DeclaratorData, declarator, DeclaratorList, no_declarators, declarators, DeclData, decl, DeclList, no_decls, decls}
+use Rattle.ec_typing.specs.ec_language.Letters.{Text}
 use Rattle.ec_typing.specs.Known.{ArgumentsData, all_expressions, is_identifier, is_no_expression, behind_first_argument}
 use Rattle.ec_typing.specs.Worlds.{Place, World, Rule, chain as check_chain, pure as check_pure, ask as check_ask, demand, keep_within, note, look_up}
 use Rattle.ec_typing.specs.Operands as checked

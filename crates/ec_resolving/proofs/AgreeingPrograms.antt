@@ -1,19 +1,19 @@
 -- The same of initializers, declarations, statements, functions and programs.
 use Rattle.std.proofs.Common.{◌≡◌, ◌∙◌, ℕ, List, [], ◌∷◌, Bool, true, false, Option, Some, None, refl}
 use Rattle.std.specs.Prelude.{is_some, slice_get}
-use Rattle.ec_ctypes.specs.trees.Types.{TyData}
-use Rattle.ec_ctypes.specs.trees.Exprs.{ExprData, call, BaseData, words, varchar, tagged, struct_base, DimList, InitData, one, many, InitList, no_inits, inits, InitOption, no_init, some_init, DeclaratorData, declarator, DeclaratorList, no_declarators, declarators, DeclData, decl}
-use Rattle.ec_base.specs.declared.fault.FaultKind.{FaultKind}
-use Rattle.ec_ctypes.specs.declared.embedded.emb.Cond.TheVariants.{NotFound, Warning, Error}
-use Rattle.ec_ctypes.specs.trees.Embedded.{ActionData, continue_action, goto_action, print_action, stop_action, break_action, next_action, call_action, EmbData}
-use Rattle.ec_statement_parts.specs.Handlers.{is_directive, handler}
-use Rattle.ec_statement_parts.specs.References.{References, references}
+use Rattle.ec_typing.specs.ec_ctypes.trees.Types.{TyData}
+use Rattle.ec_typing.specs.ec_ctypes.trees.Exprs.{ExprData, call, BaseData, words, varchar, tagged, struct_base, DimList, InitData, one, many, InitList, no_inits, inits, InitOption, no_init, some_init, DeclaratorData, declarator, DeclaratorList, no_declarators, declarators, DeclData, decl}
+use Rattle.ec_typing.specs.ec_base.declared.fault.FaultKind.{FaultKind}
+use Rattle.ec_typing.specs.ec_ctypes.declared.embedded.emb.Cond.TheVariants.{NotFound, Warning, Error}
+use Rattle.ec_typing.specs.ec_ctypes.trees.Embedded.{ActionData, continue_action, goto_action, print_action, stop_action, break_action, next_action, call_action, EmbData}
+use Rattle.ec_typing.specs.ec_statement_parts.Handlers.{is_directive, handler}
+use Rattle.ec_typing.specs.ec_statement_parts.References.{References, references}
 use Rattle.ec_typing.specs.Tables.{Named}
 use Rattle.ec_typing.specs.Embedded as checked_embedded
 use Rattle.ec_resolving.specs.Embedded.{reference_rule, references_rule, action_rule, actions_rule, handlers_rule, embedded_rule}
-use Rattle.ec_ctypes.specs.trees.Stmts.{StmtData, stmt, StmtKindData, empty_stmt, expr_stmt, block_stmt, if_stmt, while_stmt, do_stmt, for_stmt, break_stmt, continue_stmt, return_stmt, goto_stmt, label_stmt, decl_stmt, emb_stmt, mark_stmt, StmtList, no_stmts, stmts as stmt_list, StmtOption, no_stmt, some_stmt}
-use Rattle.ec_ctypes.specs.trees.Units.{ParamData, FuncData, TopData, include_top, directive_top, decl_top, func_top, mark_top}
-use Rattle.ec_language.specs.Letters.{Text}
+use Rattle.ec_typing.specs.ec_ctypes.trees.Stmts.{StmtData, stmt, StmtKindData, empty_stmt, expr_stmt, block_stmt, if_stmt, while_stmt, do_stmt, for_stmt, break_stmt, continue_stmt, return_stmt, goto_stmt, label_stmt, decl_stmt, emb_stmt, mark_stmt, StmtList, no_stmts, stmts as stmt_list, StmtOption, no_stmt, some_stmt}
+use Rattle.ec_typing.specs.ec_ctypes.trees.Units.{ParamData, FuncData, TopData, include_top, directive_top, decl_top, func_top, mark_top}
+use Rattle.ec_typing.specs.ec_language.Letters.{Text}
 use Rattle.ec_typing.specs.Worlds.{Place, Rule, chain as check_chain, pure as check_pure, enter, leave, free_name, instead}
 use Rattle.ec_typing.specs.Operands.{OperandData, within_rule}
 use Rattle.ec_typing.specs.Expressions as checked_parts

@@ -1,19 +1,19 @@
 -- Conversions and operations of values whose types are known, written out (ISO/IEC 9899:1999, 6.3 and 6.5).
 use Rattle.std.specs.Prelude.{ℕ, Bool, true, false, not as negation, pos, nat_le, Option, Some, None, if◌then◌else◌}
-use Rattle.ec_ctypes.specs.declared.types.arith.Arith.{Arith}
-use Rattle.ec_ctypes.specs.declared.types.arith.Arith.TheVariants.{Int}
-use Rattle.ec_ctypes.specs.declared.types.sizes.Shape.{Shape}
-use Rattle.ec_ctypes.specs.declared.tree.expr.BinOp.{BinOp}
-use Rattle.ec_ctypes.specs.declared.tree.expr.BinOp.TheVariants.{Or, And, BitOr, BitXor, BitAnd, Eq, Ne, Lt, Gt, Le, Ge, Shl, Shr, Add, Sub, Mul, Div, Rem}
-use Rattle.ec_ctypes.specs.declared.tree.expr.UnOp.{UnOp}
-use Rattle.ec_ctypes.specs.declared.tree.expr.UnOp.TheVariants.{Addr, Deref, Plus, Minus, Not, Flip}
-use Rattle.ec_ctypes.specs.trees.Types.{TyData, void, arithmetic, pointer, array, structure}
-use Rattle.ec_ctypes.specs.Arithmetic.{promoted, usual_type}
-use Rattle.ec_objects.specs.Memory.{number, ScalarType, integer_type, pointer_type, scalar_type}
+use Rattle.ec_typing.specs.ec_ctypes.declared.types.arith.Arith.{Arith}
+use Rattle.ec_typing.specs.ec_ctypes.declared.types.arith.Arith.TheVariants.{Int}
+use Rattle.ec_typing.specs.ec_ctypes.declared.types.sizes.Shape.{Shape}
+use Rattle.ec_typing.specs.ec_ctypes.declared.tree.expr.BinOp.{BinOp}
+use Rattle.ec_typing.specs.ec_ctypes.declared.tree.expr.BinOp.TheVariants.{Or, And, BitOr, BitXor, BitAnd, Eq, Ne, Lt, Gt, Le, Ge, Shl, Shr, Add, Sub, Mul, Div, Rem}
+use Rattle.ec_typing.specs.ec_ctypes.declared.tree.expr.UnOp.{UnOp}
+use Rattle.ec_typing.specs.ec_ctypes.declared.tree.expr.UnOp.TheVariants.{Addr, Deref, Plus, Minus, Not, Flip}
+use Rattle.ec_typing.specs.ec_ctypes.trees.Types.{TyData, void, arithmetic, pointer, array, structure}
+use Rattle.ec_typing.specs.ec_ctypes.Arithmetic.{promoted, usual_type}
+use Rattle.ec_evaluation.specs.ec_objects.Memory.{number, ScalarType, integer_type, pointer_type, scalar_type}
 use Rattle.ec_typing.specs.Types.{same_arith, is_shift}
 use Rattle.ec_typing.specs.Worlds.{World, shape_in, max_size}
-use Rattle.ec_resolved.specs.Operations.{Comparison, equal, unequal, less, greater, at_most, at_least, Operation, plus, minus, times, divided, remainder, bits_and, bits_or, bits_xor, integers, shift_left, shift_right, compare, pointer_plus, plus_pointer, pointer_minus, pointers_apart}
-use Rattle.ec_resolved.specs.Resolved.{Exp, constant, load, store, copy, update, convert, negate, flip, not, operate, both, either, faulty}
+use Rattle.ec_evaluation.specs.ec_resolved.Operations.{Comparison, equal, unequal, less, greater, at_most, at_least, Operation, plus, minus, times, divided, remainder, bits_and, bits_or, bits_xor, integers, shift_left, shift_right, compare, pointer_plus, plus_pointer, pointer_minus, pointers_apart}
+use Rattle.ec_evaluation.specs.ec_resolved.Resolved.{Exp, constant, load, store, copy, update, convert, negate, flip, not, operate, both, either, faulty}
 
 -- a shape that is within the limit of types: what is larger has no size
 abbrev pub within_limit : Option Shape → Option Shape

@@ -1,14 +1,14 @@
 -- The resolved parts of embedded statements: the places that their references are, and the actions that hold at them (PostgreSQL manual, "Using Host Variables" and "Setting Callbacks").
 use Rattle.std.specs.Prelude.{ℕ, true, false, List, [], ◌∷◌, Option, Some, None}
-use Rattle.ec_ctypes.specs.declared.embedded.emb.Cond.TheVariants.{NotFound, Warning, Error}
-use Rattle.ec_ctypes.specs.trees.Exprs.{ExprData, call}
-use Rattle.ec_ctypes.specs.trees.Embedded.{ActionData, continue_action, goto_action, print_action, stop_action, break_action, next_action, call_action, EmbData}
-use Rattle.ec_statement_parts.specs.Handlers.{is_directive, handler}
-use Rattle.ec_statement_parts.specs.References.{References, references}
+use Rattle.ec_typing.specs.ec_ctypes.declared.embedded.emb.Cond.TheVariants.{NotFound, Warning, Error}
+use Rattle.ec_typing.specs.ec_ctypes.trees.Exprs.{ExprData, call}
+use Rattle.ec_typing.specs.ec_ctypes.trees.Embedded.{ActionData, continue_action, goto_action, print_action, stop_action, break_action, next_action, call_action, EmbData}
+use Rattle.ec_typing.specs.ec_statement_parts.Handlers.{is_directive, handler}
+use Rattle.ec_typing.specs.ec_statement_parts.References.{References, references}
 use Rattle.ec_typing.specs.Tables.{Named}
 use Rattle.ec_typing.specs.Worlds.{Place}
 use Rattle.ec_typing.specs.Embedded.{is_function_name, denote, variables_of}
-use Rattle.ec_resolved.specs.Resolved.{Exp}
+use Rattle.ec_evaluation.specs.ec_resolved.Resolved.{Exp}
 use Rattle.ec_resolving.specs.Storage.{ReferenceForm, ActionForm, goes_on, jumps, prints, stops, leaves, continues, calls_function, ActionForms, no_actions, with_statement, Resolving, ◌>>=◌, ◌>>◌, pure, checks, ask, arrange}
 use Rattle.ec_resolving.specs.Operands.{Found, no_expression, place_in, done_alone}
 use Rattle.ec_resolving.specs.Expressions.{expr}

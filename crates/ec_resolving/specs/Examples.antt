@@ -1,18 +1,18 @@
 -- Programs as examples write them, resolved and run.
 use Rattle.std.specs.Prelude.{ℕ, Bool, true, false, List, [], ◌∷◌, ◌++◌, codes, length, map, slice_get, Option, Some, None, Result, Ok, Err}
 use Prim.Native.String.{String}
-use Rattle.ec_base.specs.declared.stop.Stop.{Stop}
-use Rattle.ec_ctypes.specs.declared.embedded.emb.Cond.TheVariants.{NotFound, Warning, Error}
-use Rattle.ec_ctypes.specs.trees.Embedded.{HostData, ActionData, EmbData, EmbKindData, include_sqlca, trans, whenever, server_text, listed_outs, stop_action, goto_action, call_action}
-use Rattle.ec_ctypes.specs.trees.Exprs.{ExprData, identifier, no_exprs, exprs}
-use Rattle.ec_statement_parts.specs.Handlers.{last_of}
-use Rattle.ec_ctypes.specs.trees.Units.{UnitData}
-use Rattle.ec_language.specs.ReadText.{read_text}
-use Rattle.ec_ctypes.specs.declared.types.arith.Arith.TheVariants.{UChar, Long, ULong, LLong}
-use Rattle.ec_functions.specs.Formats.{Field, absent}
-use Rattle.ec_objects.specs.Memory.{ScalarType, ValueData, integer_type, pointer_type}
-use Rattle.ec_resolved.specs.Programs.{Function, Global, Program}
-use Rattle.ec_resolved.specs.Resolved.{Exp, object, load, convert, faulty, Exps, no_exps, exps, Stm, on_line, evaluate, Stms, no_stms, stms}
+use Rattle.ec_typing.specs.ec_base.declared.stop.Stop.{Stop}
+use Rattle.ec_typing.specs.ec_ctypes.declared.embedded.emb.Cond.TheVariants.{NotFound, Warning, Error}
+use Rattle.ec_typing.specs.ec_ctypes.trees.Embedded.{HostData, ActionData, EmbData, EmbKindData, include_sqlca, trans, whenever, server_text, listed_outs, stop_action, goto_action, call_action}
+use Rattle.ec_typing.specs.ec_ctypes.trees.Exprs.{ExprData, identifier, no_exprs, exprs}
+use Rattle.ec_typing.specs.ec_statement_parts.Handlers.{last_of}
+use Rattle.ec_typing.specs.ec_ctypes.trees.Units.{UnitData}
+use Rattle.ec_typing.specs.ec_language.ReadText.{read_text}
+use Rattle.ec_typing.specs.ec_ctypes.declared.types.arith.Arith.TheVariants.{UChar, Long, ULong, LLong}
+use Rattle.ec_evaluation.specs.ec_functions.Formats.{Field, absent}
+use Rattle.ec_evaluation.specs.ec_objects.Memory.{ScalarType, ValueData, integer_type, pointer_type}
+use Rattle.ec_evaluation.specs.ec_resolved.Programs.{Function, Global, Program}
+use Rattle.ec_evaluation.specs.ec_resolved.Resolved.{Exp, object, load, convert, faulty, Exps, no_exps, exps, Stm, on_line, evaluate, Stms, no_stms, stms}
 use Rattle.ec_evaluation.specs.State.{Ending}
 use Rattle.ec_evaluation.specs.Whole.{Observed, program_meaning, without_atoms}
 use Rattle.ec_resolving.specs.Programs.{stuck_program, resolve, walked, library_calls_of, embedded_statements_of}

@@ -1,8 +1,8 @@
 -- The resolved forms of expressions, and of the types and declarators in them, whose lengths may hold literals: the parts are looked at in the order of the checks.
 use Rattle.std.specs.Prelude.{ℕ, Bool, true, false, pos, List, [], ◌∷◌, Option, Some, None}
-use Rattle.ec_ctypes.specs.declared.tree.expr.UnOp.TheVariants.{Addr}
-use Rattle.ec_ctypes.specs.trees.Types.{TyData}
-use Rattle.ec_ctypes.specs.trees.Exprs.{ExprData, integer, character, string, identifier, unary, binary, assign, bump, call, call_other, index, member, arrow, cast, size_type, size_expr, ExprList, no_exprs, exprs, BaseData, words, varchar, tagged, struct_base, DimData, open_dim, dim, DimList, no_dims, dims, InitData, one, many, InitList, no_inits, inits, InitOption, no_init, some_init, DeclaratorData, declarator, DeclaratorList, no_declarators, declarators, DeclData, decl, DeclList, no_decls, decls}
+use Rattle.ec_typing.specs.ec_ctypes.declared.tree.expr.UnOp.TheVariants.{Addr}
+use Rattle.ec_typing.specs.ec_ctypes.trees.Types.{TyData}
+use Rattle.ec_typing.specs.ec_ctypes.trees.Exprs.{ExprData, integer, character, string, identifier, unary, binary, assign, bump, call, call_other, index, member, arrow, cast, size_type, size_expr, ExprList, no_exprs, exprs, BaseData, words, varchar, tagged, struct_base, DimData, open_dim, dim, DimList, no_dims, dims, InitData, one, many, InitList, no_inits, inits, InitOption, no_init, some_init, DeclaratorData, declarator, DeclaratorList, no_declarators, declarators, DeclData, decl, DeclList, no_decls, decls}
 use Rattle.ec_typing.specs.Types.{int_type, words_type}
 use Rattle.ec_typing.specs.Known.{ArgumentsData, all_expressions, is_identifier, is_no_expression, behind_first_argument, arguments_of}
 use Rattle.ec_typing.specs.Worlds.{Place, place, ◌>>=◌ as ◌and_then◌}
@@ -10,8 +10,8 @@ use Rattle.ec_typing.specs.Operands.{declared_type, length_rule, integer_operand
 use Rattle.ec_typing.specs.Operands as checked
 use Rattle.ec_typing.specs.Expressions as checked_parts
 use Rattle.ec_typing.specs.Expressions.{Members, type_or_fault, tag_rule, begin_struct, end_struct, member_named, is_varchar, varchar_member}
-use Rattle.ec_objects.specs.Memory.{number}
-use Rattle.ec_resolved.specs.Resolved.{constant, faulty}
+use Rattle.ec_evaluation.specs.ec_objects.Memory.{number}
+use Rattle.ec_evaluation.specs.ec_resolved.Resolved.{constant, faulty}
 use Rattle.ec_resolving.specs.Storage.{Resolving, ◌>>=◌, ◌>>◌, pure, checks, ask}
 use Rattle.ec_resolving.specs.Operands.{Found, found, as_value, no_expression, with_form, name_rule, literal_rule, value_rule, address_rule, unary_rule, binary_rule, index_rule, assign_rule, compound_rule, bump_rule, member_rule, arrow_rule, cast_rule, size_rule, call_rule, is_library_literal}
 

@@ -1,19 +1,19 @@
 -- What initializers store, and where (ISO/IEC 9899:1999, 6.7.8).
 use Rattle.std.specs.Prelude.{ℕ, zero, suc, ◌+◌, Bool, true, false, List, [], ◌∷◌, ◌++◌, take, Option, Some, None, option_map, if◌then◌else◌}
-use Rattle.ec_ctypes.specs.declared.types.sizes.Shape.{Shape}
-use Rattle.ec_ctypes.specs.trees.Types.{TyData, array, structure}
-use Rattle.ec_ctypes.specs.trees.Exprs.{ExprData, InitData, one, many, InitList, no_inits, inits}
-use Rattle.ec_ctypes.specs.Layout.{no_members, with_member, offset_behind}
-use Rattle.ec_language.specs.Letters.{Text}
+use Rattle.ec_typing.specs.ec_ctypes.declared.types.sizes.Shape.{Shape}
+use Rattle.ec_typing.specs.ec_ctypes.trees.Types.{TyData, array, structure}
+use Rattle.ec_typing.specs.ec_ctypes.trees.Exprs.{ExprData, InitData, one, many, InitList, no_inits, inits}
+use Rattle.ec_typing.specs.ec_ctypes.Layout.{no_members, with_member, offset_behind}
+use Rattle.ec_typing.specs.ec_language.Letters.{Text}
 use Rattle.ec_typing.specs.Known.{literal_in}
 use Rattle.ec_typing.specs.Constants.{ConstData, variable, trapping, known}
 use Rattle.ec_typing.specs.Worlds.{Place, World, shape_in}
 use Rattle.ec_typing.specs.Operands.{OperandData}
 use Rattle.ec_typing.specs.Initializers as checked
 use Rattle.ec_typing.specs.Initializers.{FrameData, elements_left, any_elements, members_left, Frames, next_part, parts_of, is_whole, is_text_for, first_part, going_in, max_depth, braced_frames, completed_in_braces}
-use Rattle.ec_objects.specs.Memory.{ValueData, number, address, pointer_to, ScalarType, scalar_type, encoded}
-use Rattle.ec_resolved.specs.Operations.{value_as}
-use Rattle.ec_resolved.specs.Resolved.{Exp, object, member, constant, store, copy, put, convert, Exps, no_exps, exps}
+use Rattle.ec_evaluation.specs.ec_objects.Memory.{ValueData, number, address, pointer_to, ScalarType, scalar_type, encoded}
+use Rattle.ec_evaluation.specs.ec_resolved.Operations.{value_as}
+use Rattle.ec_evaluation.specs.ec_resolved.Resolved.{Exp, object, member, constant, store, copy, put, convert, Exps, no_exps, exps}
 use Rattle.ec_resolving.specs.Conversions.{within_limit, size_in, as_known_type}
 use Rattle.ec_resolving.specs.Storage.{Resolving, ◌>>=◌, ◌>>◌, pure, checks, ask, arrange, without_last_literal}
 use Rattle.ec_resolving.specs.Operands.{Found, value_rule}

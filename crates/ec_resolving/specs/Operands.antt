@@ -1,17 +1,17 @@
 -- The resolved form of an expression, beside what the checks find out about it, and the rules of each form over its parts (ISO/IEC 9899:1999, 6.5).
 use Rattle.std.specs.Prelude.{ℕ, zero, suc, ◌+◌, Bool, true, false, not as negation, ◌&&◌, pos, List, [], ◌∷◌, length, map, drop, slice_get, Option, Some, None, option_map, option_and_then, if◌then◌else◌, codes}
-use Rattle.ec_ctypes.specs.declared.tree.expr.BinOp.{BinOp}
-use Rattle.ec_ctypes.specs.declared.tree.expr.UnOp.{UnOp}
-use Rattle.ec_ctypes.specs.declared.tree.expr.UnOp.TheVariants.{Deref}
-use Rattle.ec_ctypes.specs.trees.Types.{TyData, arithmetic, pointer}
-use Rattle.ec_ctypes.specs.trees.Exprs.{ExprData, integer, string, identifier, call as call_expr, cast as cast_expr, ExprList, no_exprs, exprs}
-use Rattle.ec_ctypes.specs.declared.types.arith.Arith.TheVariants.{Int, Long}
-use Rattle.ec_ctypes.specs.declared.checked.library.Sym.{Sym}
-use Rattle.ec_ctypes.specs.declared.checked.library.LibName.{LibName}
-use Rattle.ec_ctypes.specs.Texts.{symbol_text}
-use Rattle.ec_arguments.specs.Arguments.{Arg, symbol, literal, null, int_constant, long_constant, pointer as pointer_arg, stray}
-use Rattle.ec_ctypes.specs.Layout.{no_members, member_behind}
-use Rattle.ec_language.specs.Letters.{Text, same_text}
+use Rattle.ec_typing.specs.ec_ctypes.declared.tree.expr.BinOp.{BinOp}
+use Rattle.ec_typing.specs.ec_ctypes.declared.tree.expr.UnOp.{UnOp}
+use Rattle.ec_typing.specs.ec_ctypes.declared.tree.expr.UnOp.TheVariants.{Deref}
+use Rattle.ec_typing.specs.ec_ctypes.trees.Types.{TyData, arithmetic, pointer}
+use Rattle.ec_typing.specs.ec_ctypes.trees.Exprs.{ExprData, integer, string, identifier, call as call_expr, cast as cast_expr, ExprList, no_exprs, exprs}
+use Rattle.ec_typing.specs.ec_ctypes.declared.types.arith.Arith.TheVariants.{Int, Long}
+use Rattle.ec_typing.specs.ec_ctypes.declared.checked.library.Sym.{Sym}
+use Rattle.ec_typing.specs.ec_ctypes.declared.checked.library.LibName.{LibName}
+use Rattle.ec_typing.specs.ec_ctypes.Texts.{symbol_text}
+use Rattle.ec_typing.specs.ec_arguments.Arguments.{Arg, symbol, literal, null, int_constant, long_constant, pointer as pointer_arg, stray}
+use Rattle.ec_typing.specs.ec_ctypes.Layout.{no_members, member_behind}
+use Rattle.ec_typing.specs.ec_language.Letters.{Text, same_text}
 use Rattle.ec_typing.specs.Tables.{Named, find}
 use Rattle.ec_typing.specs.Types.{is_void, is_structure, decayed, pointed_to, struct_number}
 use Rattle.ec_typing.specs.Known.{ArgumentsData, with_symbols, symbols, KnownData, plain, formatted, known_function, literal_at}
@@ -20,10 +20,10 @@ use Rattle.ec_typing.specs.Worlds.{Place, EntryData, object as object_entry, fun
 use Rattle.ec_typing.specs.Operands as checked
 use Rattle.ec_typing.specs.Operands.{OperandData, unknown, integer_operand, literal_operand}
 use Rattle.ec_typing.specs.Expressions.{typed_members}
-use Rattle.ec_functions.specs.Formats.{Part, format_parts}
-use Rattle.ec_functions.specs.Functions.{Channel, standard_output, standard_error, Known, print, puts, putchar, strlen, strcmp, strncmp, memcmp, strcpy, strncpy, strcat, memcpy, memset, exit, sqlprint}
-use Rattle.ec_objects.specs.Memory.{number, address}
-use Rattle.ec_resolved.specs.Resolved.{Exp, member, constant, whole, call, known, library_call, faulty, Exps, no_exps, exps}
+use Rattle.ec_evaluation.specs.ec_functions.Formats.{Part, format_parts}
+use Rattle.ec_evaluation.specs.ec_functions.Functions.{Channel, standard_output, standard_error, Known, print, puts, putchar, strlen, strcmp, strncmp, memcmp, strcpy, strncpy, strcat, memcpy, memset, exit, sqlprint}
+use Rattle.ec_evaluation.specs.ec_objects.Memory.{number, address}
+use Rattle.ec_evaluation.specs.ec_resolved.Resolved.{Exp, member, constant, whole, call, known, library_call, faulty, Exps, no_exps, exps}
 use Rattle.ec_resolving.specs.Conversions as form
 use Rattle.ec_resolving.specs.Conversions.{size_in, as_known_type, promoted_value, read_at}
 use Rattle.ec_resolving.specs.Storage.{Site, Resolving, ◌>>=◌, ◌>>◌, pure, checks, ask, stored, arrange, site_exp, sqlca, literal_object, with_literal, with_call}

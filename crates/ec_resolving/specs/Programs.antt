@@ -1,12 +1,12 @@
 -- The resolved forms of functions (ISO/IEC 9899:1999, 6.9.1) and programs (6.9).
 use Rattle.std.specs.Prelude.{ℕ, ◌+◌, Bool, true, false, pos, ◌||◌, List, [], ◌∷◌, length, map, Option, Some, None, is_some, slice_get, codes, if◌then◌else◌}
-use Rattle.ec_ctypes.specs.trees.Types.{TyData}
-use Rattle.ec_ctypes.specs.trees.Exprs.{DeclData, decl}
-use Rattle.ec_ctypes.specs.trees.Stmts.{StmtList}
-use Rattle.ec_ctypes.specs.trees.Embedded.{EmbData}
-use Rattle.ec_ctypes.specs.trees.Units.{ParamData, FuncData, TopData, include_top, directive_top, decl_top, func_top, mark_top, UnitData}
-use Rattle.ec_language.specs.Letters.{Text, same_text}
-use Rattle.ec_language.specs.First.{Violation}
+use Rattle.ec_typing.specs.ec_ctypes.trees.Types.{TyData}
+use Rattle.ec_typing.specs.ec_ctypes.trees.Exprs.{DeclData, decl}
+use Rattle.ec_typing.specs.ec_ctypes.trees.Stmts.{StmtList}
+use Rattle.ec_typing.specs.ec_ctypes.trees.Embedded.{EmbData}
+use Rattle.ec_typing.specs.ec_ctypes.trees.Units.{ParamData, FuncData, TopData, include_top, directive_top, decl_top, func_top, mark_top, UnitData}
+use Rattle.ec_typing.specs.ec_language.Letters.{Text, same_text}
+use Rattle.ec_typing.specs.ec_language.First.{Violation}
 use Rattle.ec_typing.specs.Tables.{find}
 use Rattle.ec_typing.specs.Worlds.{Place, place, function as function_entry, EntryData, World, next_number, number_as, enter, leave as leave_scope, change}
 use Rattle.ec_typing.specs.Operands.{declared_type}
@@ -14,9 +14,9 @@ use Rattle.ec_typing.specs.Statements.{type_or_void, labels_in_all}
 use Rattle.ec_typing.specs.Programs as checked
 use Rattle.ec_typing.specs.Programs.{is_done, defined_in, start}
 use Rattle.ec_typing.specs.Answers.{violations}
-use Rattle.ec_objects.specs.Memory.{ValueData, number, ScalarType, pointer_type, scalar_type}
-use Rattle.ec_resolved.specs.Programs.{Program}
-use Rattle.ec_resolved.specs.Resolved.{faulty, evaluate, Stms, no_stms, stms}
+use Rattle.ec_evaluation.specs.ec_objects.Memory.{ValueData, number, ScalarType, pointer_type, scalar_type}
+use Rattle.ec_evaluation.specs.ec_resolved.Programs.{Program}
+use Rattle.ec_evaluation.specs.ec_resolved.Resolved.{faulty, evaluate, Stms, no_stms, stms}
 use Rattle.ec_resolving.specs.Storage.{nowhere, LibraryCall, StatementForm, Storage, Reached, next_site, with_site, with_object_of, with_function, Resolving, ◌>>=◌, ◌>>◌, pure, checks, ask, stored, arrange, in_block}
 use Rattle.ec_resolving.specs.Operands.{place_in}
 use Rattle.ec_resolving.specs.Embedded.{embedded_rule}

@@ -1,18 +1,18 @@
 -- The resolved forms of declarations (ISO/IEC 9899:1999, 6.7) and statements (6.8).
 use Rattle.std.specs.Prelude.{ℕ, suc, ◌+◌, Bool, true, false, List, [], ◌∷◌, ◌++◌, slice_get, Option, Some, None, if◌then◌else◌}
-use Rattle.ec_ctypes.specs.trees.Types.{TyData}
-use Rattle.ec_ctypes.specs.trees.Exprs.{ExprData, BaseData, tagged, DimList, InitOption, no_init, some_init, DeclaratorData, declarator, DeclaratorList, no_declarators, declarators, DeclData, decl}
-use Rattle.ec_ctypes.specs.trees.Stmts.{StmtData, stmt, StmtKindData, empty_stmt, expr_stmt, block_stmt, if_stmt, while_stmt, do_stmt, for_stmt, break_stmt, continue_stmt, return_stmt, goto_stmt, label_stmt, decl_stmt, emb_stmt, mark_stmt, StmtList, no_stmts, stmts as stmt_list, StmtOption, no_stmt, some_stmt}
-use Rattle.ec_ctypes.specs.trees.Embedded.{EmbData}
-use Rattle.ec_language.specs.Letters.{Text}
-use Rattle.ec_statement_parts.specs.Handlers.{is_directive}
+use Rattle.ec_typing.specs.ec_ctypes.trees.Types.{TyData}
+use Rattle.ec_typing.specs.ec_ctypes.trees.Exprs.{ExprData, BaseData, tagged, DimList, InitOption, no_init, some_init, DeclaratorData, declarator, DeclaratorList, no_declarators, declarators, DeclData, decl}
+use Rattle.ec_typing.specs.ec_ctypes.trees.Stmts.{StmtData, stmt, StmtKindData, empty_stmt, expr_stmt, block_stmt, if_stmt, while_stmt, do_stmt, for_stmt, break_stmt, continue_stmt, return_stmt, goto_stmt, label_stmt, decl_stmt, emb_stmt, mark_stmt, StmtList, no_stmts, stmts as stmt_list, StmtOption, no_stmt, some_stmt}
+use Rattle.ec_typing.specs.ec_ctypes.trees.Embedded.{EmbData}
+use Rattle.ec_typing.specs.ec_language.Letters.{Text}
+use Rattle.ec_typing.specs.ec_statement_parts.Handlers.{is_directive}
 use Rattle.ec_typing.specs.Tables.{Named}
 use Rattle.ec_typing.specs.Worlds.{Place, place, object as object_entry, World, next_number, number_as, declare, know_better, declare_label, enter, leave as leave_scope}
 use Rattle.ec_typing.specs.Operands.{declared_type}
 use Rattle.ec_typing.specs.Expressions.{has_init, is_varchar, varchar_object}
 use Rattle.ec_typing.specs.Statements as checked
 use Rattle.ec_typing.specs.Statements.{type_or_void}
-use Rattle.ec_resolved.specs.Resolved.{Exp, slot, Stm, on_line, nothing, evaluate, declare as declare_unset, initialize, block, choose, loop, leave, next, return, goto, label, embedded_statement, Stms, no_stms, stms}
+use Rattle.ec_evaluation.specs.ec_resolved.Resolved.{Exp, slot, Stm, on_line, nothing, evaluate, declare as declare_unset, initialize, block, choose, loop, leave, next, return, goto, label, embedded_statement, Stms, no_stms, stms}
 use Rattle.ec_resolving.specs.Conversions.{size_in, as_known_type}
 use Rattle.ec_resolving.specs.Storage.{Site, numbered, slotted, nowhere, next_site, with_site, with_global, with_object_of, Resolving, ◌>>=◌, ◌>>◌, pure, checks, ask, stored, arrange, in_block}
 use Rattle.ec_resolving.specs.Operands.{place_in, value_rule, done_alone}

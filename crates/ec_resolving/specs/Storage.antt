@@ -1,13 +1,13 @@
 -- Where the objects of a program are, and rules that find a resolved form beside what the checks find.
 use Rattle.std.specs.Prelude.{ℕ, ◌+◌, Bool, true, false, List, [], ◌∷◌, ◌++◌, length, take, ◌-◌, Option, Some, None}
-use Rattle.ec_ctypes.specs.declared.checked.library.LibName.{LibName}
-use Rattle.ec_ctypes.specs.trees.Types.{TyData}
-use Rattle.ec_arguments.specs.Arguments.{Arg}
-use Rattle.ec_language.specs.Letters.{Text}
+use Rattle.ec_typing.specs.ec_ctypes.declared.checked.library.LibName.{LibName}
+use Rattle.ec_typing.specs.ec_ctypes.trees.Types.{TyData}
+use Rattle.ec_typing.specs.ec_arguments.Arguments.{Arg}
+use Rattle.ec_typing.specs.ec_language.Letters.{Text}
 use Rattle.ec_typing.specs.Tables.{Named}
 use Rattle.ec_typing.specs.Worlds.{World, Out, Rule}
-use Rattle.ec_resolved.specs.Resolved.{Exp, object, slot, faulty}
-use Rattle.ec_resolved.specs.Programs.{Function, Global}
+use Rattle.ec_evaluation.specs.ec_resolved.Resolved.{Exp, object, slot, faulty}
+use Rattle.ec_evaluation.specs.ec_resolved.Programs.{Function, Global}
 
 -- Where a declaration's object is. A global one has a number, an object of a function its place among those in scope; a function is no object
 pub data Site : Type 0 where

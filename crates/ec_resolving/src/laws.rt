@@ -1,10 +1,10 @@
 //! What holds of every program, as the contract of a function that does nothing.
 
 ghost use Rattle.std.specs.Prelude.{◌≡◌, ℕ, Bool, List, Option};
-ghost use Rattle.ec_ctypes.specs.trees.Types.{TyData};
-ghost use Rattle.ec_ctypes.specs.trees.Exprs.{ExprData, ExprList, BaseData, DimList, InitData, DeclData};
-ghost use Rattle.ec_ctypes.specs.trees.Stmts.{StmtData};
-ghost use Rattle.ec_ctypes.specs.trees.Units.{UnitData};
+ghost use Rattle.ec_typing.specs.ec_ctypes.trees.Types.{TyData};
+ghost use Rattle.ec_typing.specs.ec_ctypes.trees.Exprs.{ExprData, ExprList, BaseData, DimList, InitData, DeclData};
+ghost use Rattle.ec_typing.specs.ec_ctypes.trees.Stmts.{StmtData};
+ghost use Rattle.ec_typing.specs.ec_ctypes.trees.Units.{UnitData};
 ghost use Rattle.ec_typing.specs.Known.{ArgumentsData};
 ghost use Rattle.ec_typing.specs.Statements.{Around};
 ghost use Rattle.ec_typing.specs.Worlds.{Place};

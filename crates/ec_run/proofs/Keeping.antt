@@ -2,10 +2,10 @@
 use Rattle.std.proofs.Common.{◌≡◌, true, refl, sym, ap, subst, Result, Ok, Err}
 use Rattle.std.specs.Prelude.{IfOk}
 use Rattle.ec_base.specs.declared.stop.Stop.{Stop}
-use Rattle.ec_execution.specs.Programs as written
-use Rattle.ec_execution.specs.Programs.{IsProgram}
+use Rattle.ec_execute.specs.ec_execution.Programs as written
+use Rattle.ec_execute.specs.ec_execution.Programs.{IsProgram}
 use Rattle.ec_language.specs.Letters.{Text, each}
-use Rattle.ec_phases.specs.Sources.{BoundProgram, ReadsSource}
+use Rattle.ec_translation.specs.ec_phases.Sources.{BoundProgram, ReadsSource}
 use Rattle.ec_translate.specs.Answers.{TellsTranslation}
 use Rattle.ec_translation.specs.Laws.{HasOneTranslation}
 use Rattle.ec_translation.specs.Translations.{text_of_program, IsTranslation, translation}

@@ -7,10 +7,10 @@ use Rattle.ec_base.specs.declared.stop.Stop.TheVariants.{Refused, Limit, OutOfMe
 use Rattle.ec_execute.specs.declared.executable.Executable.{Executable}
 use Rattle.ec_execute.specs.Executables.{executable_view}
 use Rattle.ec_execute.specs.Answers.{TellsProgram}
-use Rattle.ec_execution.specs.Programs as written
-use Rattle.ec_execution.specs.Programs.{IsProgram}
+use Rattle.ec_execute.specs.ec_execution.Programs as written
+use Rattle.ec_execute.specs.ec_execution.Programs.{IsProgram}
 use Rattle.ec_language.specs.Letters.{Text, each}
-use Rattle.ec_phases.specs.Sources.{BoundProgram, ReadsSource}
+use Rattle.ec_translation.specs.ec_phases.Sources.{BoundProgram, ReadsSource}
 use Rattle.ec_translate.specs.Answers.{TellsTranslation}
 use Rattle.ec_translation.specs.Translations.{text_of_program, translated, IsTranslation, translation}
 use Rattle.ec_writing.specs.Shapes.{is_byte}

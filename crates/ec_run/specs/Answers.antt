@@ -5,9 +5,9 @@ use Rattle.ec_base.specs.declared.stop.Stop.TheVariants.{Refused, Limit, OutOfMe
 use Rattle.ec_evaluation.specs.State.{Answer}
 use Rattle.ec_execute.specs.declared.executable.Executable.{Executable}
 use Rattle.ec_execute.specs.Executables.{executable_view}
-use Rattle.ec_execution.specs.Programs.{meaning}
+use Rattle.ec_execute.specs.ec_execution.Programs.{meaning}
 use Rattle.ec_language.specs.Letters.{Text}
-use Rattle.ec_phases.specs.Sources.{BoundProgram}
+use Rattle.ec_translation.specs.ec_phases.Sources.{BoundProgram}
 use Rattle.ec_run.specs.Runnable.{IsRunnable, source_meaning}
 
 -- an executable that means what the source means

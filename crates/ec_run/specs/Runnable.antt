@@ -5,11 +5,11 @@ use Rattle.ec_base.specs.declared.stop.Stop.{Stop}
 use Rattle.ec_base.specs.declared.stop.Stop.TheVariants.{Refused, Limit, OutOfMemory}
 use Rattle.ec_evaluation.specs.State.{Answer}
 use Rattle.ec_evaluation.specs.Whole.{Observed}
-use Rattle.ec_execution.specs.Programs as written
-use Rattle.ec_execution.specs.Programs.{IsProgram}
-use Rattle.ec_direct.specs.Direct.{direct_meaning}
+use Rattle.ec_execute.specs.ec_execution.Programs as written
+use Rattle.ec_execute.specs.ec_execution.Programs.{IsProgram}
+use Rattle.ec_run_law.specs.ec_direct.Direct.{direct_meaning}
 use Rattle.ec_language.specs.Letters.{Text}
-use Rattle.ec_phases.specs.Sources.{BoundProgram, ReadsSource}
+use Rattle.ec_translation.specs.ec_phases.Sources.{BoundProgram, ReadsSource}
 use Rattle.ec_translation.specs.Translations.{text_of_program}
 
 -- Why a source isn't run, by why what is written of it isn't: where that makes a call that the library doesn't make yet it is F9, on the line of the statement; and it may pass a limit of texts, of tokens or of nesting

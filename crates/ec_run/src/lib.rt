@@ -5,6 +5,7 @@ mod laws;
 mod reading;
 mod writing;
 
+pub use ec_execute;
 pub use laws::translations_keep_meanings;
 pub use reading::read_source;
 pub use writing::translate_source;

@@ -8,23 +8,23 @@ use Rattle.ec_base.specs.declared.stop.Stop.{Stop}
 use Rattle.ec_base.specs.declared.stop.Stop.TheVariants.{Refused, Limit, OutOfMemory}
 use Rattle.ec_ctypes.specs.trees.Checked.{BoundData, TypedData}
 use Rattle.ec_ctypes.specs.trees.Units.{UnitData}
-use Rattle.ec_direct.specs.Direct.{direct_meaning}
+use Rattle.ec_meaning_law.specs.ec_direct.Direct.{direct_meaning}
 use Rattle.ec_evaluation.specs.State.{Answer}
 use Rattle.ec_execution.specs.Programs.{Executable, executable, unless_unmade, resolved, IsProgram, left_of, meaning}
 use Rattle.ec_expansion.specs.Programs.{written_program}
 use Rattle.ec_language.specs.First.{Violation, first_of, stop_at, Reads}
 use Rattle.ec_language.specs.Letters.{Text}
-use Rattle.ec_library_calls.specs.LibraryCalls.{first_unmade_call}
-use Rattle.ec_phases.specs.Sources.{bound_from, BoundProgram}
+use Rattle.ec_execution.specs.ec_library_calls.LibraryCalls.{first_unmade_call}
+use Rattle.ec_written_sources.specs.ec_phases.Sources.{bound_from, BoundProgram}
 use Rattle.ec_readback.specs.ReadBack.{read_back, IsReadBack}
 use Rattle.ec_sections.specs.Answers.{hosts_answer}
 use Rattle.ec_sections.specs.Declared.{hosts_of}
-use Rattle.ec_simulation.specs.Written.{written_meaning, meaning_by, meaning_of_written}
-use Rattle.ec_translation.specs.Translations.{text_of_program}
+use Rattle.ec_meaning_law.specs.ec_simulation.Written.{written_meaning, meaning_by, meaning_of_written}
+use Rattle.ec_meaning_law.specs.ec_translation.Translations.{text_of_program}
 use Rattle.ec_typing.specs.Answers.{checked, violations, typed_of, answer_by, check_answer}
 use Rattle.ec_writing.specs.Programs.{written_text}
 use Rattle.ec_writing.specs.Shapes.{is_written_shape}
-use Rattle.ec_written.specs.Written.{plain, checked_with, checked_plain, checked_written, ReadsWritten}
+use Rattle.ec_execution.specs.ec_written.Written.{plain, checked_with, checked_plain, checked_written, ReadsWritten}
 use Rattle.ec_meaning_law.specs.Meanings.{MeanTheSame}
 use Rattle.ec_run_law.specs.Runs.{IsReadAs, KeepsItsMeaning, MeansSource, IsRunOf}
 

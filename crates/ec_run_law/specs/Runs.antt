@@ -6,15 +6,15 @@ use Rattle.ec_base.specs.declared.stop.Stop.{Stop}
 use Rattle.ec_base.specs.declared.stop.Stop.TheVariants.{Refused, Limit, OutOfMemory}
 use Rattle.ec_ctypes.specs.trees.Checked.{TypedData}
 use Rattle.ec_ctypes.specs.trees.Units.{UnitData}
-use Rattle.ec_direct.specs.Direct.{direct_meaning}
+use Rattle.ec_meaning_law.specs.ec_direct.Direct.{direct_meaning}
 use Rattle.ec_evaluation.specs.State.{Answer}
 use Rattle.ec_execution.specs.Programs.{Executable, executable, meaning}
 use Rattle.ec_expansion.specs.Programs.{written_program}
 use Rattle.ec_language.specs.Letters.{Text}
-use Rattle.ec_library_calls.specs.LibraryCalls.{first_unmade_call}
-use Rattle.ec_phases.specs.Sources.{BoundProgram}
-use Rattle.ec_simulation.specs.Written.{written_meaning}
-use Rattle.ec_written.specs.Written.{ReadsWritten}
+use Rattle.ec_execution.specs.ec_library_calls.LibraryCalls.{first_unmade_call}
+use Rattle.ec_written_sources.specs.ec_phases.Sources.{BoundProgram}
+use Rattle.ec_meaning_law.specs.ec_simulation.Written.{written_meaning}
+use Rattle.ec_execution.specs.ec_written.Written.{ReadsWritten}
 
 -- What its text is read as: the program that is written, in which the checks find nothing wrong;
 -- unless it passes a limit of texts, of tokens or of nesting

@@ -4,9 +4,9 @@ ghost use Rattle.std.specs.Prelude.{Result};
 ghost use Rattle.ec_base.specs.declared.stop.Stop.{Stop};
 ghost use Rattle.ec_execution.specs.Programs.{Executable, IsProgram};
 ghost use Rattle.ec_language.specs.Letters.{Text};
-ghost use Rattle.ec_phases.specs.Sources.{BoundProgram};
-ghost use Rattle.ec_translation.specs.Translations.{text_of_program};
-ghost use Rattle.ec_translation.specs.Accepted.{IsAcceptedText};
+ghost use Rattle.ec_written_sources.specs.ec_phases.Sources.{BoundProgram};
+ghost use Rattle.ec_meaning_law.specs.ec_translation.Translations.{text_of_program};
+ghost use Rattle.ec_meaning_law.specs.ec_translation.Accepted.{IsAcceptedText};
 ghost use Rattle.ec_run_law.specs.Runs.{IsReadBackAs, IsRunOf, KeepsItsMeaning};
 
 use ec_meaning_law::sources_mean_what_is_written;

@@ -16,6 +16,7 @@ mod stop;
 mod storing;
 
 pub use call::{Call, Kind, Statement};
+pub use ec_convert;
 pub use host::{Host, places_that_fit};
 pub use inputs::{Input, TextArg};
 pub use library::Library;

@@ -3,7 +3,7 @@ use Rattle.std.proofs.Common.{◌≡◌, ◌∙◌, ℕ, zero, suc, ◌+◌, ◌
 use Rattle.std.specs.Prelude.{option_map}
 use Rattle.std.proofs.Math.Seq.{take-suc}
 use Rattle.std.proofs.lemmas.List.{map-append, reverse-append}
-use Rattle.ec_language.specs.Letters.{Text, same_text}
+use Rattle.ec_typing.specs.ec_language.Letters.{Text, same_text}
 use Rattle.ec_typing.specs.Tables.{Named, find, put}
 use Rattle.ec_typing.specs.Worlds.{or_else, look_up_in, tag_in}
 use Rattle.ec_scopes.specs.declared.entries.Scope.{Scope}

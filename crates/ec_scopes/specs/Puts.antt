@@ -1,6 +1,6 @@
 -- Names that are put into tables.
 use Rattle.std.specs.Prelude.{Bool, [], is_some}
-use Rattle.ec_language.specs.Letters.{Text}
+use Rattle.ec_typing.specs.ec_language.Letters.{Text}
 use Rattle.ec_typing.specs.Tables.{find, put}
 use Rattle.ec_typing.specs.Worlds.{EntryData, Rule, out, with_name}
 

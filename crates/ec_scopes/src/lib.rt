@@ -18,6 +18,7 @@ mod table;
 mod tags;
 mod varchars;
 
+pub use ec_known;
 pub use entries::{Entry, Scope};
 pub use found::Found;
 pub use measures::Measure;

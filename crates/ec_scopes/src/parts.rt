@@ -2,7 +2,7 @@
 
 ghost use Rattle.std.specs.Prelude.{◌≡◌, None, map, option_map, is_some};
 ghost use Rattle.ec_ctypes.specs.views.Types.{ty_view};
-ghost use Rattle.ec_language.specs.First.{stop_at};
+ghost use Rattle.ec_typing.specs.ec_language.First.{stop_at};
 ghost use Rattle.ec_scopes.specs.Entries.{found_view, place_view};
 ghost use Rattle.ec_scopes.specs.Seen.{notes_of, world_of};
 ghost use Rattle.ec_scopes.specs.Structs.{infos};

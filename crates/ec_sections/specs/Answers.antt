@@ -1,12 +1,12 @@
 -- The faults of marks and VARCHARs, and the table of what is declared in sections.
 use Rattle.std.specs.Prelude.{ℕ, zero, suc, ◌+◌, Bool, true, false, not, ◌&&◌, ◌||◌, List, [], ◌∷◌, ◌++◌, map, Option, Some, None, Result, Ok, Err}
-use Rattle.ec_base.specs.declared.fault.FaultKind.{FaultKind}
-use Rattle.ec_base.specs.declared.fault.FaultKind.TheVariants.{F9, F13}
-use Rattle.ec_base.specs.declared.line.Line.{Line}
-use Rattle.ec_base.specs.declared.stop.Stop.{Stop}
-use Rattle.ec_base.specs.declared.stop.Stop.TheVariants.{Refused}
-use Rattle.ec_ctypes.specs.trees.Units.{UnitData}
-use Rattle.ec_language.specs.First.{Violation, first_of, stop_at}
+use Rattle.ec_typing.specs.ec_base.declared.fault.FaultKind.{FaultKind}
+use Rattle.ec_typing.specs.ec_base.declared.fault.FaultKind.TheVariants.{F9, F13}
+use Rattle.ec_typing.specs.ec_base.declared.line.Line.{Line}
+use Rattle.ec_typing.specs.ec_base.declared.stop.Stop.{Stop}
+use Rattle.ec_typing.specs.ec_base.declared.stop.Stop.TheVariants.{Refused}
+use Rattle.ec_typing.specs.ec_ctypes.trees.Units.{UnitData}
+use Rattle.ec_typing.specs.ec_language.First.{Violation, first_of, stop_at}
 use Rattle.ec_sections.specs.Declared.{hosts_of}
 use Rattle.ec_sections.specs.Places.{PlaceData, holds, mark, Places, of_tops}
 use Rattle.ec_sections.specs.Uses.{UsesData}

@@ -1,8 +1,8 @@
 -- Which declarations of a program stand in a declare section (PostgreSQL manual, "Declaring Host Variables"). Each declarator, each parameter, named or not, and each declaration or definition of a function counts, in the order of the text; members don't.
 use Rattle.std.specs.Prelude.{ℕ, ◌+◌, Bool, true, false, List, [], ◌∷◌, ◌++◌, Option, Some, None, if◌then◌else◌}
-use Rattle.ec_ctypes.specs.trees.Exprs.{DeclaratorList, no_declarators, declarators, DeclData, decl}
-use Rattle.ec_ctypes.specs.trees.Stmts.{StmtData, stmt, StmtKindData, empty_stmt, expr_stmt, block_stmt, if_stmt, while_stmt, do_stmt, for_stmt, break_stmt, continue_stmt, return_stmt, goto_stmt, label_stmt, decl_stmt, emb_stmt, mark_stmt, StmtList, no_stmts, stmts, StmtOption, no_stmt, some_stmt}
-use Rattle.ec_ctypes.specs.trees.Units.{ParamData, FuncData, TopData, include_top, directive_top, decl_top, func_top, mark_top, UnitData}
+use Rattle.ec_typing.specs.ec_ctypes.trees.Exprs.{DeclaratorList, no_declarators, declarators, DeclData, decl}
+use Rattle.ec_typing.specs.ec_ctypes.trees.Stmts.{StmtData, stmt, StmtKindData, empty_stmt, expr_stmt, block_stmt, if_stmt, while_stmt, do_stmt, for_stmt, break_stmt, continue_stmt, return_stmt, goto_stmt, label_stmt, decl_stmt, emb_stmt, mark_stmt, StmtList, no_stmts, stmts, StmtOption, no_stmt, some_stmt}
+use Rattle.ec_typing.specs.ec_ctypes.trees.Units.{ParamData, FuncData, TopData, include_top, directive_top, decl_top, func_top, mark_top, UnitData}
 
 -- a declaration: whether it stands in a section, and whether it is that of a function
 pub record DeclaredData : Type 0 where

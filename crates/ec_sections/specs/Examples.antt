@@ -1,11 +1,11 @@
 -- Programs, as examples write them, and what is said of their marks and VARCHARs.
 use Rattle.std.specs.Prelude.{ℕ, false, List, codes, Result, Ok, Err}
 use Prim.Native.String.{String}
-use Rattle.ec_base.specs.declared.fault.FaultKind.{FaultKind}
-use Rattle.ec_base.specs.declared.stop.Stop.{Stop}
-use Rattle.ec_base.specs.declared.stop.Stop.TheVariants.{Refused}
-use Rattle.ec_ctypes.specs.trees.Units.{UnitData}
-use Rattle.ec_language.specs.ReadText.{read_text}
+use Rattle.ec_typing.specs.ec_base.declared.fault.FaultKind.{FaultKind}
+use Rattle.ec_typing.specs.ec_base.declared.stop.Stop.{Stop}
+use Rattle.ec_typing.specs.ec_base.declared.stop.Stop.TheVariants.{Refused}
+use Rattle.ec_typing.specs.ec_ctypes.trees.Units.{UnitData}
+use Rattle.ec_typing.specs.ec_language.ReadText.{read_text}
 use Rattle.ec_sections.specs.Answers.{hosts_answer}
 
 abbrev pub hosts_by : Result UnitData Stop → Result (List ℕ) Stop

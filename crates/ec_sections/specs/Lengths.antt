@@ -1,13 +1,13 @@
 -- The length of a VARCHAR: an integer constant of 1 or more that is made of integer and character constants, parentheses and the arithmetic, bitwise, comparing and logical operators alone (PostgreSQL manual, "VARCHAR"; ISO/IEC 9899:1999, 6.6).
 use Rattle.std.specs.Prelude.{ℕ, suc, Bool, true, false, pos, Option, Some, None}
-use Rattle.ec_ctypes.specs.declared.types.arith.Arith.{Arith}
-use Rattle.ec_ctypes.specs.declared.types.arith.Arith.TheVariants.{Int}
-use Rattle.ec_ctypes.specs.declared.tree.expr.BinOp.{BinOp}
-use Rattle.ec_ctypes.specs.declared.tree.expr.UnOp.{UnOp}
-use Rattle.ec_ctypes.specs.declared.tree.expr.UnOp.TheVariants.{Addr, Deref, Plus, Minus, Not, Flip}
-use Rattle.ec_ctypes.specs.trees.Types.{TyData, arithmetic}
-use Rattle.ec_ctypes.specs.trees.Exprs.{ExprData, integer, character, unary, binary, DimData, open_dim, dim, DimList, no_dims, dims}
-use Rattle.ec_ctypes.specs.Arithmetic.{promoted}
+use Rattle.ec_typing.specs.ec_ctypes.declared.types.arith.Arith.{Arith}
+use Rattle.ec_typing.specs.ec_ctypes.declared.types.arith.Arith.TheVariants.{Int}
+use Rattle.ec_typing.specs.ec_ctypes.declared.tree.expr.BinOp.{BinOp}
+use Rattle.ec_typing.specs.ec_ctypes.declared.tree.expr.UnOp.{UnOp}
+use Rattle.ec_typing.specs.ec_ctypes.declared.tree.expr.UnOp.TheVariants.{Addr, Deref, Plus, Minus, Not, Flip}
+use Rattle.ec_typing.specs.ec_ctypes.trees.Types.{TyData, arithmetic}
+use Rattle.ec_typing.specs.ec_ctypes.trees.Exprs.{ExprData, integer, character, unary, binary, DimData, open_dim, dim, DimList, no_dims, dims}
+use Rattle.ec_typing.specs.ec_ctypes.Arithmetic.{promoted}
 use Rattle.ec_typing.specs.Types.{integer_operation}
 use Rattle.ec_typing.specs.Constants.{ConstData, known, unary_constant, binary_constant}
 

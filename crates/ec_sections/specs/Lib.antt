@@ -1,3 +1,4 @@
+pub use Rattle.ec_typing.specs as ec_typing
 pub mod Answers
 pub mod Declared
 pub mod Examples

@@ -1,8 +1,8 @@
 -- Where VARCHAR is used in a declaration, a function or a statement, but for the members of the structs in it, which are declarations of their own.
 use Rattle.std.specs.Prelude.{ℕ, zero, suc, Bool, true, false, not, ◌||◌, List, [], ◌∷◌, Option, Some, None}
-use Rattle.ec_ctypes.specs.trees.Exprs.{ExprData, integer, character, string, identifier, unary, binary, assign, bump, call, call_other, index, member, arrow, cast, size_type, size_expr, ExprList, no_exprs, exprs, BaseData, varchar, DimData, open_dim, dim, DimList, no_dims, dims, InitData, one, many, InitList, no_inits, inits, InitOption, no_init, some_init, DeclaratorData, declarator, DeclaratorList, no_declarators, declarators}
-use Rattle.ec_ctypes.specs.trees.Stmts.{StmtKindData, expr_stmt, if_stmt, while_stmt, do_stmt, for_stmt, return_stmt}
-use Rattle.ec_ctypes.specs.trees.Units.{ParamData, FuncData}
+use Rattle.ec_typing.specs.ec_ctypes.trees.Exprs.{ExprData, integer, character, string, identifier, unary, binary, assign, bump, call, call_other, index, member, arrow, cast, size_type, size_expr, ExprList, no_exprs, exprs, BaseData, varchar, DimData, open_dim, dim, DimList, no_dims, dims, InitData, one, many, InitList, no_inits, inits, InitOption, no_init, some_init, DeclaratorData, declarator, DeclaratorList, no_declarators, declarators}
+use Rattle.ec_typing.specs.ec_ctypes.trees.Stmts.{StmtKindData, expr_stmt, if_stmt, while_stmt, do_stmt, for_stmt, return_stmt}
+use Rattle.ec_typing.specs.ec_ctypes.trees.Units.{ParamData, FuncData}
 use Rattle.ec_sections.specs.Lengths.{ends_in_length}
 
 -- the uses that stand there: whether there are any, whether one is a pointer to a VARCHAR or a parameter, which there can't be, and whether one has no length

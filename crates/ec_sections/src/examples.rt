@@ -1,7 +1,7 @@
 //! What is said of marks and VARCHARs, as the contracts of functions that do nothing. Declarations are counted from 0.
 
 ghost use Rattle.std.specs.Prelude.{◌≡◌, [], ◌∷◌, Ok};
-ghost use Rattle.ec_base.specs.declared.fault.FaultKind.TheVariants.{F9, F13};
+ghost use Rattle.ec_typing.specs.ec_base.declared.fault.FaultKind.TheVariants.{F9, F13};
 ghost use Rattle.ec_sections.specs.Examples.{hosts_in, refused};
 
 /// What is declared between two marks, or by a declaration behind EXEC SQL, stands in a section.

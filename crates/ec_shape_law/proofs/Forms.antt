@@ -17,7 +17,7 @@ use Rattle.ec_embedded.specs.Directives.{argument_form, argument_of, arguments_f
 use Rattle.ec_embedded.specs.Dynamic.{prepare_form, prepare_of, lists_form, outs_or_none, executed, execute_form, execute_of, deallocate_form, deallocate_of, deallocate_at_form, deallocate_at_of, open_form, open_of}
 use Rattle.ec_embedded.specs.References.{Form, Of, optional, word, suffix_form, index_of, with_suffix, name_form, named, indicator_form, indicator_of, spelled_indicator_form, spelled_indicator_of, host_form, host_of, spelled_host_form, spelled_host_of, text_of_host, text_form, text_of, spelled_text_form, spelled_text_of, statement_text_form, statement_text_of, constant_form, constant_of, value_form, value_of, spelled_value_form, spelled_value_of, gathered, ins_form, ins_of, outs_form, outs_of, using_form, using_of}
 use Rattle.ec_embedded.specs.Terminals.{Terminal, Begins, reference, input, keyword, parted_word}
-use Rattle.ec_place_law.specs.References.{IsIndex, IsReference}
+use Rattle.ec_reference_law.specs.ec_place_law.References.{IsIndex, IsReference}
 use Rattle.ec_pointer_law.specs.Pointers.{HasHosts}
 use Rattle.ec_test_law.specs.Plain.{IsPlain, ArePlain, IsPlainAction}
 use Rattle.ec_shape_law.proofs.Parts.{OfList, list_both, IsReferenceOption, IsHost, IsText, IsTextOption, IsInput, IsGot, IsSet, AreIns, AreOuts, IsMade}

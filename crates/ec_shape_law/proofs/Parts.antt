@@ -4,9 +4,9 @@ use Rattle.ec_arguments.specs.Rules.{is_settable}
 use Rattle.ec_ctypes.specs.declared.embedded.emb.Item.{Item}
 use Rattle.ec_ctypes.specs.trees.Embedded.{HostData, TextArgData, word_arg, host_arg, host_with_indicator, InputData, host_input, const_input, InsData, listed_ins, area_ins, OutsData, no_outs, listed_outs, area_outs, PartData, bytes_part, host_part, EmbKindData, connect, set_connection, disconnect, autocommit, trans, server_text, declare_cursor, open_cursor, execute_immediate, prepare, execute, deallocate, allocate_area, free_area, get_count, get_items, set_count, set_items, whenever, include_sqlca, EmbData}
 use Rattle.ec_ctypes.specs.trees.Exprs.{ExprData, integer, identifier, index, member, arrow}
-use Rattle.ec_statement_parts.specs.References.{References, of_option, of_host, of_text, of_text_option, of_input, of_part, of_get_item, of_set_item, of_all, of_ins, of_outs, of_kind, references}
+use Rattle.ec_directive_law.specs.ec_statement_parts.References.{References, of_option, of_host, of_text, of_text_option, of_input, of_part, of_get_item, of_set_item, of_all, of_ins, of_outs, of_kind, references}
 use Rattle.ec_directive_law.specs.References.{MakesNothing, MakeNothing}
-use Rattle.ec_place_law.specs.References.{IsIndex, IsReference}
+use Rattle.ec_reference_law.specs.ec_place_law.References.{IsIndex, IsReference}
 use Rattle.ec_pointer_law.specs.Pointers.{HasHosts, OutputsAreSome, AreSettable, ItemsAreSet}
 use Rattle.ec_reference_law.specs.Found.{AreReferences}
 use Rattle.ec_test_law.specs.Plain.{IsPlainAction}

@@ -11,7 +11,7 @@ use Rattle.ec_embedded.specs.ServerText.{Tokens, Reading, begins_host, is_member
 use Rattle.ec_embedded.specs.Statements.{prepared_in, declared_for}
 use Rattle.ec_embedded.specs.Terminals as term
 use Rattle.ec_embedded.specs.Terminals.{Counts, step_by, Begins, input, reference, suffix, is, any_word, glued_word, plain_quote}
-use Rattle.ec_place_law.specs.References.{IsIndex, IsReference}
+use Rattle.ec_reference_law.specs.ec_place_law.References.{IsIndex, IsReference}
 use Rattle.ec_shape_law.proofs.Parts.{OfList, IsHost, IsText, IsPart, AreOuts, IsMade}
 use Rattle.ec_shape_law.proofs.Forms.{text_of_host_is}
 

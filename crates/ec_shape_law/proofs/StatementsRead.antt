@@ -21,11 +21,11 @@ use Rattle.ec_embedded.specs.References.{Of}
 use Rattle.ec_embedded.specs.ServerText.{Tokens, Reading, server_at, transaction_at}
 use Rattle.ec_embedded.specs.Statements.{Made, Entry, entries, chosen, declared_for, at_form, at_of}
 use Rattle.ec_embedded.specs.Terminals.{Counts}
-use Rattle.ec_hosts.specs.Examples.{with_statement, with_statements}
-use Rattle.ec_phases.specs.Sources as source
-use Rattle.ec_phases.specs.Sources.{ReadsStatements, ReadsTree}
-use Rattle.ec_statement_parts.specs.Handlers.{with_mark, marks_in, last_of, holds_at}
-use Rattle.ec_statement_parts.specs.References.{references}
+use Rattle.ec_reference_law.specs.ec_hosts.Examples.{with_statement, with_statements}
+use Rattle.ec_directive_law.specs.ec_phases.Sources as source
+use Rattle.ec_directive_law.specs.ec_phases.Sources.{ReadsStatements, ReadsTree}
+use Rattle.ec_directive_law.specs.ec_statement_parts.Handlers.{with_mark, marks_in, last_of, holds_at}
+use Rattle.ec_directive_law.specs.ec_statement_parts.References.{references}
 use Rattle.ec_reference_law.specs.Found.{AreReferences}
 use Rattle.ec_test_law.specs.Plain.{IsPlainAction, IsPlainOption, HasPlainActions}
 use Rattle.ec_shape_law.specs.Shapes.{IsAlone, IsRead, AllAreRead}

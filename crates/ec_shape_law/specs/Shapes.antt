@@ -3,8 +3,8 @@ use Rattle.std.specs.Prelude.{◌≡◌, ℕ, List, Some, None, Ok, slice_get}
 use Rattle.ec_ctypes.specs.trees.Embedded.{declare_cursor, EmbData}
 use Rattle.ec_ctypes.specs.trees.Units.{UnitData}
 use Rattle.ec_language.specs.Letters.{Text}
-use Rattle.ec_phases.specs.Sources.{ReadsTree}
-use Rattle.ec_statement_parts.specs.References.{references}
+use Rattle.ec_directive_law.specs.ec_phases.Sources.{ReadsTree}
+use Rattle.ec_directive_law.specs.ec_statement_parts.References.{references}
 use Rattle.ec_directive_law.specs.References.{MakeNothing}
 use Rattle.ec_pointer_law.specs.Pointers.{OutputsAreSome, ItemsAreSet}
 use Rattle.ec_reference_law.specs.Found.{AreReferences}

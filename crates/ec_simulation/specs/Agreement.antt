@@ -4,7 +4,7 @@ use Prim.Native.String.{String}
 use Rattle.ec_base.specs.declared.stop.Stop.{Stop}
 use Rattle.ec_ctypes.specs.trees.Checked.{TypedData}
 use Rattle.ec_link.specs.declared.reply.Reply.{Reply}
-use Rattle.ec_hosts.specs.Examples.{checked_text}
+use Rattle.ec_phases.specs.ec_hosts.Examples.{checked_text}
 use Rattle.ec_evaluation.specs.State.{Answer}
 use Rattle.ec_evaluation.specs.Whole.{Observed}
 use Rattle.ec_direct.specs.Examples.{ready, answers, nothing_seen, means_over}

@@ -3,7 +3,7 @@ use Rattle.std.specs.Prelude.{ℕ, true, List, [], Option, Result, Ok, Err}
 use Rattle.ec_base.specs.declared.stop.Stop.{Stop}
 use Rattle.ec_ctypes.specs.trees.Checked.{TypedData, BoundData}
 use Rattle.ec_ctypes.specs.trees.Units.{UnitData}
-use Rattle.ec_expansion.specs.Programs.{written_program}
+use Rattle.ec_direct.specs.ec_expansion.Programs.{written_program}
 use Rattle.ec_phases.specs.Sources.{bound_from}
 use Rattle.ec_resolving.specs.Programs.{resolve, library_calls_of}
 use Rattle.ec_evaluation.specs.State.{Answer}

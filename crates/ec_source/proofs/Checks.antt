@@ -11,7 +11,7 @@ use Rattle.ec_ctypes.specs.views.Units.{unit_view}
 use Rattle.ec_declare.specs.Answers.{Told}
 use Rattle.ec_language.specs.Letters.{Text}
 use Rattle.ec_statement_parts.specs.Handlers.{marks_in}
-use Rattle.ec_typing.specs.Answers.{check_answer}
+use Rattle.ec_hosts.specs.ec_typing.Answers.{check_answer}
 use Rattle.ec_whenever.specs.Tables.{table_of}
 use Rattle.ec_check.specs.Answers.{Checks}
 use Rattle.ec_phases.specs.Sources.{checked_tree, checked_with, ReadsTree}

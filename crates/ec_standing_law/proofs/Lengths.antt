@@ -15,8 +15,8 @@ use Rattle.ec_sections.specs.Declared.{hosts_of}
 use Rattle.ec_sections.specs.Lengths.{ends_in_length}
 use Rattle.ec_sections.specs.Places.{PlaceData, holds, mark, Places, of_expr, of_exprs, of_base, of_decls, of_decl, of_declarators, of_declarator, of_dims, of_dim, of_init_option, of_init, of_inits, of_option, of_stmt, of_stmts, of_stmt_option, of_params, of_body, of_function, of_top, of_tops}
 use Rattle.ec_sections.specs.Uses.{UsesData, ◌&◌, in_type, in_declared, in_base, in_param_base, in_expr, in_exprs, in_dim, in_dims, in_init, in_inits, in_init_option, in_declarator, in_declarators, in_expr_option, in_param, in_params}
-use Rattle.ec_typing.specs.Expressions.{is_varchar}
-use Rattle.ec_expression_law.specs.Lengths.{EndsInLength, HaveLengths, HaveLengthsIn, BaseHasLengths, MembersHaveLengths, DeclHasLengths, ItemsHaveLengths, ItemHasLengths, DimsHaveLengths, DimHasLengths, InitHasLengths, PartHasLengths, PartsHaveLengths}
+use Rattle.ec_sections.specs.ec_typing.Expressions.{is_varchar}
+use Rattle.ec_program_law.specs.ec_expression_law.Lengths.{EndsInLength, HaveLengths, HaveLengthsIn, BaseHasLengths, MembersHaveLengths, DeclHasLengths, ItemsHaveLengths, ItemHasLengths, DimsHaveLengths, DimHasLengths, InitHasLengths, PartHasLengths, PartsHaveLengths}
 use Rattle.ec_program_law.specs.Shape.{OptionHasLengths, ParamsHaveLengths}
 use Rattle.ec_standing_law.specs.Varchars.{StmtHasLengths, StmtsHaveLengths, OtherHasLengths, BodyHasLengths, TopHasLengths, TopsHaveLengths}
 

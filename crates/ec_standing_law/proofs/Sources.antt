@@ -2,10 +2,10 @@
 use Rattle.std.specs.Prelude.{◌≡◌, ℕ, true, List, Ok}
 use Rattle.ec_ctypes.specs.trees.Units.{UnitData}
 use Rattle.ec_language.specs.Letters.{Text}
-use Rattle.ec_phases.specs.Sources.{ReadsTree}
+use Rattle.ec_program_law.specs.ec_phases.Sources.{ReadsTree}
 use Rattle.ec_program_law.specs.Shape.{TopsStand}
 use Rattle.ec_sections.specs.Answers.{hosts_answer}
-use Rattle.ec_source_shape.specs.SourceShape.{is_source_shape}
+use Rattle.ec_program_law.specs.ec_source_shape.SourceShape.{is_source_shape}
 use Rattle.ec_standing_law.proofs.Lengths.{unit_lengths}
 use Rattle.ec_standing_law.proofs.Standing.{unit_stands}
 use Rattle.ec_standing_law.proofs.Tokens.{source_there}

@@ -7,7 +7,7 @@ use Rattle.ec_ctypes.specs.trees.Stmts.{StmtData, stmt, StmtKindData, empty_stmt
 use Rattle.ec_ctypes.specs.trees.Units.{FuncData, TopData, include_top, directive_top, decl_top, func_top, mark_top, UnitData}
 use Rattle.ec_language.proofs.Ends.{both}
 use Rattle.ec_writing.specs.Shapes.{is_plain_name, is_line, is_open, is_void_list}
-use Rattle.ec_source_shape.specs.SourceShape.{is_source_expr, is_source_base, is_source_option, is_source_stmt, is_source_kind, is_source_else, are_source_items, is_source_item, is_item_alone, are_source_params, is_source_body, is_source_func, is_source_top, are_source_tops, is_source_shape}
+use Rattle.ec_program_law.specs.ec_source_shape.SourceShape.{is_source_expr, is_source_base, is_source_option, is_source_stmt, is_source_kind, is_source_else, are_source_items, is_source_item, is_item_alone, are_source_params, is_source_body, is_source_func, is_source_top, are_source_tops, is_source_shape}
 use Rattle.ec_program_law.specs.Shape.{StandsAlone, KindStandsAlone, ItemsStand, ItemStands, OtherStands, BodyStands, TopStands, TopsStand}
 use Rattle.ec_standing_law.specs.There.{StmtIsThere, KindIsThere, StmtsAreThere, OtherIsThere, BodyIsThere, TopIsThere, TopsAreThere}
 use Rattle.ec_standing_law.specs.Varchars.{StmtHasLengths, KindHasLengths, StmtsHaveLengths, OtherHasLengths, BodyHasLengths, TopHasLengths, TopsHaveLengths}

@@ -25,9 +25,9 @@ use Rattle.ec_language.specs.Pieces.{behind_start, Declared, PiecesUpTo, Pieces}
 use Rattle.ec_language.specs.SqlTokens.{StatementUnits, is_executable}
 use Rattle.ec_language.specs.Tokens.{Part, Item, blank, match, include, directive, last_directive, Step, CParts, end, item, bad, line_behind, part_at, is_left_out_word, integer_tok, character_tok, string_tok, token_of, PieceParts, c_text, statement, opening, closing, declaration, embedded, fault_at, lines_before, statements_behind, AllParts, join_two, join_first, join_strings, without_head, token, with_token, max_tokens, is_full, part_within, numbered_within, Tokens}
 use Rattle.ec_language.proofs.ReadLaws.{newlines-append}
-use Rattle.ec_hosts.specs.Examples.{is_statement, statement_places, with_statement, with_statements}
-use Rattle.ec_phases.specs.Sources as source
-use Rattle.ec_phases.specs.Sources.{ReadsStatements, ReadsTree}
+use Rattle.ec_program_law.specs.ec_hosts.Examples.{is_statement, statement_places, with_statement, with_statements}
+use Rattle.ec_program_law.specs.ec_phases.Sources as source
+use Rattle.ec_program_law.specs.ec_phases.Sources.{ReadsStatements, ReadsTree}
 use Rattle.ec_standing_law.specs.There.{TopsAreThere}
 use Rattle.ec_standing_law.proofs.Directives.{told_there}
 use Rattle.ec_standing_law.proofs.Trees.{TokenIsThere, TokensAreThere, tree_is}

@@ -2,7 +2,7 @@
 use Rattle.std.specs.Prelude.{List, [], ◌∷◌, Option, Some, None}
 use Rattle.ec_ctypes.specs.trees.Stmts.{StmtData, stmt, StmtKindData, empty_stmt, expr_stmt, block_stmt, if_stmt, while_stmt, do_stmt, for_stmt, break_stmt, continue_stmt, return_stmt, goto_stmt, label_stmt, decl_stmt, emb_stmt, mark_stmt, StmtList, no_stmts, stmts, StmtOption, no_stmt, some_stmt}
 use Rattle.ec_ctypes.specs.trees.Units.{TopData, include_top, directive_top, decl_top, func_top, mark_top}
-use Rattle.ec_expression_law.specs.Lengths.{HaveLengths, BaseHasLengths, DeclHasLengths}
+use Rattle.ec_program_law.specs.ec_expression_law.Lengths.{HaveLengths, BaseHasLengths, DeclHasLengths}
 use Rattle.ec_program_law.specs.Shape.{OptionHasLengths, ParamsHaveLengths}
 
 abbrev mutual

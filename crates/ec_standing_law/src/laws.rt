@@ -3,10 +3,10 @@
 ghost use Rattle.std.specs.Prelude.{◌≡◌, ℕ, true, List, Ok};
 ghost use Rattle.ec_ctypes.specs.trees.Units.{UnitData};
 ghost use Rattle.ec_language.specs.Letters.{Text};
-ghost use Rattle.ec_phases.specs.Sources.{ReadsTree};
+ghost use Rattle.ec_program_law.specs.ec_phases.Sources.{ReadsTree};
 ghost use Rattle.ec_program_law.specs.Shape.{TopsStand};
 ghost use Rattle.ec_sections.specs.Answers.{hosts_answer};
-ghost use Rattle.ec_source_shape.specs.SourceShape.{is_source_shape};
+ghost use Rattle.ec_program_law.specs.ec_source_shape.SourceShape.{is_source_shape};
 ghost use Rattle.ec_standing_law.specs.There.{TopsAreThere};
 ghost use Rattle.ec_standing_law.specs.Varchars.{TopsHaveLengths};
 

@@ -4,7 +4,7 @@
 ghost use Rattle.std.specs.Prelude.{◌≡◌, ◌++◌, OnOk};
 ghost use Rattle.ec_ctypes.specs.trees.Exprs.{no_declarators};
 ghost use Rattle.ec_ctypes.specs.views.Exprs.{base_view, decl_view, declarators_view};
-ghost use Rattle.ec_forms.specs.Seen.{from, Reaches};
+ghost use Rattle.ec_initial_forms.specs.ec_forms.Seen.{from, Reaches};
 ghost use Rattle.ec_resolving.specs.Statements as rule;
 ghost use Rattle.ec_scopes.specs.Entries.{place_view, type_view};
 ghost use Rattle.ec_scopes.specs.Seen.{world_of, Does};
@@ -16,8 +16,8 @@ use crate::objects::object_item;
 use ec_base::{Boxed, List, OutOfMemory};
 use ec_code::Statement;
 use ec_ctypes::{Base, Decl, Declarator, Ty};
-use ec_expressions::base;
-use ec_forms::Resolver;
+use ec_initial_forms::ec_expressions::base;
+use ec_initial_forms::ec_forms::Resolver;
 use ec_scopes::{Checker, Place};
 
 /// Whether this is the type of a VARCHAR.
@@ -117,7 +117,7 @@ fn specifier(
 
 /// The statements of a declaration of objects or of a struct, at file level or not: an object of a function has one, and a
 /// global none, since its bytes are there when the program begins (ISO/IEC 9899:1999, 6.7).
-#[tactic(auto, using(ec_walk::proofs::Trees::seeing), unfolding(ec_resolving::specs::Storage::chain, ec_resolving::specs::Storage::pure, ec_resolving::specs::Storage::checks, ec_resolving::specs::Storage::ask))]
+#[tactic(auto, using(ec_initial_forms::ec_walk::proofs::Trees::seeing), unfolding(ec_resolving::specs::Storage::chain, ec_resolving::specs::Storage::pure, ec_resolving::specs::Storage::checks, ec_resolving::specs::Storage::ask))]
 pub fn declaration(
     resolver: &mut Resolver,
     is_global: bool,

@@ -16,4 +16,5 @@ mod walk;
 pub use bodies::{Body, function_body, statements};
 pub use counting::objects_in_all;
 pub use declarations::declaration;
+pub use ec_initial_forms::{ec_expressions, ec_forms, ec_rules, ec_storage, ec_type_rules};
 pub use surroundings::Around;

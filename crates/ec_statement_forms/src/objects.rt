@@ -6,14 +6,14 @@ ghost use Rattle.ec_code.specs.Objects.{stored_view};
 ghost use Rattle.ec_code.specs.Views.{statement_view};
 ghost use Rattle.ec_ctypes.specs.views.Types.{ty_view};
 ghost use Rattle.ec_ctypes.specs.views.Exprs.{dims_view, init_option_view, declarator_view};
-ghost use Rattle.ec_forms.specs.Seen.{from, Reaches};
+ghost use Rattle.ec_initial_forms.specs.ec_forms.Seen.{from, Reaches};
 ghost use Rattle.ec_initial_forms.specs.Filled.{initialized_view};
-ghost use Rattle.ec_initial_parts.specs.Parts.{parts_view};
+ghost use Rattle.ec_initial_forms.specs.ec_initial_parts.Parts.{parts_view};
 ghost use Rattle.ec_resolving.specs.Statements as rule;
 ghost use Rattle.ec_resolving.specs.Storage as where_is;
 ghost use Rattle.ec_scopes.specs.Entries.{place_view, type_view};
 ghost use Rattle.ec_scopes.specs.Seen.{world_of, IsDone};
-ghost use Rattle.ec_storage.specs.Stored.{site_view};
+ghost use Rattle.ec_initial_forms.specs.ec_storage.Stored.{site_view};
 ghost use Rattle.ec_typing.specs.Statements as checked;
 ghost use Rattle.ec_statement_forms.specs.Begun.{begun_view};
 ghost use Rattle.ec_statement_forms.specs.Made.{made_view};
@@ -23,13 +23,13 @@ use crate::making::{declare_initialized, declare_unset};
 use ec_base::{Boxed, List, OutOfMemory};
 use ec_code::{GlobalVariable, ObjectSize, Statement, Stored};
 use ec_ctypes::{Declarator, Expr, Init, Ty};
-use ec_expressions::{last_length, lengths, outer_lengths};
-use ec_forms::{Resolver, size_of};
+use ec_initial_forms::ec_expressions::{last_length, lengths, outer_lengths};
+use ec_initial_forms::ec_forms::{Resolver, size_of};
+use ec_initial_forms::ec_initial_parts::{Part, known_parts, stores};
+use ec_initial_forms::ec_rules::{complete_rule, copy_type, declared_type};
+use ec_initial_forms::ec_storage::Site;
 use ec_initial_forms::{Initialized, initializer};
-use ec_initial_parts::{Part, known_parts, stores};
-use ec_rules::{complete_rule, copy_type, declared_type};
 use ec_scopes::{Checker, Entry, Place};
-use ec_storage::Site;
 use std::alloc::Global;
 
 /// The type, or `void` where there is none.
@@ -368,7 +368,7 @@ fn object_of(
 }
 
 /// An object, at file level or not, of this base or of a VARCHAR of its own.
-#[tactic(auto, using(ec_walk::proofs::Trees::seeing), unfolding(ec_resolving::specs::Storage::chain, ec_resolving::specs::Storage::pure, ec_resolving::specs::Storage::checks, ec_resolving::specs::Storage::ask, ec_resolving::specs::Storage::stored, ec_resolving::specs::Storage::arrange))]
+#[tactic(auto, using(ec_initial_forms::ec_walk::proofs::Trees::seeing), unfolding(ec_resolving::specs::Storage::chain, ec_resolving::specs::Storage::pure, ec_resolving::specs::Storage::checks, ec_resolving::specs::Storage::ask, ec_resolving::specs::Storage::stored, ec_resolving::specs::Storage::arrange))]
 pub(crate) fn object_item(
     resolver: &mut Resolver,
     at: Place,

@@ -1,15 +1,15 @@
 -- A statement without its places, and what is said of all ways to go on with its places: they are those of the same statement.
 use Rattle.std.proofs.Common.{◌≡◌, ℕ, Bool, true, List, [], ◌∷◌, ◌++◌, map, Option, Some, None, refl}
 use Rattle.std.specs.Prelude.{nat_eq, ◌&&◌, option_map}
-use Rattle.ec_arguments.specs.Arguments.{TextArg, absent, word, held, name_of}
-use Rattle.ec_arguments.specs.Rules.{element_size, fits_element, fits_indicators, fits_place, is_single, is_value, are_inputs, are_hosts, are_outputs, are_targets, is_settable, are_settings, is_optional_text, is_given_text, is_statement}
+use Rattle.ec_direct.specs.ec_arguments.Arguments.{TextArg, absent, word, held, name_of}
+use Rattle.ec_direct.specs.ec_arguments.Rules.{element_size, fits_element, fits_indicators, fits_place, is_single, is_value, are_inputs, are_hosts, are_outputs, are_targets, is_settable, are_settings, is_optional_text, is_given_text, is_statement}
 use Rattle.ec_ctypes.specs.declared.embedded.emb.Item.{Item}
 use Rattle.ec_ctypes.specs.trees.Types.{StructData}
-use Rattle.ec_hosts.specs.Leaves.{LeafData}
-use Rattle.ec_resolved.specs.Resolved.{Exp}
-use Rattle.ec_evaluation.specs.State.{State}
-use Rattle.ec_evaluation.specs.Results.{Res}
-use Rattle.ec_evaluation.specs.Evaluate.{World, Context, Step}
+use Rattle.ec_direct.specs.ec_hosts.Leaves.{LeafData}
+use Rattle.ec_direct.specs.ec_resolved.Resolved.{Exp}
+use Rattle.ec_direct.specs.ec_evaluation.State.{State}
+use Rattle.ec_direct.specs.ec_evaluation.Results.{Res}
+use Rattle.ec_direct.specs.ec_evaluation.Evaluate.{World, Context, Step}
 use Rattle.ec_direct.specs.Leaves.{Leaf}
 use Rattle.ec_direct.specs.Statements as direct
 use Rattle.ec_direct.specs.Statements.{Input, stored, Sent, Outputs, nowhere, into_leaves, into_area, Asked, sends, executes, reads_text, opens, Statement, runs, connects, disconnects, sets_connection, sets_autocommit, controls, prepares, deallocates, allocates, frees, gets_count, sets_count, gets_items, sets_items}

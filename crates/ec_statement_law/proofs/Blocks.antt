@@ -1,23 +1,23 @@
 -- The block that is written for a statement does what the statement does with its handlers, and then ends the objects that were made since.
 use Rattle.std.proofs.Common.{◌≡◌, ◌∙◌, ℕ, zero, suc, Bool, true, false, List, Some, refl, inl}
 use Rattle.std.specs.Prelude.{slice_get}
-use Rattle.ec_arguments.specs.Arguments.{name_of}
-use Rattle.ec_arguments.specs.Writing.{arguments}
+use Rattle.ec_direct.specs.ec_arguments.Arguments.{name_of}
+use Rattle.ec_direct.specs.ec_arguments.Writing.{arguments}
 use Rattle.ec_ctypes.specs.declared.embedded.emb.Cond.{Cond}
 use Rattle.ec_ctypes.specs.declared.embedded.emb.Cond.TheVariants.{NotFound, Warning, Error}
 use Rattle.ec_ctypes.specs.trees.Checked.{TypedData}
 use Rattle.ec_ctypes.specs.trees.Types.{StructData}
-use Rattle.ec_objects.specs.Memory.{ValueData, number, address, last_number}
-use Rattle.ec_resolved.specs.Labels.{holds, holds_any}
-use Rattle.ec_resolved.specs.Resolved.{Exp, Stms, no_stms, stms}
-use Rattle.ec_resolving.specs.Storage.{StatementForm, LibraryCall, ActionForm, goes_on, jumps, prints, stops, leaves, continues, calls_function, ActionForms}
-use Rattle.ec_evaluation.specs.State.{State, Ending, turns_spent}
-use Rattle.ec_evaluation.specs.Results.{Res, value, on, broke, continued, went, back, over, on_value, on_done, at_address, without_answer, turn, closing}
-use Rattle.ec_evaluation.specs.Evaluate.{World, Context, Step, look_for, eval}
-use Rattle.ec_evaluation.specs.Execute.{settle, run, run_all}
-use Rattle.ec_evaluation.specs.Whole.{without_atoms}
-use Rattle.ec_calls.specs.Outcomes as outcome
-use Rattle.ec_calls.specs.Steps.{settled, called_of, no_step, library_step}
+use Rattle.ec_direct.specs.ec_objects.Memory.{ValueData, number, address, last_number}
+use Rattle.ec_direct.specs.ec_resolved.Labels.{holds, holds_any}
+use Rattle.ec_direct.specs.ec_resolved.Resolved.{Exp, Stms, no_stms, stms}
+use Rattle.ec_direct.specs.ec_resolving.Storage.{StatementForm, LibraryCall, ActionForm, goes_on, jumps, prints, stops, leaves, continues, calls_function, ActionForms}
+use Rattle.ec_direct.specs.ec_evaluation.State.{State, Ending, turns_spent}
+use Rattle.ec_direct.specs.ec_evaluation.Results.{Res, value, on, broke, continued, went, back, over, on_value, on_done, at_address, without_answer, turn, closing}
+use Rattle.ec_direct.specs.ec_evaluation.Evaluate.{World, Context, Step, look_for, eval}
+use Rattle.ec_direct.specs.ec_evaluation.Execute.{settle, run, run_all}
+use Rattle.ec_direct.specs.ec_evaluation.Whole.{without_atoms}
+use Rattle.ec_direct.specs.ec_calls.Outcomes as outcome
+use Rattle.ec_direct.specs.ec_calls.Steps.{settled, called_of, no_step, library_step}
 use Rattle.ec_direct.specs.Statements.{Statement}
 use Rattle.ec_direct.specs.Places.{address_of, placed}
 use Rattle.ec_direct.specs.Executing.{statement_done}

@@ -4,11 +4,11 @@ use Rattle.std.specs.Prelude.{slice_get, option_map, option_and_then}
 use Rattle.ec_ctypes.specs.declared.types.arith.Arith.{Arith}
 use Rattle.ec_ctypes.specs.declared.types.arith.Arith.TheVariants as arith
 use Rattle.ec_ctypes.specs.trees.Types.{TyData, void, arithmetic, pointer, array, structure, StructData}
-use Rattle.ec_hosts.specs.Elements.{Symbol, symbol_of, struct_symbol, varchar_symbol, capacity}
-use Rattle.ec_hosts.specs.Leaves.{LeafData}
-use Rattle.ec_hosts.specs.Places.{size_of, symbol_or_none, symbol_in}
-use Rattle.ec_transfer.specs.Hosts.{Holding, holding, indicator_type, IndicatorData, HostData}
-use Rattle.ec_calls.specs.Inputs as call
+use Rattle.ec_direct.specs.ec_hosts.Elements.{Symbol, symbol_of, struct_symbol, varchar_symbol, capacity}
+use Rattle.ec_direct.specs.ec_hosts.Leaves.{LeafData}
+use Rattle.ec_direct.specs.ec_hosts.Places.{size_of, symbol_or_none, symbol_in}
+use Rattle.ec_direct.specs.ec_transfer.Hosts.{Holding, holding, indicator_type, IndicatorData, HostData}
+use Rattle.ec_direct.specs.ec_calls.Inputs as call
 use Rattle.ec_direct.specs.Leaves.{element_holds, struct_holds, capacity_holds, indicator_kind, indicators_data, leaf_data, Leaf}
 use Rattle.ec_statement_law.specs.Calls.{indicator_of, place_of}
 

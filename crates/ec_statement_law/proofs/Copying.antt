@@ -1,16 +1,16 @@
 -- Two programs of which the second is a copy of the first do the same, if what stands in the place of each embedded statement does what the statement does: by induction over the copies and the turns.
 use Rattle.std.proofs.Common.{◌≡◌, ◌∙◌, ℕ, zero, suc, Bool, true, false, List, [], ◌∷◌, ◌++◌, map, Option, Some, None, refl, sym, subst, inl}
 use Rattle.std.specs.Prelude.{nat_eq, slice_get, ◌||◌}
-use Rattle.ec_objects.specs.Memory.{ValueData, scalar_size, last_number, fill}
-use Rattle.ec_resolved.specs.Labels.{holds, holds_any}
-use Rattle.ec_resolved.specs.Operations.{is_true}
-use Rattle.ec_resolved.specs.Programs.{Function, Program, sqlca_bytes, global_bytes, literal_bytes}
-use Rattle.ec_resolved.specs.Resolved.{Exp, embedded, Stm, on_line, block, Stms, no_stms, stms}
-use Rattle.ec_evaluation.specs.State.{State}
-use Rattle.ec_evaluation.specs.Results.{Res, value, on, broke, continued, went, back, over, on_value, on_done, after_body, changed, present, turn, made, given, closing, function_end, returned, finished}
-use Rattle.ec_evaluation.specs.Evaluate.{World, Context, Step, Task, calls, turn_of, look_for, eval}
-use Rattle.ec_evaluation.specs.Execute.{tested, again, settle, inside, enter, returning, run, run_all, look, look_all, body_run, in_function, called, act, meaning}
-use Rattle.ec_evaluation.specs.Whole.{opened, main_run, whole}
+use Rattle.ec_direct.specs.ec_objects.Memory.{ValueData, scalar_size, last_number, fill}
+use Rattle.ec_direct.specs.ec_resolved.Labels.{holds, holds_any}
+use Rattle.ec_direct.specs.ec_resolved.Operations.{is_true}
+use Rattle.ec_direct.specs.ec_resolved.Programs.{Function, Program, sqlca_bytes, global_bytes, literal_bytes}
+use Rattle.ec_direct.specs.ec_resolved.Resolved.{Exp, embedded, Stm, on_line, block, Stms, no_stms, stms}
+use Rattle.ec_direct.specs.ec_evaluation.State.{State}
+use Rattle.ec_direct.specs.ec_evaluation.Results.{Res, value, on, broke, continued, went, back, over, on_value, on_done, after_body, changed, present, turn, made, given, closing, function_end, returned, finished}
+use Rattle.ec_direct.specs.ec_evaluation.Evaluate.{World, Context, Step, Task, calls, turn_of, look_for, eval}
+use Rattle.ec_direct.specs.ec_evaluation.Execute.{tested, again, settle, inside, enter, returning, run, run_all, look, look_all, body_run, in_function, called, act, meaning}
+use Rattle.ec_direct.specs.ec_evaluation.Whole.{opened, main_run, whole}
 use Rattle.ec_statement_law.specs.Clean.{CallsNone, CallsNoneIn}
 use Rattle.ec_statement_law.specs.Copies.{Declares, unset, filled, AreApart, ended, another, IsCopy, standing, empty, evaluated, declared, blocks, chooses, loops, leaves, continues, returns, jumps, labelled, embedded as stands_for, AreCopies, end, both, gone, apart, IsFunctionCopy, AreFunctionCopies, IsProgramCopy}
 use Rattle.ec_statement_law.specs.Lives.{TidyWorld, TidyStep}

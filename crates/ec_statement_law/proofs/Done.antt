@@ -2,28 +2,28 @@
 use Rattle.std.proofs.Common.{◌≡◌, ◌∙◌, ℕ, suc, Bool, true, false, List, [], ◌∷◌, ◌++◌, length, map, Option, Some, None, refl}
 use Rattle.std.specs.Prelude.{nat_lt, ◌||◌, option_map}
 use Rattle.std.specs.Fmt.{decimal}
-use Rattle.ec_arguments.specs.Arguments as library
-use Rattle.ec_arguments.specs.Arguments.{TextArg, Place, Member, host}
+use Rattle.ec_direct.specs.ec_arguments.Arguments as library
+use Rattle.ec_direct.specs.ec_arguments.Arguments.{TextArg, Place, Member, host}
 use Rattle.ec_ctypes.specs.declared.embedded.emb.Item.{Item as Kind}
 use Rattle.ec_ctypes.specs.trees.Types.{StructData}
-use Rattle.ec_hosts.specs.Leaves.{LeafData}
-use Rattle.ec_link.specs.Table.{Sheet}
-use Rattle.ec_transfer.specs.declared.finding.Finding.TheVariants as found
-use Rattle.ec_transfer.specs.Conversion.{parameter}
-use Rattle.ec_transfer.specs.Hosts.{HostData}
-use Rattle.ec_evaluation.specs.State.{Item, State}
-use Rattle.ec_calls.specs.Outcomes.{Text, Field, Outcome, gives, finished, over, next, trying, present, begun_area, raised}
-use Rattle.ec_calls.specs.Connections.{connection_for, asked, begun}
-use Rattle.ec_calls.specs.Inputs as call
-use Rattle.ec_calls.specs.Inputs.{Inputs, no_inputs, with_param, with_area, text_read, given_read, inputs_read, member_read}
-use Rattle.ec_calls.specs.Storing.{field_kept, in_column, with_rows, column_kept, targets_kept, any_fewer, measured, rows_into}
-use Rattle.ec_calls.specs.Answers.{replied}
-use Rattle.ec_calls.specs.Areas.{resized, item_at, item_text}
-use Rattle.ec_calls.specs.Running as call_running
-use Rattle.ec_calls.specs.Running.{Wanted, request_of, params_behind, area_found, places_of, into_places, outputs_read, statement_read}
-use Rattle.ec_calls.specs.Descriptors as areas
-use Rattle.ec_calls.specs.Descriptors.{is_indicator, index_of, with_descriptor, items_set}
-use Rattle.ec_calls.specs.Library.{call_done}
+use Rattle.ec_direct.specs.ec_hosts.Leaves.{LeafData}
+use Rattle.ec_direct.specs.ec_link.Table.{Sheet}
+use Rattle.ec_direct.specs.ec_transfer.declared.finding.Finding.TheVariants as found
+use Rattle.ec_direct.specs.ec_transfer.Conversion.{parameter}
+use Rattle.ec_direct.specs.ec_transfer.Hosts.{HostData}
+use Rattle.ec_direct.specs.ec_evaluation.State.{Item, State}
+use Rattle.ec_direct.specs.ec_calls.Outcomes.{Text, Field, Outcome, gives, finished, over, next, trying, present, begun_area, raised}
+use Rattle.ec_direct.specs.ec_calls.Connections.{connection_for, asked, begun}
+use Rattle.ec_direct.specs.ec_calls.Inputs as call
+use Rattle.ec_direct.specs.ec_calls.Inputs.{Inputs, no_inputs, with_param, with_area, text_read, given_read, inputs_read, member_read}
+use Rattle.ec_direct.specs.ec_calls.Storing.{field_kept, in_column, with_rows, column_kept, targets_kept, any_fewer, measured, rows_into}
+use Rattle.ec_direct.specs.ec_calls.Answers.{replied}
+use Rattle.ec_direct.specs.ec_calls.Areas.{resized, item_at, item_text}
+use Rattle.ec_direct.specs.ec_calls.Running as call_running
+use Rattle.ec_direct.specs.ec_calls.Running.{Wanted, request_of, params_behind, area_found, places_of, into_places, outputs_read, statement_read}
+use Rattle.ec_direct.specs.ec_calls.Descriptors as areas
+use Rattle.ec_direct.specs.ec_calls.Descriptors.{is_indicator, index_of, with_descriptor, items_set}
+use Rattle.ec_direct.specs.ec_calls.Library.{call_done}
 use Rattle.ec_direct.specs.Leaves.{Leaf, leaf_data}
 use Rattle.ec_direct.specs.Statements as direct
 use Rattle.ec_direct.specs.Statements.{Input, stored, Sent, Outputs, nowhere, into_leaves, into_area, Asked, sends, executes, reads_text, opens, Statement, runs, connects, disconnects, sets_connection, sets_autocommit, controls, prepares, deallocates, allocates, frees, gets_count, sets_count, gets_items, sets_items}

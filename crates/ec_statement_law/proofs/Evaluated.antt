@@ -1,17 +1,17 @@
 -- The arguments that are written for a statement, evaluated, are those that are written for its places.
 use Rattle.std.proofs.Common.{◌≡◌, ◌∙◌, ℕ, List, [], ◌∷◌, ◌++◌, map, Option, Some, None, refl, sym}
 use Rattle.std.specs.Prelude.{option_map}
-use Rattle.ec_arguments.specs.Arguments.{Arg, symbol, literal, int_constant, TextArg, absent, word, held, Member}
-use Rattle.ec_arguments.specs.Writing.{text_argument, member_arguments, members_arguments, items_arguments, statement_arguments, item_symbol, switch_word, arguments}
+use Rattle.ec_direct.specs.ec_arguments.Arguments.{Arg, symbol, literal, int_constant, TextArg, absent, word, held, Member}
+use Rattle.ec_direct.specs.ec_arguments.Writing.{text_argument, member_arguments, members_arguments, items_arguments, statement_arguments, item_symbol, switch_word, arguments}
 use Rattle.ec_ctypes.specs.declared.checked.library.Sym.TheVariants as symbols
 use Rattle.ec_ctypes.specs.declared.embedded.emb.Item.{Item}
 use Rattle.ec_ctypes.specs.trees.Types.{StructData}
-use Rattle.ec_hosts.specs.Leaves.{LeafData}
-use Rattle.ec_resolved.specs.Resolved.{Exp}
-use Rattle.ec_evaluation.specs.State.{State}
-use Rattle.ec_evaluation.specs.Results.{Res}
-use Rattle.ec_evaluation.specs.Evaluate.{World, Context, Step}
-use Rattle.ec_calls.specs.Steps.{arguments_given}
+use Rattle.ec_direct.specs.ec_hosts.Leaves.{LeafData}
+use Rattle.ec_direct.specs.ec_resolved.Resolved.{Exp}
+use Rattle.ec_direct.specs.ec_evaluation.State.{State}
+use Rattle.ec_direct.specs.ec_evaluation.Results.{Res}
+use Rattle.ec_direct.specs.ec_evaluation.Evaluate.{World, Context, Step}
+use Rattle.ec_direct.specs.ec_calls.Steps.{arguments_given}
 use Rattle.ec_direct.specs.Leaves.{Leaf}
 use Rattle.ec_direct.specs.Statements as direct
 use Rattle.ec_direct.specs.Statements.{Input, stored, Sent, Outputs, nowhere, into_leaves, into_area, Asked, sends, executes, reads_text, opens, Statement, runs, connects, disconnects, sets_connection, sets_autocommit, controls, prepares, deallocates, allocates, frees, gets_count, sets_count, gets_items, sets_items}

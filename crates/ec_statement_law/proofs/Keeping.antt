@@ -2,36 +2,36 @@
 use Rattle.std.proofs.Common.{◌≡◌, ℕ, zero, suc, Bool, true, false, ℤ, List, [], ◌∷◌, ◌++◌, length, Option, Some, None, Result, Ok, Err}
 use Rattle.std.specs.Prelude.{pos, negsuc, nat_lt, reverse, codes}
 use Rattle.std.specs.Fmt.{decimal}
-use Rattle.ec_arguments.specs.Arguments.{TextArg, absent, word, held}
-use Rattle.ec_base.specs.declared.stop.Trap.{Trap}
+use Rattle.ec_direct.specs.ec_arguments.Arguments.{TextArg, absent, word, held}
+use Rattle.ec_ctypes.specs.ec_base.declared.stop.Trap.{Trap}
 use Rattle.ec_ctypes.specs.declared.embedded.emb.Item.{Item as Kind}
 use Rattle.ec_ctypes.specs.declared.types.arith.Arith.TheVariants.{Long}
 use Rattle.ec_ctypes.specs.trees.Types.{StructData}
-use Rattle.ec_link.specs.declared.reply.Reply.{Reply}
-use Rattle.ec_link.specs.declared.reply.Reply.TheVariants.{Connected, NoTarget, Rows, Done, Refused, Broken}
-use Rattle.ec_link.specs.declared.request.Request.{Request}
-use Rattle.ec_link.specs.declared.request.Request.TheVariants as request
-use Rattle.ec_link.specs.Table.{Sheet}
-use Rattle.ec_objects.specs.Memory.{Memory, alive, ended, and_then, integer_type, number, moved, put, store, text_at}
-use Rattle.ec_transfer.specs.Area.{Member, with_member, with_members, opening, sqlcode, sqlerrml, sqlerrmc, sqlstate, sqlwarn, sqlerrd_2, text_length, in_sqlerrmc, message_on}
-use Rattle.ec_transfer.specs.Conversion.{parameter, bytes_place, with_bytes, with_indicator, trapped as trapped_there, refused as refused_there, Stored, or_before, null_stored, told, value_told, bytes_stored, field_stored, told_length, is_cut, field_bytes}
-use Rattle.ec_transfer.specs.Hosts.{IndicatorData, HostData}
-use Rattle.ec_transfer.specs.declared.finding.Finding.{Finding}
-use Rattle.ec_evaluation.specs.State.{Answer, Connection, Item, State}
-use Rattle.ec_calls.specs.Outcomes.{Text, Field, Outcome, gives, finished, over, next, trying, present, with_memory, fresh_area, told_area, warned_area, counted_area, refused, raised, begun_area}
-use Rattle.ec_calls.specs.Connections.{exchange, connection_named, wanted_name, found_connection, connection_of, connection_for, answered, asked, controlled, control_sent, begins, begin_text, begun, same_name}
-use Rattle.ec_calls.specs.Inputs.{text_read, given_read}
-use Rattle.ec_calls.specs.Storing.{warned, found_by, stored_by, field_kept, in_column, counted_rows, with_rows}
-use Rattle.ec_calls.specs.Answers.{taken, count_of, done, replied}
-use Rattle.ec_calls.specs.Areas.{without_area, resized, number_as, within, item_at, item_text, set_item}
-use Rattle.ec_calls.specs.Running.{Wanted, text, execution, cursor, row_into, prepared_text, found_text, request_of, found_area, area_found, params_behind}
-use Rattle.ec_calls.specs.Connecting.{opened_by, connecting, unless_named, own_name, connect_call, set_connection_call}
-use Rattle.ec_calls.specs.Disconnecting.{closed, all_closed, one_closed, disconnected, disconnect_call}
-use Rattle.ec_calls.specs.Marks.{with_marks}
-use Rattle.ec_calls.specs.Autocommit.{switched, commits_first, autocommit_set, autocommit_call}
-use Rattle.ec_calls.specs.Control.{control_call}
-use Rattle.ec_calls.specs.Preparing.{with_text, without_text, prepared_anew, prepare_call, deallocate_call}
-use Rattle.ec_calls.specs.Descriptors.{with_descriptor, allocate_call, deallocate_descriptor_call, found_number, in_range, index_of, or_new, item_set, items_set}
+use Rattle.ec_direct.specs.ec_link.declared.reply.Reply.{Reply}
+use Rattle.ec_direct.specs.ec_link.declared.reply.Reply.TheVariants.{Connected, NoTarget, Rows, Done, Refused, Broken}
+use Rattle.ec_direct.specs.ec_link.declared.request.Request.{Request}
+use Rattle.ec_direct.specs.ec_link.declared.request.Request.TheVariants as request
+use Rattle.ec_direct.specs.ec_link.Table.{Sheet}
+use Rattle.ec_direct.specs.ec_objects.Memory.{Memory, alive, ended, and_then, integer_type, number, moved, put, store, text_at}
+use Rattle.ec_direct.specs.ec_transfer.Area.{Member, with_member, with_members, opening, sqlcode, sqlerrml, sqlerrmc, sqlstate, sqlwarn, sqlerrd_2, text_length, in_sqlerrmc, message_on}
+use Rattle.ec_direct.specs.ec_transfer.Conversion.{parameter, bytes_place, with_bytes, with_indicator, trapped as trapped_there, refused as refused_there, Stored, or_before, null_stored, told, value_told, bytes_stored, field_stored, told_length, is_cut, field_bytes}
+use Rattle.ec_direct.specs.ec_transfer.Hosts.{IndicatorData, HostData}
+use Rattle.ec_direct.specs.ec_transfer.declared.finding.Finding.{Finding}
+use Rattle.ec_direct.specs.ec_evaluation.State.{Answer, Connection, Item, State}
+use Rattle.ec_direct.specs.ec_calls.Outcomes.{Text, Field, Outcome, gives, finished, over, next, trying, present, with_memory, fresh_area, told_area, warned_area, counted_area, refused, raised, begun_area}
+use Rattle.ec_direct.specs.ec_calls.Connections.{exchange, connection_named, wanted_name, found_connection, connection_of, connection_for, answered, asked, controlled, control_sent, begins, begin_text, begun, same_name}
+use Rattle.ec_direct.specs.ec_calls.Inputs.{text_read, given_read}
+use Rattle.ec_direct.specs.ec_calls.Storing.{warned, found_by, stored_by, field_kept, in_column, counted_rows, with_rows}
+use Rattle.ec_direct.specs.ec_calls.Answers.{taken, count_of, done, replied}
+use Rattle.ec_direct.specs.ec_calls.Areas.{without_area, resized, number_as, within, item_at, item_text, set_item}
+use Rattle.ec_direct.specs.ec_calls.Running.{Wanted, text, execution, cursor, row_into, prepared_text, found_text, request_of, found_area, area_found, params_behind}
+use Rattle.ec_direct.specs.ec_calls.Connecting.{opened_by, connecting, unless_named, own_name, connect_call, set_connection_call}
+use Rattle.ec_direct.specs.ec_calls.Disconnecting.{closed, all_closed, one_closed, disconnected, disconnect_call}
+use Rattle.ec_direct.specs.ec_calls.Marks.{with_marks}
+use Rattle.ec_direct.specs.ec_calls.Autocommit.{switched, commits_first, autocommit_set, autocommit_call}
+use Rattle.ec_direct.specs.ec_calls.Control.{control_call}
+use Rattle.ec_direct.specs.ec_calls.Preparing.{with_text, without_text, prepared_anew, prepare_call, deallocate_call}
+use Rattle.ec_direct.specs.ec_calls.Descriptors.{with_descriptor, allocate_call, deallocate_descriptor_call, found_number, in_range, index_of, or_new, item_set, items_set}
 use Rattle.ec_direct.specs.Leaves.{Leaf, leaf_data}
 use Rattle.ec_direct.specs.Statements as direct
 use Rattle.ec_direct.specs.Statements.{Input, stored, Sent, Outputs, nowhere, into_leaves, into_area, Asked, sends, executes, reads_text, opens, Statement, runs, connects, disconnects, sets_connection, sets_autocommit, controls, prepares, deallocates, allocates, frees, gets_count, sets_count, gets_items, sets_items}
@@ -39,10 +39,10 @@ use Rattle.ec_direct.specs.Inputs.{leaf_read, input_read, values_read, items_rea
 use Rattle.ec_direct.specs.Storing as kept
 use Rattle.ec_direct.specs.Storing.{Targets, no_targets, leaf_targets, area_target, are_wanted, rows_kept, any_smaller, counted, leaves_kept, into_targets, table_kept}
 use Rattle.ec_direct.specs.Executing.{asked_read, targets_read, targets_found, has_indicator, asks_indicator, carried_out, run_over, kept_in, count_got, count_set, item_kept, items_kept, items_got, items_given, statement_done}
-use Rattle.ec_calls.specs.Steps.{settled}
+use Rattle.ec_direct.specs.ec_calls.Steps.{settled}
 use Rattle.ec_statement_law.specs.Lives.{Tidy, LeavesTidy}
 use Rattle.ec_statement_law.proofs.Memories.{tidy_same, tidy_then, OkIs, ok_then, with_cells_tidy, store_tidy}
-use Rattle.ec_objects.specs.Cells.{set_cells}
+use Rattle.ec_direct.specs.ec_objects.Cells.{set_cells}
 
 abbrev pub Keeps : {A : Type 0} → Memory → Outcome A → Type 0
 Keeps m (gives a t) = Tidy m t.memory

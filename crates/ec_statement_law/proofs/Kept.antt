@@ -1,15 +1,15 @@
 -- A statement whose places are expressions does what its call does.
 use Rattle.std.proofs.Common.{◌≡◌, ◌∙◌, ℕ, true, List, refl, sym, subst}
-use Rattle.ec_arguments.specs.Arguments.{name_of}
-use Rattle.ec_arguments.specs.Writing.{arguments}
-use Rattle.ec_arguments.proofs.Back.{cut_back}
+use Rattle.ec_direct.specs.ec_arguments.Arguments.{name_of}
+use Rattle.ec_direct.specs.ec_arguments.Writing.{arguments}
+use Rattle.ec_direct.proofs.ec_arguments_proofs.Back.{cut_back}
 use Rattle.ec_ctypes.specs.trees.Types.{StructData}
-use Rattle.ec_resolved.specs.Resolved.{Exp}
-use Rattle.ec_evaluation.specs.State.{State}
-use Rattle.ec_evaluation.specs.Results.{Res, turn}
-use Rattle.ec_evaluation.specs.Evaluate.{World, Context, Step}
-use Rattle.ec_calls.specs.Library.{if_cut, leads, library_call}
-use Rattle.ec_calls.specs.Steps.{called, settled}
+use Rattle.ec_direct.specs.ec_resolved.Resolved.{Exp}
+use Rattle.ec_direct.specs.ec_evaluation.State.{State}
+use Rattle.ec_direct.specs.ec_evaluation.Results.{Res, turn}
+use Rattle.ec_direct.specs.ec_evaluation.Evaluate.{World, Context, Step}
+use Rattle.ec_direct.specs.ec_calls.Library.{if_cut, leads, library_call}
+use Rattle.ec_direct.specs.ec_calls.Steps.{called, settled}
 use Rattle.ec_direct.specs.Statements.{Statement}
 use Rattle.ec_direct.specs.Executing.{statement_done}
 use Rattle.ec_direct.specs.Places.{address_of, placed}

@@ -1,3 +1,5 @@
+pub use Rattle.ec_direct.proofs.ec_language_proofs as ec_language_proofs
+pub use Rattle.ec_direct.proofs.ec_resolving_proofs as ec_resolving_proofs
 mod Bare
 mod Blocks
 mod ByType

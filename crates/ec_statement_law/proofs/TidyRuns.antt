@@ -2,19 +2,19 @@
 use Rattle.std.proofs.Common.{◌≡◌, ℕ, zero, suc, Bool, true, false, ℤ, List, [], ◌∷◌, ◌++◌, length, map, Option, Some, None, Result, Ok, Err, codes, refl}
 use Rattle.ec_ctypes.specs.declared.types.arith.Arith.TheVariants.{Int}
 use Rattle.std.specs.Prelude.{pos, nat_eq, slice_get, unsigned_abs, ◌+◌}
-use Rattle.ec_base.specs.declared.stop.Trap.{Trap}
-use Rattle.ec_functions.specs.Functions.{Channel, standard_output, standard_error, Known, print, puts, putchar, strlen, strcmp, strncmp, memcmp, strcpy, strncpy, strcat, memcpy, memset, exit, sqlprint, Effect, answers, traps as traps_there, ends, misfit as no_call, effect_of, tried as tried_effect, puts_bytes, printing, taking_nothing, taking_number, taking_address, taking_addresses, taking_sizes, taking_byte, writing, answers_number, error_printed, message_length, message_bytes, message_size, byte_of}
-use Rattle.ec_objects.specs.Memory.{Memory, ValueData, number, address, ScalarType, integer_type, span, scalar_size, moved, cells_at, load as loaded, store as stored, copy as copied, put as put_bytes, fill, unset, text_at, text_up_to, last_number, make}
-use Rattle.ec_objects.specs.Cells.{set_cells, filled_cells, unset_cells}
-use Rattle.ec_resolved.specs.Operations.{Worked, gives, traps, misfit, is_true, value_as, negated, number_worked, worked}
-use Rattle.ec_resolved.specs.Labels.{holds, holds_any}
-use Rattle.ec_resolved.specs.Programs.{Function}
-use Rattle.ec_resolved.specs.Resolved.{Exp, object, slot, member, constant, load, whole, store, copy, put, update, convert, negate, flip, not, operate, both, either, call, known, library_call, faulty, Exps, no_exps, exps, embedded, library, Stm, on_line, nothing, evaluate, declare, initialize, block, choose, loop, leave, next, return, goto, label, embedded_statement, Stms, no_stms, stms}
-use Rattle.ec_evaluation.specs.State.{State, turns_spent}
-use Rattle.ec_evaluation.specs.Results.{Res, value, on, broke, continued, went, back, over, on_value, on_done, after_body, tried, changed, worked_out, at_address, on_number, present, done_there, without_answer, answered, without_value, turn, made, given, closing, function_end, returned, exits_with}
-use Rattle.ec_evaluation.specs.Evaluate.{World, Context, Step, Task, calls, turn_of, look_for, eval, collect}
-use Rattle.ec_evaluation.specs.Execute.{tested, again, settle, inside, enter, declared, initialized, returning, run, run_all, look, look_all, in_function, called, act, meaning}
-use Rattle.ec_functions.specs.Strings.{text_length, texts_compared, fronts_compared, bytes_compared, text_copied, front_copied, text_appended, bytes_copied, bytes_filled}
+use Rattle.ec_ctypes.specs.ec_base.declared.stop.Trap.{Trap}
+use Rattle.ec_direct.specs.ec_functions.Functions.{Channel, standard_output, standard_error, Known, print, puts, putchar, strlen, strcmp, strncmp, memcmp, strcpy, strncpy, strcat, memcpy, memset, exit, sqlprint, Effect, answers, traps as traps_there, ends, misfit as no_call, effect_of, tried as tried_effect, puts_bytes, printing, taking_nothing, taking_number, taking_address, taking_addresses, taking_sizes, taking_byte, writing, answers_number, error_printed, message_length, message_bytes, message_size, byte_of}
+use Rattle.ec_direct.specs.ec_objects.Memory.{Memory, ValueData, number, address, ScalarType, integer_type, span, scalar_size, moved, cells_at, load as loaded, store as stored, copy as copied, put as put_bytes, fill, unset, text_at, text_up_to, last_number, make}
+use Rattle.ec_direct.specs.ec_objects.Cells.{set_cells, filled_cells, unset_cells}
+use Rattle.ec_direct.specs.ec_resolved.Operations.{Worked, gives, traps, misfit, is_true, value_as, negated, number_worked, worked}
+use Rattle.ec_direct.specs.ec_resolved.Labels.{holds, holds_any}
+use Rattle.ec_direct.specs.ec_resolved.Programs.{Function}
+use Rattle.ec_direct.specs.ec_resolved.Resolved.{Exp, object, slot, member, constant, load, whole, store, copy, put, update, convert, negate, flip, not, operate, both, either, call, known, library_call, faulty, Exps, no_exps, exps, embedded, library, Stm, on_line, nothing, evaluate, declare, initialize, block, choose, loop, leave, next, return, goto, label, embedded_statement, Stms, no_stms, stms}
+use Rattle.ec_direct.specs.ec_evaluation.State.{State, turns_spent}
+use Rattle.ec_direct.specs.ec_evaluation.Results.{Res, value, on, broke, continued, went, back, over, on_value, on_done, after_body, tried, changed, worked_out, at_address, on_number, present, done_there, without_answer, answered, without_value, turn, made, given, closing, function_end, returned, exits_with}
+use Rattle.ec_direct.specs.ec_evaluation.Evaluate.{World, Context, Step, Task, calls, turn_of, look_for, eval, collect}
+use Rattle.ec_direct.specs.ec_evaluation.Execute.{tested, again, settle, inside, enter, declared, initialized, returning, run, run_all, look, look_all, in_function, called, act, meaning}
+use Rattle.ec_direct.specs.ec_functions.Strings.{text_length, texts_compared, fronts_compared, bytes_compared, text_copied, front_copied, text_appended, bytes_copied, bytes_filled}
 use Rattle.ec_statement_law.specs.Lives.{Tidy, Grown, Leaves, LeavesTidy, TidyWorld, TidyStep}
 use Rattle.ec_statement_law.proofs.Memories.{tidy_same, tidy_then, grown_then, tidy_grows, grown_ended, tidy_ended, OkIs, ok_then, with_cells_tidy, store_tidy, copy_tidy, make_grown}
 

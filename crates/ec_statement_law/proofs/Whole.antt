@@ -4,21 +4,21 @@ use Rattle.std.specs.Prelude.{pos, int_lt, slice_get}
 use Rattle.ec_ctypes.specs.declared.types.arith.Arith.TheVariants.{Long, Char}
 use Rattle.ec_ctypes.specs.trees.Checked.{TypedData}
 use Rattle.ec_ctypes.specs.trees.Embedded.{EmbData}
-use Rattle.ec_functions.specs.Functions.{sqlprint}
-use Rattle.ec_objects.specs.Memory.{ValueData, load, number_of, integer_type, last_number}
-use Rattle.ec_resolved.specs.Labels.{holds}
-use Rattle.ec_resolved.specs.Programs.{Program}
-use Rattle.ec_resolved.specs.Resolved.{Exp, known, no_exps, embedded, library, Stm}
-use Rattle.ec_resolving.specs.Storage.{ActionForm, goes_on, jumps, prints, stops, leaves, continues, calls_function, ActionForms, LibraryCall, StatementForm}
+use Rattle.ec_direct.specs.ec_functions.Functions.{sqlprint}
+use Rattle.ec_direct.specs.ec_objects.Memory.{ValueData, load, number_of, integer_type, last_number}
+use Rattle.ec_direct.specs.ec_resolved.Labels.{holds}
+use Rattle.ec_direct.specs.ec_resolved.Programs.{Program}
+use Rattle.ec_direct.specs.ec_resolved.Resolved.{Exp, known, no_exps, embedded, library, Stm}
+use Rattle.ec_direct.specs.ec_resolving.Storage.{ActionForm, goes_on, jumps, prints, stops, leaves, continues, calls_function, ActionForms, LibraryCall, StatementForm}
 use Rattle.ec_ctypes.specs.declared.embedded.emb.Cond.{Cond}
 use Rattle.ec_ctypes.specs.declared.embedded.emb.Cond.TheVariants.{NotFound, Warning, Error}
-use Rattle.ec_evaluation.specs.State.{State}
-use Rattle.ec_evaluation.specs.Results.{Res, on, went, on_value, on_done, at_address, turn, closing}
-use Rattle.ec_evaluation.specs.Evaluate.{World, Context, calls as calls_task, eval}
-use Rattle.ec_evaluation.specs.Execute.{run, meaning}
-use Rattle.ec_evaluation.specs.Expanded.{written_program}
-use Rattle.ec_evaluation.specs.Whole.{whole, without_atoms}
-use Rattle.ec_calls.specs.Steps.{settled, library_step}
+use Rattle.ec_direct.specs.ec_evaluation.State.{State}
+use Rattle.ec_direct.specs.ec_evaluation.Results.{Res, on, went, on_value, on_done, at_address, turn, closing}
+use Rattle.ec_direct.specs.ec_evaluation.Evaluate.{World, Context, calls as calls_task, eval}
+use Rattle.ec_direct.specs.ec_evaluation.Execute.{run, meaning}
+use Rattle.ec_direct.specs.ec_evaluation.Expanded.{written_program}
+use Rattle.ec_direct.specs.ec_evaluation.Whole.{whole, without_atoms}
+use Rattle.ec_direct.specs.ec_calls.Steps.{settled, library_step}
 use Rattle.ec_direct.specs.Statements.{Statement}
 use Rattle.ec_direct.specs.Places.{address_of}
 use Rattle.ec_direct.specs.Executing.{statement_done}

@@ -1,8 +1,8 @@
 -- A program with a statement in the place of each embedded one is a copy of it.
 use Rattle.std.proofs.Common.{ℕ, zero, suc, List, [], ◌∷◌, map, refl}
-use Rattle.ec_resolved.specs.Programs.{Function, Program}
-use Rattle.ec_resolved.specs.Resolved.{Stm, on_line, nothing, evaluate, declare, initialize, block, choose, loop, leave, next, return, goto, label, embedded_statement, Stms, no_stms, stms}
-use Rattle.ec_evaluation.specs.Expanded.{written, written_all, written_function, written_program}
+use Rattle.ec_direct.specs.ec_resolved.Programs.{Function, Program}
+use Rattle.ec_direct.specs.ec_resolved.Resolved.{Stm, on_line, nothing, evaluate, declare, initialize, block, choose, loop, leave, next, return, goto, label, embedded_statement, Stms, no_stms, stms}
+use Rattle.ec_direct.specs.ec_evaluation.Expanded.{written, written_all, written_function, written_program}
 use Rattle.ec_statement_law.specs.Clean.{Clean, AllClean, CleanFunctions, CleanProgram}
 use Rattle.ec_statement_law.specs.Copies.{unset, filled, IsCopy, standing, empty, evaluated, declared, blocks, chooses, loops, leaves, continues, returns, jumps, labelled, embedded, AreCopies, end, both, AreFunctionCopies, IsProgramCopy}
 

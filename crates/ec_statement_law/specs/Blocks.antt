@@ -1,7 +1,7 @@
 -- The block that is written for a statement, as it is resolved: its call, and the tests behind it. All have the line of the statement.
 use Rattle.std.specs.Prelude.{ℕ, Bool, true, false, ◌||◌, []}
-use Rattle.ec_resolved.specs.Resolved.{Exp, object, slot, member, constant, load, whole, store, copy, put, update, convert, negate, flip, not, operate, both, either, call, known, library_call, faulty, Exps, no_exps, exps, Stm, on_line, evaluate, block, Stms, stms}
-use Rattle.ec_resolving.specs.Storage.{ActionForm, goes_on, jumps, prints, stops, leaves, continues, calls_function, ActionForms}
+use Rattle.ec_direct.specs.ec_resolved.Resolved.{Exp, object, slot, member, constant, load, whole, store, copy, put, update, convert, negate, flip, not, operate, both, either, call, known, library_call, faulty, Exps, no_exps, exps, Stm, on_line, evaluate, block, Stms, stms}
+use Rattle.ec_direct.specs.ec_resolving.Storage.{ActionForm, goes_on, jumps, prints, stops, leaves, continues, calls_function, ActionForms}
 use Rattle.ec_statement_law.specs.Tests.{tests_stms}
 
 -- the call of this number among those of the library

@@ -1,12 +1,12 @@
 -- The call of the library that is written for a statement, by its parts as places with types: of each leaf the symbol and the length that its type has, its place, how many elements there are, and how far apart they lie (PostgreSQL manual, 36.17).
 use Rattle.std.specs.Prelude.{ℕ, Bool, true, List, [], ◌∷◌, ◌++◌, map, Option, Some, None, option_map}
-use Rattle.ec_arguments.specs.Arguments as library
-use Rattle.ec_arguments.specs.Arguments.{TextArg, Indicator, Place, Member, host, constant, descriptor, ItemMember, Call, Cut, run, connect, disconnect, set_connection, set_autocommit, control, prepare, deallocate, allocate_descriptor, deallocate_descriptor, get_count, set_count, get_items, set_items}
-use Rattle.ec_arguments.specs.Rules.{is_call}
+use Rattle.ec_direct.specs.ec_arguments.Arguments as library
+use Rattle.ec_direct.specs.ec_arguments.Arguments.{TextArg, Indicator, Place, Member, host, constant, descriptor, ItemMember, Call, Cut, run, connect, disconnect, set_connection, set_autocommit, control, prepare, deallocate, allocate_descriptor, deallocate_descriptor, get_count, set_count, get_items, set_items}
+use Rattle.ec_direct.specs.ec_arguments.Rules.{is_call}
 use Rattle.ec_ctypes.specs.declared.embedded.emb.Item.{Item}
 use Rattle.ec_ctypes.specs.trees.Types.{StructData}
-use Rattle.ec_hosts.specs.Leaves.{LeafData}
-use Rattle.ec_hosts.specs.Places.{size_of, symbol_in}
+use Rattle.ec_direct.specs.ec_hosts.Leaves.{LeafData}
+use Rattle.ec_direct.specs.ec_hosts.Places.{size_of, symbol_in}
 use Rattle.ec_direct.specs.Leaves.{Leaf}
 use Rattle.ec_direct.specs.Statements as direct
 use Rattle.ec_direct.specs.Statements.{Input, stored, Sent, Outputs, nowhere, into_leaves, into_area, Asked, sends, executes, reads_text, opens, Statement, runs, connects, disconnects, sets_connection, sets_autocommit, controls, prepares, deallocates, allocates, frees, gets_count, sets_count, gets_items, sets_items}

@@ -1,8 +1,8 @@
 -- Programs whose expressions call no library, and whose embedded statements stand where something holds of their line and number.
 use Rattle.std.specs.Prelude.{◌≡◌, ℕ, false, List, Option, Some, None, slice_get}
-use Rattle.ec_resolved.specs.Programs.{Function, Program}
-use Rattle.ec_resolved.specs.Resolved.{Exp, Stm, on_line, nothing, evaluate, declare, initialize, block, choose, loop, leave, next, return, goto, label, embedded_statement, Stms, no_stms, stms}
-use Rattle.ec_evaluation.specs.Evaluate.{Task, calls, turn_of, look_for}
+use Rattle.ec_direct.specs.ec_resolved.Programs.{Function, Program}
+use Rattle.ec_direct.specs.ec_resolved.Resolved.{Exp, Stm, on_line, nothing, evaluate, declare, initialize, block, choose, loop, leave, next, return, goto, label, embedded_statement, Stms, no_stms, stms}
+use Rattle.ec_direct.specs.ec_evaluation.Evaluate.{Task, calls, turn_of, look_for}
 use Rattle.ec_statement_law.specs.Blocks.{has_call, have_call}
 
 abbrev pub CallsNone : Exp → Type 0

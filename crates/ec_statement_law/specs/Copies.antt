@@ -1,7 +1,7 @@
 -- When a resolved program is what is written for a source, as it is resolved: its block stands in the place of each embedded statement, what directives and marks leave is gone, and the objects of one declaration may be declared one by one.
 use Rattle.std.specs.Prelude.{◌≡◌, ℕ, Bool, false, List, [], ◌∷◌, Option}
-use Rattle.ec_resolved.specs.Programs.{Function, Program}
-use Rattle.ec_resolved.specs.Resolved.{Exp, Exps, Stm, on_line, nothing, evaluate, declare, initialize, block, choose, loop, leave, next, return, goto, label, embedded_statement, Stms, no_stms, stms}
+use Rattle.ec_direct.specs.ec_resolved.Programs.{Function, Program}
+use Rattle.ec_direct.specs.ec_resolved.Resolved.{Exp, Exps, Stm, on_line, nothing, evaluate, declare, initialize, block, choose, loop, leave, next, return, goto, label, embedded_statement, Stms, no_stms, stms}
 use Rattle.ec_statement_law.specs.Blocks.{have_call}
 use Rattle.ec_statement_law.specs.Clean.{CallsNone, CallsNoneIn}
 

@@ -1,10 +1,10 @@
 -- Which objects are alive before and after a part of a program.
 use Rattle.std.specs.Prelude.{ℕ, List, [], ◌∷◌}
-use Rattle.ec_objects.specs.Memory.{Memory, ObjectData, alive, ended}
-use Rattle.ec_evaluation.specs.State.{State}
-use Rattle.ec_evaluation.specs.Results.{Res, value, on, broke, continued, went, back, over}
-use Rattle.ec_evaluation.specs.Evaluate.{World, Task, Context, Step}
-use Rattle.ec_resolved.specs.Resolved.{Atom}
+use Rattle.ec_direct.specs.ec_objects.Memory.{Memory, ObjectData, alive, ended}
+use Rattle.ec_direct.specs.ec_evaluation.State.{State}
+use Rattle.ec_direct.specs.ec_evaluation.Results.{Res, value, on, broke, continued, went, back, over}
+use Rattle.ec_direct.specs.ec_evaluation.Evaluate.{World, Task, Context, Step}
+use Rattle.ec_direct.specs.ec_resolved.Resolved.{Atom}
 
 -- both are alive, or both have ended
 abbrev pub SameLife : ObjectData → ObjectData → Type 0

@@ -1,11 +1,11 @@
 -- What a statement does by itself where it stands, before its handlers.
 use Rattle.std.specs.Prelude.{ℕ, List}
 use Rattle.ec_ctypes.specs.trees.Types.{StructData}
-use Rattle.ec_resolved.specs.Resolved.{Exp}
-use Rattle.ec_evaluation.specs.State.{State}
-use Rattle.ec_evaluation.specs.Results.{Res, turn}
-use Rattle.ec_evaluation.specs.Evaluate.{World, Context, Step}
-use Rattle.ec_calls.specs.Steps.{settled}
+use Rattle.ec_direct.specs.ec_resolved.Resolved.{Exp}
+use Rattle.ec_direct.specs.ec_evaluation.State.{State}
+use Rattle.ec_direct.specs.ec_evaluation.Results.{Res, turn}
+use Rattle.ec_direct.specs.ec_evaluation.Evaluate.{World, Context, Step}
+use Rattle.ec_direct.specs.ec_calls.Steps.{settled}
 use Rattle.ec_direct.specs.Places.{placed}
 use Rattle.ec_direct.specs.Statements.{Statement}
 use Rattle.ec_direct.specs.Executing.{statement_done}

@@ -1,11 +1,11 @@
 -- When a program is what is written for a source: a block stands in the place of each embedded statement.
 use Rattle.std.specs.Prelude.{◌≡◌, ℕ, true, false, List, Some, slice_get}
-use Rattle.ec_arguments.specs.Arguments.{name_of}
-use Rattle.ec_arguments.specs.Writing.{arguments}
+use Rattle.ec_direct.specs.ec_arguments.Arguments.{name_of}
+use Rattle.ec_direct.specs.ec_arguments.Writing.{arguments}
 use Rattle.ec_ctypes.specs.trees.Checked.{TypedData}
 use Rattle.ec_ctypes.specs.trees.Embedded.{EmbData}
-use Rattle.ec_resolved.specs.Resolved.{Exp, Stm}
-use Rattle.ec_resolving.specs.Storage.{LibraryCall, StatementForm}
+use Rattle.ec_direct.specs.ec_resolved.Resolved.{Exp, Stm}
+use Rattle.ec_direct.specs.ec_resolving.Storage.{LibraryCall, StatementForm}
 use Rattle.ec_direct.specs.Direct.{form_of, statement_at}
 use Rattle.ec_direct.specs.Statements.{Statement}
 use Rattle.ec_statement_law.specs.Calls.{call_of, cut_of, keeps_rules, HasTargets}

@@ -1,29 +1,29 @@
 //! What holds of every statement.
 
 ghost use Rattle.std.specs.Prelude.{◌≡◌, ℕ, true, false, List, Some, slice_get};
-ghost use Rattle.ec_arguments.specs.Arguments.{name_of};
-ghost use Rattle.ec_arguments.specs.Writing.{arguments};
+ghost use Rattle.ec_direct.specs.ec_arguments.Arguments.{name_of};
+ghost use Rattle.ec_direct.specs.ec_arguments.Writing.{arguments};
 ghost use Rattle.ec_ctypes.specs.trees.Types.{StructData};
-ghost use Rattle.ec_evaluation.specs.State.{State};
-ghost use Rattle.ec_evaluation.specs.Evaluate.{World, Context, Step};
-ghost use Rattle.ec_resolved.specs.Resolved.{Exp};
-ghost use Rattle.ec_calls.specs.Steps.{called};
-ghost use Rattle.ec_calls.specs.Library.{call_done};
+ghost use Rattle.ec_direct.specs.ec_evaluation.State.{State};
+ghost use Rattle.ec_direct.specs.ec_evaluation.Evaluate.{World, Context, Step};
+ghost use Rattle.ec_direct.specs.ec_resolved.Resolved.{Exp};
+ghost use Rattle.ec_direct.specs.ec_calls.Steps.{called};
+ghost use Rattle.ec_direct.specs.ec_calls.Library.{call_done};
 ghost use Rattle.ec_direct.specs.Statements.{Statement};
 ghost use Rattle.ec_direct.specs.Executing.{statement_done};
 ghost use Rattle.ec_statement_law.specs.Calls.{call_of, cut_of, keeps_rules, HasTargets};
 ghost use Rattle.ec_statement_law.specs.Lives.{LeavesTidy};
-ghost use Rattle.ec_calls.specs.Steps.{settled};
+ghost use Rattle.ec_direct.specs.ec_calls.Steps.{settled};
 ghost use Rattle.ec_statement_law.specs.Steps.{stepped_alone};
 ghost use Rattle.ec_statement_law.specs.Tests.{tests_stms};
 ghost use Rattle.ec_statement_law.specs.Blocks.{block_stm, any_calls_library};
 ghost use Rattle.ec_ctypes.specs.trees.Checked.{TypedData};
-ghost use Rattle.ec_objects.specs.Memory.{last_number};
-ghost use Rattle.ec_evaluation.specs.Results.{closing};
-ghost use Rattle.ec_calls.specs.Steps.{library_step};
+ghost use Rattle.ec_direct.specs.ec_objects.Memory.{last_number};
+ghost use Rattle.ec_direct.specs.ec_evaluation.Results.{closing};
+ghost use Rattle.ec_direct.specs.ec_calls.Steps.{library_step};
 ghost use Rattle.ec_direct.specs.Direct.{executed_at};
-ghost use Rattle.ec_resolving.specs.Storage.{ActionForms, StatementForm, LibraryCall};
-ghost use Rattle.ec_evaluation.specs.Execute.{run, run_all};
+ghost use Rattle.ec_direct.specs.ec_resolving.Storage.{ActionForms, StatementForm, LibraryCall};
+ghost use Rattle.ec_direct.specs.ec_evaluation.Execute.{run, run_all};
 ghost use Rattle.ec_direct.specs.Handling.{handled};
 
 /// Once its places are known, a statement does what the call does that is written for it, in every state.

@@ -2,14 +2,14 @@
 
 ghost use Rattle.std.specs.Prelude.{◌≡◌, ℕ, false, List, Option};
 ghost use Rattle.ec_ctypes.specs.trees.Checked.{TypedData};
-ghost use Rattle.ec_resolved.specs.Programs.{Program};
-ghost use Rattle.ec_resolved.specs.Resolved.{Stm};
-ghost use Rattle.ec_resolving.specs.Storage.{LibraryCall, StatementForm};
-ghost use Rattle.ec_resolving.specs.Programs.{resolve, embedded_statements_of};
-ghost use Rattle.ec_evaluation.specs.State.{Answer, State};
-ghost use Rattle.ec_evaluation.specs.Expanded.{written_program};
-ghost use Rattle.ec_evaluation.specs.Whole.{whole, program_meaning};
-ghost use Rattle.ec_calls.specs.Steps.{library_step};
+ghost use Rattle.ec_direct.specs.ec_resolved.Programs.{Program};
+ghost use Rattle.ec_direct.specs.ec_resolved.Resolved.{Stm};
+ghost use Rattle.ec_direct.specs.ec_resolving.Storage.{LibraryCall, StatementForm};
+ghost use Rattle.ec_direct.specs.ec_resolving.Programs.{resolve, embedded_statements_of};
+ghost use Rattle.ec_direct.specs.ec_evaluation.State.{Answer, State};
+ghost use Rattle.ec_direct.specs.ec_evaluation.Expanded.{written_program};
+ghost use Rattle.ec_direct.specs.ec_evaluation.Whole.{whole, program_meaning};
+ghost use Rattle.ec_direct.specs.ec_calls.Steps.{library_step};
 ghost use Rattle.ec_direct.specs.Direct.{direct_step, direct_meaning};
 ghost use Rattle.ec_statement_law.specs.Clean.{CleanProgram};
 ghost use Rattle.ec_statement_law.specs.Copies.{IsProgramCopy};

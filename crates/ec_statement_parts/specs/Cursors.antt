@@ -1,6 +1,6 @@
 -- Cursors (PostgreSQL manual, "Using Cursors"). DECLARE is not executed; OPEN sends its text. Names of cursors are compared without regard to case.
 use Rattle.std.specs.Prelude.{ℕ, ◌+◌, List, [], ◌∷◌, take, slice_get, Option, Some, None, option_and_then, if◌then◌else◌}
-use Rattle.ec_ctypes.specs.trees.Embedded.{EmbData, declare_cursor, open_cursor}
+use Rattle.ec_language.specs.ec_ctypes.trees.Embedded.{EmbData, declare_cursor, open_cursor}
 use Rattle.ec_language.specs.Letters.{Text, same_word}
 
 -- the cursor that a statement declares

@@ -1,9 +1,9 @@
 -- Embedded statements, as examples write them. Each stands on line 1.
 use Rattle.std.specs.Prelude.{ℕ, Some, None, codes}
 use Prim.Native.String.{String}
-use Rattle.ec_ctypes.specs.declared.embedded.emb.Cond.{Cond}
-use Rattle.ec_ctypes.specs.trees.Exprs.{ExprData, identifier}
-use Rattle.ec_ctypes.specs.trees.Embedded.{HostData, PartData, host_part, ActionData, EmbKindData, EmbData, whenever}
+use Rattle.ec_language.specs.ec_ctypes.declared.embedded.emb.Cond.{Cond}
+use Rattle.ec_language.specs.ec_ctypes.trees.Exprs.{ExprData, identifier}
+use Rattle.ec_language.specs.ec_ctypes.trees.Embedded.{HostData, PartData, host_part, ActionData, EmbKindData, EmbData, whenever}
 
 -- a statement at this place
 abbrev pub emb : ℕ → EmbKindData → EmbData

@@ -1,10 +1,10 @@
 -- The action that a WHENEVER sets (PostgreSQL manual, "Setting Callbacks"). A WHENEVER holds for all statements below it in the text until the same condition is set again, whatever the flow of control.
 use Rattle.std.specs.Prelude.{ℕ, Bool, true, false, ◌&&◌, nat_lt, List, [], ◌∷◌, Option, Some, None, option_map}
 use Rattle.std.specs.List.{filter}
-use Rattle.ec_ctypes.specs.declared.embedded.emb.Cond.{Cond}
-use Rattle.ec_ctypes.specs.declared.embedded.emb.Cond.TheVariants.{NotFound, Warning, Error}
-use Rattle.ec_ctypes.specs.trees.Checked.{MarkData}
-use Rattle.ec_ctypes.specs.trees.Embedded.{ActionData, EmbData, whenever, include_sqlca, declare_cursor}
+use Rattle.ec_language.specs.ec_ctypes.declared.embedded.emb.Cond.{Cond}
+use Rattle.ec_language.specs.ec_ctypes.declared.embedded.emb.Cond.TheVariants.{NotFound, Warning, Error}
+use Rattle.ec_language.specs.ec_ctypes.trees.Checked.{MarkData}
+use Rattle.ec_language.specs.ec_ctypes.trees.Embedded.{ActionData, EmbData, whenever, include_sqlca, declare_cursor}
 
 abbrev pub same_cond : Cond → Cond → Bool
 same_cond NotFound NotFound = true

@@ -1,8 +1,8 @@
 -- The references to variables that stand in an embedded statement, in the order of its tree.
 use Rattle.std.specs.Prelude.{Bool, true, false, List, [], ◌∷◌, ◌++◌, Option, Some, None}
-use Rattle.ec_ctypes.specs.declared.embedded.emb.Item.{Item}
-use Rattle.ec_ctypes.specs.trees.Exprs.{ExprData, identifier, index, member, arrow}
-use Rattle.ec_ctypes.specs.trees.Embedded.{HostData, TextArgData, word_arg, host_arg, host_with_indicator, InputData, host_input, const_input, InsData, listed_ins, area_ins, OutsData, no_outs, listed_outs, area_outs, PartData, bytes_part, host_part, EmbData, connect, set_connection, disconnect, autocommit, trans, server_text, declare_cursor, open_cursor, execute_immediate, prepare, execute, deallocate, allocate_area, free_area, get_count, get_items, set_count, set_items, whenever, include_sqlca}
+use Rattle.ec_language.specs.ec_ctypes.declared.embedded.emb.Item.{Item}
+use Rattle.ec_language.specs.ec_ctypes.trees.Exprs.{ExprData, identifier, index, member, arrow}
+use Rattle.ec_language.specs.ec_ctypes.trees.Embedded.{HostData, TextArgData, word_arg, host_arg, host_with_indicator, InputData, host_input, const_input, InsData, listed_ins, area_ins, OutsData, no_outs, listed_outs, area_outs, PartData, bytes_part, host_part, EmbData, connect, set_connection, disconnect, autocommit, trans, server_text, declare_cursor, open_cursor, execute_immediate, prepare, execute, deallocate, allocate_area, free_area, get_count, get_items, set_count, set_items, whenever, include_sqlca}
 use Rattle.ec_language.specs.Letters.{Text}
 
 -- a reference, and whether it is that of a host whose value is sent or stored

@@ -2,9 +2,9 @@
 //! that do nothing.
 
 ghost use Rattle.std.specs.Prelude.{◌≡◌, [], ◌∷◌, Some, None, codes};
-ghost use Rattle.ec_ctypes.specs.declared.embedded.emb.Cond.TheVariants.{NotFound, Warning, Error};
-ghost use Rattle.ec_ctypes.specs.trees.Embedded.{goto_action, stop_action, print_action, continue_action, host_arg, host_with_indicator, host_input, const_input, listed_ins, listed_outs, no_outs, open_cursor, declare_cursor, server_text, get_items, connect};
-ghost use Rattle.ec_ctypes.specs.trees.Exprs.{identifier, index, member, arrow};
+ghost use Rattle.ec_language.specs.ec_ctypes.declared.embedded.emb.Cond.TheVariants.{NotFound, Warning, Error};
+ghost use Rattle.ec_language.specs.ec_ctypes.trees.Embedded.{goto_action, stop_action, print_action, continue_action, host_arg, host_with_indicator, host_input, const_input, listed_ins, listed_outs, no_outs, open_cursor, declare_cursor, server_text, get_items, connect};
+ghost use Rattle.ec_language.specs.ec_ctypes.trees.Exprs.{identifier, index, member, arrow};
 ghost use Rattle.ec_statement_parts.specs.Cursors.{declared_above, declare_opened};
 ghost use Rattle.ec_statement_parts.specs.Examples.{emb, host, host_and, part, sets, name};
 ghost use Rattle.ec_statement_parts.specs.Handlers.{handler, is_directive};

@@ -4,4 +4,5 @@
 
 mod examples;
 
+pub use ec_language;
 pub use examples::{cursor_examples, handler_examples, reference_examples};

@@ -1,8 +1,8 @@
 -- Names, and their places.
 use Rattle.std.proofs.Common.{◌≡◌, ◌∙◌, ℕ, suc, ◌+◌, Bool, true, false, [], ◌∷◌, length, Option, Some, None, is_some, cond, refl, sym, ap, subst, arith}
 use Rattle.std.proofs.lemmas.Bool.{false≢true, true≢false}
-use Rattle.ec_language.specs.Letters.{Text, same_text}
-use Rattle.ec_typing.specs.Tables.{Named, find, put}
+use Rattle.ec_resolving.specs.ec_language.Letters.{Text, same_text}
+use Rattle.ec_scopes.specs.ec_typing.Tables.{Named, find, put}
 use Rattle.ec_resolving.specs.Operands.{place_in}
 use Rattle.ec_storage.specs.Places.{names_of, placed}
 

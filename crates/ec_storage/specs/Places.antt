@@ -1,6 +1,6 @@
 -- Names with their places.
 use Rattle.std.specs.Prelude.{ℕ, suc, [], ◌∷◌, map}
-use Rattle.ec_typing.specs.Tables.{Named}
+use Rattle.ec_scopes.specs.ec_typing.Tables.{Named}
 
 -- the names alone
 abbrev pub names_of : Named ℕ → Named (Unit {0})

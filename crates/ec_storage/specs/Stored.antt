@@ -4,9 +4,9 @@ use Rattle.ec_arguments.specs.Arguments as arg
 use Rattle.ec_arguments.specs.Arguments.{Arg}
 use Rattle.ec_code.specs.Views.{expression_view, function_view, size_view}
 use Rattle.ec_ctypes.specs.views.Types.{ty_view}
-use Rattle.ec_resolved.specs.Resolved.{Exp}
+use Rattle.ec_resolving.specs.ec_resolved.Resolved.{Exp}
 use Rattle.ec_resolving.specs.Storage as of
-use Rattle.ec_typing.specs.Tables.{Named}
+use Rattle.ec_scopes.specs.ec_typing.Tables.{Named}
 use Rattle.ec_storage.specs.declared.block.BlockObjects.{BlockObjects}
 use Rattle.ec_storage.specs.declared.embedded.Action.{Action}
 use Rattle.ec_storage.specs.declared.embedded.Action.TheVariants as action

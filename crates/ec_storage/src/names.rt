@@ -2,7 +2,7 @@
 
 ghost use Rattle.std.specs.Prelude.{◌≡◌, [], IfOk, OnOk};
 ghost use Rattle.ec_resolving.specs.Operands.{place_in};
-ghost use Rattle.ec_typing.specs.Tables.{put};
+ghost use Rattle.ec_scopes.specs.ec_typing.Tables.{put};
 
 use ec_base::OutOfMemory;
 use ec_scopes::Table;

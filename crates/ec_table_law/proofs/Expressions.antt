@@ -9,8 +9,8 @@ use Rattle.ec_ctypes.specs.declared.tree.expr.UnOp.{UnOp}
 use Rattle.ec_ctypes.specs.declared.tree.expr.UnOp.TheVariants.{Addr, Deref, Plus, Minus, Not, Flip}
 use Rattle.ec_ctypes.specs.trees.Types.{TyData}
 use Rattle.ec_ctypes.specs.trees.Exprs.{ExprData, integer, character, string, identifier, unary, binary, assign, bump, call, call_other, index, member, arrow, cast, size_type, size_expr, ExprList, no_exprs, exprs, BaseData, words, varchar, tagged, struct_base, DimData, open_dim, dim, DimList, no_dims, dims, InitData, one, many, InitList, no_inits, inits, InitOption, no_init, some_init, DeclaratorData, declarator, DeclaratorList, no_declarators, declarators, DeclData, decl, DeclList, no_decls, decls}
-use Rattle.ec_language.specs.First.{Violation}
-use Rattle.ec_language.specs.Letters.{Text}
+use Rattle.ec_typing.specs.ec_language.First.{Violation}
+use Rattle.ec_typing.specs.ec_language.Letters.{Text}
 use Rattle.ec_typing.specs.Tables.{find, put}
 use Rattle.ec_typing.specs.Types.{words_type}
 use Rattle.ec_typing.specs.Known.{ArgumentsData, all_expressions, is_identifier, is_no_expression}

@@ -3,13 +3,13 @@ use Rattle.std.proofs.Common.{◌≡◌, ◌∙◌, ℕ, zero, suc, Bool, true, 
 use Rattle.std.specs.Prelude.{option_and_then}
 use Rattle.ec_ctypes.specs.trees.Types.{TyData, void, arithmetic, pointer, array, structure}
 use Rattle.ec_ctypes.specs.Layout.{repeated, shape_among}
-use Rattle.ec_language.specs.Letters.{Text, same_text}
+use Rattle.ec_typing.specs.ec_language.Letters.{Text, same_text}
 use Rattle.ec_typing.specs.Operands.{pointers, array_of, arrays, declared_type}
 use Rattle.ec_typing.specs.Tables.{put}
 use Rattle.ec_typing.specs.Types.{same_words, word_types, type_in_rows, words_type}
 use Rattle.ec_typing.specs.Worlds.{StructInfo, World, is_listed, is_within, arrays_within}
 use Rattle.ec_typing.specs.Expressions.{Members}
-use Rattle.ec_place_law.specs.Structs.{EachStruct}
+use Rattle.ec_closing_law.specs.ec_place_law.Structs.{EachStruct}
 use Rattle.ec_closing_law.specs.Closing.{IsSized, members_at, shapes_at}
 use Rattle.ec_closing_law.proofs.Lists.{false_not, get_map}
 use Rattle.ec_closing_law.proofs.Orders.{each_struct, ListedStay}

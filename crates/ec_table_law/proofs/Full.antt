@@ -4,7 +4,7 @@ use Rattle.ec_ctypes.specs.trees.Exprs.{one, many, no_inits, inits, InitOption, 
 use Rattle.ec_ctypes.specs.trees.Stmts.{StmtData, stmt, StmtKindData, empty_stmt, expr_stmt, block_stmt, if_stmt, while_stmt, do_stmt, for_stmt, break_stmt, continue_stmt, return_stmt, goto_stmt, label_stmt, decl_stmt, emb_stmt, mark_stmt, StmtList, no_stmts, stmts, StmtOption, no_stmt, some_stmt}
 use Rattle.ec_ctypes.specs.trees.Units.{FuncData, TopData, include_top, directive_top, decl_top, func_top, mark_top}
 use Rattle.ec_source_shape.specs.SourceShape.{is_source_expr, is_source_base, is_source_initializer, are_source_dims, is_source_declarator, are_source_declarators, is_source_decl, is_item_alone, is_source_option, is_source_stmt, is_source_kind, is_source_else, are_source_items, is_source_item, are_source_params, is_source_body, is_source_func, is_source_top, are_source_tops}
-use Rattle.ec_writing.specs.Shapes.{is_plain_name, is_line, is_open, is_void_list}
+use Rattle.ec_source_shape.specs.ec_writing.Shapes.{is_plain_name, is_line, is_open, is_void_list}
 use Rattle.std.specs.Prelude.{not}
 use Rattle.ec_closing_law.proofs.Lists.{false_not}
 use Rattle.ec_table_law.proofs.Fitting.{first_true, second_true}

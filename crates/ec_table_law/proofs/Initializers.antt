@@ -5,7 +5,7 @@ use Rattle.ec_ctypes.specs.trees.Exprs.{ExprData, integer, character, string, id
 use Rattle.ec_typing.specs.Operands.{OperandData}
 use Rattle.ec_typing.specs.Types.{is_char_array}
 use Rattle.ec_typing.specs.Worlds.{Place, StructInfo, World, chain, pure, ask}
-use Rattle.ec_place_law.specs.Structs.{EachStruct}
+use Rattle.ec_closing_law.specs.ec_place_law.Structs.{EachStruct}
 use Rattle.ec_typing.specs.Initializers.{elements_left, any_elements, is_literal, is_text_alone, literal_length, elements_begun, with_length, literal_array, completed_by, braced_frames, completed_in_braces, Frames, fixed_rule, init_value, suits_rule, go_by, go_to, next_part, part_rule, slot_of, slot_rule, single_by, braces_rule, initializer, fill, fill_part}
 use Rattle.ec_closing_law.specs.Closing.{IsSized}
 use Rattle.ec_closing_law.proofs.Lists.{false_not}

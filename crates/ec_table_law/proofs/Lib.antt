@@ -1,3 +1,4 @@
+pub use Rattle.ec_closing_law.proofs as ec_closing_law_proofs
 pub mod EmbeddedRules
 pub mod Expressions
 pub mod Fitting

@@ -5,7 +5,7 @@ use Rattle.ec_ctypes.specs.trees.Types.{TyData}
 use Rattle.ec_ctypes.specs.trees.Stmts.{StmtList}
 use Rattle.ec_ctypes.specs.trees.Embedded.{EmbData}
 use Rattle.ec_ctypes.specs.trees.Units.{ParamData, FuncData, TopData, include_top, directive_top, decl_top, func_top, mark_top, UnitData}
-use Rattle.ec_language.specs.Letters.{Text}
+use Rattle.ec_typing.specs.ec_language.Letters.{Text}
 use Rattle.ec_typing.specs.Worlds.{Place, EntryData, StructInfo, World, chain, pure, ask, next_number, number_as}
 use Rattle.ec_typing.specs.Operands.{declared_type}
 use Rattle.ec_typing.specs.Statements.{type_or_void}

@@ -4,11 +4,11 @@ use Rattle.ec_base.specs.declared.fault.FaultKind.{FaultKind}
 use Rattle.ec_base.specs.declared.fault.LimitKind.{LimitKind}
 use Rattle.ec_base.specs.declared.line.Line.{Line}
 use Rattle.ec_ctypes.specs.trees.Types.{TyData}
-use Rattle.ec_language.specs.First.{Violation}
-use Rattle.ec_language.specs.Letters.{Text}
+use Rattle.ec_typing.specs.ec_language.First.{Violation}
+use Rattle.ec_typing.specs.ec_language.Letters.{Text}
 use Rattle.ec_typing.specs.Worlds.{Place, EntryData, MembersData, unlisted, begun, listed, is_listed, StructInfo, ScopeData, World, Rule, chain, pure, ask, change, note, demand, keep_within, instead, place, left_to, enter, leave, scoped, declare, know_better, declare_label, free_name, free_tag, number_as, new_struct, is_within}
 use Rattle.ec_typing.specs.Expressions.{Members}
-use Rattle.ec_growth_law.specs.Growth.{is_unlisted, StructsStay}
+use Rattle.ec_closing_law.specs.ec_growth_law.Growth.{is_unlisted, StructsStay}
 use Rattle.ec_closing_law.specs.Closing.{members_at}
 use Rattle.ec_closing_law.proofs.Lists.{false_not, some_is, get_behind, get_last, none_at_end, set_elsewhere, set_here}
 use Rattle.ec_closing_law.proofs.Orders.{ListedStay}

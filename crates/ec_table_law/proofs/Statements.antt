@@ -7,12 +7,12 @@ use Rattle.ec_ctypes.specs.trees.Types.{TyData, void, arithmetic, pointer, array
 use Rattle.ec_ctypes.specs.trees.Exprs.{ExprData, BaseData, words, varchar, tagged, struct_base, DimList, InitOption, no_init, some_init, DeclaratorData, declarator, DeclaratorList, no_declarators, declarators, DeclData, decl}
 use Rattle.ec_ctypes.specs.trees.Stmts.{StmtData, stmt, StmtKindData, empty_stmt, expr_stmt, block_stmt, if_stmt, while_stmt, do_stmt, for_stmt, break_stmt, continue_stmt, return_stmt, goto_stmt, label_stmt, decl_stmt, emb_stmt, mark_stmt, StmtList, no_stmts, stmts, StmtOption, no_stmt, some_stmt}
 use Rattle.ec_ctypes.specs.trees.Embedded.{EmbData}
-use Rattle.ec_language.specs.Letters.{Text}
+use Rattle.ec_typing.specs.ec_language.Letters.{Text}
 use Rattle.ec_typing.specs.Operands.{OperandData, within_rule, complete_rule}
 use Rattle.ec_typing.specs.Worlds.{Place, StructInfo, World, Rule, chain, pure, ask, note, keep_within, next_number, number_as, is_complete, arrays_within}
 use Rattle.ec_typing.specs.Expressions.{is_varchar, has_init}
 use Rattle.ec_typing.specs.Statements.{type_or_void, waits_for_length, object_rule, initial, object_type, object_item, object_items, declared_tag, tag_alone, specifier, declaration, Around, as_body, looping, as_item, condition_rule, condition, optional, optional_condition, return_rule, return_nothing, return_by, embedded_at, statement, statement_kind, statements, otherwise}
-use Rattle.ec_place_law.specs.Structs.{EachStruct}
+use Rattle.ec_closing_law.specs.ec_place_law.Structs.{EachStruct}
 use Rattle.ec_closing_law.proofs.Lists.{false_not}
 use Rattle.ec_closing_law.proofs.Orders.{complete_sized, each_struct, complete_structs, ListedStay}
 use Rattle.ec_closing_law.proofs.Rules.{keep_same}

@@ -4,7 +4,7 @@ use Rattle.ec_ctypes.specs.trees.Types.{TyData, void, arithmetic, pointer, array
 use Rattle.ec_typing.specs.Expressions.{Members, varchar_members}
 use Rattle.ec_typing.specs.Worlds.{listed, StructInfo, World, shape_in, is_within}
 use Rattle.ec_closing_law.specs.Closing.{members_at, HaveTypes}
-use Rattle.ec_place_law.specs.Structs.{ClosedAreListed}
+use Rattle.ec_closing_law.specs.ec_place_law.Structs.{ClosedAreListed}
 
 -- ---- VARCHARs
 

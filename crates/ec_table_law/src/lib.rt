@@ -3,4 +3,5 @@
 
 mod laws;
 
+pub use ec_closing_law::ec_place_law;
 pub use laws::{tables_are_sound, types_are_within_limits, varchars_have_their_members};

@@ -12,7 +12,7 @@ use Rattle.ec_ctypes.specs.declared.types.sizes.Shape.{Shape}
 use Rattle.ec_ctypes.specs.trees.Types.{TyData, arithmetic, array, structure}
 use Rattle.ec_ctypes.specs.trees.Exprs.{ExprData, member as member_expr, identifier, character}
 use Rattle.ec_language.specs.Letters.{Text}
-use Rattle.ec_objects.specs.Memory.{number}
+use Rattle.ec_resolved.specs.ec_objects.Memory.{number}
 use Rattle.ec_typing.specs.Operands as checked
 use Rattle.ec_typing.specs.Operands.{OperandData, computed, object_operand, integer_operand, valued, member_type, member_by}
 use Rattle.ec_typing.specs.Expressions as checked_parts
@@ -22,7 +22,7 @@ use Rattle.ec_typing.specs.Statements as checked_statements
 use Rattle.ec_typing.specs.Types.{int_type}
 use Rattle.ec_typing.specs.Worlds as worlds
 use Rattle.ec_typing.specs.Worlds.{Place, MembersData, unlisted, begun, listed, StructInfo, World, out, look_up, members_of, shapes_in}
-use Rattle.ec_expansion.specs.Handlers.{condition, int_constant}
+use Rattle.ec_expression_law.specs.ec_expansion.Handlers.{condition, int_constant}
 use Rattle.ec_resolved.specs.Operations.{pointer_plus}
 use Rattle.ec_resolved.specs.Resolved.{Exp, object, member, constant, operate}
 use Rattle.ec_resolving.specs.Conversions.{binary_exp, element_exp}
@@ -30,7 +30,7 @@ use Rattle.ec_resolving.specs.Expressions.{expr}
 use Rattle.ec_resolving.specs.Operands.{Found, found, offset_among, member_at, over_types, value_exp, name_rule, member_rule, value_rule, binary_rule, index_rule}
 use Rattle.ec_resolving.specs.Statements as resolved
 use Rattle.ec_resolving.specs.Storage.{Storage, reached, pure, stored}
-use Rattle.ec_statement_law.specs.Tests.{code_exp, warning_exp, condition_exp}
+use Rattle.ec_expression_law.specs.ec_statement_law.Tests.{code_exp, warning_exp, condition_exp}
 use Rattle.ec_expression_law.specs.Worlds.{AreAlike}
 use Rattle.ec_test_law.specs.Area.{KnowsArea}
 use Rattle.ec_test_law.proofs.Alike.{reserved_is_free}

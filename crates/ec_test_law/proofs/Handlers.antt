@@ -5,20 +5,20 @@ use Rattle.ec_ctypes.specs.declared.embedded.emb.Cond.TheVariants.{NotFound, War
 use Rattle.ec_ctypes.specs.trees.Embedded.{EmbData}
 use Rattle.ec_ctypes.specs.trees.Stmts.{StmtData, StmtList, no_stmts, stmts as stmt_list}
 use Rattle.ec_language.specs.First.{Violation}
-use Rattle.ec_statement_parts.specs.Handlers.{is_directive, handler, action_among}
+use Rattle.ec_typing.specs.ec_statement_parts.Handlers.{is_directive, handler, action_among}
 use Rattle.ec_typing.specs.Embedded as checked
 use Rattle.ec_typing.specs.Statements as checked_statements
 use Rattle.ec_typing.specs.Statements.{Around}
 use Rattle.ec_typing.specs.Worlds as worlds
 use Rattle.ec_typing.specs.Worlds.{Place, World, Rule}
-use Rattle.ec_expansion.specs.Handlers.{tests, test_for}
-use Rattle.ec_expansion.specs.Statements.{before_stmts, listed_stmts}
+use Rattle.ec_expression_law.specs.ec_expansion.Handlers.{tests, test_for}
+use Rattle.ec_expression_law.specs.ec_expansion.Statements.{before_stmts, listed_stmts}
 use Rattle.ec_resolving.specs.Agreement.{around_of}
 use Rattle.ec_resolving.specs.Embedded.{actions_rule, handlers_rule}
 use Rattle.ec_resolving.specs.Statements as resolved
 use Rattle.ec_resolving.specs.Storage.{Storage, ActionForms, no_actions, reached, pure}
-use Rattle.ec_statement_law.specs.Blocks.{any_calls_library}
-use Rattle.ec_statement_law.specs.Tests.{tests_stms}
+use Rattle.ec_expression_law.specs.ec_statement_law.Blocks.{any_calls_library}
+use Rattle.ec_expression_law.specs.ec_statement_law.Tests.{tests_stms}
 use Rattle.ec_expression_law.specs.Alike.{SameStorage, AddsNone}
 use Rattle.ec_expression_law.specs.Laws.{ExpressionsAreAlike}
 use Rattle.ec_expression_law.specs.Worlds.{AreAlike}

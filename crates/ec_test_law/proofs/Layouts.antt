@@ -12,7 +12,7 @@ use Rattle.ec_resolved.specs.Operations.{pointer_plus, plus_pointer}
 use Rattle.ec_resolved.specs.Resolved.{Exp, whole, operate, call, faulty}
 use Rattle.ec_resolving.specs.Conversions.{size_in, size_or_none, within_limit, read_at, element_exp}
 use Rattle.ec_resolving.specs.Operands.{Found, value_exp, over_type, discarded, is_call_alone, without_use, done_alone, offset_among, member_exp, member_at}
-use Rattle.ec_statement_law.specs.Blocks.{has_call}
+use Rattle.ec_expression_law.specs.ec_statement_law.Blocks.{has_call}
 use Rattle.ec_expression_law.specs.Worlds.{SameStructs, AreAlike}
 
 pub record SameLayout (w z : World) : Type 0 where

@@ -23,11 +23,11 @@ use Rattle.ec_typing.specs.Tables.{Named, find}
 use Rattle.ec_typing.specs.Types.{int_type}
 use Rattle.ec_typing.specs.Worlds as worlds
 use Rattle.ec_typing.specs.Worlds.{Place, World, Rule, out, entered, left, look_up, place}
-use Rattle.ec_expansion.specs.Declarations.{written_expr, written_exprs}
-use Rattle.ec_expansion.specs.Handlers.{condition, called, int_constant, test_for}
-use Rattle.ec_expansion.specs.Statements.{before_stmts}
-use Rattle.ec_functions.specs.Functions.{exit, sqlprint}
-use Rattle.ec_objects.specs.Memory.{number}
+use Rattle.ec_expression_law.specs.ec_expansion.Declarations.{written_expr, written_exprs}
+use Rattle.ec_expression_law.specs.ec_expansion.Handlers.{condition, called, int_constant, test_for}
+use Rattle.ec_expression_law.specs.ec_expansion.Statements.{before_stmts}
+use Rattle.ec_resolved.specs.ec_functions.Functions.{exit, sqlprint}
+use Rattle.ec_resolved.specs.ec_objects.Memory.{number}
 use Rattle.ec_resolved.specs.Resolved.{Exp, constant, known, no_exps, exps, Stm, on_line, nothing, evaluate, choose, leave, next, goto, Stms, stms}
 use Rattle.ec_resolving.specs.Agreement.{around_of, operand_of}
 use Rattle.ec_resolving.specs.Embedded.{action_rule}
@@ -35,8 +35,8 @@ use Rattle.ec_resolving.specs.Expressions.{expr, args}
 use Rattle.ec_resolving.specs.Operands.{Found, found as found_of, operands_of, place_in, known_call, call_exp, called as called_rule, without_use, done_alone}
 use Rattle.ec_resolving.specs.Statements as resolved
 use Rattle.ec_resolving.specs.Storage.{Storage, ActionForm, goes_on, jumps, prints, stops, leaves, continues, calls_function, Resolving, Reached, reached, chain, pure, checks, stored}
-use Rattle.ec_statement_law.specs.Blocks.{calls_library}
-use Rattle.ec_statement_law.specs.Tests.{condition_exp, action_stm, test_stm, test_before}
+use Rattle.ec_expression_law.specs.ec_statement_law.Blocks.{calls_library}
+use Rattle.ec_expression_law.specs.ec_statement_law.Tests.{condition_exp, action_stm, test_stm, test_before}
 use Rattle.ec_expression_law.specs.Alike.{SameStorage, AddsNone, FindAlike, IsAlike}
 use Rattle.ec_expression_law.specs.Laws.{ExpressionsAreAlike}
 use Rattle.ec_expression_law.specs.Lengths.{HaveLengths, HaveLengthsIn}

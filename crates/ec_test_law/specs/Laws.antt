@@ -4,21 +4,21 @@ use Rattle.ec_ctypes.specs.declared.embedded.emb.Cond.{Cond}
 use Rattle.ec_ctypes.specs.trees.Checked.{MarkData}
 use Rattle.ec_ctypes.specs.trees.Embedded.{EmbData}
 use Rattle.ec_ctypes.specs.trees.Units.{UnitData}
-use Rattle.ec_statement_parts.specs.Handlers.{is_directive, handler, action_among}
+use Rattle.ec_typing.specs.ec_statement_parts.Handlers.{is_directive, handler, action_among}
 use Rattle.ec_typing.specs.Embedded as checked
 use Rattle.ec_typing.specs.Programs.{start}
 use Rattle.ec_typing.specs.Statements as checked_statements
 use Rattle.ec_typing.specs.Statements.{Around}
 use Rattle.ec_typing.specs.Worlds.{Place, World, Out}
-use Rattle.ec_expansion.specs.Handlers.{tests}
-use Rattle.ec_expansion.specs.Statements.{listed_stmts}
+use Rattle.ec_expression_law.specs.ec_expansion.Handlers.{tests}
+use Rattle.ec_expression_law.specs.ec_expansion.Statements.{listed_stmts}
 use Rattle.ec_resolved.specs.Resolved.{Stms}
 use Rattle.ec_resolving.specs.Agreement.{around_of}
 use Rattle.ec_resolving.specs.Embedded.{handlers_rule}
 use Rattle.ec_resolving.specs.Statements.{statements}
 use Rattle.ec_resolving.specs.Storage.{Storage, Reached, ActionForms}
-use Rattle.ec_statement_law.specs.Blocks.{any_calls_library}
-use Rattle.ec_statement_law.specs.Tests.{tests_stms}
+use Rattle.ec_expression_law.specs.ec_statement_law.Blocks.{any_calls_library}
+use Rattle.ec_expression_law.specs.ec_statement_law.Tests.{tests_stms}
 use Rattle.ec_expression_law.specs.Alike.{SameStorage, AddsNone}
 use Rattle.ec_expression_law.specs.Worlds.{AreAlike}
 use Rattle.ec_growth_law.specs.Growth.{Grows}

@@ -3,7 +3,7 @@ use Rattle.std.specs.Prelude.{List, Option, Some, None}
 use Rattle.ec_ctypes.specs.declared.embedded.emb.Cond.{Cond}
 use Rattle.ec_ctypes.specs.trees.Embedded.{ActionData, call_action, EmbData}
 use Rattle.ec_ctypes.specs.trees.Exprs.{ExprData, integer, character, string, identifier, index, member, arrow, ExprList, no_exprs, exprs}
-use Rattle.ec_statement_parts.specs.Handlers.{handler}
+use Rattle.ec_typing.specs.ec_statement_parts.Handlers.{handler}
 
 -- It declares nothing, and has no line of its own
 abbrev pub IsPlain : ExprData → Type 0

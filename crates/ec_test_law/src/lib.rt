@@ -3,4 +3,5 @@
 
 mod laws;
 
+pub use ec_expression_law::ec_statement_law;
 pub use laws::{tests_are_resolved, the_area_is_known};

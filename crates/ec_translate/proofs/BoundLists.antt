@@ -8,9 +8,9 @@ use Rattle.ec_ctypes.specs.declared.checked.bound.Bound.{Bound}
 use Rattle.ec_ctypes.specs.trees.Checked.{BoundData, TypedData}
 use Rattle.ec_ctypes.specs.trees.Embedded.{EmbData}
 use Rattle.ec_ctypes.specs.views.Checked.{bound_view}
-use Rattle.ec_hosts.specs.Bound.{bound_answer}
+use Rattle.ec_params.specs.ec_hosts.Bound.{bound_answer}
 use Rattle.ec_params.specs.Answers.{Told}
-use Rattle.ec_phases.specs.Sources.{with_bound, bound_from}
+use Rattle.ec_translation.specs.ec_phases.Sources.{with_bound, bound_from}
 use Rattle.ec_source.specs.Answers.{Tells}
 use Rattle.ec_translate.specs.Bounds.{IsBoundAs, IsNext, AddsBound}
 

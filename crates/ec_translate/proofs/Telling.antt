@@ -13,8 +13,8 @@ use Rattle.ec_typing.specs.Answers.{checked, stop_of_unit, typed_of, answer_by}
 use Rattle.ec_typing.specs.Worlds.{World}
 use Rattle.ec_whenever.specs.Tables.{table_of, is_sorted}
 use Rattle.ec_whenever.proofs.Tables.{table_answers}
-use Rattle.ec_phases.specs.Laws.{StandInOrder}
-use Rattle.ec_phases.specs.Sources.{ReadsTree, checked_with, checked_tree, ReadsChecked, program_with, bound_from, bound_program}
+use Rattle.ec_translation.specs.ec_phases.Laws.{StandInOrder}
+use Rattle.ec_translation.specs.ec_phases.Sources.{ReadsTree, checked_with, checked_tree, ReadsChecked, program_with, bound_from, bound_program}
 use Rattle.ec_source.specs.Answers.{Tells}
 use Rattle.ec_translation.specs.Translations.{translated, IsTranslation}
 use Rattle.ec_translation.specs.Translations.IsTranslation.{translation}

@@ -6,7 +6,7 @@ use Rattle.ec_ctypes.specs.declared.checked.bound.Bound.{Bound}
 use Rattle.ec_ctypes.specs.declared.checked.typed.Typed.{Typed}
 use Rattle.ec_ctypes.specs.views.Checked.{bound_view, typed_view}
 use Rattle.ec_language.specs.Letters.{Text}
-use Rattle.ec_phases.specs.Sources.{BoundProgram}
+use Rattle.ec_translation.specs.ec_phases.Sources.{BoundProgram}
 use Rattle.ec_translation.specs.Translations.{IsTranslation}
 
 -- the answer has P, unless there was no memory left

@@ -6,7 +6,7 @@ use Rattle.ec_ctypes.specs.declared.checked.bound.Bound.{Bound}
 use Rattle.ec_ctypes.specs.trees.Checked.{BoundData, TypedData}
 use Rattle.ec_ctypes.specs.trees.Embedded.{EmbData}
 use Rattle.ec_ctypes.specs.views.Checked.{bound_view}
-use Rattle.ec_hosts.specs.Bound.{bound_answer}
+use Rattle.ec_params.specs.ec_hosts.Bound.{bound_answer}
 
 -- the statement of this number is bound so, or has this fault
 pub record IsBoundAs (t : TypedData) (number : ℕ) (answer : Result BoundData Stop) : Type 0 where

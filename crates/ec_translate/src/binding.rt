@@ -2,7 +2,7 @@
 
 ghost use Rattle.std.specs.Prelude.{◌≡◌, ◌<◌, length, map};
 ghost use Rattle.ec_ctypes.specs.views.Checked.{bound_view, typed_view};
-ghost use Rattle.ec_phases.specs.Sources.{bound_from};
+ghost use Rattle.ec_translation.specs.ec_phases.Sources.{bound_from};
 ghost use Rattle.ec_translate.specs.Bounds.{AddsBound};
 ghost use Rattle.ec_source.specs.Answers.{Tells};
 

@@ -2,7 +2,7 @@
 
 ghost use Rattle.std.specs.Prelude.{◌≡◌, true, IfOk, Ok};
 ghost use Rattle.ec_ctypes.specs.views.Checked.{handlers_view, typed_view};
-ghost use Rattle.ec_phases.specs.Sources.{bound_program};
+ghost use Rattle.ec_translation.specs.ec_phases.Sources.{bound_program};
 ghost use Rattle.ec_translation.specs.Translations.{text_of_program, translated};
 ghost use Rattle.ec_whenever.specs.Tables.{is_sorted};
 ghost use Rattle.ec_translate.specs.Answers.{TellsTranslation, IsOnlyTranslation, Is, program};
@@ -12,8 +12,8 @@ use ec_base::{Bytes, List, OutOfMemory, Stop};
 use ec_ctypes::{Bound, Typed};
 use ec_cwrite::write;
 use ec_expand::expand;
-use ec_phases::statements_have_places;
 use ec_source::read_checked;
+use ec_translation::ec_phases::statements_have_places;
 use ec_translation::translations_are_single;
 use std::alloc::Global;
 

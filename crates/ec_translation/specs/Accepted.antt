@@ -2,7 +2,7 @@
 use Rattle.std.specs.Prelude.{◌≡◌, true, Ok}
 use Rattle.ec_language.specs.Letters.{Text, each}
 use Rattle.ec_phases.specs.Sources.{BoundProgram, ReadsSource}
-use Rattle.ec_writing.specs.Shapes.{is_byte}
+use Rattle.ec_expansion.specs.ec_writing.Shapes.{is_byte}
 
 -- a text of bytes that is read as this program
 pub record IsAcceptedText (text : Text) (p : BoundProgram) : Type 0 where

@@ -5,7 +5,7 @@ use Rattle.ec_base.specs.declared.stop.Stop.{Stop}
 use Rattle.ec_expansion.specs.Programs.{written_program}
 use Rattle.ec_language.specs.Letters.{Text}
 use Rattle.ec_phases.specs.Sources.{BoundProgram, ReadsSource}
-use Rattle.ec_writing.specs.Programs.{written_text}
+use Rattle.ec_expansion.specs.ec_writing.Programs.{written_text}
 
 abbrev pub text_of_program : BoundProgram → Text
 text_of_program p = written_text (written_program p.program p.bounds)

@@ -4,4 +4,5 @@
 
 mod laws;
 
+pub use ec_phases;
 pub use laws::translations_are_single;

@@ -17,19 +17,19 @@ use Rattle.ec_typing.specs.Worlds.{Place, EntryData, object, function, Rule, Wor
 use Rattle.ec_typing.specs.Expressions.{expr}
 use Rattle.ec_typing.specs.Embedded.{reference_rule, members_rule, references_rule, action_rule, handlers_rule, denoted_by, denoted_in, denote, variables_of, embedded_rule}
 use Rattle.ec_growth_law.proofs.Rules as growth
-use Rattle.ec_closing_law.proofs.Lists.{get_behind, get_last, some_is}
+use Rattle.ec_reference_law.proofs.ec_closing_law_proofs.Lists.{get_behind, get_last, some_is}
 use Rattle.ec_test_law.specs.Plain.{IsPlain, ArePlain, IsPlainOption, HasPlainActions}
-use Rattle.ec_place_law.specs.References.{IsIndex, IsReference, variable_in}
+use Rattle.ec_reference_law.specs.ec_place_law.References.{IsIndex, IsReference, variable_in}
 use Rattle.ec_reference_law.specs.Found.{AreReferences}
-use Rattle.ec_known_law.specs.Known.{IsEntry, InScopes, AreEntries}
-use Rattle.ec_known_law.proofs.EntriesKept.{HasEntries}
-use Rattle.ec_known_law.proofs.EntriesKept as entries
-use Rattle.ec_known_law.proofs.NamesRules as stay
-use Rattle.ec_known_law.proofs.NamesRules.{NamesStay, stay_so, stay_further, Staying, demand_stays}
-use Rattle.ec_known_law.proofs.NamesExpressions as staying
-use Rattle.ec_known_law.proofs.NamesExpressions.{expr_stays}
-use Rattle.ec_known_law.proofs.NamesEmbedded.{references_stays, handlers_stays, denote_stays}
-use Rattle.ec_known_law.proofs.WorldsGrow.{denote_grows}
+use Rattle.ec_reference_law.specs.ec_known_law.Known.{IsEntry, InScopes, AreEntries}
+use Rattle.ec_reference_law.proofs.ec_known_law_proofs.EntriesKept.{HasEntries}
+use Rattle.ec_reference_law.proofs.ec_known_law_proofs.EntriesKept as entries
+use Rattle.ec_reference_law.proofs.ec_known_law_proofs.NamesRules as stay
+use Rattle.ec_reference_law.proofs.ec_known_law_proofs.NamesRules.{NamesStay, stay_so, stay_further, Staying, demand_stays}
+use Rattle.ec_reference_law.proofs.ec_known_law_proofs.NamesExpressions as staying
+use Rattle.ec_reference_law.proofs.ec_known_law_proofs.NamesExpressions.{expr_stays}
+use Rattle.ec_reference_law.proofs.ec_known_law_proofs.NamesEmbedded.{references_stays, handlers_stays, denote_stays}
+use Rattle.ec_reference_law.proofs.ec_known_law_proofs.WorldsGrow.{denote_grows}
 use Rattle.ec_type_law.specs.Types.{IsSimple}
 use Rattle.ec_type_law.proofs.Fits.{Fits, FitAll}
 use Rattle.ec_type_law.proofs.Rules.{Sound, Any, NoMore, Typing, both_none, chained, from, pure_types, asked_any, demand_types, keep_types, chosen, instead_types, EntryIn, name_typed}

@@ -20,9 +20,9 @@ use Rattle.ec_typing.specs.Expressions.{Members, varchar_members, capacity, varc
 use Rattle.ec_growth_law.specs.Growth.{Grows, is_unlisted}
 use Rattle.ec_growth_law.proofs.Rules as growth
 use Rattle.ec_growth_law.proofs.Expressions as grown
-use Rattle.ec_closing_law.specs.Closing.{IsTyped, members_at}
-use Rattle.ec_closing_law.proofs.Lists.{some_is, set_here, get_last}
-use Rattle.ec_closing_law.proofs.Rules.{there, keep_same, free_tag_same}
+use Rattle.ec_reference_law.specs.ec_closing_law.Closing.{IsTyped, members_at}
+use Rattle.ec_reference_law.proofs.ec_closing_law_proofs.Lists.{some_is, set_here, get_last}
+use Rattle.ec_reference_law.proofs.ec_closing_law_proofs.Rules.{there, keep_same, free_tag_same}
 use Rattle.ec_type_law.specs.Flat.{max_lengths, dims_count}
 use Rattle.ec_type_law.specs.Types.{max_nesting}
 use Rattle.ec_type_law.proofs.Fits.{Fits, FitAll, FitsBase, SomeDecls, FitMembers, HasDeclarators, FitsDecl, FitItems, FitsItem, FitDims, FitsDim, FitsInit, FitsPart, FitParts}

@@ -4,7 +4,7 @@ use Rattle.ec_ctypes.specs.trees.Exprs.{ExprData, integer, character, string, id
 use Rattle.ec_ctypes.specs.trees.Stmts.{StmtData, stmt, StmtKindData, empty_stmt, expr_stmt, block_stmt, if_stmt, while_stmt, do_stmt, for_stmt, break_stmt, continue_stmt, return_stmt, goto_stmt, label_stmt, decl_stmt, emb_stmt, mark_stmt, StmtList, no_stmts, stmts, StmtOption, no_stmt, some_stmt}
 use Rattle.ec_ctypes.specs.trees.Units.{ParamData, TopData, include_top, directive_top, decl_top, func_top, mark_top}
 use Rattle.ec_typing.specs.Expressions.{is_varchar}
-use Rattle.ec_expression_law.specs.Lengths.{EndsInLength}
+use Rattle.ec_test_law.specs.ec_expression_law.Lengths.{EndsInLength}
 use Rattle.ec_type_law.specs.Flat.{max_lengths, dims_count}
 
 -- there is one of them or more

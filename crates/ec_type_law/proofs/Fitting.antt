@@ -14,10 +14,10 @@ use Rattle.ec_sections.specs.Declared.{hosts_of}
 use Rattle.ec_sections.specs.Lengths.{ends_in_length}
 use Rattle.ec_sections.specs.Places.{PlaceData, holds, mark, Places, of_expr, of_exprs, of_base, of_decls, of_decl, of_declarators, of_declarator, of_dims, of_dim, of_init_option, of_init, of_inits, of_option, of_stmt, of_stmts, of_stmt_option, of_params, of_body, of_function, of_top, of_tops}
 use Rattle.ec_sections.specs.Uses.{UsesData, ◌&◌, in_type, in_declared, in_base, in_param_base, in_expr, in_exprs, in_dim, in_dims, in_init, in_inits, in_init_option, in_declarator, in_declarators, in_expr_option, in_param, in_params}
-use Rattle.ec_source_shape.specs.SourceShape.{is_source_expr, are_source_exprs, is_source_base, is_source_member, are_source_members, is_source_dim, are_source_dims, is_source_init, are_source_inits, is_source_initializer, is_source_declarator, are_source_declarators, is_source_decl, is_source_option, is_item_alone, is_source_stmt, is_source_kind, is_source_else, are_source_items, is_source_item, is_source_param, are_source_params, is_source_body, is_source_top, are_source_tops, is_source_shape}
+use Rattle.ec_bound_shape.specs.ec_source_shape.SourceShape.{is_source_expr, are_source_exprs, is_source_base, is_source_member, are_source_members, is_source_dim, are_source_dims, is_source_init, are_source_inits, is_source_initializer, is_source_declarator, are_source_declarators, is_source_decl, is_source_option, is_item_alone, is_source_stmt, is_source_kind, is_source_else, are_source_items, is_source_item, is_source_param, are_source_params, is_source_body, is_source_top, are_source_tops, is_source_shape}
 use Rattle.ec_writing.specs.Shapes.{is_free_name, is_plain_name, is_assignable, is_line, is_written_name, is_open, is_void_list}
 use Rattle.ec_typing.specs.Expressions.{is_varchar}
-use Rattle.ec_expression_law.specs.Lengths.{EndsInLength}
+use Rattle.ec_test_law.specs.ec_expression_law.Lengths.{EndsInLength}
 use Rattle.ec_type_law.specs.Flat.{IsFlat, AreFlat, BaseIsFlat, MembersAreFlat, DeclIsFlat, ItemsAreFlat, ItemIsFlat, DimsAreFlat, DimIsFlat, InitIsFlat, PartIsFlat, PartsAreFlat, OptionIsFlat, StmtIsFlat, KindIsFlat, StmtsAreFlat, OtherIsFlat, ParamsAreFlat, BodyIsFlat, TopIsFlat, TopsAreFlat}
 use Rattle.ec_type_law.proofs.Fits.{Fits, FitAll, FitsBase, HasDeclarators, FitMembers, FitsDecl, FitItems, FitsItem, FitDims, FitsDim, FitsInit, FitsPart, FitParts, FitsOption, FitsStmt, FitsKind, FitStmts, FitsOther, FitParams, FitsBody, FitsTop, FitTops}
 

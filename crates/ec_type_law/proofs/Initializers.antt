@@ -11,9 +11,9 @@ use Rattle.ec_typing.specs.Initializers.{FrameData, elements_left, any_elements,
 use Rattle.ec_typing.specs.Worlds.{Place, listed, StructInfo, World, Rule, chain, ask, pure, members_of, is_listed}
 use Rattle.ec_typing.specs.Expressions.{Members, first_types, first_of_members}
 use Rattle.ec_growth_law.proofs.Rules as growth
-use Rattle.ec_closing_law.specs.Closing.{IsTyped, members_at}
-use Rattle.ec_closing_law.proofs.Lists.{none_not, some_is}
-use Rattle.ec_closing_law.proofs.Orders.{ListedStay}
+use Rattle.ec_reference_law.specs.ec_closing_law.Closing.{IsTyped, members_at}
+use Rattle.ec_reference_law.proofs.ec_closing_law_proofs.Lists.{none_not, some_is}
+use Rattle.ec_reference_law.proofs.ec_closing_law_proofs.Orders.{ListedStay}
 use Rattle.ec_type_law.specs.Types.{max_nesting}
 use Rattle.ec_type_law.proofs.Fits.{Fits, FitsPart, FitParts}
 use Rattle.ec_type_law.proofs.Structs.{Whole, depth, IsFlatType, GoodIn, AllGood, GoodStructs, GoodStruct, some_all, whole_stays, Listed, listed_at, first_in, first_is}

@@ -1,3 +1,5 @@
+pub use Rattle.ec_reference_law.proofs.ec_closing_law_proofs as ec_closing_law_proofs
+pub use Rattle.ec_reference_law.proofs.ec_known_law_proofs as ec_known_law_proofs
 pub mod Embedded
 pub mod Expressions
 pub mod Fits

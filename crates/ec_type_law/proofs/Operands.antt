@@ -19,9 +19,9 @@ use Rattle.ec_typing.specs.Operands.{OperandData, computed, unknown, object_oper
 use Rattle.ec_typing.specs.Worlds.{Place, EntryData, object, function, MembersData, unlisted, begun, listed, StructInfo, Rule, World, chain, note, pure, members_of}
 use Rattle.ec_typing.specs.Expressions.{Members}
 use Rattle.ec_growth_law.proofs.Rules as growth
-use Rattle.ec_closing_law.specs.Closing.{IsTyped, members_at}
-use Rattle.ec_closing_law.proofs.Lists.{some_is}
-use Rattle.ec_closing_law.proofs.Rules.{There, there}
+use Rattle.ec_reference_law.specs.ec_closing_law.Closing.{IsTyped, members_at}
+use Rattle.ec_reference_law.proofs.ec_closing_law_proofs.Lists.{some_is}
+use Rattle.ec_reference_law.proofs.ec_closing_law_proofs.Rules.{There, there}
 use Rattle.ec_type_law.proofs.Structs.{Whole, GoodIn, AllGood, some_all, whole_complete, Has, type_shaped}
 use Rattle.ec_type_law.proofs.Rules.{Sound, Any, Typing, chained, from, to, pure_types, asked, asked_any, fault, demanded, demand_types, keep_types, chosen, decided, if_some, EntryIn, name_typed}
 

@@ -7,7 +7,7 @@ use Rattle.ec_ctypes.specs.trees.Types.{TyData}
 use Rattle.ec_ctypes.specs.trees.Stmts.{StmtData, stmt, StmtKindData, empty_stmt, expr_stmt, block_stmt, if_stmt, while_stmt, do_stmt, for_stmt, break_stmt, continue_stmt, return_stmt, goto_stmt, label_stmt, decl_stmt, emb_stmt, mark_stmt, StmtList, no_stmts, stmts, StmtOption, no_stmt, some_stmt}
 use Rattle.ec_ctypes.specs.trees.Embedded.{EmbData}
 use Rattle.ec_ctypes.specs.trees.Units.{ParamData, FuncData, TopData, include_top, directive_top, decl_top, func_top, mark_top, UnitData}
-use Rattle.ec_hosts.specs.Programs.{is_among}
+use Rattle.ec_bound_shape.specs.ec_hosts.Programs.{is_among}
 use Rattle.ec_language.specs.Letters.{Text}
 use Rattle.ec_sections.specs.Declared.{functions_of}
 use Rattle.ec_typing.specs.Tables.{find}
@@ -17,13 +17,13 @@ use Rattle.ec_typing.specs.Statements.{Around, as_body, looping, as_item, embedd
 use Rattle.ec_typing.specs.Embedded.{embedded_rule}
 use Rattle.ec_typing.specs.Programs.{kept, may_be_result, may_be_param, result_rule, plain_param, pointer_to, array_param, param_type, declare_param, param, params, put_outside, begin_function, know_function, body_rule, function_rule, directive_rule, top_rule, tops_rule, main_rule, unit_rule}
 use Rattle.ec_growth_law.proofs.Rules as growth
-use Rattle.ec_closing_law.specs.Closing.{IsTyped}
-use Rattle.ec_known_law.specs.Positions.{IsBefore}
-use Rattle.ec_known_law.proofs.EntriesKept as entries
-use Rattle.ec_known_law.proofs.NamesRules.{Staying, demand_stays, place_stays, free_name_stays, label_stays}
-use Rattle.ec_known_law.proofs.NamesExpressions.{expr_stays, base_stays}
-use Rattle.ec_known_law.proofs.NamesStatements.{condition_stays, optional_stays, optional_condition_stays, return_stays, result_stays, new_labels_stay}
-use Rattle.ec_known_law.proofs.PositionsPassed.{items_are_passed, functions_are_numbered}
+use Rattle.ec_reference_law.specs.ec_closing_law.Closing.{IsTyped}
+use Rattle.ec_reference_law.specs.ec_known_law.Positions.{IsBefore}
+use Rattle.ec_reference_law.proofs.ec_known_law_proofs.EntriesKept as entries
+use Rattle.ec_reference_law.proofs.ec_known_law_proofs.NamesRules.{Staying, demand_stays, place_stays, free_name_stays, label_stays}
+use Rattle.ec_reference_law.proofs.ec_known_law_proofs.NamesExpressions.{expr_stays, base_stays}
+use Rattle.ec_reference_law.proofs.ec_known_law_proofs.NamesStatements.{condition_stays, optional_stays, optional_condition_stays, return_stays, result_stays, new_labels_stay}
+use Rattle.ec_reference_law.proofs.ec_known_law_proofs.PositionsPassed.{items_are_passed, functions_are_numbered}
 use Rattle.ec_type_law.specs.Types.{IsTypedEntry, AreAllTyped, AreTypedScopes, AllAreSimple}
 use Rattle.ec_type_law.proofs.Fits.{FitsStmt, FitsKind, FitStmts, FitsOther, FitsParam, FitParams, FitsBody, FitsTop, FitTops}
 use Rattle.ec_type_law.proofs.Rules as typing

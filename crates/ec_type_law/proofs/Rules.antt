@@ -10,9 +10,9 @@ use Rattle.ec_typing.specs.Tables.{Named, find, put}
 use Rattle.ec_typing.specs.Worlds.{Place, EntryData, ScopeData, is_listed, StructInfo, World, Rule, chain, pure, ask, change, note, demand, keep_within, instead, place, or_else, look_up, look_up_in, left_to, enter, leave, scoped, declare, know_better, declare_label, free_name, free_tag, number_as, with_name}
 use Rattle.ec_growth_law.specs.Growth.{Grows}
 use Rattle.ec_growth_law.proofs.Rules as growth
-use Rattle.ec_closing_law.proofs.Lists.{none_not}
-use Rattle.ec_closing_law.proofs.Orders.{ListedStay}
-use Rattle.ec_known_law.proofs.EntriesTables.{find_put}
+use Rattle.ec_reference_law.proofs.ec_closing_law_proofs.Lists.{none_not}
+use Rattle.ec_reference_law.proofs.ec_closing_law_proofs.Orders.{ListedStay}
+use Rattle.ec_reference_law.proofs.ec_known_law_proofs.EntriesTables.{find_put}
 use Rattle.ec_type_law.specs.Types.{max_nesting, IsTypedEntry, AreTypedNames, AreTypedScopes}
 use Rattle.ec_type_law.proofs.Structs.{GoodStructs, they_stay, listed_not}
 

@@ -7,17 +7,17 @@ use Rattle.ec_ctypes.specs.trees.Checked.{MarkData}
 use Rattle.ec_ctypes.specs.trees.Embedded.{EmbData}
 use Rattle.ec_ctypes.specs.trees.Types.{TyData, void, arithmetic, pointer, array, structure}
 use Rattle.ec_ctypes.specs.trees.Units.{UnitData}
-use Rattle.ec_hosts.specs.Programs.{Denoted, names_count}
+use Rattle.ec_bound_shape.specs.ec_hosts.Programs.{Denoted, names_count}
 use Rattle.ec_sections.specs.Answers.{hosts_answer}
-use Rattle.ec_source_shape.specs.SourceShape.{is_source_shape}
+use Rattle.ec_bound_shape.specs.ec_source_shape.SourceShape.{is_source_shape}
 use Rattle.ec_statement_parts.specs.References.{References, references}
 use Rattle.ec_typing.specs.Answers.{checked, violations, typed_of, renumbered, numbered_from, struct_order, names_of}
 use Rattle.ec_typing.specs.Expressions.{Members}
 use Rattle.ec_typing.specs.Programs.{start}
 use Rattle.ec_typing.specs.Types.{is_void}
 use Rattle.ec_typing.specs.Worlds.{MembersData, unlisted, begun, listed, StructInfo, World}
-use Rattle.ec_closing_law.proofs.Lists.{none_not, some_is}
-use Rattle.ec_known_law.proofs.PositionsPassed.{starts_before_all}
+use Rattle.ec_reference_law.proofs.ec_closing_law_proofs.Lists.{none_not, some_is}
+use Rattle.ec_reference_law.proofs.ec_known_law_proofs.PositionsPassed.{starts_before_all}
 use Rattle.ec_reference_law.specs.Rows.{is_typed_name, indexes_are_typed, IndexesAreTyped}
 use Rattle.ec_type_law.specs.Flat.{TopsAreFlat}
 use Rattle.ec_type_law.specs.Types.{StructsAreShallow, AllAreSimple, SourcesHaveTypes}

@@ -8,7 +8,7 @@ use Rattle.ec_typing.specs.Operands.{OperandData}
 use Rattle.ec_typing.specs.Worlds.{Place, object, Rule, World, chain, is_complete}
 use Rattle.ec_typing.specs.Expressions.{base, is_varchar, has_init}
 use Rattle.ec_typing.specs.Statements.{type_or_void, waits_for_length, object_rule, initial, object_type, object_item, object_items, declared_tag, tag_alone, declaration, condition_rule, condition, optional, optional_condition, return_rule, return_nothing, return_by}
-use Rattle.ec_closing_law.specs.Closing.{IsTyped}
+use Rattle.ec_reference_law.specs.ec_closing_law.Closing.{IsTyped}
 use Rattle.ec_type_law.specs.Flat.{dims_count}
 use Rattle.ec_type_law.specs.Types.{max_nesting}
 use Rattle.ec_type_law.proofs.Fits.{Fits, FitsBase, FitsDecl, FitItems, FitsItem, FitsInit, FitsOption}

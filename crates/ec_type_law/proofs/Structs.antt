@@ -8,10 +8,10 @@ use Rattle.ec_ctypes.specs.Layout.{repeated, shape_among, with_member, with_memb
 use Rattle.ec_typing.specs.Worlds.{MembersData, unlisted, begun, listed, is_listed, StructInfo, World, is_complete}
 use Rattle.ec_typing.specs.Expressions.{Members, typed_members, first_types, first_of_members}
 use Rattle.ec_growth_law.specs.Growth.{is_unlisted, StructsStay}
-use Rattle.ec_closing_law.specs.Closing.{members_at, shapes_at, AreTyped, AreSomeTyped, IsTyped, HasShape, HaveTypes}
-use Rattle.ec_closing_law.proofs.Lists.{false_not, some_is, get_map, get_behind, get_front, get_last, set_elsewhere, set_here}
-use Rattle.ec_closing_law.proofs.Orders.{ListedStay}
-use Rattle.ec_closing_law.proofs.Rules.{There, there}
+use Rattle.ec_reference_law.specs.ec_closing_law.Closing.{members_at, shapes_at, AreTyped, AreSomeTyped, IsTyped, HasShape, HaveTypes}
+use Rattle.ec_reference_law.proofs.ec_closing_law_proofs.Lists.{false_not, some_is, get_map, get_behind, get_front, get_last, set_elsewhere, set_here}
+use Rattle.ec_reference_law.proofs.ec_closing_law_proofs.Orders.{ListedStay}
+use Rattle.ec_reference_law.proofs.ec_closing_law_proofs.Rules.{There, there}
 use Rattle.ec_type_law.specs.Types.{max_nesting}
 
 -- ---- types

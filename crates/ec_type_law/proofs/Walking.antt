@@ -4,16 +4,16 @@ use Rattle.ec_bound_shape.specs.Numbers.{numbers_from}
 use Rattle.ec_ctypes.specs.trees.Embedded.{EmbData}
 use Rattle.ec_ctypes.specs.trees.Types.{TyData}
 use Rattle.ec_ctypes.specs.trees.Units.{UnitData}
-use Rattle.ec_hosts.specs.Programs.{Denoted, names_count}
+use Rattle.ec_bound_shape.specs.ec_hosts.Programs.{Denoted, names_count}
 use Rattle.ec_statement_parts.specs.References.{References, references}
 use Rattle.ec_typing.specs.Types.{is_void}
 use Rattle.ec_typing.specs.Worlds.{World, Rule, chain, pure, ask, scoped}
 use Rattle.ec_growth_law.specs.Growth.{Grows, Begins}
 use Rattle.ec_growth_law.proofs.Rules as growth
-use Rattle.ec_closing_law.proofs.Lists.{get_front}
-use Rattle.ec_known_law.proofs.EntriesKept.{HasEntries}
-use Rattle.ec_known_law.proofs.EntriesKept as entries
-use Rattle.ec_known_law.proofs.NamesRules.{Staying}
+use Rattle.ec_reference_law.proofs.ec_closing_law_proofs.Lists.{get_front}
+use Rattle.ec_reference_law.proofs.ec_known_law_proofs.EntriesKept.{HasEntries}
+use Rattle.ec_reference_law.proofs.ec_known_law_proofs.EntriesKept as entries
+use Rattle.ec_reference_law.proofs.ec_known_law_proofs.NamesRules.{Staying}
 use Rattle.ec_type_law.proofs.Rules.{Sound, Shallow, shallow_before, Any, NoMore, Typing, both_none, enter_types, leave_types, pure_types}
 
 -- ---- rows

@@ -7,13 +7,13 @@ use Rattle.ec_ctypes.specs.trees.Types.{TyData}
 use Rattle.ec_ctypes.specs.trees.Units.{UnitData}
 use Rattle.ec_language.specs.Letters.{Text}
 use Rattle.ec_sections.specs.Answers.{hosts_answer}
-use Rattle.ec_source_shape.specs.SourceShape.{is_source_shape}
+use Rattle.ec_bound_shape.specs.ec_source_shape.SourceShape.{is_source_shape}
 use Rattle.ec_statement_parts.specs.References.{references}
 use Rattle.ec_typing.specs.Answers.{checked, violations, typed_of}
 use Rattle.ec_typing.specs.Tables.{Named, find}
 use Rattle.ec_typing.specs.Worlds.{EntryData, object, function, ScopeData, StructInfo, World}
 use Rattle.ec_test_law.specs.Plain.{HasPlainActions}
-use Rattle.ec_closing_law.specs.Closing.{IsTyped, HaveTypes}
+use Rattle.ec_reference_law.specs.ec_closing_law.Closing.{IsTyped, HaveTypes}
 use Rattle.ec_reference_law.specs.Found.{AreReferences}
 use Rattle.ec_reference_law.specs.Rows.{IndexesAreTyped}
 use Rattle.ec_type_law.specs.Flat.{TopsAreFlat}

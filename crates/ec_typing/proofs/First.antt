@@ -1,9 +1,9 @@
 -- The answer tells the first violation.
 use Rattle.std.proofs.Common.{◌≡◌, ℕ, List, [], Option, Some, None, Ok, Err, sym}
-use Rattle.ec_base.specs.declared.stop.Stop.{Stop}
-use Rattle.ec_ctypes.specs.trees.Units.{UnitData}
-use Rattle.ec_ctypes.specs.trees.Checked.{MarkData, TypedData}
-use Rattle.ec_language.specs.First.{Violation, IsFirst, IsAmong, first_of, stop_at}
+use Rattle.ec_arguments.specs.ec_base.declared.stop.Stop.{Stop}
+use Rattle.ec_arguments.specs.ec_ctypes.trees.Units.{UnitData}
+use Rattle.ec_arguments.specs.ec_ctypes.trees.Checked.{MarkData, TypedData}
+use Rattle.ec_statement_parts.specs.ec_language.First.{Violation, IsFirst, IsAmong, first_of, stop_at}
 use Rattle.ec_typing.specs.Worlds.{World}
 use Rattle.ec_typing.specs.Answers.{answer_by, typed_of}
 

@@ -1,10 +1,10 @@
 -- The answer of the checks.
 use Rattle.std.specs.Prelude.{ℕ, suc, ◌+◌, ◌==◌, Bool, true, false, List, [], ◌∷◌, ◌++◌, map, Option, Some, None, Result, Ok, Err, if◌then◌else◌, slice_get}
-use Rattle.ec_base.specs.declared.stop.Stop.{Stop}
-use Rattle.ec_ctypes.specs.trees.Types.{TyData, void, arithmetic, pointer, array, structure, MemberData, StructData}
-use Rattle.ec_ctypes.specs.trees.Units.{UnitData}
-use Rattle.ec_ctypes.specs.trees.Checked.{MarkData, TypedData}
-use Rattle.ec_language.specs.First.{Violation, first_of, stop_at}
+use Rattle.ec_arguments.specs.ec_base.declared.stop.Stop.{Stop}
+use Rattle.ec_arguments.specs.ec_ctypes.trees.Types.{TyData, void, arithmetic, pointer, array, structure, MemberData, StructData}
+use Rattle.ec_arguments.specs.ec_ctypes.trees.Units.{UnitData}
+use Rattle.ec_arguments.specs.ec_ctypes.trees.Checked.{MarkData, TypedData}
+use Rattle.ec_statement_parts.specs.ec_language.First.{Violation, first_of, stop_at}
 use Rattle.ec_typing.specs.Worlds.{MembersData, unlisted, begun, listed, StructInfo, World, Out}
 use Rattle.ec_typing.specs.Expressions.{Members}
 use Rattle.ec_typing.specs.Statements.{type_or_void}

@@ -1,12 +1,12 @@
 -- The values of integer constant expressions (ISO/IEC 9899:1999, 6.6). One whose evaluation would trap is no constant.
 use Rattle.std.specs.Prelude.{ℕ, zero, suc, ◌^◌, Bool, true, false, not, ◌&&◌, ◌||◌, nat_lt, ℤ, pos, negsuc, ◌+ℤ◌, ◌-ℤ◌, ◌*ℤ◌, int_le, int_lt, int_div, int_rem, unsigned_abs, bit_and, bit_or, bit_xor, Option, Some, None, if◌then◌else◌}
 use Rattle.std.specs.Int.{int_rem_euclid, int_div_euclid}
-use Rattle.ec_ctypes.specs.declared.types.arith.Arith.{Arith}
-use Rattle.ec_ctypes.specs.declared.tree.expr.BinOp.{BinOp}
-use Rattle.ec_ctypes.specs.declared.tree.expr.BinOp.TheVariants.{Or, And, BitOr, BitXor, BitAnd, Eq, Ne, Lt, Gt, Le, Ge, Shl, Shr, Add, Sub, Mul, Div, Rem}
-use Rattle.ec_ctypes.specs.declared.tree.expr.UnOp.{UnOp}
-use Rattle.ec_ctypes.specs.declared.tree.expr.UnOp.TheVariants.{Addr, Deref, Plus, Minus, Not, Flip}
-use Rattle.ec_ctypes.specs.Arithmetic.{is_signed, width, least, greatest, promoted, usual_type, converted}
+use Rattle.ec_arguments.specs.ec_ctypes.declared.types.arith.Arith.{Arith}
+use Rattle.ec_arguments.specs.ec_ctypes.declared.tree.expr.BinOp.{BinOp}
+use Rattle.ec_arguments.specs.ec_ctypes.declared.tree.expr.BinOp.TheVariants.{Or, And, BitOr, BitXor, BitAnd, Eq, Ne, Lt, Gt, Le, Ge, Shl, Shr, Add, Sub, Mul, Div, Rem}
+use Rattle.ec_arguments.specs.ec_ctypes.declared.tree.expr.UnOp.{UnOp}
+use Rattle.ec_arguments.specs.ec_ctypes.declared.tree.expr.UnOp.TheVariants.{Addr, Deref, Plus, Minus, Not, Flip}
+use Rattle.ec_arguments.specs.ec_ctypes.Arithmetic.{is_signed, width, least, greatest, promoted, usual_type, converted}
 
 -- what an expression is as a constant: one with something else in it than constants, one whose evaluation traps, or one with a value
 pub data ConstData : Type 0 where

@@ -1,12 +1,12 @@
 -- What is found out about embedded statements: the variables in their hosts, how many members a struct stands for, and the actions that hold at them (PostgreSQL manual, "Using Host Variables" and "Setting Callbacks").
 use Rattle.std.specs.Prelude.{ℕ, ◌+◌, Bool, true, false, not, ◌&&◌, ◌||◌, nat_le, List, [], ◌∷◌, ◌++◌, map, Option, Some, None, is_some}
-use Rattle.ec_base.specs.declared.fault.FaultKind.TheVariants.{F29, F30}
-use Rattle.ec_base.specs.declared.fault.LimitKind.TheVariants.{L5}
-use Rattle.ec_ctypes.specs.declared.embedded.emb.Cond.TheVariants.{NotFound, Warning, Error}
-use Rattle.ec_ctypes.specs.trees.Types.{TyData, void, arithmetic, pointer, array, structure}
-use Rattle.ec_ctypes.specs.trees.Exprs.{ExprData, identifier, call}
-use Rattle.ec_ctypes.specs.trees.Embedded.{ActionData, continue_action, goto_action, print_action, stop_action, break_action, next_action, call_action, EmbData}
-use Rattle.ec_language.specs.Letters.{Text}
+use Rattle.ec_arguments.specs.ec_base.declared.fault.FaultKind.TheVariants.{F29, F30}
+use Rattle.ec_arguments.specs.ec_base.declared.fault.LimitKind.TheVariants.{L5}
+use Rattle.ec_arguments.specs.ec_ctypes.declared.embedded.emb.Cond.TheVariants.{NotFound, Warning, Error}
+use Rattle.ec_arguments.specs.ec_ctypes.trees.Types.{TyData, void, arithmetic, pointer, array, structure}
+use Rattle.ec_arguments.specs.ec_ctypes.trees.Exprs.{ExprData, identifier, call}
+use Rattle.ec_arguments.specs.ec_ctypes.trees.Embedded.{ActionData, continue_action, goto_action, print_action, stop_action, break_action, next_action, call_action, EmbData}
+use Rattle.ec_statement_parts.specs.ec_language.Letters.{Text}
 use Rattle.ec_statement_parts.specs.Cursors.{declare_opened}
 use Rattle.ec_statement_parts.specs.Handlers.{is_directive, handler}
 use Rattle.ec_statement_parts.specs.References.{ReferenceData, References, references, names_of, names_of_option}

@@ -1,15 +1,15 @@
 -- Programs, as examples write them, and their violations.
 use Rattle.std.specs.Prelude.{ℕ, Bool, true, false, List, [], ◌++◌, codes, Option, Some, None, Result, Ok, Err}
 use Prim.Native.String.{String}
-use Rattle.ec_base.specs.declared.fault.FaultKind.{FaultKind}
-use Rattle.ec_base.specs.declared.fault.LimitKind.{LimitKind}
-use Rattle.ec_base.specs.declared.stop.Stop.{Stop}
-use Rattle.ec_base.specs.declared.stop.Stop.TheVariants.{Refused, Limit}
-use Rattle.ec_ctypes.specs.trees.Types.{TyData, MemberData, StructData}
-use Rattle.ec_ctypes.specs.trees.Units.{UnitData}
-use Rattle.ec_language.specs.Letters.{Text}
-use Rattle.ec_language.specs.First.{Violation}
-use Rattle.ec_language.specs.ReadText.{read_text}
+use Rattle.ec_arguments.specs.ec_base.declared.fault.FaultKind.{FaultKind}
+use Rattle.ec_arguments.specs.ec_base.declared.fault.LimitKind.{LimitKind}
+use Rattle.ec_arguments.specs.ec_base.declared.stop.Stop.{Stop}
+use Rattle.ec_arguments.specs.ec_base.declared.stop.Stop.TheVariants.{Refused, Limit}
+use Rattle.ec_arguments.specs.ec_ctypes.trees.Types.{TyData, MemberData, StructData}
+use Rattle.ec_arguments.specs.ec_ctypes.trees.Units.{UnitData}
+use Rattle.ec_statement_parts.specs.ec_language.Letters.{Text}
+use Rattle.ec_statement_parts.specs.ec_language.First.{Violation}
+use Rattle.ec_statement_parts.specs.ec_language.ReadText.{read_text}
 use Rattle.ec_typing.specs.Answers.{violations, stop_of_unit, checked, structs_of, names_of}
 
 -- what the checks say of a text that has a tree: what it is refused for, or none. A text that has no tree gives the error of its reading

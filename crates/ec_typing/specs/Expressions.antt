@@ -1,13 +1,13 @@
 -- What is found out about expressions, and about the types and declarators in them: in which order the parts are looked at, and which rule each form has.
 use Rattle.std.specs.Prelude.{ℕ, zero, suc, ◌+◌, Bool, true, false, not, pos, List, [], ◌∷◌, ◌++◌, length, Option, Some, None, is_some, option_and_then, slice_get, codes}
-use Rattle.ec_base.specs.declared.fault.FaultKind.TheVariants.{F10, F11, F14, F16}
-use Rattle.ec_base.specs.declared.fault.LimitKind.TheVariants.{L1}
-use Rattle.ec_ctypes.specs.declared.types.sizes.Shape.{Shape}
-use Rattle.ec_ctypes.specs.declared.tree.expr.UnOp.TheVariants.{Addr}
-use Rattle.ec_ctypes.specs.trees.Types.{TyData, void, arithmetic, pointer, array, structure, MemberData}
-use Rattle.ec_ctypes.specs.trees.Exprs.{ExprData, integer, character, string, identifier, unary, binary, assign, bump, call, call_other, index, member, arrow, cast, size_type, size_expr, ExprList, no_exprs, exprs, BaseData, words, varchar, tagged, struct_base, DimData, open_dim, dim, DimList, no_dims, dims, InitData, one, many, InitList, no_inits, inits, InitOption, no_init, some_init, DeclaratorData, declarator, DeclaratorList, no_declarators, declarators, DeclData, decl, DeclList, no_decls, decls}
-use Rattle.ec_ctypes.specs.Layout.{struct_shape}
-use Rattle.ec_language.specs.Letters.{Text}
+use Rattle.ec_arguments.specs.ec_base.declared.fault.FaultKind.TheVariants.{F10, F11, F14, F16}
+use Rattle.ec_arguments.specs.ec_base.declared.fault.LimitKind.TheVariants.{L1}
+use Rattle.ec_arguments.specs.ec_ctypes.declared.types.sizes.Shape.{Shape}
+use Rattle.ec_arguments.specs.ec_ctypes.declared.tree.expr.UnOp.TheVariants.{Addr}
+use Rattle.ec_arguments.specs.ec_ctypes.trees.Types.{TyData, void, arithmetic, pointer, array, structure, MemberData}
+use Rattle.ec_arguments.specs.ec_ctypes.trees.Exprs.{ExprData, integer, character, string, identifier, unary, binary, assign, bump, call, call_other, index, member, arrow, cast, size_type, size_expr, ExprList, no_exprs, exprs, BaseData, words, varchar, tagged, struct_base, DimData, open_dim, dim, DimList, no_dims, dims, InitData, one, many, InitList, no_inits, inits, InitOption, no_init, some_init, DeclaratorData, declarator, DeclaratorList, no_declarators, declarators, DeclData, decl, DeclList, no_decls, decls}
+use Rattle.ec_arguments.specs.ec_ctypes.Layout.{struct_shape}
+use Rattle.ec_statement_parts.specs.ec_language.Letters.{Text}
 use Rattle.ec_typing.specs.Tables.{Named, find, put}
 use Rattle.ec_typing.specs.Types.{int_type, char_type, words_type}
 use Rattle.ec_typing.specs.Known.{ArgumentsData, all_expressions, is_identifier, is_no_expression, behind_first_argument, arguments_of}

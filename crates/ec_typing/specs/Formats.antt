@@ -1,9 +1,9 @@
 -- The formats of printf and fprintf (ISO/IEC 9899:1999, 7.19.6.1, 3 to 8), in the subset that is taken.
 use Rattle.std.specs.Prelude.{ℕ, zero, suc, Bool, true, false, ◌&&◌, ◌||◌, ◌==◌, nat_le, List, [], ◌∷◌, ◌++◌, length, Option, Some, None, option_map, option_and_then, if◌then◌else◌}
-use Rattle.ec_ctypes.specs.declared.types.arith.Arith.TheVariants.{Int}
-use Rattle.ec_ctypes.specs.trees.Types.{TyData, arithmetic, pointer}
-use Rattle.ec_ctypes.specs.Arithmetic.{rank, promoted}
-use Rattle.ec_language.specs.Letters.{Text}
+use Rattle.ec_arguments.specs.ec_ctypes.declared.types.arith.Arith.TheVariants.{Int}
+use Rattle.ec_arguments.specs.ec_ctypes.trees.Types.{TyData, arithmetic, pointer}
+use Rattle.ec_arguments.specs.ec_ctypes.Arithmetic.{rank, promoted}
+use Rattle.ec_statement_parts.specs.ec_language.Letters.{Text}
 use Rattle.ec_typing.specs.Types.{same_arith, is_character}
 
 -- what an argument of a format has to be

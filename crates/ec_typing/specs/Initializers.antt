@@ -1,8 +1,8 @@
 -- Initializers (ISO/IEC 9899:1999, 6.7.8; at file level 6.6).
 use Rattle.std.specs.Prelude.{ℕ, zero, suc, ◌+◌, ◌^◌, Bool, true, false, not, ◌&&◌, ◌||◌, nat_le, List, [], ◌∷◌, ◌++◌, length, map, Option, Some, None, is_some, if◌then◌else◌}
-use Rattle.ec_base.specs.declared.fault.FaultKind.TheVariants.{F14, F19}
-use Rattle.ec_ctypes.specs.trees.Types.{TyData, void, arithmetic, pointer, array, structure}
-use Rattle.ec_ctypes.specs.trees.Exprs.{ExprData, string, InitData, one, many, InitList, no_inits, inits}
+use Rattle.ec_arguments.specs.ec_base.declared.fault.FaultKind.TheVariants.{F14, F19}
+use Rattle.ec_arguments.specs.ec_ctypes.trees.Types.{TyData, void, arithmetic, pointer, array, structure}
+use Rattle.ec_arguments.specs.ec_ctypes.trees.Exprs.{ExprData, string, InitData, one, many, InitList, no_inits, inits}
 use Rattle.ec_typing.specs.Types.{is_scalar, is_structure, is_char_array, same_type, is_assignable}
 use Rattle.ec_typing.specs.Constants.{is_known}
 use Rattle.ec_typing.specs.Worlds.{Place, MembersData, unlisted, begun, listed, World, Rule, ◌>>=◌, ◌>>◌, pure, ask, note, demand, members_of}

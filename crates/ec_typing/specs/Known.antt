@@ -1,13 +1,13 @@
 -- The names that are known without a declaration, and those that may not be declared.
 use Rattle.std.specs.Prelude.{ℕ, zero, suc, ◌-◌, Bool, true, false, ◌&&◌, ◌||◌, not, nat_le, List, [], ◌∷◌, map, Option, Some, None, if◌then◌else◌, codes, length, take}
-use Rattle.ec_ctypes.specs.Texts.{symbol_text, library_text}
-use Rattle.ec_ctypes.specs.declared.checked.library.Sym.{Sym}
-use Rattle.ec_ctypes.specs.declared.checked.library.Sym.TheVariants as symbol
-use Rattle.ec_ctypes.specs.declared.checked.library.LibName.{LibName}
-use Rattle.ec_ctypes.specs.declared.checked.library.LibName.TheVariants as library
-use Rattle.ec_ctypes.specs.trees.Types.{TyData, void, pointer}
-use Rattle.ec_ctypes.specs.trees.Exprs.{ExprData, string, identifier, ExprList, no_exprs, exprs}
-use Rattle.ec_language.specs.Letters.{Text, same_text}
+use Rattle.ec_arguments.specs.ec_ctypes.Texts.{symbol_text, library_text}
+use Rattle.ec_arguments.specs.ec_ctypes.declared.checked.library.Sym.{Sym}
+use Rattle.ec_arguments.specs.ec_ctypes.declared.checked.library.Sym.TheVariants as symbol
+use Rattle.ec_arguments.specs.ec_ctypes.declared.checked.library.LibName.{LibName}
+use Rattle.ec_arguments.specs.ec_ctypes.declared.checked.library.LibName.TheVariants as library
+use Rattle.ec_arguments.specs.ec_ctypes.trees.Types.{TyData, void, pointer}
+use Rattle.ec_arguments.specs.ec_ctypes.trees.Exprs.{ExprData, string, identifier, ExprList, no_exprs, exprs}
+use Rattle.ec_statement_parts.specs.ec_language.Letters.{Text, same_text}
 use Rattle.ec_typing.specs.Tables.{Named, find, is_one_of}
 use Rattle.ec_typing.specs.Types.{int_type, char_type, size_type}
 

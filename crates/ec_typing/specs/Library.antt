@@ -1,15 +1,15 @@
 -- Calls of the library, which are known in written C: what each argument is by its form and its type, and which calls are none.
 use Rattle.std.specs.Prelude.{ℕ, Bool, true, false, List, [], ◌∷◌, Option, Some, None, is_some, codes, if◌then◌else◌}
-use Rattle.ec_ctypes.specs.Texts.{symbol_text, library_text}
-use Rattle.ec_ctypes.specs.declared.checked.library.Sym.{Sym}
-use Rattle.ec_ctypes.specs.declared.checked.library.LibName.{LibName}
-use Rattle.ec_ctypes.specs.declared.types.arith.Arith.TheVariants.{Int, Long}
-use Rattle.ec_ctypes.specs.trees.Types.{TyData, arithmetic, pointer}
-use Rattle.ec_ctypes.specs.trees.Exprs.{ExprData, integer, string, identifier, ExprList, no_exprs, exprs}
+use Rattle.ec_arguments.specs.ec_ctypes.Texts.{symbol_text, library_text}
+use Rattle.ec_arguments.specs.ec_ctypes.declared.checked.library.Sym.{Sym}
+use Rattle.ec_arguments.specs.ec_ctypes.declared.checked.library.LibName.{LibName}
+use Rattle.ec_arguments.specs.ec_ctypes.declared.types.arith.Arith.TheVariants.{Int, Long}
+use Rattle.ec_arguments.specs.ec_ctypes.trees.Types.{TyData, arithmetic, pointer}
+use Rattle.ec_arguments.specs.ec_ctypes.trees.Exprs.{ExprData, integer, string, identifier, ExprList, no_exprs, exprs}
 use Rattle.ec_arguments.specs.Arguments as of
 use Rattle.ec_arguments.specs.Arguments.{Arg}
 use Rattle.ec_arguments.specs.Rules.{cut}
-use Rattle.ec_language.specs.Letters.{Text, same_text}
+use Rattle.ec_statement_parts.specs.ec_language.Letters.{Text, same_text}
 use Rattle.ec_typing.specs.Known.{symbols, calls}
 use Rattle.ec_typing.specs.Types.{is_character}
 

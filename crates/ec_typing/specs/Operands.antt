@@ -1,15 +1,15 @@
 -- What is found out about an expression, and the rules of each form over what is found out about its parts (ISO/IEC 9899:1999, 6.5).
 use Rattle.std.specs.Prelude.{ℕ, zero, suc, ◌+◌, Bool, true, false, not, ◌&&◌, ◌||◌, ◌==◌, nat_le, ℤ, pos, List, [], ◌∷◌, length, map, drop, Option, Some, None, is_some, option_map, option_and_then, if◌then◌else◌, codes}
-use Rattle.ec_base.specs.declared.fault.FaultKind.TheVariants.{F11, F14, F15, F16, F17, F19}
-use Rattle.ec_base.specs.declared.fault.LimitKind.TheVariants.{L1}
-use Rattle.ec_ctypes.specs.declared.types.sizes.Shape.{Shape}
-use Rattle.ec_ctypes.specs.declared.checked.library.LibName.{LibName}
-use Rattle.ec_ctypes.specs.declared.tree.expr.BinOp.{BinOp}
-use Rattle.ec_ctypes.specs.declared.tree.expr.UnOp.{UnOp}
-use Rattle.ec_ctypes.specs.declared.tree.expr.UnOp.TheVariants.{Deref, Not}
-use Rattle.ec_ctypes.specs.trees.Types.{TyData, void, arithmetic, pointer, array, structure}
-use Rattle.ec_ctypes.specs.trees.Exprs.{ExprList}
-use Rattle.ec_language.specs.Letters.{Text, same_text}
+use Rattle.ec_arguments.specs.ec_base.declared.fault.FaultKind.TheVariants.{F11, F14, F15, F16, F17, F19}
+use Rattle.ec_arguments.specs.ec_base.declared.fault.LimitKind.TheVariants.{L1}
+use Rattle.ec_arguments.specs.ec_ctypes.declared.types.sizes.Shape.{Shape}
+use Rattle.ec_arguments.specs.ec_ctypes.declared.checked.library.LibName.{LibName}
+use Rattle.ec_arguments.specs.ec_ctypes.declared.tree.expr.BinOp.{BinOp}
+use Rattle.ec_arguments.specs.ec_ctypes.declared.tree.expr.UnOp.{UnOp}
+use Rattle.ec_arguments.specs.ec_ctypes.declared.tree.expr.UnOp.TheVariants.{Deref, Not}
+use Rattle.ec_arguments.specs.ec_ctypes.trees.Types.{TyData, void, arithmetic, pointer, array, structure}
+use Rattle.ec_arguments.specs.ec_ctypes.trees.Exprs.{ExprList}
+use Rattle.ec_statement_parts.specs.ec_language.Letters.{Text, same_text}
 use Rattle.ec_typing.specs.Tables.{find}
 use Rattle.ec_typing.specs.Types.{int_type, char_type, size_type, is_void, is_scalar, is_structure, is_array, decayed, pointed_to, struct_number, is_assignable, binary_type, is_compound, is_counter, sign_type, element_type, may_be_cast}
 use Rattle.ec_typing.specs.Constants.{ConstData, variable, trapping, known, binary_constant, unary_constant, cast_constant, is_known_zero}

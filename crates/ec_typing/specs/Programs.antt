@@ -1,14 +1,14 @@
 -- What is found out about functions (ISO/IEC 9899:1999, 6.7.5.3, 6.9.1) and programs (6.9).
 use Rattle.std.specs.Prelude.{ℕ, zero, Bool, true, false, not, ◌&&◌, ◌||◌, ◌==◌, List, [], ◌∷◌, ◌++◌, length, map, Option, Some, None, is_some, codes, slice_get, if◌then◌else◌}
-use Rattle.ec_base.specs.declared.fault.FaultKind.TheVariants.{F10, F14, F20}
-use Rattle.ec_ctypes.specs.trees.Types.{TyData, pointer, MemberData, StructData}
-use Rattle.ec_ctypes.specs.trees.Exprs.{BaseData, words}
-use Rattle.ec_ctypes.specs.trees.Stmts.{StmtList}
-use Rattle.ec_ctypes.specs.trees.Embedded.{EmbData}
-use Rattle.ec_ctypes.specs.trees.Units.{ParamData, FuncData, TopData, include_top, directive_top, decl_top, func_top, mark_top, UnitData}
-use Rattle.ec_ctypes.specs.Layout.{struct_shape}
-use Rattle.ec_ctypes.specs.LayoutExamples.{sqlca_structs}
-use Rattle.ec_language.specs.Letters.{Text, same_text}
+use Rattle.ec_arguments.specs.ec_base.declared.fault.FaultKind.TheVariants.{F10, F14, F20}
+use Rattle.ec_arguments.specs.ec_ctypes.trees.Types.{TyData, pointer, MemberData, StructData}
+use Rattle.ec_arguments.specs.ec_ctypes.trees.Exprs.{BaseData, words}
+use Rattle.ec_arguments.specs.ec_ctypes.trees.Stmts.{StmtList}
+use Rattle.ec_arguments.specs.ec_ctypes.trees.Embedded.{EmbData}
+use Rattle.ec_arguments.specs.ec_ctypes.trees.Units.{ParamData, FuncData, TopData, include_top, directive_top, decl_top, func_top, mark_top, UnitData}
+use Rattle.ec_arguments.specs.ec_ctypes.Layout.{struct_shape}
+use Rattle.ec_arguments.specs.ec_ctypes.LayoutExamples.{sqlca_structs}
+use Rattle.ec_statement_parts.specs.ec_language.Letters.{Text, same_text}
 use Rattle.ec_typing.specs.Tables.{Named, find, put}
 use Rattle.ec_typing.specs.Types.{int_type, words_type, is_void, is_structure, same_type}
 use Rattle.ec_typing.specs.Worlds.{Place, EntryData, object, function, listed, StructInfo, ScopeData, World, no_names, Rule, ◌>>=◌, ◌>>◌, pure, ask, change, demand, enter, leave, declare, free_name, place, next_number, number_as}

@@ -1,11 +1,11 @@
 -- What is found out about declarations (ISO/IEC 9899:1999, 6.7) and statements (6.8).
 use Rattle.std.specs.Prelude.{ℕ, zero, Bool, true, false, not, ◌&&◌, List, Option, Some, None, is_some, slice_get}
-use Rattle.ec_base.specs.declared.fault.FaultKind.TheVariants.{F14, F18}
-use Rattle.ec_ctypes.specs.trees.Types.{TyData, void, array}
-use Rattle.ec_ctypes.specs.trees.Exprs.{ExprData, BaseData, tagged, DimList, InitOption, no_init, some_init, DeclaratorData, declarator, DeclaratorList, no_declarators, declarators, DeclData, decl}
-use Rattle.ec_ctypes.specs.trees.Stmts.{StmtData, stmt, StmtKindData, empty_stmt, expr_stmt, block_stmt, if_stmt, while_stmt, do_stmt, for_stmt, break_stmt, continue_stmt, return_stmt, goto_stmt, label_stmt, decl_stmt, emb_stmt, mark_stmt, StmtList, no_stmts, stmts, StmtOption, no_stmt, some_stmt}
-use Rattle.ec_ctypes.specs.trees.Embedded.{EmbData}
-use Rattle.ec_language.specs.Letters.{Text}
+use Rattle.ec_arguments.specs.ec_base.declared.fault.FaultKind.TheVariants.{F14, F18}
+use Rattle.ec_arguments.specs.ec_ctypes.trees.Types.{TyData, void, array}
+use Rattle.ec_arguments.specs.ec_ctypes.trees.Exprs.{ExprData, BaseData, tagged, DimList, InitOption, no_init, some_init, DeclaratorData, declarator, DeclaratorList, no_declarators, declarators, DeclData, decl}
+use Rattle.ec_arguments.specs.ec_ctypes.trees.Stmts.{StmtData, stmt, StmtKindData, empty_stmt, expr_stmt, block_stmt, if_stmt, while_stmt, do_stmt, for_stmt, break_stmt, continue_stmt, return_stmt, goto_stmt, label_stmt, decl_stmt, emb_stmt, mark_stmt, StmtList, no_stmts, stmts, StmtOption, no_stmt, some_stmt}
+use Rattle.ec_arguments.specs.ec_ctypes.trees.Embedded.{EmbData}
+use Rattle.ec_statement_parts.specs.ec_language.Letters.{Text}
 use Rattle.ec_typing.specs.Tables.{Named, find, put}
 use Rattle.ec_typing.specs.Types.{is_void, is_scalar, is_assignable}
 use Rattle.ec_typing.specs.Worlds.{object, unlisted, World, Rule, ◌>>=◌, ◌>>◌, pure, ask, demand, scoped, declare, know_better, declare_label, free_tag, Place, place, next_number, number_as, is_complete}

@@ -1,6 +1,6 @@
 -- Tables from names to values: lists of pairs, in the order in which the names came.
 use Rattle.std.specs.Prelude.{List, [], ◌∷◌, Option, Some, None, Bool, false, ◌||◌, if◌then◌else◌}
-use Rattle.ec_language.specs.Letters.{Text, same_text}
+use Rattle.ec_statement_parts.specs.ec_language.Letters.{Text, same_text}
 
 -- a table from names to values
 abbrev pub Named : Type 0 → Type 0

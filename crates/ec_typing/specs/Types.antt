@@ -1,12 +1,12 @@
 -- The rules on types alone (ISO/IEC 9899:1999, 6.2.5, 6.2.7, 6.3, 6.5, 6.7.2).
 use Rattle.std.specs.Prelude.{ℕ, ◌+◌, Bool, true, false, not, ◌&&◌, ◌||◌, ◌==◌, List, [], ◌∷◌, Option, Some, None, if◌then◌else◌, codes}
-use Rattle.ec_ctypes.specs.declared.types.arith.Arith.{Arith}
-use Rattle.ec_ctypes.specs.declared.types.arith.Arith.TheVariants.{Bool as Boolean, Char, UChar, Short, UShort, Int, UInt, Long, ULong, LLong, ULLong}
-use Rattle.ec_ctypes.specs.declared.tree.expr.BinOp.{BinOp}
-use Rattle.ec_ctypes.specs.declared.tree.expr.BinOp.TheVariants.{Or, And, Eq, Ne, Lt, Gt, Le, Ge, Shl, Shr, Add, Sub}
-use Rattle.ec_ctypes.specs.trees.Types.{TyData, void, arithmetic, pointer, array, structure}
-use Rattle.ec_ctypes.specs.Arithmetic.{rank, is_signed, promoted, usual_type}
-use Rattle.ec_language.specs.Letters.{Text, same_text}
+use Rattle.ec_arguments.specs.ec_ctypes.declared.types.arith.Arith.{Arith}
+use Rattle.ec_arguments.specs.ec_ctypes.declared.types.arith.Arith.TheVariants.{Bool as Boolean, Char, UChar, Short, UShort, Int, UInt, Long, ULong, LLong, ULLong}
+use Rattle.ec_arguments.specs.ec_ctypes.declared.tree.expr.BinOp.{BinOp}
+use Rattle.ec_arguments.specs.ec_ctypes.declared.tree.expr.BinOp.TheVariants.{Or, And, Eq, Ne, Lt, Gt, Le, Ge, Shl, Shr, Add, Sub}
+use Rattle.ec_arguments.specs.ec_ctypes.trees.Types.{TyData, void, arithmetic, pointer, array, structure}
+use Rattle.ec_arguments.specs.ec_ctypes.Arithmetic.{rank, is_signed, promoted, usual_type}
+use Rattle.ec_statement_parts.specs.ec_language.Letters.{Text, same_text}
 
 abbrev pub int_type : TyData
 int_type = arithmetic Int

@@ -1,15 +1,15 @@
 -- What is known where a part of a program stands, and rules: what a part is, with the violations that it has and what is known behind it.
 use Rattle.std.specs.Prelude.{ℕ, zero, suc, ◌+◌, ◌^◌, Bool, true, false, not, ◌&&◌, List, [], ◌∷◌, ◌++◌, length, map, nat_le, slice_get, slice_set, Option, Some, None, is_some, option_map}
-use Rattle.ec_base.specs.declared.line.Line.{Line}
-use Rattle.ec_base.specs.declared.fault.FaultKind.{FaultKind}
-use Rattle.ec_base.specs.declared.fault.FaultKind.TheVariants.{F10, F12}
-use Rattle.ec_base.specs.declared.fault.LimitKind.{LimitKind}
-use Rattle.ec_base.specs.declared.stop.Stop.TheVariants.{Refused, Limit}
-use Rattle.ec_ctypes.specs.declared.types.sizes.Shape.{Shape}
-use Rattle.ec_ctypes.specs.trees.Types.{TyData, void, arithmetic, pointer, array, structure}
-use Rattle.ec_ctypes.specs.Layout.{shape_among}
-use Rattle.ec_language.specs.Letters.{Text}
-use Rattle.ec_language.specs.First.{Violation}
+use Rattle.ec_arguments.specs.ec_base.declared.line.Line.{Line}
+use Rattle.ec_arguments.specs.ec_base.declared.fault.FaultKind.{FaultKind}
+use Rattle.ec_arguments.specs.ec_base.declared.fault.FaultKind.TheVariants.{F10, F12}
+use Rattle.ec_arguments.specs.ec_base.declared.fault.LimitKind.{LimitKind}
+use Rattle.ec_arguments.specs.ec_base.declared.stop.Stop.TheVariants.{Refused, Limit}
+use Rattle.ec_arguments.specs.ec_ctypes.declared.types.sizes.Shape.{Shape}
+use Rattle.ec_arguments.specs.ec_ctypes.trees.Types.{TyData, void, arithmetic, pointer, array, structure}
+use Rattle.ec_arguments.specs.ec_ctypes.Layout.{shape_among}
+use Rattle.ec_statement_parts.specs.ec_language.Letters.{Text}
+use Rattle.ec_statement_parts.specs.ec_language.First.{Violation}
 use Rattle.ec_typing.specs.Tables.{Named, find, put}
 use Rattle.ec_typing.specs.Known.{is_reserved, is_reserved_tag}
 

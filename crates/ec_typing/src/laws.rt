@@ -1,13 +1,13 @@
 //! What holds of the answer for every program, as the contract of a function that does nothing.
 
 ghost use Rattle.std.specs.Prelude.{◌≡◌, ℕ, Bool, List, [], Ok, Err};
-ghost use Rattle.ec_base.specs.declared.stop.Stop.{Stop};
-ghost use Rattle.ec_ctypes.specs.trees.Units.{UnitData};
-ghost use Rattle.ec_ctypes.specs.trees.Checked.{MarkData, TypedData};
-ghost use Rattle.ec_language.specs.First.{Violation, IsFirst, IsAmong};
+ghost use Rattle.ec_arguments.specs.ec_base.declared.stop.Stop.{Stop};
+ghost use Rattle.ec_arguments.specs.ec_ctypes.trees.Units.{UnitData};
+ghost use Rattle.ec_arguments.specs.ec_ctypes.trees.Checked.{MarkData, TypedData};
+ghost use Rattle.ec_statement_parts.specs.ec_language.First.{Violation, IsFirst, IsAmong};
 ghost use Rattle.ec_typing.specs.Answers.{violations, check_answer, checked, typed_of};
 
-use ec_language::first_is_first;
+use ec_statement_parts::ec_language::first_is_first;
 
 /// A program is refused for the first of its violations, and has types where it has none.
 pub fn answers_are_first()

@@ -9,5 +9,7 @@ mod word;
 
 pub use access::{load, store};
 pub use calculations::{convert, flip, negate, work};
+pub use ec_memory;
+pub use ec_memory::{ec_bytes, ec_ctypes};
 pub use operation::{Comparison, IntegerOperator, Operation};
 pub use word::{Stop, Word};

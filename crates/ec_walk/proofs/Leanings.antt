@@ -6,7 +6,7 @@ use Rattle.ec_ctypes.specs.declared.tree.expr.Expr.{Expr}
 use Rattle.ec_ctypes.specs.declared.tree.expr.UnOp.TheVariants.{Addr, Deref, Plus, Minus, Not, Flip}
 use Rattle.ec_ctypes.specs.trees.Exprs.{ExprData, integer, character, string, identifier, unary, binary, assign, bump, call, call_other, index, member, arrow, cast, size_type, size_expr}
 use Rattle.ec_ctypes.specs.views.Exprs.{expr_view}
-use Rattle.ec_language.specs.First.{Violation}
+use Rattle.ec_typing.specs.ec_language.First.{Violation}
 use Rattle.ec_typing.specs.Known.{all_expressions, is_identifier}
 use Rattle.ec_typing.specs.Worlds.{Place, World, Out, followed, Rule, chain, pure, note}
 use Rattle.ec_typing.specs.Operands.{OperandData, unknown, value_rule, unary_rule, binary_rule, index_rule, arrow_rule}

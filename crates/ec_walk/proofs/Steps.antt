@@ -7,15 +7,15 @@ use Rattle.ec_ctypes.specs.declared.tree.expr.Expr.{Expr}
 use Rattle.ec_ctypes.specs.trees.Types.{TyData}
 use Rattle.ec_ctypes.specs.trees.Exprs.{dims, no_dims}
 use Rattle.ec_ctypes.specs.views.Exprs.{expr_view, exprs_view, dim_of, dims_view, expr_option_view, inits_view, init_view, decl_view, decls_view, declarator_view, declarators_view}
-use Rattle.ec_language.specs.First.{Violation}
+use Rattle.ec_typing.specs.ec_language.First.{Violation}
 use Rattle.ec_typing.specs.Known.{ArgumentsData, behind_first_argument}
 use Rattle.ec_typing.specs.Worlds.{Place, World, Out, Rule, chain, pure}
 use Rattle.ec_typing.specs.Operands.{OperandData}
 use Rattle.ec_typing.specs.Expressions.{Members, args, lengths, length_at, last_length, outer_lengths, members, member_decl, member_items, member_item, init_exprs, all_init_exprs}
-use Rattle.ec_scopes.specs.declared.state.Checker.{Checker}
-use Rattle.ec_scopes.specs.Seen.{world_of, notes_of, noted, IsDone}
-use Rattle.ec_scopes.proofs.Loops.{drop_item, one_done, one_more}
-use Rattle.ec_scopes.proofs.Steps.{Goes, goes_step, goes_gather, goes_as, goes_from, noted-append}
+use Rattle.ec_rules.specs.ec_scopes.declared.state.Checker.{Checker}
+use Rattle.ec_rules.specs.ec_scopes.Seen.{world_of, notes_of, noted, IsDone}
+use Rattle.ec_rules.proofs.ec_scopes_proofs.Loops.{drop_item, one_done, one_more}
+use Rattle.ec_rules.proofs.ec_scopes_proofs.Steps.{Goes, goes_step, goes_gather, goes_as, goes_from, noted-append}
 use Rattle.ec_rules.specs.declared.operand.Operand.{Operand}
 use Rattle.ec_rules.specs.Seen.{operand_view}
 use Rattle.ec_walk.specs.Dims.{last_length_of}

@@ -1,16 +1,16 @@
 -- A written call is cut back by the checks.
 use Rattle.std.proofs.Common.{◌≡◌, ◌∙◌, ℕ, Bool, true, List, [], ◌∷◌, map, Option, Some, None, is_some, refl, sym, ap}
 use Rattle.std.specs.Prelude.{◌&&◌, nat_eq, option_map}
-use Rattle.ec_ctypes.specs.declared.checked.library.Sym.{Sym}
-use Rattle.ec_ctypes.specs.declared.checked.library.Sym.TheVariants as symbols_of
-use Rattle.ec_ctypes.specs.trees.Exprs.{ExprData}
-use Rattle.ec_ctypes.specs.trees.Types.{TyData}
-use Rattle.ec_arguments.specs.Arguments.{Arg, symbol, literal, null, int_constant, long_constant, pointer, stray, TextArg, absent, word, held, Indicator, Place, Member, host, constant, descriptor, Statement, normal, prepared, immediate, opening, ItemMember, Call, run, connect, disconnect, set_connection, set_autocommit, control, prepare, deallocate, allocate_descriptor, deallocate_descriptor, get_count, set_count, get_items, set_items, Cut, name_of}
-use Rattle.ec_arguments.specs.Rules.{fits_element, element_size, fits_indicators, fits_place, is_single, is_value, is_target, are_inputs, are_hosts, are_outputs, are_targets, are_settings, is_settable, is_call, is_statement, is_given_text, is_optional_text, cut}
-use Rattle.ec_arguments.specs.Writing.{item_symbol, switch_word, text_argument, indicator_arguments, member_arguments, members_arguments, items_arguments, statement_arguments, call_arguments, arguments}
-use Rattle.ec_arguments.proofs.Back.{cut_back}
+use Rattle.ec_exact.specs.ec_ctypes.declared.checked.library.Sym.{Sym}
+use Rattle.ec_exact.specs.ec_ctypes.declared.checked.library.Sym.TheVariants as symbols_of
+use Rattle.ec_exact.specs.ec_ctypes.trees.Exprs.{ExprData}
+use Rattle.ec_exact.specs.ec_ctypes.trees.Types.{TyData}
+use Rattle.ec_expansion.specs.ec_arguments.Arguments.{Arg, symbol, literal, null, int_constant, long_constant, pointer, stray, TextArg, absent, word, held, Indicator, Place, Member, host, constant, descriptor, Statement, normal, prepared, immediate, opening, ItemMember, Call, run, connect, disconnect, set_connection, set_autocommit, control, prepare, deallocate, allocate_descriptor, deallocate_descriptor, get_count, set_count, get_items, set_items, Cut, name_of}
+use Rattle.ec_expansion.specs.ec_arguments.Rules.{fits_element, element_size, fits_indicators, fits_place, is_single, is_value, is_target, are_inputs, are_hosts, are_outputs, are_targets, are_settings, is_settable, is_call, is_statement, is_given_text, is_optional_text, cut}
+use Rattle.ec_expansion.specs.ec_arguments.Writing.{item_symbol, switch_word, text_argument, indicator_arguments, member_arguments, members_arguments, items_arguments, statement_arguments, call_arguments, arguments}
+use Rattle.ec_expansion.proofs.ec_arguments_proofs.Back.{cut_back}
 use Rattle.ec_expansion.specs.Calls.{argument_expr, argument_exprs}
-use Rattle.ec_typing.specs.Library.{argument_of, arguments_of_call, leads_to_text}
+use Rattle.ec_sections.specs.ec_typing.Library.{argument_of, arguments_of_call, leads_to_text}
 use Rattle.ec_written.specs.Calls.{argument_with, text_with, indicator_with, place_with, member_with, item_with, statement_with, call_with, cut_with, HaveTypes, AreCutBack, AreTaken}
 
 -- ---- arguments as they are written

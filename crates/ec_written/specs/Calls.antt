@@ -1,12 +1,12 @@
 -- A call of the library as it is written for a statement, and what the checks of written C see of it: of a pointer alone whether it may lead to a text.
 use Rattle.std.specs.Prelude.{◌≡◌, ⊤, Bool, true, List, [], ◌∷◌, map, Option, Some, option_map}
-use Rattle.ec_arguments.specs.Arguments.{Arg, symbol, literal, null, int_constant, long_constant, pointer, stray, TextArg, absent, word, held, Indicator, Place, Member, host, constant, descriptor, Statement, normal, prepared, immediate, opening, ItemMember, Call, run, connect, disconnect, set_connection, set_autocommit, control, prepare, deallocate, allocate_descriptor, deallocate_descriptor, get_count, set_count, get_items, set_items, Cut, name_of}
-use Rattle.ec_arguments.specs.Rules.{is_call, cut}
-use Rattle.ec_arguments.specs.Writing.{arguments}
-use Rattle.ec_ctypes.specs.trees.Exprs.{ExprData}
-use Rattle.ec_ctypes.specs.trees.Types.{TyData}
+use Rattle.ec_expansion.specs.ec_arguments.Arguments.{Arg, symbol, literal, null, int_constant, long_constant, pointer, stray, TextArg, absent, word, held, Indicator, Place, Member, host, constant, descriptor, Statement, normal, prepared, immediate, opening, ItemMember, Call, run, connect, disconnect, set_connection, set_autocommit, control, prepare, deallocate, allocate_descriptor, deallocate_descriptor, get_count, set_count, get_items, set_items, Cut, name_of}
+use Rattle.ec_expansion.specs.ec_arguments.Rules.{is_call, cut}
+use Rattle.ec_expansion.specs.ec_arguments.Writing.{arguments}
+use Rattle.ec_exact.specs.ec_ctypes.trees.Exprs.{ExprData}
+use Rattle.ec_exact.specs.ec_ctypes.trees.Types.{TyData}
 use Rattle.ec_expansion.specs.Calls.{argument_exprs}
-use Rattle.ec_typing.specs.Library.{argument_of, arguments_of_call, leads_to_text, cuts}
+use Rattle.ec_sections.specs.ec_typing.Library.{argument_of, arguments_of_call, leads_to_text, cuts}
 
 -- ---- a call with `f` of each of its pointers in the place of the pointer
 

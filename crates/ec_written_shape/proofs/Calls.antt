@@ -19,11 +19,11 @@ use Rattle.ec_ctypes.specs.trees.Stmts.{StmtData, StmtKindData, no_stmts}
 use Rattle.ec_ctypes.specs.trees.Types.{arithmetic}
 use Rattle.ec_language.specs.Letters.{Text, each, same_text}
 use Rattle.ec_language.proofs.Ends.{both}
-use Rattle.ec_arguments.specs.Arguments.{Arg, symbol, literal, null, int_constant, long_constant, pointer, stray, TextArg, absent, word, held, Indicator, Member, host, constant, descriptor, Statement, normal, prepared, immediate, opening, ItemMember, Call, name_of}
-use Rattle.ec_arguments.specs.Writing.{switch_word, text_argument, indicator_arguments, ten_values, member_arguments, members_arguments, items_arguments, statement_arguments, call_arguments}
-use Rattle.ec_statement_parts.specs.Handlers.{action_among}
-use Rattle.ec_statement_parts.specs.Cursors.{declared_above, opened_cursor}
-use Rattle.ec_writing.specs.Shapes.{is_free_name, fits_type, is_byte, is_line, is_written_expr, are_written_exprs, is_written_kind, are_written_items, is_written_item}
+use Rattle.ec_expansion.specs.ec_arguments.Arguments.{Arg, symbol, literal, null, int_constant, long_constant, pointer, stray, TextArg, absent, word, held, Indicator, Member, host, constant, descriptor, Statement, normal, prepared, immediate, opening, ItemMember, Call, name_of}
+use Rattle.ec_expansion.specs.ec_arguments.Writing.{switch_word, text_argument, indicator_arguments, ten_values, member_arguments, members_arguments, items_arguments, statement_arguments, call_arguments}
+use Rattle.ec_expansion.specs.ec_statement_parts.Handlers.{action_among}
+use Rattle.ec_expansion.specs.ec_statement_parts.Cursors.{declared_above, opened_cursor}
+use Rattle.ec_expansion.specs.ec_writing.Shapes.{is_free_name, fits_type, is_byte, is_line, is_written_expr, are_written_exprs, is_written_kind, are_written_items, is_written_item}
 use Rattle.ec_expansion.specs.Calls.{bytes_in, text_of, indicator_of, host_of, is_const, is_descriptor, member_of, text_at, member_at, items_from, kinds_of, prepared_in, prepared_opened, opens, runs, call_by, call_of, argument_expr, argument_exprs}
 use Rattle.ec_expansion.specs.Handlers.{condition, action_statement, test_of, test_for, tests}
 use Rattle.ec_expansion.specs.Programs.{block_of, block_for}

@@ -8,7 +8,7 @@ use Rattle.ec_language.specs.Keywords.{is_name}
 use Rattle.ec_language.specs.Letters.{Text, is_digit, is_word_start, is_word_byte, each, same_word}
 use Rattle.ec_language.specs.Tokens.{is_left_out_word}
 use Rattle.ec_language.proofs.Ends.{both}
-use Rattle.ec_writing.specs.Shapes.{is_plain_name, is_free_name, is_assignable, is_tag, is_tag_option, is_line, is_written_expr, are_written_exprs, is_written_base, are_written_members, is_written_member, is_written_dim, are_written_dims, is_written_init, are_written_inits, is_written_initializer, is_written_declarator, are_written_declarators, is_written_decl, is_written_option, is_written_name}
+use Rattle.ec_expansion.specs.ec_writing.Shapes.{is_plain_name, is_free_name, is_assignable, is_tag, is_tag_option, is_line, is_written_expr, are_written_exprs, is_written_base, are_written_members, is_written_member, is_written_dim, are_written_dims, is_written_init, are_written_inits, is_written_initializer, is_written_declarator, are_written_declarators, is_written_decl, is_written_option, is_written_name}
 use Rattle.ec_source_shape.specs.SourceShape.{is_source_expr, are_source_exprs, is_source_base, are_source_members, is_source_member, is_source_dim, are_source_dims, is_source_init, are_source_inits, is_source_initializer, is_source_declarator, are_source_declarators, is_source_decl, is_source_option}
 use Rattle.ec_source_shape.specs.Kept.{written, keeps_tag, keeps_expr, keeps_exprs, keeps_type, keeps_base, keeps_members, keeps_decl, keeps_dim, keeps_dims, keeps_init, keeps_inits, keeps_initializer, keeps_declarator, keeps_declarators, keeps_option}
 use Rattle.ec_expansion.specs.Declarations.{at_line, joined_decls, varchar_tag, outer_dims, last_dim, varchar_struct, varchar_decl, written_expr, written_exprs, written_base, written_members, written_member, varchar_members_of, written_dim, written_dims, written_init, written_inits, written_initializer, written_declarator, written_declarators, varchar_objects, written_decl, written_option}

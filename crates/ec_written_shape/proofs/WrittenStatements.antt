@@ -9,7 +9,7 @@ use Rattle.ec_ctypes.specs.trees.Units.{ParamData, FuncData, TopData, include_to
 use Rattle.ec_language.specs.Letters.{Text}
 use Rattle.ec_language.specs.Productions.{is_void}
 use Rattle.ec_language.proofs.Ends.{both}
-use Rattle.ec_writing.specs.Shapes.{is_plain_name, is_line, is_written_expr, is_written_decl, is_open, is_open_kind, is_open_else, is_declaration, is_written_stmt, is_written_kind, is_written_else, are_written_items, is_written_item, is_written_name, is_written_param, are_written_params, is_void_list, is_written_body, is_written_func, is_written_top, are_written_tops, is_written_shape}
+use Rattle.ec_expansion.specs.ec_writing.Shapes.{is_plain_name, is_line, is_written_expr, is_written_decl, is_open, is_open_kind, is_open_else, is_declaration, is_written_stmt, is_written_kind, is_written_else, are_written_items, is_written_item, is_written_name, is_written_param, are_written_params, is_void_list, is_written_body, is_written_func, is_written_top, are_written_tops, is_written_shape}
 use Rattle.ec_source_shape.specs.SourceShape.{is_source_expr, is_source_base, are_source_dims, are_source_declarators, is_source_decl, is_source_option, is_source_stmt, is_source_kind, is_source_else, are_source_items, is_source_item, is_source_param, are_source_params, is_source_body, is_source_func, is_source_top, are_source_tops, is_source_shape}
 use Rattle.ec_source_shape.specs.Kept.{written, keeps_expr, keeps_type, keeps_dims, keeps_option, keeps_stmt, keeps_kind, keeps_stmts, keeps_else, keeps_param, keeps_params, keeps_body, keeps_func, keeps_top, keeps_tops, is_kept}
 use Rattle.ec_expansion.specs.Declarations.{written_expr, written_base, written_dims, written_decl}

@@ -1,7 +1,7 @@
 -- What may be written in the place of an embedded statement.
 use Rattle.std.specs.Prelude.{◌≡◌, ℕ, true, false, Option, Some, None}
 use Rattle.ec_ctypes.specs.trees.Stmts.{StmtKindData}
-use Rattle.ec_writing.specs.Shapes.{is_open_kind, is_written_kind}
+use Rattle.ec_expansion.specs.ec_writing.Shapes.{is_open_kind, is_written_kind}
 
 -- It is no `if` without `else`, and of the written shape, wherever it stands.
 pub record IsBlock (kind : StmtKindData) : Type 0 where

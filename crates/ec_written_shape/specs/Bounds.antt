@@ -8,7 +8,7 @@ use Rattle.ec_ctypes.specs.trees.Embedded.{ActionData, continue_action, goto_act
 use Rattle.ec_ctypes.specs.trees.Exprs.{ExprData}
 use Rattle.ec_ctypes.specs.trees.Types.{arithmetic}
 use Rattle.ec_language.specs.Letters.{each}
-use Rattle.ec_writing.specs.Shapes.{is_plain_name, is_free_name, fits_type, is_byte, is_written_expr, are_written_exprs}
+use Rattle.ec_expansion.specs.ec_writing.Shapes.{is_plain_name, is_free_name, fits_type, is_byte, is_written_expr, are_written_exprs}
 
 -- ---- actions
 

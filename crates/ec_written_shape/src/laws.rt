@@ -9,8 +9,8 @@ ghost use Rattle.ec_expansion.specs.Programs.{unit_of, block_for};
 ghost use Rattle.ec_expansion.specs.Statements.{written_tops};
 ghost use Rattle.ec_source_shape.specs.Kept.{written, is_kept};
 ghost use Rattle.ec_source_shape.specs.SourceShape.{is_source_shape};
-ghost use Rattle.ec_statement_parts.specs.Handlers.{action_among};
-ghost use Rattle.ec_writing.specs.Shapes.{is_line, is_written_shape};
+ghost use Rattle.ec_expansion.specs.ec_statement_parts.Handlers.{action_among};
+ghost use Rattle.ec_expansion.specs.ec_writing.Shapes.{is_line, is_written_shape};
 ghost use Rattle.ec_written_shape.specs.Blocks.{IsBlockOption};
 ghost use Rattle.ec_written_shape.specs.Bounds.{
   are_written_actions,

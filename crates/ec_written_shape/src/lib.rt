@@ -3,4 +3,5 @@
 
 mod laws;
 
+pub use ec_source_shape;
 pub use laws::{blocks_have_written_shape, expanded_programs_have_written_shape};

@@ -26,7 +26,7 @@ use Rattle.ec_embedded.specs.ServerText.{Tokens, Reading, begins_host, Cut, toke
 use Rattle.ec_embedded.specs.Statements.{Made, Entry, entries, chosen, prepared_in, declared_for, at_form}
 use Rattle.ec_embedded.specs.Terminals.{Terminal, keyword, parted_word, is, any_word, Counts, alphabet}
 use Rattle.ec_writing.specs.Shapes.{is_byte}
-use Rattle.ec_written_shape.specs.Bounds.{is_written_statement}
+use Rattle.ec_bound_shape.specs.ec_written_shape.Bounds.{is_written_statement}
 
 -- ---- bytes
 

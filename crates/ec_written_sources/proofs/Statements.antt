@@ -13,10 +13,10 @@ use Rattle.ec_language.specs.Pieces.{PiecesUpTo}
 use Rattle.ec_language.proofs.ReadLaws.{newlines-append}
 use Rattle.ec_embedded.specs.Answers.{placed, end_line, StatementOrStop}
 use Rattle.ec_embedded.specs.Findings.{Answer, StatementData}
-use Rattle.ec_hosts.specs.Examples.{with_statement, with_statements}
-use Rattle.ec_phases.specs.Sources.{ReadsStatements, end, other, stops, statement, ReadsTree, statements}
+use Rattle.ec_bound_shape.specs.ec_hosts.Examples.{with_statement, with_statements}
+use Rattle.ec_bound_shape.specs.ec_phases.Sources.{ReadsStatements, end, other, stops, statement, ReadsTree, statements}
 use Rattle.ec_writing.specs.Shapes.{is_byte, is_line}
-use Rattle.ec_written_shape.specs.Bounds.{is_written_statement, are_written_statements}
+use Rattle.ec_bound_shape.specs.ec_written_shape.Bounds.{is_written_statement, are_written_statements}
 use Rattle.ec_written_sources.proofs.StatementTexts.{parted, statement_tokens, answer_is}
 
 -- each with its line

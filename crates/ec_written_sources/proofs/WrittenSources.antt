@@ -14,21 +14,21 @@ use Rattle.ec_language.specs.Pieces.{Pieces}
 use Rattle.ec_language.specs.Syntax.{TreeOrStop}
 use Rattle.ec_language.specs.Tokens.{Tokens}
 use Rattle.ec_language.proofs.Ends.{both}
-use Rattle.ec_sections.specs.Answers.{hosts_answer}
+use Rattle.ec_kept_shape.specs.ec_sections.Answers.{hosts_answer}
 use Rattle.ec_typing.specs.Worlds.{World}
 use Rattle.ec_typing.specs.Answers.{checked, stop_of_unit, answer_by, check_answer}
 use Rattle.ec_statement_parts.specs.Handlers.{marks_in, action_among}
 use Rattle.ec_whenever.specs.Tables.{table_of}
-use Rattle.ec_hosts.specs.Examples.{with_statements}
-use Rattle.ec_phases.specs.Sources.{ReadsTree, statements, checked_with, checked_tree, bound_from, BoundProgram, program_with, bound_program, ReadsSource}
+use Rattle.ec_bound_shape.specs.ec_hosts.Examples.{with_statements}
+use Rattle.ec_bound_shape.specs.ec_phases.Sources.{ReadsTree, statements, checked_with, checked_tree, bound_from, BoundProgram, program_with, bound_program, ReadsSource}
 use Rattle.ec_writing.specs.Shapes.{is_byte, is_line, is_written_shape}
 use Rattle.ec_source_shape.specs.SourceShape.{are_source_tokens, are_source_tops, is_source_shape}
 use Rattle.ec_source_shape.specs.Kept.{written, is_kept}
 use Rattle.ec_expansion.specs.Calls.{prepared_opened, call_by}
 use Rattle.ec_expansion.specs.Programs.{block_of, block_for, embedded, unit_of}
 use Rattle.ec_expansion.specs.Statements.{written_tops}
-use Rattle.ec_written_shape.specs.Blocks.{IsBlockOption}
-use Rattle.ec_written_shape.specs.Bounds.{are_written_actions, is_written_statement, are_written_statements, is_written_bound}
+use Rattle.ec_bound_shape.specs.ec_written_shape.Blocks.{IsBlockOption}
+use Rattle.ec_bound_shape.specs.ec_written_shape.Bounds.{are_written_actions, is_written_statement, are_written_statements, is_written_bound}
 use Rattle.ec_bound_shape.specs.Counts.{are_counted}
 use Rattle.ec_bound_shape.specs.Written.{is_directive, has_written_hosts, have_written_hosts, are_hosts_written}
 use Rattle.ec_written_sources.specs.Written.{written_of}

@@ -3,14 +3,16 @@
 ghost use Rattle.std.specs.Prelude.{◌≡◌, true, [], Result, Ok};
 ghost use Rattle.ec_bound_shape.specs.Counts.{are_counted};
 ghost use Rattle.ec_language.specs.Letters.{Text, each};
-ghost use Rattle.ec_phases.specs.Sources.{BoundProgram, ReadsSource};
+ghost use Rattle.ec_bound_shape.specs.ec_phases.Sources.{BoundProgram, ReadsSource};
 ghost use Rattle.ec_writing.specs.Shapes.{is_byte, is_written_shape};
 ghost use Rattle.ec_written_sources.specs.Written.{written_of};
 
 use ec_bound_shape::accepted_hosts_can_be_written;
+use ec_bound_shape::ec_written_shape::{
+    blocks_have_written_shape, expanded_programs_have_written_shape,
+};
 use ec_kept_shape::phases_keep_what_is_written;
 use ec_source_shape::{derived_trees_have_source_shape, sources_have_source_shape};
-use ec_written_shape::{blocks_have_written_shape, expanded_programs_have_written_shape};
 
 /// What is written of an accepted source has the written shape, so that it is read back, if it has no embedded statement, or
 /// the sizes and counts of the hosts of each are of type long.

@@ -6,7 +6,7 @@ ghost use Rattle.ec_typing.specs.Types as rule;
 ghost use Rattle.ec_type_rules.specs.Views.{type_view};
 ghost use Rattle.ec_type_rules.specs.Words.{counts_in, named_view, type_by_counts};
 
-use ec_base::Name;
+use ec_ctypes::ec_base::Name;
 use ec_ctypes::{Arith, Ty};
 
 /// What a set of type words names.

@@ -1,5 +1,5 @@
 use Rattle.std.specs.Prelude.{false, []}
-use Rattle.ec_bound_shape.specs.Numbers.{tops_numbers}
+use Rattle.ec_shape_law.specs.ec_bound_shape.Numbers.{tops_numbers}
 use Rattle.ec_typing.specs.Answers.{checked}
 use Rattle.ec_block_law.proofs.Accepting.{statements_copied}
 use Rattle.ec_block_law.proofs.laws.embedded_statements_are_copied.Goals as goal

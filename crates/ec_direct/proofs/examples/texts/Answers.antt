@@ -2,23 +2,23 @@
 use Rattle.std.proofs.Common.{refl}
 use Rattle.std.specs.Fmt.{digits}
 use Rattle.ec_calls.specs.Outcomes.{counted_area, fresh_area, told_area, warned_area}
-use Rattle.ec_embedded.specs.Connections.{autocommit_form, connect_form, disconnect_form, parted_tail, plain_tail, set_connection_form, target_form, user_form}
-use Rattle.ec_embedded.specs.Descriptors.{allocate_form, assigned_form, behind_host_form, get_form, got_form, item_form, other_item_form, set_form, set_item_form, set_value_form, setting_form}
-use Rattle.ec_embedded.specs.Directives.{action_form, argument_form, arguments_form, condition_form, cursor_form, do_form, include_form, whenever_form}
-use Rattle.ec_embedded.specs.Dynamic.{deallocate_at_form, deallocate_form, execute_form, lists_form, open_form, prepare_form}
-use Rattle.ec_embedded.specs.References.{constant_form, indicator_form, ins_form, name_form, outs_form, spelled_indicator_form, spelled_text_form, spelled_value_form, statement_text_form, suffix_form, text_form, using_form, value_form}
-use Rattle.ec_embedded.specs.ServerText.{host_at, into_list, reference_at, server_at, transaction_at}
-use Rattle.ec_embedded.specs.Statements.{at_form, declare_at}
+use Rattle.ec_hosts.specs.ec_embedded.Connections.{autocommit_form, connect_form, disconnect_form, parted_tail, plain_tail, set_connection_form, target_form, user_form}
+use Rattle.ec_hosts.specs.ec_embedded.Descriptors.{allocate_form, assigned_form, behind_host_form, get_form, got_form, item_form, other_item_form, set_form, set_item_form, set_value_form, setting_form}
+use Rattle.ec_hosts.specs.ec_embedded.Directives.{action_form, argument_form, arguments_form, condition_form, cursor_form, do_form, include_form, whenever_form}
+use Rattle.ec_hosts.specs.ec_embedded.Dynamic.{deallocate_at_form, deallocate_form, execute_form, lists_form, open_form, prepare_form}
+use Rattle.ec_hosts.specs.ec_embedded.References.{constant_form, indicator_form, ins_form, name_form, outs_form, spelled_indicator_form, spelled_text_form, spelled_value_form, statement_text_form, suffix_form, text_form, using_form, value_form}
+use Rattle.ec_hosts.specs.ec_embedded.ServerText.{host_at, into_list, reference_at, server_at, transaction_at}
+use Rattle.ec_hosts.specs.ec_embedded.Statements.{at_form, declare_at}
 use Rattle.ec_resolving.specs.Expressions.{library_literal}
 use Rattle.ec_resolving.specs.Initializers.{stored_at}
 use Rattle.ec_resolving.specs.Storage.{arrange, ask as ask_in_resolving_storage, chain as chain_in_resolving_storage, checks, pure as pure_in_resolving_storage, stored}
-use Rattle.ec_typing.specs.Embedded.{denote, members_rule, reference_rule}
-use Rattle.ec_typing.specs.Expressions.{begin_struct, end_struct, member_named, tag_rule, tagged_struct, type_or_fault, varchar_member, varchar_object, varchar_struct}
-use Rattle.ec_typing.specs.Initializers.{braces_rule, fixed_rule, part_rule, slot_rule, suits_rule}
-use Rattle.ec_typing.specs.Operands.{address_rule, arrow_rule, assign_rule, binary_rule, bump_rule, call_by, call_rule, cast_rule, complete_rule, compound_rule, index_rule, length_rule, member_rule, name_rule, named_by, scalar_cast, sign_rule, size_rule, target_rule, typed, value_rule, within_rule}
-use Rattle.ec_typing.specs.Programs.{begin_function, know_function, main_rule, plain_param, result_rule}
-use Rattle.ec_typing.specs.Statements.{condition_rule, object_rule, return_nothing, return_rule, tag_alone}
-use Rattle.ec_typing.specs.Worlds.{ask as ask_in_typing_worlds, chain as chain_in_typing_worlds, change, declare, declare_label, demand, enter, free_name, free_tag, instead, keep_within, know_better, leave, new_struct, note, number_as, place, pure as pure_in_typing_worlds, set_struct}
+use Rattle.ec_hosts.specs.ec_typing.Embedded.{denote, members_rule, reference_rule}
+use Rattle.ec_hosts.specs.ec_typing.Expressions.{begin_struct, end_struct, member_named, tag_rule, tagged_struct, type_or_fault, varchar_member, varchar_object, varchar_struct}
+use Rattle.ec_hosts.specs.ec_typing.Initializers.{braces_rule, fixed_rule, part_rule, slot_rule, suits_rule}
+use Rattle.ec_hosts.specs.ec_typing.Operands.{address_rule, arrow_rule, assign_rule, binary_rule, bump_rule, call_by, call_rule, cast_rule, complete_rule, compound_rule, index_rule, length_rule, member_rule, name_rule, named_by, scalar_cast, sign_rule, size_rule, target_rule, typed, value_rule, within_rule}
+use Rattle.ec_hosts.specs.ec_typing.Programs.{begin_function, know_function, main_rule, plain_param, result_rule}
+use Rattle.ec_hosts.specs.ec_typing.Statements.{condition_rule, object_rule, return_nothing, return_rule, tag_alone}
+use Rattle.ec_hosts.specs.ec_typing.Worlds.{ask as ask_in_typing_worlds, chain as chain_in_typing_worlds, change, declare, declare_label, demand, enter, free_name, free_tag, instead, keep_within, know_better, leave, new_struct, note, number_as, place, pure as pure_in_typing_worlds, set_struct}
 use Rattle.ec_direct.proofs.examples.texts.Goals as goal
 
 pub returns-clause-counted : goal.returns-clause-counted

@@ -2,7 +2,7 @@ use Rattle.std.proofs.Common.{◌∙◌, ap}
 use Rattle.ec_ctypes.specs.views.Types.{ty_view}
 use Rattle.ec_resolving.specs.Conversions.{size_or_none}
 use Rattle.ec_scopes.specs.Seen.{world_of}
-use Rattle.ec_typing.specs.Worlds.{shape_in}
+use Rattle.ec_type_rules.specs.ec_typing.Worlds.{shape_in}
 use Rattle.ec_forms.specs.Readings.{shape_by}
 use Rattle.ec_forms.proofs.Sizing.{shape_measured}
 use Rattle.ec_forms.proofs.sizes.size_of.Goals as goal

@@ -1,4 +1,4 @@
-use Rattle.ec_place_law.specs.References.{tables_of}
+use Rattle.ec_table_law.specs.ec_place_law.References.{tables_of}
 use Rattle.ec_host_law.proofs.HostsWalk.{parts_lead}
 use Rattle.ec_host_law.proofs.laws.parts_lead_to_their_places.Goals as goal
 

@@ -1,6 +1,6 @@
-use Rattle.ec_argument_law.specs.Bound.{cursor_of}
-use Rattle.ec_hosts.specs.Programs.{names_count}
-use Rattle.ec_place_law.specs.References.{tables_of}
+use Rattle.ec_table_law.specs.ec_argument_law.Bound.{cursor_of}
+use Rattle.ec_table_law.specs.ec_hosts.Programs.{names_count}
+use Rattle.ec_table_law.specs.ec_place_law.References.{tables_of}
 use Rattle.std.proofs.Common.{take}
 use Rattle.ec_host_law.proofs.HostsWalk.{statement_leads}
 use Rattle.ec_host_law.proofs.TextsNamed.{texts_named, text_held}

@@ -1,4 +1,4 @@
-use Rattle.ec_block_law.specs.Accepted.{StatementLaws}
+use Rattle.ec_object_law.specs.ec_block_law.Accepted.{StatementLaws}
 use Rattle.ec_meaning_law.proofs.Accepted.{numbers_of, shape_of}
 use Rattle.ec_meaning_law.proofs.Meanings.{without_violation, means, counted}
 use Rattle.ec_meaning_law.proofs.sources.sources_mean_what_is_written.Goals as goal

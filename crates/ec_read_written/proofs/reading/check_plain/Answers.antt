@@ -1,6 +1,6 @@
 use Rattle.std.proofs.Common.{Ok}
 use Rattle.ec_ctypes.specs.views.Units.{unit_view}
-use Rattle.ec_sections.specs.Answers.{hosts_answer}
+use Rattle.ec_declare.specs.ec_sections.Answers.{hosts_answer}
 use Rattle.ec_written.specs.Written.{checked_plain}
 use Rattle.ec_read_written.proofs.Checks.{sections_found, sections_told}
 use Rattle.ec_read_written.proofs.reading.check_plain.Goals as goal

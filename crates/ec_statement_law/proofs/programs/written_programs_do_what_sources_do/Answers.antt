@@ -1,6 +1,6 @@
 use Rattle.std.specs.Prelude.{false}
-use Rattle.ec_evaluation.specs.Whole.{opening_state, observed}
-use Rattle.ec_resolving.specs.Programs.{resolve, embedded_statements_of}
+use Rattle.ec_direct.specs.ec_evaluation.Whole.{opening_state, observed}
+use Rattle.ec_direct.specs.ec_resolving.Programs.{resolve, embedded_statements_of}
 use Rattle.ec_statement_law.proofs.Whole.{programs_same}
 use Rattle.ec_statement_law.proofs.programs.written_programs_do_what_sources_do.Goals as goal
 

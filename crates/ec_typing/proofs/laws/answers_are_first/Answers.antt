@@ -1,5 +1,5 @@
 use Rattle.std.proofs.Common.{refl}
-use Rattle.ec_language.specs.First.{first_of}
+use Rattle.ec_statement_parts.specs.ec_language.First.{first_of}
 use Rattle.ec_typing.specs.Answers.{violations, checked}
 use Rattle.ec_typing.proofs.First.{refused_first, typed_without}
 use Rattle.ec_typing.proofs.laws.answers_are_first.Goals as goal

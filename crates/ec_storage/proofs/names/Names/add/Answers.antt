@@ -1,5 +1,5 @@
 use Rattle.std.proofs.Common.{◌≡◌, ◌∙◌, ap, true, false, is_some, rules}
-use Rattle.ec_typing.specs.Tables.{find, put}
+use Rattle.ec_scopes.specs.ec_typing.Tables.{find, put}
 use Rattle.ec_storage.proofs.Placing.{there, added, still_placed, now_seen}
 use Rattle.ec_storage.proofs.names.Names.add.Goals as goal
 

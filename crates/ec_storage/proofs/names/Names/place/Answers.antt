@@ -1,5 +1,5 @@
 use Rattle.std.proofs.Common.{◌≡◌, ◌∙◌, Some, None, rules}
-use Rattle.ec_typing.specs.Tables.{find}
+use Rattle.ec_scopes.specs.ec_typing.Tables.{find}
 use Rattle.ec_storage.proofs.Placing.{place_found, place_missing}
 use Rattle.ec_storage.proofs.names.Names.place.Goals as goal
 

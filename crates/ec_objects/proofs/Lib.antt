@@ -1,0 +1,1 @@
+pub use Rattle.ec_ctypes.proofs as ec_ctypes_proofs
