@@ -1,2 +1,3 @@
+pub use Rattle.ec_source.proofs as ec_source_proofs
 pub mod BoundLists
 pub mod Telling
