@@ -13,7 +13,7 @@ use Rattle.ec_writing.specs.Shapes.{is_byte}
 use Rattle.ec_translation.specs.Accepted.{IsAcceptedText}
 use Rattle.ec_run_law.specs.Runs.{IsReadBackAs, IsRunOf, KeepsItsMeaning}
 use Rattle.ec_run.specs.Meanings.{MeansSource, KeepsMeaning}
-use Rattle.ec_run.specs.Runnable.{IsRunnable, run_as, refused, accepted}
+use Rattle.ec_run.specs.Runnable.{IsRunnable, IsRunAs, refused, accepted, run, limited, unmade}
 
 text_in : Text → Result Text Stop → Text
 text_in w (Ok t) = t
@@ -32,21 +32,26 @@ module _ (single : HasOneTranslation)
   unfolding text_in
   is_text q reads = ap (text_in w) (single text (Ok (text_of_program q)) (Ok w) (translation (Ok q) reads refl) h)
 
-  run_of : (p q : BoundProgram) (x : Result written.Executable Stop) → ReadsSource text (Ok q)
-      → IsProgram (text_of_program q) x → Ok p ≡ run_as q x → MeansSource p w
+  run_of : (p q : BoundProgram) (x : written.Executable) → ReadsSource text (Ok q)
+      → IsProgram (text_of_program q) (Ok x) → Ok p ≡ Ok q → MeansSource p w
   unfolding program_in
-  run_of p q (Ok x) reads is e =
+  run_of p q x reads is e =
       let same : q ≡ p = sym (ap (program_in p) e) in
       subst (λ r. MeansSource r w) same (record {
         executable = x;
         is = subst (λ t. IsProgram t (Ok x)) (is_text q reads) is;
         means = (runs text q (record { bytes = bytes; reads = reads }) (Ok x) is).means;
       })
-  run_of p q (Err stop) reads is e = absurd (cc)
+
+  run_as : (p q : BoundProgram) (x : Result written.Executable Stop) → ReadsSource text (Ok q)
+      → IsProgram (text_of_program q) x → IsRunAs text q (Ok p) x → MeansSource p w
+  run_as p q _ reads is (run x e) = run_of p q x reads is e
+  run_as p q _ reads is (limited limit e) = absurd (cc)
+  run_as p q _ reads is (unmade kind line word u e) = absurd (cc)
 
   runs_too : (p : BoundProgram) → IsRunnable text (Ok p) → MeansSource p w
   runs_too p (refused stop reads e) = absurd (cc)
-  runs_too p (accepted q x reads is e) = run_of p q x reads is e
+  runs_too p (accepted q x reads is e) = run_as p q x reads is e
 
   pub kept : KeepsMeaning text w
   kept = record {

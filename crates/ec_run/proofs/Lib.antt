@@ -1,2 +1,6 @@
 mod Keeping
-pub mod Telling
+mod Lines
+mod Placing
+mod Telling
+mod Unmade
+mod Words

@@ -2,6 +2,9 @@
 use Rattle.std.proofs.Common.{◌≡◌, ◌∙◌, ◌<◌, ℕ, suc, true, ◌&&◌, [], ◌∷◌, refl, sym, ap, subst, Result, Ok, Err}
 use Rattle.std.proofs.lemmas.Bool.{lt-ltb}
 use Rattle.std.specs.Prelude.{get_or}
+use Rattle.ec_base.specs.declared.fault.FaultKind.{FaultKind}
+use Rattle.ec_base.specs.declared.fault.FaultKind.TheVariants.{F9}
+use Rattle.ec_base.specs.declared.line.Line.{Line}
 use Rattle.ec_base.specs.declared.stop.Stop.{Stop}
 use Rattle.ec_base.specs.declared.stop.Stop.TheVariants.{Refused, Limit, OutOfMemory}
 use Rattle.ec_execute.specs.declared.executable.Executable.{Executable}
@@ -12,12 +15,13 @@ use Rattle.ec_execute.specs.ec_execution.Programs.{IsProgram}
 use Rattle.ec_language.specs.Letters.{Text, each}
 use Rattle.ec_translation.specs.ec_phases.Sources.{BoundProgram, ReadsSource}
 use Rattle.ec_translate.specs.Answers.{TellsTranslation}
+use Rattle.ec_translation.specs.Laws.{HasOneTranslation}
 use Rattle.ec_translation.specs.Translations.{text_of_program, translated, IsTranslation, translation}
 use Rattle.ec_writing.specs.Shapes.{is_byte}
 use Rattle.ec_translation.specs.Accepted.{IsAcceptedText}
 use Rattle.ec_run_law.specs.Runs.{IsRunOf}
-use Rattle.ec_run.specs.Answers.{TellsRunnable}
-use Rattle.ec_run.specs.Runnable.{of_written, refused, accepted}
+use Rattle.ec_run.specs.Answers.{RefusesWritten, TellsRunnable}
+use Rattle.ec_run.specs.Runnable.{IsUnmadeIn, refused, accepted, run, limited, unmade}
 
 -- ---- the text
 
@@ -64,7 +68,8 @@ not_translated text (Refused kind line) h = refused (Refused kind line) (refused
 not_translated text (Limit limit) h = refused (Limit limit) (refused_of text (Limit limit) h) refl
 not_translated text OutOfMemory h = tt
 
-module _ (runs : (text : Text) (p : BoundProgram) → IsAcceptedText text p → (x : Result written.Executable Stop) → IsProgram (text_of_program p) x → IsRunOf p x)
+module _ (single : HasOneTranslation)
+    (runs : (text : Text) (p : BoundProgram) → IsAcceptedText text p → (x : Result written.Executable Stop) → IsProgram (text_of_program p) x → IsRunOf p x)
     (text w : Text) (bytes : each is_byte text ≡ true) (h : IsTranslation text (Ok w)) where
   s : IsOf text w
   s = of_translation text w h
@@ -80,11 +85,25 @@ module _ (runs : (text : Text) (p : BoundProgram) → IsAcceptedText text p → 
       let x = Ok (executable_view executable) in
       record {
         program = s.program;
-        is = accepted s.program x s.reads (here x is) refl;
+        is = accepted s.program x s.reads (here x is) (run (executable_view executable) refl);
         means = (runs text s.program accepted_is x (here x is)).means;
       }
 
-  pub told_on : (stop : Stop) → TellsProgram w (Err stop) → TellsRunnable text (Err (of_written stop))
-  told_on (Refused kind line) is = accepted s.program (Err (Refused kind line)) s.reads (here (Err (Refused kind line)) is) refl
-  told_on (Limit limit) is = accepted s.program (Err (Limit limit)) s.reads (here (Err (Limit limit)) is) refl
-  told_on OutOfMemory is = tt
+  -- a program that is the source of which this is written
+  program_in : (q : BoundProgram) → ReadsSource text (Ok q) → text_of_program q ≡ w
+  unfolding text_in
+  program_in q reads = ap (text_in w) (single text (Ok (text_of_program q)) (Ok w) (translation (Ok q) reads refl) h)
+
+  unmade_told : (kind : FaultKind) (line word : Line) → IsProgram w (Err (Refused kind line)) → IsUnmadeIn text word → TellsRunnable text (Err (Refused F9 word))
+  unmade_told kind line word is u =
+      accepted u.program (Err (Refused kind line)) u.reads (subst (λ t. IsProgram t (Err (Refused kind line))) (sym (program_in u.program u.reads)) is)
+      (unmade kind line word u.unmade refl)
+
+  pub told_on : (stop told : Stop) → TellsProgram w (Err stop) → RefusesWritten text stop told → TellsRunnable text (Err told)
+  told_on (Refused kind line) (Refused fault word) is r = subst (λ f. TellsRunnable text (Err (Refused f word))) (sym r.0) (unmade_told kind line word is r.1)
+  told_on (Refused kind line) (Limit limit) is r = absurd r
+  told_on (Refused kind line) OutOfMemory is r = tt
+  told_on (Limit limit) told is r =
+      subst (λ s. TellsRunnable text (Err s)) (sym r)
+      (accepted s.program (Err (Limit limit)) s.reads (here (Err (Limit limit)) is) (limited limit refl))
+  told_on OutOfMemory told is r = subst (λ s. TellsRunnable text (Err s)) (sym r) tt

@@ -2,7 +2,9 @@
 #![tactic(auto)]
 
 mod laws;
+mod placing;
 mod reading;
+mod unmade;
 mod writing;
 
 pub use ec_execute;

@@ -2,21 +2,25 @@
 
 ghost use Rattle.std.specs.Prelude.{◌≡◌, Ok};
 ghost use Rattle.ec_translation.specs.Translations.{IsTranslation};
-ghost use Rattle.ec_run.specs.Answers.{TellsRunnable};
-ghost use Rattle.ec_run.specs.Runnable as runnable;
+ghost use Rattle.ec_run.specs.Answers.{RefusesWritten, TellsRunnable};
 
+use crate::unmade::unmade_line;
 use ec_base::{FaultKind, Stop};
 use ec_execute::{Executable, read_program};
 use ec_run_law::written_texts_are_run;
 use ec_translate::translate;
+use ec_translation::translations_are_single;
 use std::alloc::Global;
 
-// Why a source isn't run, by why the C isn't that is written of it.
-fn of_written(stop: Stop) -> Stop
-    ensures { result ≡ runnable.of_written stop }
+// Why a source isn't run whose written C isn't: a call is made that the library doesn't make yet, or a limit is passed.
+fn refusal(alloc: Global, text: &[u8], stop: Stop) -> Stop
+    ensures { RefusesWritten text.now stop result }
 {
     match stop {
-        Stop::Refused(_, line) => Stop::Refused(FaultKind::F9, line),
+        Stop::Refused(_, _) => match unmade_line(alloc, text) {
+            Some(line) => Stop::Refused(FaultKind::F9, line),
+            None => Stop::OutOfMemory,
+        },
         Stop::Limit(limit) => Stop::Limit(limit),
         Stop::OutOfMemory => Stop::OutOfMemory,
     }
@@ -28,9 +32,10 @@ fn read_back(alloc: Global, text: &[u8], written: &[u8]) -> Result<Executable, S
     ensures { TellsRunnable text.now result }
 {
     written_texts_are_run();
+    translations_are_single();
     match read_program(alloc, written) {
         Ok(executable) => Ok(executable),
-        Err(stop) => Err(of_written(stop)),
+        Err(stop) => Err(refusal(alloc, text, stop)),
     }
 }
 
@@ -38,8 +43,8 @@ fn read_back(alloc: Global, text: &[u8], written: &[u8]) -> Result<Executable, S
 ///
 /// # Errors
 ///
-/// What `translate` refuses the source for. Of a source that is accepted: F9 on the line of the first statement whose call the library doesn't make yet;
-/// and the limits L2, L3 and L6 where the C that is written passes one.
+/// What `translate` refuses the source for. Of a source that is accepted: F9 on the line of the first word behind EXEC SQL of the first
+/// statement whose call the library doesn't make yet; and the limits L2, L3 and L6 where the C that is written passes one.
 pub fn read_source(alloc: Global, text: &[u8]) -> Result<Executable, Stop>
     ensures { TellsRunnable text.now result }
 {
