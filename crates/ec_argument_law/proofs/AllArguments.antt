@@ -10,7 +10,7 @@ use Rattle.ec_written.specs.ec_typing.Known.{with_symbols, is_symbol, is_no_expr
 use Rattle.ec_written.specs.ec_typing.Operands as checked
 use Rattle.ec_written.specs.ec_typing.Operands.{name_rule as check_name, named_by as check_named, value_rule as check_value}
 use Rattle.ec_written.specs.ec_typing.Worlds.{Place, EntryData, World, look_up, chain as check_chain, pure as check_pure, ask as check_ask}
-use Rattle.ec_statement_law.specs.ec_objects.Memory.{address}
+use Rattle.ec_objects.specs.Memory.{address}
 use Rattle.ec_statement_law.specs.ec_resolved.Resolved.{Exp, constant}
 use Rattle.ec_statement_law.specs.ec_resolving.Storage.{Storage, Resolving, Reached, reached, followed, chain, pure, checks, ask, stored}
 use Rattle.ec_statement_law.specs.ec_resolving.Operands.{Found, found as found_of, named_exp, value_rule, no_expression, is_library_literal, argument_of, pointer_argument}

@@ -8,7 +8,7 @@ use Rattle.ec_ctypes.specs.trees.Types.{TyData, void, arithmetic, pointer, array
 use Rattle.ec_statement_law.specs.ec_hosts.Leaves.{Path, LeafData}
 use Rattle.ec_statement_law.specs.ec_hosts.Places as written
 use Rattle.ec_statement_law.specs.ec_hosts.Places.{size_of, pointer_to, leaf_pointer}
-use Rattle.ec_statement_law.specs.ec_objects.Memory.{number}
+use Rattle.ec_objects.specs.Memory.{number}
 use Rattle.ec_statement_law.specs.ec_resolved.Operations.{pointer_plus}
 use Rattle.ec_statement_law.specs.ec_resolved.Resolved.{Exp, member, constant, operate, faulty}
 use Rattle.ec_written.specs.ec_typing.Answers.{place_of, renumbered}

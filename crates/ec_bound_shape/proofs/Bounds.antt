@@ -32,8 +32,8 @@ use Rattle.ec_statement_parts.specs.References.{references}
 use Rattle.ec_typing.specs.Answers.{checked, struct_order, struct_members, listed_members, struct_data, structs_of, typed_of, stop_of_unit, check_answer}
 use Rattle.ec_typing.specs.Answers as typing
 use Rattle.ec_typing.specs.Worlds.{MembersData, unlisted, begun, listed, StructInfo, World}
-use Rattle.ec_phases.specs.ec_whenever.Tables.{table_of, AnswersFor}
-use Rattle.ec_phases.proofs.ec_whenever_proofs.Tables.{table_answers}
+use Rattle.ec_whenever.specs.Tables.{table_of, AnswersFor}
+use Rattle.ec_whenever.proofs.Tables.{table_answers}
 use Rattle.ec_writing.specs.Shapes.{is_byte}
 use Rattle.ec_written_shape.specs.ec_source_shape.SourceShape.{are_source_tokens, are_source_tops, is_source_shape}
 use Rattle.ec_written_shape.specs.Bounds.{is_written_action_option, are_written_actions, is_written_bound}

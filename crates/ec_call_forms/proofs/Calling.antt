@@ -10,8 +10,8 @@ use Rattle.ec_language.specs.Letters.{Text}
 use Rattle.ec_resolved.specs.Resolved.{Exp}
 use Rattle.ec_resolving.specs.Operands as of
 use Rattle.ec_resolving.specs.Storage.{Resolving, chain, pure, checks, ask, stored}
-use Rattle.ec_forms.specs.ec_scopes.Seen.{world_of, IsDone}
-use Rattle.ec_forms.specs.ec_storage.Stored.{storage_of}
+use Rattle.ec_scopes.specs.Seen.{world_of, IsDone}
+use Rattle.ec_storage.specs.Stored.{storage_of}
 use Rattle.ec_typing.specs.Library.{library_call}
 use Rattle.ec_typing.specs.Operands.{OperandData}
 use Rattle.ec_typing.specs.Worlds.{Rule, look_up}

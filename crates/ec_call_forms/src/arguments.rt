@@ -7,8 +7,8 @@ ghost use Rattle.ec_ctypes.specs.views.Exprs.{expr_view, exprs_view};
 ghost use Rattle.ec_ctypes.specs.views.Types.{ty_view};
 ghost use Rattle.ec_forms.specs.Seen.{found_view, founds_view};
 ghost use Rattle.ec_resolving.specs.Operands as rule;
-ghost use Rattle.ec_forms.specs.ec_storage.Stored.{argument_view};
-ghost use Rattle.ec_forms.specs.ec_type_rules.Views.{type_view};
+ghost use Rattle.ec_storage.specs.Stored.{argument_view};
+ghost use Rattle.ec_type_rules.specs.Views.{type_view};
 ghost use Rattle.ec_typing.specs.Known.{symbols};
 ghost use Rattle.ec_typing.specs.Library.{named_among};
 
@@ -17,7 +17,7 @@ use ec_base::{List, OutOfMemory};
 use ec_code::Expression;
 use ec_ctypes::{Expr, Ty};
 use ec_forms::Found;
-use ec_forms::ec_storage::Argument;
+use ec_storage::Argument;
 use std::alloc::Global;
 
 /// A pointer, or what no call takes.

@@ -6,10 +6,10 @@ ghost use Rattle.ec_code.specs.Views.{expression_view};
 ghost use Rattle.ec_ctypes.specs.views.Exprs.{exprs_view};
 ghost use Rattle.ec_forms.specs.Seen.{found_view, founds_view, from, Reaches};
 ghost use Rattle.ec_resolving.specs.Operands as rule;
-ghost use Rattle.ec_forms.specs.ec_scopes.Entries.{place_view};
-ghost use Rattle.ec_forms.specs.ec_scopes.Seen.{world_of};
-ghost use Rattle.ec_forms.specs.ec_storage.Stored.{storage_of};
-ghost use Rattle.ec_forms.specs.ec_type_rules.Views.{type_view};
+ghost use Rattle.ec_scopes.specs.Entries.{place_view};
+ghost use Rattle.ec_scopes.specs.Seen.{world_of};
+ghost use Rattle.ec_storage.specs.Stored.{storage_of};
+ghost use Rattle.ec_type_rules.specs.Views.{type_view};
 ghost use Rattle.ec_typing.specs.Worlds.{look_up};
 
 use crate::known::known_call;
@@ -17,14 +17,14 @@ use crate::library::library_called;
 use crate::operands::operands_of;
 use ec_base::{List, OutOfMemory};
 use ec_code::Expression;
+use ec_conversions::faulty;
 use ec_ctypes::{Expr, Ty};
-use ec_forms::ec_conversions::faulty;
-use ec_forms::ec_rules::call_rule as checked_call;
-use ec_forms::ec_scopes::{Checker, Entry, Place};
-use ec_forms::ec_storage::Storage;
-use ec_forms::ec_type_rules::is_void;
 use ec_forms::{Found, Resolver, passed};
 use ec_known::library_call;
+use ec_rules::call_rule as checked_call;
+use ec_scopes::{Checker, Entry, Place};
+use ec_storage::Storage;
+use ec_type_rules::is_void;
 use std::alloc::Global;
 
 /// Whether a call with a result of this type has a value that can be used.

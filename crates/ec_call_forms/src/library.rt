@@ -11,8 +11,8 @@ use crate::arguments::arguments_of_call;
 use ec_base::{List, OutOfMemory};
 use ec_code::Expression;
 use ec_ctypes::{Expr, LibName};
-use ec_forms::ec_storage::LibraryCall;
 use ec_forms::{Found, Resolver};
+use ec_storage::LibraryCall;
 
 /// A call of the library, by its number among these.
 pub(crate) fn library_called(

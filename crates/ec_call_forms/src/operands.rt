@@ -3,11 +3,11 @@
 ghost use Rattle.std.specs.Prelude.{◌≡◌, IfOk};
 ghost use Rattle.ec_forms.specs.Seen.{founds_view};
 ghost use Rattle.ec_resolving.specs.Operands as rule;
-ghost use Rattle.ec_forms.specs.ec_rules.Seen.{operand_view, operands_view};
+ghost use Rattle.ec_rules.specs.Seen.{operand_view, operands_view};
 
 use ec_base::{List, OutOfMemory};
 use ec_forms::Found;
-use ec_forms::ec_rules::{Operand, copy_type};
+use ec_rules::{Operand, copy_type};
 use std::alloc::Global;
 
 /// A copy of what is found out about an expression.

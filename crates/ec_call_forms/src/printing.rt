@@ -12,9 +12,9 @@ ghost use Rattle.ec_call_forms.specs.Printing.{stream_channel};
 
 use ec_base::{List, OutOfMemory};
 use ec_code::Expression;
+use ec_conversions::faulty;
 use ec_ctypes::Expr;
 use ec_formats::{Channel, Known, Part};
-use ec_forms::ec_conversions::faulty;
 use ec_forms::{Found, promoted};
 use ec_known::literal_at;
 use ec_printf::format_parts;

@@ -22,13 +22,13 @@ use Rattle.ec_link.specs.declared.logged.Logged.{Logged}
 use Rattle.ec_link.specs.declared.rack.Rack.{Rack}
 use Rattle.ec_link.specs.Logged.{Talk}
 use Rattle.ec_link.specs.Rack.{log_of}
-use Rattle.ec_running.specs.ec_machine.declared.stop.End.TheVariants as ends
-use Rattle.ec_running.specs.ec_machine.declared.stop.Stop.{Stop}
-use Rattle.ec_running.specs.ec_machine.declared.stop.Stop.TheVariants as stop
-use Rattle.ec_running.specs.ec_machine.Goes.{IsOver}
+use Rattle.ec_machine.specs.declared.stop.End.TheVariants as ends
+use Rattle.ec_machine.specs.declared.stop.Stop.{Stop}
+use Rattle.ec_machine.specs.declared.stop.Stop.TheVariants as stop
+use Rattle.ec_machine.specs.Goes.{IsOver}
 use Rattle.ec_objects.specs.Memory.{Memory}
 use Rattle.ec_observed.specs.Observed.{answers_in}
-use Rattle.ec_running.specs.ec_plain.Answered.{at, context, ending_of}
+use Rattle.ec_plain.specs.Answered.{at, context, ending_of}
 use Rattle.ec_resolved.specs.Resolved.{Exp}
 use Rattle.ec_running.specs.Sessions.{Answers, Called, Session, holding, placed, saying}
 use Rattle.ec_runtime.specs.declared.library.Library.{Library}

@@ -5,7 +5,7 @@ use Rattle.ec_bytes.specs.declared.scalar.address.Ptr.{Ptr}
 use Rattle.ec_evaluation.specs.Evaluate.{World}
 use Rattle.ec_evaluation.specs.State.{State}
 use Rattle.ec_objects.specs.Memory.{Memory}
-use Rattle.ec_running.specs.ec_plain.Answered.{at}
+use Rattle.ec_plain.specs.Answered.{at}
 use Rattle.ec_values.specs.declared.word.Stop.{Stop}
 use Rattle.ec_calling.specs.declared.call.Argument.{Argument}
 use Rattle.ec_calling.specs.Giving.{Evaluated, GivenArgument, Gives, GivesOne, Halted, Next, all_seen, evaluated, seen}

@@ -10,7 +10,7 @@ use Rattle.ec_evaluation.specs.Evaluate.{World}
 use Rattle.ec_evaluation.specs.Results.{Res, over}
 use Rattle.ec_evaluation.specs.State.{State}
 use Rattle.ec_objects.specs.Memory.{Memory}
-use Rattle.ec_running.specs.ec_plain.Answered.{at, context, ending_of}
+use Rattle.ec_plain.specs.Answered.{at, context, ending_of}
 use Rattle.ec_resolved.specs.Resolved.{Exp}
 use Rattle.ec_values.specs.declared.word.Stop.{Stop}
 use Rattle.ec_calling.specs.declared.address.Address.{Address}

@@ -6,7 +6,7 @@ use Rattle.ec_evaluation.specs.State.{Answer, State, turns_spent}
 use Rattle.ec_link.specs.declared.logged.Logged.{Logged}
 use Rattle.ec_link.specs.declared.rack.Rack.{Rack}
 use Rattle.ec_link.specs.Rack.{log_of}
-use Rattle.ec_running.specs.ec_machine.declared.stop.Stop.{Stop}
+use Rattle.ec_machine.specs.declared.stop.Stop.{Stop}
 use Rattle.ec_objects.specs.Memory.{Memory}
 use Rattle.ec_observed.specs.Observed.{answers_in}
 use Rattle.ec_running.specs.Sessions.{Answers, Said, Session, holding, placed, saying}

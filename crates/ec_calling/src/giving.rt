@@ -13,7 +13,7 @@ use ec_bytes::Ptr;
 use ec_code::Plain;
 use ec_cut::Argument as Given;
 use ec_memory::Store;
-use ec_running::ec_plain::evaluate;
+use ec_plain::evaluate;
 use ec_values::{Stop, Word};
 use std::alloc::Global;
 

@@ -15,9 +15,9 @@ ghost use Rattle.ec_calling.specs.Serving.{call_seen, cut_seen, member_seen, mem
 use crate::address::Address;
 use ec_base::{Bytes, Line, List};
 use ec_bytes::Ptr;
+use ec_convert::HostPlace;
 use ec_ctypes::Sym;
 use ec_cut::{Call as CutCall, Cut, Indicator, Member, Place, Statement as Asked, Text};
-use ec_runtime::ec_convert::HostPlace;
 use ec_runtime::{Call, Host, Input, Kind, Statement, TextArg};
 use std::alloc::Global;
 

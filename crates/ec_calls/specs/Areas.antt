@@ -1,10 +1,10 @@
 -- SQL descriptors: lists of items, each list with its name (PostgreSQL manual, chapter ECPG, Using Descriptor Areas).
 use Rattle.std.specs.Prelude.{ℕ, zero, suc, ◌-◌, ◌&&◌, true, false, ℤ, pos, int_le, int_lt, unsigned_abs, negsuc, List, [], ◌∷◌, ◌++◌, take, length, replicate, slice_get, Option, Some, None, option_map, option_and_then}
 use Rattle.std.specs.Fmt.{decimal, signed_decimal}
-use Rattle.ec_arguments.specs.ec_ctypes.declared.types.arith.Arith.{Arith}
-use Rattle.ec_arguments.specs.ec_ctypes.declared.types.arith.Arith.TheVariants.{Int}
-use Rattle.ec_arguments.specs.ec_ctypes.declared.embedded.emb.Item.{Item as Kind}
-use Rattle.ec_arguments.specs.ec_ctypes.declared.embedded.emb.Item.TheVariants as item
+use Rattle.ec_ctypes.specs.declared.types.arith.Arith.{Arith}
+use Rattle.ec_ctypes.specs.declared.types.arith.Arith.TheVariants.{Int}
+use Rattle.ec_ctypes.specs.declared.embedded.emb.Item.{Item as Kind}
+use Rattle.ec_ctypes.specs.declared.embedded.emb.Item.TheVariants as item
 use Rattle.ec_link.specs.declared.table.Col.{Col}
 use Rattle.ec_transfer.specs.Conversion.{field_number, fits}
 use Rattle.ec_evaluation.specs.State.{Item}

@@ -2,9 +2,9 @@
 use Rattle.std.specs.Prelude.{ℕ, Bool, true, false, ◌||◌, ℤ, List, [], ◌∷◌, length, slice_set, ◌-◌, Option, Some, None}
 use Rattle.std.specs.Fmt.{decimal}
 use Rattle.ec_arguments.specs.Arguments.{TextArg, Member, host, constant, descriptor, ItemMember}
-use Rattle.ec_arguments.specs.ec_ctypes.declared.embedded.emb.Item.{Item as Kind}
-use Rattle.ec_arguments.specs.ec_ctypes.declared.embedded.emb.Item.TheVariants as item
-use Rattle.ec_arguments.specs.ec_ctypes.declared.types.arith.Arith.TheVariants.{Long}
+use Rattle.ec_ctypes.specs.declared.embedded.emb.Item.{Item as Kind}
+use Rattle.ec_ctypes.specs.declared.embedded.emb.Item.TheVariants as item
+use Rattle.ec_ctypes.specs.declared.types.arith.Arith.TheVariants.{Long}
 use Rattle.ec_transfer.specs.declared.finding.Finding.TheVariants as found
 use Rattle.ec_evaluation.specs.State.{Item, State}
 use Rattle.ec_calls.specs.Outcomes.{Text, Field, stuck, Outcome, gives, over, next, present, begun_area, raised}

@@ -1,9 +1,9 @@
 -- Calls as the worked examples make them, and what is seen of them.
 use Rattle.std.specs.Prelude.{ℕ, Bool, true, ℤ, pos, List, [], ◌∷◌, map, drop, codes, Option, Some, None}
 use Rattle.ec_arguments.specs.Arguments.{absent, word, Member, host, descriptor, normal, Call, run}
-use Rattle.ec_arguments.specs.ec_ctypes.Arithmetic.{converted}
-use Rattle.ec_arguments.specs.ec_ctypes.declared.checked.library.Sym.TheVariants as sym
-use Rattle.ec_arguments.specs.ec_ctypes.declared.types.arith.Arith.TheVariants.{Long}
+use Rattle.ec_ctypes.specs.Arithmetic.{converted}
+use Rattle.ec_ctypes.specs.declared.checked.library.Sym.TheVariants as sym
+use Rattle.ec_ctypes.specs.declared.types.arith.Arith.TheVariants.{Long}
 use Rattle.ec_link.specs.declared.reply.Reply.{Reply}
 use Rattle.ec_link.specs.declared.reply.Reply.TheVariants as reply
 use Rattle.ec_link.specs.declared.reply.Tx.{Tx}
@@ -11,8 +11,8 @@ use Rattle.ec_link.specs.declared.reply.Tx.TheVariants.{Idle}
 use Rattle.ec_link.specs.declared.table.Col.{Col}
 use Rattle.ec_link.specs.declared.request.Request.{Request}
 use Rattle.ec_link.specs.declared.request.Request.TheVariants as request
-use Rattle.ec_evaluation.specs.ec_objects.Cells.{Cell, set_cells, bytes_of, part_of}
-use Rattle.ec_evaluation.specs.ec_objects.Memory.{Memory, ObjectData, alive, ended, little_endian, pointer_to}
+use Rattle.ec_objects.specs.Cells.{Cell, set_cells, bytes_of, part_of}
+use Rattle.ec_objects.specs.Memory.{Memory, ObjectData, alive, ended, little_endian, pointer_to}
 use Rattle.ec_evaluation.specs.ec_resolved.Programs.{sqlca_bytes}
 use Rattle.ec_evaluation.specs.State.{Answer, Connection, Item, State}
 use Rattle.ec_calls.specs.Outcomes.{Text, Field, Halt, Outcome, gives, finished, over}

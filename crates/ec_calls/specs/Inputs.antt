@@ -1,7 +1,7 @@
 -- What a call reads before it does anything: texts, and the values of its inputs, in the order of its arguments. The first trap ends the run.
 use Rattle.std.specs.Prelude.{ℕ, List, [], ◌∷◌, Option, Some, None, option_map, option_and_then}
 use Rattle.ec_arguments.specs.Arguments.{TextArg, absent, word, held, Indicator, Place, Member, host, constant, descriptor}
-use Rattle.ec_evaluation.specs.ec_objects.Memory.{text_at}
+use Rattle.ec_objects.specs.Memory.{text_at}
 use Rattle.ec_transfer.specs.Conversion.{parameter}
 use Rattle.ec_transfer.specs.Hosts.{holding, indicator_type, IndicatorData, HostData}
 use Rattle.ec_evaluation.specs.State.{State}

@@ -1,7 +1,7 @@
 pub use Rattle.ec_evaluation.specs as ec_evaluation
 pub use Rattle.ec_evaluation.specs.ec_functions as ec_functions
 pub use Rattle.ec_link.specs as ec_link
-pub use Rattle.ec_evaluation.specs.ec_objects as ec_objects
+pub use Rattle.ec_objects.specs as ec_objects
 pub use Rattle.ec_transfer.specs as ec_transfer
 pub mod Answers
 pub mod Areas

@@ -2,7 +2,7 @@
 use Rattle.std.specs.Prelude.{ℕ, Bool, true, List, Option, Some, None}
 use Rattle.ec_arguments.specs.Arguments.{Arg, Call, run, connect, disconnect, set_connection, set_autocommit, control, prepare, deallocate, allocate_descriptor, deallocate_descriptor, get_count, set_count, get_items, set_items, Cut}
 use Rattle.ec_arguments.specs.Rules.{cut}
-use Rattle.ec_arguments.specs.ec_ctypes.declared.checked.library.LibName.{LibName}
+use Rattle.ec_ctypes.specs.declared.checked.library.LibName.{LibName}
 use Rattle.ec_evaluation.specs.State.{State}
 use Rattle.ec_calls.specs.Outcomes.{stuck, Outcome, over}
 use Rattle.ec_calls.specs.Running.{run_call}

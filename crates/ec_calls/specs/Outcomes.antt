@@ -1,8 +1,8 @@
 -- What a part of a library call leads to, and how a call goes on from there.
 use Rattle.std.specs.Prelude.{ℕ, ℤ, List, Option, Some, None, Result, Ok, Err}
-use Rattle.ec_link.specs.ec_base.declared.stop.Trap.{Trap}
+use Rattle.ec_base.specs.declared.stop.Trap.{Trap}
 use Rattle.ec_link.specs.declared.request.Request.{Request}
-use Rattle.ec_evaluation.specs.ec_objects.Memory.{Memory}
+use Rattle.ec_objects.specs.Memory.{Memory}
 use Rattle.ec_transfer.specs.declared.finding.Finding.{Finding}
 use Rattle.ec_transfer.specs.Area.{area_reset, area_raised, area_warned, area_counted}
 use Rattle.ec_transfer.specs.Codes.{code_of, state_of, text_of_finding}

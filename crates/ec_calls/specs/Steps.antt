@@ -1,7 +1,7 @@
 -- A call of the library in a program: its arguments are evaluated from left to right, it takes its turn, and it does what it does. Its traps are at the line of the statement that it stands in; the line that it is given is that of its messages.
 use Rattle.std.specs.Prelude.{ℕ, List, [], ◌∷◌, slice_get, Option, Some, None}
 use Rattle.ec_arguments.specs.Arguments.{Arg, symbol, literal, null, int_constant, long_constant, pointer, stray}
-use Rattle.ec_arguments.specs.ec_ctypes.declared.checked.library.LibName.{LibName}
+use Rattle.ec_ctypes.specs.declared.checked.library.LibName.{LibName}
 use Rattle.ec_evaluation.specs.ec_resolved.Resolved.{Exp, embedded, library}
 use Rattle.ec_evaluation.specs.State.{State, trapped, waits, Ending}
 use Rattle.ec_evaluation.specs.State as state

@@ -1,7 +1,7 @@
 -- What is done with the rows of an answer.
 use Rattle.std.specs.Prelude.{ℕ, suc, nat_lt, Bool, true, false, ℤ, ◌&&◌, int_le, List, [], ◌∷◌, length, slice_get, Some, None, Ok, Err}
 use Rattle.ec_arguments.specs.Arguments.{Place}
-use Rattle.ec_evaluation.specs.ec_objects.Memory.{Memory}
+use Rattle.ec_objects.specs.Memory.{Memory}
 use Rattle.ec_transfer.specs.declared.finding.Finding.{Finding}
 use Rattle.ec_transfer.specs.declared.finding.Finding.TheVariants as found
 use Rattle.ec_transfer.specs.Codes.{code_of}

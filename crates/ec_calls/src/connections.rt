@@ -3,7 +3,7 @@
 
 ghost use Rattle.std.specs.Prelude.{◌≡◌, true, false, pos, negsuc, [], ◌∷◌, ◌++◌, Some, None, codes};
 ghost use Rattle.ec_arguments.specs.Arguments.{absent, word, held, descriptor, normal, prepared, opening, run, connect, disconnect, set_connection, set_autocommit, control, prepare, deallocate};
-ghost use Rattle.ec_link.specs.ec_base.declared.stop.Trap.TheVariants as trap;
+ghost use Rattle.ec_base.specs.declared.stop.Trap.TheVariants as trap;
 ghost use Rattle.ec_link.specs.declared.reply.Reply.TheVariants as reply;
 ghost use Rattle.ec_link.specs.declared.reply.Tx.TheVariants as tx;
 ghost use Rattle.ec_link.specs.declared.request.Request.TheVariants as request;

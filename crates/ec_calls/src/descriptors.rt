@@ -3,8 +3,8 @@
 
 ghost use Rattle.std.specs.Prelude.{◌≡◌, true, false, pos, negsuc, [], ◌∷◌, ◌++◌, Some, None, codes, replicate};
 ghost use Rattle.ec_arguments.specs.Arguments.{absent, word, held, constant, descriptor, normal, run, allocate_descriptor, deallocate_descriptor, get_count, set_count, get_items, set_items};
-ghost use Rattle.ec_link.specs.ec_base.declared.stop.Trap.TheVariants as trap;
-ghost use Rattle.ec_arguments.specs.ec_ctypes.declared.embedded.emb.Item.TheVariants as item;
+ghost use Rattle.ec_base.specs.declared.stop.Trap.TheVariants as trap;
+ghost use Rattle.ec_ctypes.specs.declared.embedded.emb.Item.TheVariants as item;
 ghost use Rattle.ec_link.specs.declared.reply.Reply.TheVariants as reply;
 ghost use Rattle.ec_link.specs.declared.reply.Tx.TheVariants as tx;
 ghost use Rattle.ec_calls.specs.Areas.{new_item};

@@ -3,13 +3,13 @@
 
 ghost use Rattle.std.specs.Prelude.{◌≡◌, ◌-◌, true, false, pos, negsuc, [], ◌∷◌, ◌++◌, Some, None, codes, replicate};
 ghost use Rattle.ec_arguments.specs.Arguments.{absent, word, held, host, constant, descriptor, normal, prepared, immediate, opening, run};
-ghost use Rattle.ec_link.specs.ec_base.declared.stop.Trap.TheVariants as trap;
-ghost use Rattle.ec_arguments.specs.ec_ctypes.declared.checked.library.Sym.TheVariants as sym;
+ghost use Rattle.ec_base.specs.declared.stop.Trap.TheVariants as trap;
+ghost use Rattle.ec_ctypes.specs.declared.checked.library.Sym.TheVariants as sym;
 ghost use Rattle.ec_link.specs.declared.reply.Reply.TheVariants as reply;
 ghost use Rattle.ec_link.specs.declared.reply.Tx.TheVariants as tx;
 ghost use Rattle.ec_link.specs.declared.request.Request.TheVariants as request;
-ghost use Rattle.ec_evaluation.specs.ec_objects.Cells.{set_cells, unset_cells};
-ghost use Rattle.ec_evaluation.specs.ec_objects.Memory.{alive, ended, pointer_to};
+ghost use Rattle.ec_objects.specs.Cells.{set_cells, unset_cells};
+ghost use Rattle.ec_objects.specs.Memory.{alive, ended, pointer_to};
 ghost use Rattle.ec_calls.specs.Examples.{link, ready, state, bytes, small, from, rows_told, rows_of, column, done, denied, int_in, int_told, chars_in, ints_in, goes_on, halts, does, runs, over_ready, text_sent, well, fails, connections_left};
 ghost use Rattle.ec_calls.specs.Outcomes.{trapped, waiting};
 

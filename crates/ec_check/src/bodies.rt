@@ -9,8 +9,8 @@ ghost use Rattle.ec_typing.specs.Statements as rule;
 
 use ec_base::OutOfMemory;
 use ec_ctypes::{Expr, Ty};
-use ec_initializers::ec_rules::{condition_rule, return_nothing, return_rule, value_rule};
 use ec_initializers::ec_walk::expr;
+use ec_rules::{condition_rule, return_nothing, return_rule, value_rule};
 use ec_scopes::{Checker, Place};
 
 /// A condition.

@@ -7,7 +7,7 @@ ghost use Rattle.ec_language.specs.First.{stop_at};
 ghost use Rattle.ec_scopes.specs.Seen.{world_of, notes_of};
 ghost use Rattle.ec_typed.specs.Orders.{IsNumbered};
 ghost use Rattle.ec_typing.specs.Answers as spec;
-ghost use Rattle.ec_embedded_rules.specs.ec_whenever.Tables.{AnswersFor};
+ghost use Rattle.ec_whenever.specs.Tables.{AnswersFor};
 ghost use Rattle.ec_check.specs.Answers.{Checks};
 
 use crate::defined::add_defined;
@@ -15,7 +15,7 @@ use crate::programs::unit_rule;
 use crate::structs::definitions;
 use ec_base::{OutOfMemory, Stop};
 use ec_ctypes::{HandlerTable, HostTable, Typed, Unit};
-use ec_embedded_rules::ec_parts::Statements;
+use ec_parts::Statements;
 use ec_scopes::{Checker, Table};
 use ec_typed::{Numbered, make_numbered};
 use std::alloc::Global;

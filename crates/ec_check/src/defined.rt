@@ -9,8 +9,8 @@ ghost use Rattle.ec_check.specs.Mains.{is_int_type, is_named_main, is_main_top};
 
 use ec_base::OutOfMemory;
 use ec_ctypes::{Base, Func, Param, Top, Ty};
-use ec_initializers::ec_type_rules::{same_type, words_type};
 use ec_scopes::Table;
+use ec_type_rules::{same_type, words_type};
 use std::alloc::Global;
 
 // Whether this is `int`, written in one way or another.

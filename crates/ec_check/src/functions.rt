@@ -19,13 +19,11 @@ use crate::statements::statements;
 use ec_base::{Boxed, FaultKind, List, Name, OutOfMemory};
 use ec_ctypes::{Func, Param, Stmt, Ty};
 use ec_embedded_rules::Around;
-use ec_embedded_rules::ec_parts::Statements;
-use ec_initializers::ec_rules::{
-    complete_rule, copy_type, declared_type, elements_rule, within_rule,
-};
-use ec_initializers::ec_type_rules::{is_structure, is_void, same_type};
 use ec_initializers::ec_walk::{base, lengths};
+use ec_parts::Statements;
+use ec_rules::{complete_rule, copy_type, declared_type, elements_rule, within_rule};
 use ec_scopes::{Checker, Entry, Place, Table};
+use ec_type_rules::{is_structure, is_void, same_type};
 use std::alloc::Global;
 
 fn may_be_result(ty: &Option<Ty>) -> bool

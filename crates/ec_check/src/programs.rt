@@ -13,7 +13,7 @@ use crate::functions::function_rule;
 use ec_base::{FaultKind, OutOfMemory};
 use ec_ctypes::{Top, Unit};
 use ec_embedded_rules::directive_rule;
-use ec_embedded_rules::ec_parts::Statements;
+use ec_parts::Statements;
 use ec_scopes::Checker;
 
 // What stands at the top level.

@@ -11,7 +11,7 @@ ghost use Rattle.ec_check.specs.Members.{plain_member};
 use crate::objects::type_or_void;
 use ec_base::{List, Name, OutOfMemory};
 use ec_ctypes::{StructDef, Ty};
-use ec_initializers::ec_rules::copy_type;
+use ec_rules::copy_type;
 use ec_scopes::{Members, StructRow, Table};
 use std::alloc::Global;
 

@@ -28,13 +28,13 @@ use Rattle.ec_evaluation.specs.State as evaluation
 use Rattle.ec_evaluation.specs.State.{Answer}
 use Rattle.ec_execution.specs.Programs.{Executable, meaning}
 use Rattle.ec_execution.specs.Runs.{Runs, RunsPart}
-use Rattle.ec_run.specs.ec_execute.declared.running.RunEnd.{RunEnd}
-use Rattle.ec_run.specs.ec_execute.declared.running.RunEnd.TheVariants as ends
-use Rattle.ec_run.specs.ec_execute.declared.executable.Executable as execute
-use Rattle.ec_run.specs.ec_execute.Answers.{TellsProgram}
-use Rattle.ec_run.specs.ec_execute.Ends.{Performs}
-use Rattle.ec_run.specs.ec_execute.Executables.{executable_view}
-use Rattle.ec_run.specs.ec_execute.Runs.{Connects, Ran}
+use Rattle.ec_execute.specs.declared.running.RunEnd.{RunEnd}
+use Rattle.ec_execute.specs.declared.running.RunEnd.TheVariants as ends
+use Rattle.ec_execute.specs.declared.executable.Executable as execute
+use Rattle.ec_execute.specs.Answers.{TellsProgram}
+use Rattle.ec_execute.specs.Ends.{Performs}
+use Rattle.ec_execute.specs.Executables.{executable_view}
+use Rattle.ec_execute.specs.Runs.{Connects, Ran}
 use Rattle.ec_cli.specs.Answers.{IsCrowded, RunsOver, grown}
 use Rattle.ec_cli.specs.Executing.{IsOfProgram, IsOfCarried, IsOfExecution, EndsAs, ending_of_program, limit_of, text_refusal, IsRefusedAs, PassesAs, DecidesExecution, meaning_over, Untouched, CarriedOut, CarriedPart, Carries, RefusesText, ExecutesText, Executes}
 use Rattle.ec_cli.specs.Forms.{Program, IsRunAs, Meaning, meaning_as, RunsText, TellsRun}

@@ -13,8 +13,8 @@ use Rattle.ec_link.specs.Slot.{states, talk_at}
 use Rattle.ec_link.specs.Told.{KeepsTalks, SparesDropped}
 use Rattle.ec_link.proofs.Runs.{KeepsTalks-run, Ran-run, SparesDropped-run}
 use Rattle.ec_link.proofs.Talks.{KeepsTalks-same}
-use Rattle.ec_run.specs.ec_runtime.Calling.{GivesFirst, MayAsk}
-use Rattle.ec_run.specs.ec_execute.Runs.{Takes}
+use Rattle.ec_runtime.specs.Calling.{GivesFirst, MayAsk}
+use Rattle.ec_execute.specs.Runs.{Takes}
 use Rattle.ec_cli.specs.Answers.{RunsOver}
 
 module _ {X : Type 0} {F : X → Type 0} (talk : DynBox X Allocator F → Option Talk) (faults : DynBox X Allocator F → ℕ) where

@@ -21,8 +21,8 @@ use Rattle.ec_evaluation.specs.State as evaluation
 use Rattle.ec_evaluation.specs.State.{Answer}
 use Rattle.ec_evaluation.specs.Whole.{Observed}
 use Rattle.ec_execution.specs.Runs.{Runs, RunsPart}
-use Rattle.ec_run.specs.ec_execute.declared.running.RunEnd.{RunEnd}
-use Rattle.ec_run.specs.ec_execute.declared.running.RunEnd.TheVariants as ends
+use Rattle.ec_execute.specs.declared.running.RunEnd.{RunEnd}
+use Rattle.ec_execute.specs.declared.running.RunEnd.TheVariants as ends
 use Rattle.ec_cli.specs.Answers.{IsCrowded, Announces, RunsOver, grown}
 use Rattle.ec_cli.specs.Forms.{Program, IsRunAs, Meaning, meaning_as}
 use Rattle.ec_cli.specs.declared.form.Form.{Form}

@@ -6,8 +6,8 @@ use Rattle.ec_base.specs.declared.stop.Stop.{Stop}
 use Rattle.ec_base.specs.declared.stop.Stop.TheVariants.{Refused, Limit, OutOfMemory}
 use Rattle.ec_evaluation.specs.State.{Answer}
 use Rattle.ec_evaluation.specs.Whole.{Observed}
-use Rattle.ec_run.specs.ec_execute.declared.executable.Executable.{Executable}
-use Rattle.ec_run.specs.ec_execute.Executables.{executable_view}
+use Rattle.ec_execute.specs.declared.executable.Executable.{Executable}
+use Rattle.ec_execute.specs.Executables.{executable_view}
 use Rattle.ec_execution.specs.Programs as execution
 use Rattle.ec_execution.specs.Programs.{IsProgram, meaning}
 use Rattle.ec_run.specs.ec_phases.Sources.{BoundProgram}

@@ -1,6 +1,6 @@
 //! The commands `run` and `exec`: a source or written C is read, and run.
 ghost use Rattle.std.specs.Prelude.{◌≡◌};
-ghost use Rattle.ec_run.specs.ec_execute.Executables.{executable_view};
+ghost use Rattle.ec_execute.specs.Executables.{executable_view};
 ghost use Rattle.ec_link.specs.Links.{talk_by};
 ghost use Rattle.ec_cli.specs.Answers.{IsCrowded};
 ghost use Rattle.ec_execution.specs.Programs.{meaning};
@@ -11,8 +11,8 @@ use crate::ending::Ending;
 use crate::form::Form;
 use crate::limits::{INPUT_LIMIT, is_crowded};
 use ec_base::{Bytes, InputStop, LimitKind, Sink, Source as Input, Stop, read_all};
+use ec_execute::{Executable, RunEnd, read_program, run};
 use ec_link::{Link, Rack};
-use ec_run::ec_execute::{Executable, RunEnd, read_program, run};
 use ec_run::read_source;
 use std::alloc::Global;
 

@@ -7,7 +7,7 @@ use Rattle.ec_code.specs.declared.step.Leaf.TheVariants as leaf
 use Rattle.ec_code.specs.declared.step.Unary.{Unary}
 use Rattle.ec_code.specs.declared.step.Unary.TheVariants as unary
 use Rattle.ec_code.specs.declared.step.Update.{Update}
-use Rattle.ec_formats.specs.ec_objects.Kinds.{kind_type}
+use Rattle.ec_objects.specs.Kinds.{kind_type}
 use Rattle.ec_values.specs.ec_resolved.Resolved as of
 use Rattle.ec_values.specs.Operations.{operation_view}
 use Rattle.ec_values.specs.Words.{word_view}

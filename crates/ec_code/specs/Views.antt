@@ -1,6 +1,6 @@
 -- The trees of code, as those of the definition.
 use Rattle.std.specs.Prelude.{ℕ, List, map, Option, Some, None, option_map}
-use Rattle.ec_formats.specs.ec_objects.Kinds.{kind_type}
+use Rattle.ec_objects.specs.Kinds.{kind_type}
 use Rattle.ec_values.specs.ec_resolved.Resolved as of
 use Rattle.ec_values.specs.ec_resolved.Programs as programs
 use Rattle.ec_formats.specs.Known.{known_view}

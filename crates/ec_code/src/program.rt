@@ -5,7 +5,7 @@ ghost use Rattle.ec_code.specs.Objects.{AreInside, stored_view};
 
 use crate::statement::Statement;
 use ec_base::{Bytes, List, OutOfMemory};
-use ec_formats::ec_objects::Kind;
+use ec_objects::Kind;
 use ec_values::Word;
 use std::alloc::Global;
 use std::marker::Model;

@@ -1,8 +1,8 @@
 //! Where an expression begins, and what is done from there.
 
 use ec_base::Bytes;
-use ec_formats::ec_objects::Kind;
-use ec_values::ec_ctypes::Arith;
+use ec_ctypes::Arith;
+use ec_objects::Kind;
 use ec_values::{Operation, Word};
 
 /// Where an expression begins.

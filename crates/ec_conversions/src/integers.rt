@@ -3,15 +3,15 @@
 ghost use Rattle.std.specs.Prelude.{◌≡◌, option_map};
 ghost use Rattle.ec_resolved.specs.Resolved.{Exp};
 ghost use Rattle.ec_resolving.specs.Conversions as form;
-ghost use Rattle.ec_code.specs.ec_values.Operations.{comparison_view, operation_view};
+ghost use Rattle.ec_values.specs.Operations.{comparison_view, operation_view};
 ghost use Rattle.ec_type_rules.specs.ec_typing.Types as types;
 ghost use Rattle.ec_conversions.specs.Forms.{joined_by, operated_integers};
 
 use crate::conversion::widening;
 use crate::joined::Joined;
 use ec_code::Binary;
-use ec_code::ec_values::{Comparison, IntegerOperator, Operation};
 use ec_ctypes::{Arith, BinOp, promote, usual};
+use ec_values::{Comparison, IntegerOperator, Operation};
 
 /// The comparison that an operator is (ISO/IEC 9899:1999, 6.5.8 and 6.5.9).
 pub(crate) fn comparison_of(op: BinOp) -> Option<Comparison>

@@ -12,8 +12,8 @@ use crate::pointers::{of_pointer, of_pointers, of_reversed};
 use crate::prefix::{Prefix, sign};
 use crate::scalar::Scalar;
 use ec_code::Binary;
-use ec_code::ec_values::Operation;
 use ec_ctypes::{BinOp, UnOp};
+use ec_values::Operation;
 
 /// A binary operator over two values, or `None` where it takes no such values.
 pub fn binary(op: BinOp, left: Option<Scalar>, right: Option<Scalar>) -> Option<Joined>

@@ -3,15 +3,15 @@
 ghost use Rattle.std.specs.Prelude.{◌≡◌, option_map};
 ghost use Rattle.ec_resolved.specs.Resolved.{Exp};
 ghost use Rattle.ec_resolving.specs.Conversions as form;
-ghost use Rattle.ec_code.specs.ec_values.Operations.{operation_view};
+ghost use Rattle.ec_values.specs.Operations.{operation_view};
 ghost use Rattle.ec_conversions.specs.Forms.{converted, joined_by};
 
 use crate::conversion::{Conversion, to_pointer};
 use crate::integers::comparison_of;
 use crate::joined::Joined;
 use ec_code::Binary;
-use ec_code::ec_values::Operation;
 use ec_ctypes::{Arith, BinOp};
+use ec_values::Operation;
 
 /// A comparison of two values that are converted so.
 fn compared(op: BinOp, left: Conversion, right: Conversion) -> Option<Joined>

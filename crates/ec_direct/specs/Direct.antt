@@ -1,7 +1,7 @@
 -- The direct meaning of a program: what each embedded statement does where it stands, by its places and their types.
 use Rattle.std.specs.Prelude.{ℕ, ◌==◌, false, List, [], ◌∷◌, slice_get, Option, Some, None, option_and_then, if◌then◌else◌}
-use Rattle.ec_expansion.specs.ec_ctypes.trees.Checked.{TypedData}
-use Rattle.ec_expansion.specs.ec_ctypes.trees.Embedded.{EmbData}
+use Rattle.ec_ctypes.specs.trees.Checked.{TypedData}
+use Rattle.ec_ctypes.specs.trees.Embedded.{EmbData}
 use Rattle.ec_hosts.specs.Bound.{program_of, cursor_parts}
 use Rattle.ec_hosts.specs.Faults.{row_at, cursor_part}
 use Rattle.ec_expansion.specs.Calls.{prepared_opened}

@@ -1,12 +1,12 @@
 -- Whole sources as examples write them, and what is seen of their runs.
 use Rattle.std.specs.Prelude.{ℕ, List, [], ◌∷◌, codes, Option, Some, None, Result, Ok, Err}
 use Prim.Native.String.{String}
-use Rattle.ec_expansion.specs.ec_base.declared.stop.Stop.{Stop}
-use Rattle.ec_expansion.specs.ec_ctypes.trees.Checked.{TypedData}
-use Rattle.ec_calls.specs.ec_link.declared.logged.Logged.{Logged}
-use Rattle.ec_calls.specs.ec_link.declared.reply.Reply.{Reply}
-use Rattle.ec_calls.specs.ec_link.declared.request.Request.{Request}
-use Rattle.ec_calls.specs.ec_link.declared.request.Request.TheVariants as request
+use Rattle.ec_base.specs.declared.stop.Stop.{Stop}
+use Rattle.ec_ctypes.specs.trees.Checked.{TypedData}
+use Rattle.ec_link.specs.declared.logged.Logged.{Logged}
+use Rattle.ec_link.specs.declared.reply.Reply.{Reply}
+use Rattle.ec_link.specs.declared.request.Request.{Request}
+use Rattle.ec_link.specs.declared.request.Request.TheVariants as request
 use Rattle.ec_hosts.specs.Examples.{checked_text}
 use Rattle.ec_resolving.specs.Programs.{stuck_program}
 use Rattle.ec_calls.specs.ec_evaluation.State.{Answer, Ending}

@@ -2,8 +2,8 @@
 use Rattle.std.specs.Prelude.{ℕ, List, [], ◌∷◌, length, Option, Some, None}
 use Rattle.std.specs.Fmt.{decimal}
 use Rattle.ec_expansion.specs.ec_arguments.Arguments.{TextArg}
-use Rattle.ec_expansion.specs.ec_ctypes.declared.embedded.emb.Item.{Item as Kind}
-use Rattle.ec_expansion.specs.ec_ctypes.trees.Types.{StructData}
+use Rattle.ec_ctypes.specs.declared.embedded.emb.Item.{Item as Kind}
+use Rattle.ec_ctypes.specs.trees.Types.{StructData}
 use Rattle.ec_calls.specs.ec_evaluation.State.{Item, State}
 use Rattle.ec_calls.specs.Outcomes.{Text, Field, Outcome, gives, next, present, begun_area}
 use Rattle.ec_calls.specs.Connections.{connection_for, asked, begun}

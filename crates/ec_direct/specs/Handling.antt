@@ -1,10 +1,10 @@
 -- What is done behind a statement: for NOT FOUND, SQLWARNING and SQLERROR, in this order, if the condition holds of the communication area as it is then, the action that holds at the statement (PostgreSQL manual, "Setting Callbacks").
 use Rattle.std.specs.Prelude.{ℕ, pos, Bool, true, false, ℤ, int_le, int_lt, ◌&&◌}
-use Rattle.ec_expansion.specs.ec_ctypes.declared.embedded.emb.Cond.{Cond}
-use Rattle.ec_expansion.specs.ec_ctypes.declared.embedded.emb.Cond.TheVariants.{NotFound, Warning, Error}
-use Rattle.ec_expansion.specs.ec_ctypes.declared.types.arith.Arith.TheVariants.{Long, Char}
+use Rattle.ec_ctypes.specs.declared.embedded.emb.Cond.{Cond}
+use Rattle.ec_ctypes.specs.declared.embedded.emb.Cond.TheVariants.{NotFound, Warning, Error}
+use Rattle.ec_ctypes.specs.declared.types.arith.Arith.TheVariants.{Long, Char}
 use Rattle.ec_calls.specs.ec_functions.Functions.{effect_of, sqlprint}
-use Rattle.ec_calls.specs.ec_objects.Memory.{pointer_to, load, integer_type, number_of}
+use Rattle.ec_objects.specs.Memory.{pointer_to, load, integer_type, number_of}
 use Rattle.ec_resolving.specs.Storage.{ActionForm, goes_on, jumps, prints, stops, leaves, continues, calls_function, ActionForms}
 use Rattle.std.specs.Prelude.{[]}
 use Rattle.ec_calls.specs.ec_evaluation.State.{State, exited}

@@ -1,9 +1,9 @@
 -- What a statement reads before it does anything: its texts and the values that it sends, in order. The first trap ends the run.
 use Rattle.std.specs.Prelude.{ℕ, List, [], ◌∷◌, Option, Some, None}
 use Rattle.ec_expansion.specs.ec_arguments.Arguments.{TextArg}
-use Rattle.ec_expansion.specs.ec_ctypes.declared.embedded.emb.Item.{Item}
-use Rattle.ec_expansion.specs.ec_ctypes.trees.Types.{StructData}
-use Rattle.ec_calls.specs.ec_transfer.Conversion.{parameter}
+use Rattle.ec_ctypes.specs.declared.embedded.emb.Item.{Item}
+use Rattle.ec_ctypes.specs.trees.Types.{StructData}
+use Rattle.ec_transfer.specs.Conversion.{parameter}
 use Rattle.ec_calls.specs.ec_evaluation.State.{State}
 use Rattle.ec_calls.specs.Outcomes.{Text, Field, Outcome, gives, next, trying, present}
 use Rattle.ec_calls.specs.Inputs.{given_read}

@@ -1,17 +1,17 @@
 -- The leaves of a host as places with types: where the first element is, what each element holds, and how far apart they lie (PostgreSQL manual, "Using Host Variables").
 use Rattle.std.specs.Prelude.{ℕ, zero, suc, pos, true, false, List, [], ◌∷◌, slice_get, Option, Some, None, option_map, option_and_then}
-use Rattle.ec_expansion.specs.ec_ctypes.declared.types.arith.Arith.{Arith}
-use Rattle.ec_expansion.specs.ec_ctypes.declared.types.arith.Arith.TheVariants as arith
-use Rattle.ec_expansion.specs.ec_ctypes.trees.Types.{TyData, void, arithmetic, pointer, array, structure, StructData}
-use Rattle.ec_expansion.specs.ec_ctypes.Layout.{member_of}
+use Rattle.ec_ctypes.specs.declared.types.arith.Arith.{Arith}
+use Rattle.ec_ctypes.specs.declared.types.arith.Arith.TheVariants as arith
+use Rattle.ec_ctypes.specs.trees.Types.{TyData, void, arithmetic, pointer, array, structure, StructData}
+use Rattle.ec_ctypes.specs.Layout.{member_of}
 use Rattle.ec_resolving.specs.ec_language.Letters.{Text}
 use Rattle.ec_hosts.specs.Elements.{capacity}
 use Rattle.ec_hosts.specs.Leaves.{Path, LeafData, Pair}
 use Rattle.ec_hosts.specs.Places.{size_of}
-use Rattle.ec_calls.specs.ec_objects.Memory.{number}
+use Rattle.ec_objects.specs.Memory.{number}
 use Rattle.ec_resolving.specs.ec_resolved.Operations.{pointer_plus}
 use Rattle.ec_resolving.specs.ec_resolved.Resolved.{Exp, member, constant, operate, faulty}
-use Rattle.ec_calls.specs.ec_transfer.Hosts.{Holding, integer, truth, characters, pointed, counted, IndicatorData, HostData}
+use Rattle.ec_transfer.specs.Hosts.{Holding, integer, truth, characters, pointed, counted, IndicatorData, HostData}
 
 -- ---- what an element of a type holds
 

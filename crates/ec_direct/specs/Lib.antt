@@ -5,12 +5,12 @@ pub use Rattle.ec_expansion.specs as ec_expansion
 pub use Rattle.ec_calls.specs.ec_functions as ec_functions
 pub use Rattle.ec_hosts.specs as ec_hosts
 pub use Rattle.ec_resolving.specs.ec_language as ec_language
-pub use Rattle.ec_calls.specs.ec_link as ec_link
-pub use Rattle.ec_calls.specs.ec_objects as ec_objects
+pub use Rattle.ec_link.specs as ec_link
+pub use Rattle.ec_objects.specs as ec_objects
 pub use Rattle.ec_resolving.specs.ec_resolved as ec_resolved
 pub use Rattle.ec_resolving.specs as ec_resolving
 pub use Rattle.ec_hosts.specs.ec_sections as ec_sections
-pub use Rattle.ec_calls.specs.ec_transfer as ec_transfer
+pub use Rattle.ec_transfer.specs as ec_transfer
 pub use Rattle.ec_hosts.specs.ec_typing as ec_typing
 pub mod Leaves
 pub mod Statements

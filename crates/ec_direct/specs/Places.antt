@@ -1,7 +1,7 @@
 -- The places of a statement: each is an expression that is evaluated once, from left to right, in the order of the statement's call (texts first, and each leaf before its indicator).
 use Rattle.std.specs.Prelude.{ℕ, List, [], ◌∷◌, Option, Some, None}
 use Rattle.ec_expansion.specs.ec_arguments.Arguments.{TextArg, absent, word, held}
-use Rattle.ec_expansion.specs.ec_ctypes.declared.embedded.emb.Item.{Item}
+use Rattle.ec_ctypes.specs.declared.embedded.emb.Item.{Item}
 use Rattle.ec_hosts.specs.Leaves.{LeafData}
 use Rattle.ec_resolving.specs.ec_resolved.Resolved.{Exp}
 use Rattle.ec_calls.specs.ec_evaluation.State.{State}

@@ -1,15 +1,15 @@
 -- Embedded statements as they are executed: their texts, inputs and outputs as places with types. A place is an expression where the statement stands, and an address where it is executed.
 use Rattle.std.specs.Prelude.{ℕ, ◌+◌, Bool, List, [], ◌∷◌, ◌++◌, map, take, drop, slice_get, Option, Some, None, codes}
 use Rattle.ec_expansion.specs.ec_arguments.Arguments.{TextArg, absent, word, held}
-use Rattle.ec_expansion.specs.ec_ctypes.declared.embedded.emb.Item.{Item}
-use Rattle.ec_expansion.specs.ec_ctypes.trees.Types.{TyData, pointer, array, structure, StructData}
-use Rattle.ec_expansion.specs.ec_ctypes.trees.Exprs.{ExprData}
-use Rattle.ec_expansion.specs.ec_ctypes.trees.Embedded.{HostData, TextArgData, word_arg, host_arg, host_with_indicator, InputData, host_input, const_input, InsData, listed_ins, area_ins, OutsData, no_outs, listed_outs, area_outs, PartData, bytes_part, host_part, EmbData, connect, set_connection, disconnect, autocommit, trans, server_text, declare_cursor, open_cursor, execute_immediate, prepare, execute, deallocate, allocate_area, free_area, get_count, get_items, set_count, set_items, whenever, include_sqlca}
+use Rattle.ec_ctypes.specs.declared.embedded.emb.Item.{Item}
+use Rattle.ec_ctypes.specs.trees.Types.{TyData, pointer, array, structure, StructData}
+use Rattle.ec_ctypes.specs.trees.Exprs.{ExprData}
+use Rattle.ec_ctypes.specs.trees.Embedded.{HostData, TextArgData, word_arg, host_arg, host_with_indicator, InputData, host_input, const_input, InsData, listed_ins, area_ins, OutsData, no_outs, listed_outs, area_outs, PartData, bytes_part, host_part, EmbData, connect, set_connection, disconnect, autocommit, trans, server_text, declare_cursor, open_cursor, execute_immediate, prepare, execute, deallocate, allocate_area, free_area, get_count, get_items, set_count, set_items, whenever, include_sqlca}
 use Rattle.ec_resolving.specs.ec_language.Letters.{Text}
 use Rattle.ec_hosts.specs.Bound.{pairs_of, sent_from}
 use Rattle.ec_hosts.specs.Faults.{host_count}
 use Rattle.ec_hosts.specs.Programs.{ProgramData, Denoted, reference_type, names_count}
-use Rattle.ec_calls.specs.ec_objects.Memory.{pointer_type}
+use Rattle.ec_objects.specs.Memory.{pointer_type}
 use Rattle.ec_resolving.specs.ec_resolved.Resolved.{Exp, load, faulty}
 use Rattle.ec_resolving.specs.Storage.{ReferenceForm}
 use Rattle.ec_direct.specs.Leaves.{Leaf, leaf_at, member_place}

@@ -1,9 +1,9 @@
 -- What is done with the rows of an answer, leaf by leaf, and in each row by row.
 use Rattle.std.specs.Prelude.{ℕ, suc, nat_lt, Bool, true, false, ◌||◌, List, [], ◌∷◌, length}
-use Rattle.ec_expansion.specs.ec_ctypes.trees.Types.{StructData}
-use Rattle.ec_calls.specs.ec_link.Table.{Sheet}
-use Rattle.ec_calls.specs.ec_transfer.declared.finding.Finding.TheVariants as found
-use Rattle.ec_calls.specs.ec_transfer.Hosts.{HostData}
+use Rattle.ec_ctypes.specs.trees.Types.{StructData}
+use Rattle.ec_link.specs.Table.{Sheet}
+use Rattle.ec_transfer.specs.declared.finding.Finding.TheVariants as found
+use Rattle.ec_transfer.specs.Hosts.{HostData}
 use Rattle.ec_calls.specs.ec_evaluation.State.{State}
 use Rattle.ec_calls.specs.Outcomes.{Text, Field, Outcome, gives, next, present, raised}
 use Rattle.ec_calls.specs.Storing.{field_kept, in_column, with_rows}

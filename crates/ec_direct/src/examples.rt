@@ -2,7 +2,7 @@
 #![tactic(none)]
 
 ghost use Rattle.std.specs.Prelude.{◌≡◌, [], ◌∷◌, Some, None, codes};
-ghost use Rattle.ec_expansion.specs.ec_base.declared.stop.Trap.TheVariants.{BadLen};
+ghost use Rattle.ec_base.specs.declared.stop.Trap.TheVariants.{BadLen};
 ghost use Rattle.ec_calls.specs.Examples.{column, rows_of, done, denied};
 ghost use Rattle.ec_calls.specs.ec_evaluation.State.{exited, trapped, turns_spent};
 ghost use Rattle.ec_direct.specs.Examples.{shows, run, ask};

@@ -4,7 +4,7 @@
 ghost use Rattle.std.specs.Prelude.{◌≡◌, map};
 ghost use Rattle.ec_ctypes.specs.views.Exprs.{expr_view};
 ghost use Rattle.ec_parts.specs.Views.{reference_view};
-ghost use Rattle.ec_walk.specs.ec_rules.Seen.{operand_view};
+ghost use Rattle.ec_rules.specs.Seen.{operand_view};
 ghost use Rattle.ec_scopes.specs.Entries.{place_view, type_view};
 ghost use Rattle.ec_scopes.specs.Seen.{world_of, IsDone, Does};
 ghost use Rattle.ec_typing.specs.Embedded as rule;
@@ -12,10 +12,10 @@ ghost use Rattle.ec_typing.specs.Worlds.{look_up};
 
 use ec_base::{LimitKind, OutOfMemory};
 use ec_ctypes::{Expr, Ty};
+use ec_known::is_known_function;
 use ec_parts::Reference;
-use ec_scopes::ec_known::is_known_function;
+use ec_rules::Operand;
 use ec_scopes::{Checker, Entry, Place};
-use ec_walk::ec_rules::Operand;
 use ec_walk::expr;
 
 // Whether the name is that of a function here.

@@ -23,11 +23,11 @@ use Rattle.ec_interp.specs.declared.end.RunEnd.{RunEnd as MachineEnd}
 use Rattle.ec_interp.specs.Ran as ran
 use Rattle.ec_objects.specs.Memory.{Memory}
 use Rattle.ec_observed.specs.Observed.{answers_in}
-use Rattle.ec_calling.specs.ec_runtime.Calling.{GivesFirst, MayAsk, Opens, TakesFirst, conn_of, connection_of, ready_connection}
-use Rattle.ec_calling.specs.ec_runtime.Does.{connections_of, current_of}
-use Rattle.ec_calling.specs.ec_runtime.Opening.{open_view}
-use Rattle.ec_calling.specs.ec_runtime.declared.open.Open.{Open}
-use Rattle.ec_calling.specs.ec_runtime.declared.library.Library.{Library}
+use Rattle.ec_runtime.specs.Calling.{GivesFirst, MayAsk, Opens, TakesFirst, conn_of, connection_of, ready_connection}
+use Rattle.ec_runtime.specs.Does.{connections_of, current_of}
+use Rattle.ec_runtime.specs.Opening.{open_view}
+use Rattle.ec_runtime.specs.declared.open.Open.{Open}
+use Rattle.ec_runtime.specs.declared.library.Library.{Library}
 use Rattle.ec_execute.specs.declared.running.RunEnd.{RunEnd}
 use Rattle.ec_execute.specs.declared.running.RunEnd.TheVariants as ends
 use Rattle.ec_execute.specs.Ends.{Performs, end_of}

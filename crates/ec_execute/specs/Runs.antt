@@ -14,8 +14,8 @@ use Rattle.ec_link.specs.Slot.{states}
 use Rattle.ec_link.specs.SlotState.{ready_slot}
 use Rattle.ec_observed.specs.Observed.{answers_in}
 use Rattle.ec_execution.specs.Programs.{Executable, meaning}
-use Rattle.ec_calling.specs.ec_runtime.Calling.{GivesFirst, MayAsk, conn_of, connection_of, ready_connection}
-use Rattle.ec_calling.specs.ec_runtime.declared.library.Library.{Library}
+use Rattle.ec_runtime.specs.Calling.{GivesFirst, MayAsk, conn_of, connection_of, ready_connection}
+use Rattle.ec_runtime.specs.declared.library.Library.{Library}
 use Rattle.ec_execute.specs.declared.running.RunEnd.{RunEnd}
 use Rattle.ec_execute.specs.Ends.{Performs}
 

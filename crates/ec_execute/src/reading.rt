@@ -6,7 +6,7 @@ ghost use Rattle.ec_ctypes.specs.views.Checked.{typed_view};
 ghost use Rattle.ec_ctypes.specs.views.Units.{unit_view};
 ghost use Rattle.ec_typing.specs.Answers.{violations};
 ghost use Rattle.ec_execution.specs.Programs.{resolved};
-ghost use Rattle.ec_function_forms.specs.ec_storage.Stored as stored;
+ghost use Rattle.ec_storage.specs.Stored as stored;
 ghost use Rattle.ec_execute.specs.Answers.{Is, TellsProgram, IsOnlyProgram};
 ghost use Rattle.ec_execute.specs.Executables.{executable_view};
 
@@ -16,9 +16,9 @@ use ec_base::{FaultKind, Stop};
 use ec_ctypes::Typed;
 use ec_execution::ec_library_calls::first_unmade_call;
 use ec_execution::written_programs_are_single;
-use ec_function_forms::ec_storage::Resolved;
 use ec_function_forms::resolve;
 use ec_read_written::read_written;
+use ec_storage::Resolved;
 use std::alloc::Global;
 
 // A program that is resolved, with its calls as they are made.

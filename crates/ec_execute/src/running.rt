@@ -5,7 +5,7 @@ ghost use Rattle.std.specs.Io.KnownBytes.{Keeps};
 ghost use Rattle.ec_base.specs.Causes.{Rose};
 ghost use Rattle.ec_link.specs.Links.{talk_by, faults_by};
 ghost use Rattle.ec_link.specs.Rack.{slots_of};
-ghost use Rattle.ec_calling.specs.ec_runtime.Calling.{Holds};
+ghost use Rattle.ec_runtime.specs.Calling.{Holds};
 ghost use Rattle.ec_execute.specs.Ends.{end_of};
 ghost use Rattle.ec_execute.specs.Executables.{executable_view};
 ghost use Rattle.ec_execute.specs.Runs.{CarriedOut, Connects, Ran};
@@ -13,9 +13,9 @@ ghost use Rattle.ec_execute.specs.Runs.{CarriedOut, Connects, Ran};
 use crate::executable::Executable;
 use ec_base::{Failed, Line, Sink, Trap};
 use ec_calling::Session;
-use ec_calling::ec_runtime::Library;
 use ec_interp::{Machine, RunEnd as MachineEnd};
 use ec_link::{Link, Rack};
+use ec_runtime::Library;
 use std::alloc::Global;
 
 /// How a run ended.

@@ -1,10 +1,10 @@
 -- The line behind a written statement is that to which its text leads.
 use Rattle.std.proofs.Common.{◌≡◌, ℕ, suc, List, [], ◌∷◌, ◌++◌, Option, Some, None, refl, ap, sym, ◌∙◌}
 use Rattle.std.specs.Prelude.{codes}
-use Rattle.ec_arguments.specs.ec_ctypes.declared.text.token.Punct.TheVariants as p
-use Rattle.ec_arguments.specs.ec_ctypes.trees.Exprs.{decl}
-use Rattle.ec_arguments.specs.ec_ctypes.trees.Stmts.{StmtData, stmt, StmtKindData, empty_stmt, expr_stmt, block_stmt, if_stmt, while_stmt, do_stmt, for_stmt, break_stmt, continue_stmt, return_stmt, goto_stmt, label_stmt, decl_stmt, emb_stmt, mark_stmt, StmtList, no_stmts, stmts, StmtOption, no_stmt, some_stmt}
-use Rattle.ec_arguments.specs.ec_ctypes.trees.Units.{FuncData, TopData, include_top, directive_top, decl_top, func_top, mark_top}
+use Rattle.ec_ctypes.specs.declared.text.token.Punct.TheVariants as p
+use Rattle.ec_ctypes.specs.trees.Exprs.{decl}
+use Rattle.ec_ctypes.specs.trees.Stmts.{StmtData, stmt, StmtKindData, empty_stmt, expr_stmt, block_stmt, if_stmt, while_stmt, do_stmt, for_stmt, break_stmt, continue_stmt, return_stmt, goto_stmt, label_stmt, decl_stmt, emb_stmt, mark_stmt, StmtList, no_stmts, stmts, StmtOption, no_stmt, some_stmt}
+use Rattle.ec_ctypes.specs.trees.Units.{FuncData, TopData, include_top, directive_top, decl_top, func_top, mark_top}
 use Rattle.ec_writing.specs.Chunks.{blank, line_end, line_behind}
 use Rattle.ec_writing.specs.Expressions.{mark, word, in_parens, star_chunks, expr_chunks}
 use Rattle.ec_writing.specs.Programs.{stmt_chunks, kind_chunks, items_chunks, else_chunks, params_chunks, body_chunks, func_chunks, top_chunks, tops_chunks}

@@ -1,13 +1,13 @@
 -- Statements with what is bound for them, and the calls that are written, as examples write them.
 use Rattle.std.specs.Prelude.{ℕ, List, [], ◌∷◌, codes, Option, Some, None, Result, Ok, Err, false}
 use Prim.Native.String.{String}
-use Rattle.ec_arguments.specs.ec_base.declared.stop.Stop.{Stop}
-use Rattle.ec_arguments.specs.ec_ctypes.declared.checked.library.Sym.TheVariants as sym
-use Rattle.ec_arguments.specs.ec_ctypes.declared.tree.expr.UnOp.TheVariants.{Addr}
-use Rattle.ec_arguments.specs.ec_ctypes.trees.Checked.{MarkData, PlaceData, BoundData, TypedData}
-use Rattle.ec_arguments.specs.ec_ctypes.trees.Embedded.{EmbKindData, EmbData, HostData, TextArgData, word_arg}
-use Rattle.ec_arguments.specs.ec_ctypes.trees.Exprs.{ExprData, string, identifier, unary}
-use Rattle.ec_arguments.specs.ec_ctypes.trees.Units.{UnitData}
+use Rattle.ec_base.specs.declared.stop.Stop.{Stop}
+use Rattle.ec_ctypes.specs.declared.checked.library.Sym.TheVariants as sym
+use Rattle.ec_ctypes.specs.declared.tree.expr.UnOp.TheVariants.{Addr}
+use Rattle.ec_ctypes.specs.trees.Checked.{MarkData, PlaceData, BoundData, TypedData}
+use Rattle.ec_ctypes.specs.trees.Embedded.{EmbKindData, EmbData, HostData, TextArgData, word_arg}
+use Rattle.ec_ctypes.specs.trees.Exprs.{ExprData, string, identifier, unary}
+use Rattle.ec_ctypes.specs.trees.Units.{UnitData}
 use Rattle.ec_statement_parts.specs.ec_language.Letters.{Text}
 use Rattle.ec_statement_parts.specs.ec_language.ReadText.{read_text}
 use Rattle.ec_writing.specs.Chunks.{text_of}

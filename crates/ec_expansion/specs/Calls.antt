@@ -1,14 +1,14 @@
 -- The call of the library that is written for a statement (PostgreSQL manual, 36.17), by its connection, its hosts and its text as they are bound.
 use Rattle.std.specs.Prelude.{ℕ, zero, suc, List, [], ◌∷◌, map, Option, Some, None, option_map, option_and_then, drop, codes, if◌then◌else◌, Bool, true, false, slice_get}
-use Rattle.ec_arguments.specs.ec_ctypes.declared.types.arith.Arith.TheVariants.{Int, Long}
-use Rattle.ec_arguments.specs.ec_ctypes.declared.embedded.emb.Item.{Item}
-use Rattle.ec_arguments.specs.ec_ctypes.declared.checked.library.Sym.{Sym}
-use Rattle.ec_arguments.specs.ec_ctypes.declared.checked.library.Sym.TheVariants.{Const, Descriptor}
-use Rattle.ec_arguments.specs.ec_ctypes.Texts.{symbol_text, library_text}
-use Rattle.ec_arguments.specs.ec_ctypes.trees.Types.{arithmetic}
-use Rattle.ec_arguments.specs.ec_ctypes.trees.Exprs.{ExprData, integer, string, identifier, call, ExprList, no_exprs, exprs}
-use Rattle.ec_arguments.specs.ec_ctypes.trees.Checked.{IndicatorData, PlaceData, BoundData}
-use Rattle.ec_arguments.specs.ec_ctypes.trees.Embedded.{connect, set_connection, disconnect, autocommit, trans, server_text, declare_cursor, open_cursor, execute_immediate, prepare, execute, deallocate, allocate_area, free_area, get_count, get_items, set_count, set_items, whenever, include_sqlca, EmbData, EmbKindData}
+use Rattle.ec_ctypes.specs.declared.types.arith.Arith.TheVariants.{Int, Long}
+use Rattle.ec_ctypes.specs.declared.embedded.emb.Item.{Item}
+use Rattle.ec_ctypes.specs.declared.checked.library.Sym.{Sym}
+use Rattle.ec_ctypes.specs.declared.checked.library.Sym.TheVariants.{Const, Descriptor}
+use Rattle.ec_ctypes.specs.Texts.{symbol_text, library_text}
+use Rattle.ec_ctypes.specs.trees.Types.{arithmetic}
+use Rattle.ec_ctypes.specs.trees.Exprs.{ExprData, integer, string, identifier, call, ExprList, no_exprs, exprs}
+use Rattle.ec_ctypes.specs.trees.Checked.{IndicatorData, PlaceData, BoundData}
+use Rattle.ec_ctypes.specs.trees.Embedded.{connect, set_connection, disconnect, autocommit, trans, server_text, declare_cursor, open_cursor, execute_immediate, prepare, execute, deallocate, allocate_area, free_area, get_count, get_items, set_count, set_items, whenever, include_sqlca, EmbData, EmbKindData}
 use Rattle.ec_statement_parts.specs.ec_language.Letters.{Text, same_text}
 use Rattle.ec_arguments.specs.Arguments as library
 use Rattle.ec_arguments.specs.Arguments.{Arg, symbol, literal, null, int_constant, long_constant, pointer, stray, TextArg, absent, word, held, Indicator, Place, Member, host, constant, descriptor, Statement, normal, prepared, immediate, opening, ItemMember, Call, run, Cut, name_of}

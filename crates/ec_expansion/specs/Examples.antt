@@ -1,13 +1,13 @@
 -- Sources and what is written of them, as examples write them.
 use Rattle.std.specs.Prelude.{ℕ, zero, suc, [], ◌∷◌, codes, Option, Some, None, Result, Ok, Err, Bool, false}
 use Prim.Native.String.{String}
-use Rattle.ec_arguments.specs.ec_base.declared.stop.Stop.{Stop}
-use Rattle.ec_arguments.specs.ec_ctypes.declared.embedded.emb.Cond.{Cond}
-use Rattle.ec_arguments.specs.ec_ctypes.declared.embedded.emb.Cond.TheVariants.{NotFound, Warning, Error}
-use Rattle.ec_arguments.specs.ec_ctypes.trees.Embedded.{ActionData}
-use Rattle.ec_arguments.specs.ec_ctypes.trees.Exprs.{exprs, no_exprs}
-use Rattle.ec_arguments.specs.ec_ctypes.trees.Stmts.{stmt, StmtKindData, block_stmt}
-use Rattle.ec_arguments.specs.ec_ctypes.trees.Units.{UnitData}
+use Rattle.ec_base.specs.declared.stop.Stop.{Stop}
+use Rattle.ec_ctypes.specs.declared.embedded.emb.Cond.{Cond}
+use Rattle.ec_ctypes.specs.declared.embedded.emb.Cond.TheVariants.{NotFound, Warning, Error}
+use Rattle.ec_ctypes.specs.trees.Embedded.{ActionData}
+use Rattle.ec_ctypes.specs.trees.Exprs.{exprs, no_exprs}
+use Rattle.ec_ctypes.specs.trees.Stmts.{stmt, StmtKindData, block_stmt}
+use Rattle.ec_ctypes.specs.trees.Units.{UnitData}
 use Rattle.ec_statement_parts.specs.ec_language.Letters.{Text}
 use Rattle.ec_statement_parts.specs.ec_language.ReadText.{read_text}
 use Rattle.ec_writing.specs.Chunks.{text_of}

@@ -1,15 +1,15 @@
 -- The tests behind the call of a statement, one for each condition that has an action (PostgreSQL manual, 36.8.1).
 use Rattle.std.specs.Prelude.{ℕ, pos, List, [], ◌∷◌, ◌++◌, Option, Some, None, codes}
 use Prim.Native.String.{String}
-use Rattle.ec_arguments.specs.ec_base.declared.line.Line.{Line}
-use Rattle.ec_arguments.specs.ec_ctypes.declared.types.arith.Arith.TheVariants.{Int}
-use Rattle.ec_arguments.specs.ec_ctypes.declared.tree.expr.BinOp.TheVariants.{Eq, Lt}
-use Rattle.ec_arguments.specs.ec_ctypes.declared.embedded.emb.Cond.{Cond}
-use Rattle.ec_arguments.specs.ec_ctypes.declared.embedded.emb.Cond.TheVariants.{NotFound, Warning, Error}
-use Rattle.ec_arguments.specs.ec_ctypes.trees.Types.{arithmetic}
-use Rattle.ec_arguments.specs.ec_ctypes.trees.Exprs.{ExprData, integer, character, identifier, binary, call, index, member, ExprList, no_exprs, exprs}
-use Rattle.ec_arguments.specs.ec_ctypes.trees.Embedded.{ActionData, continue_action, goto_action, print_action, stop_action, break_action, next_action, call_action}
-use Rattle.ec_arguments.specs.ec_ctypes.trees.Stmts.{StmtData, stmt, StmtKindData, expr_stmt, if_stmt, break_stmt, continue_stmt, goto_stmt, no_stmt}
+use Rattle.ec_base.specs.declared.line.Line.{Line}
+use Rattle.ec_ctypes.specs.declared.types.arith.Arith.TheVariants.{Int}
+use Rattle.ec_ctypes.specs.declared.tree.expr.BinOp.TheVariants.{Eq, Lt}
+use Rattle.ec_ctypes.specs.declared.embedded.emb.Cond.{Cond}
+use Rattle.ec_ctypes.specs.declared.embedded.emb.Cond.TheVariants.{NotFound, Warning, Error}
+use Rattle.ec_ctypes.specs.trees.Types.{arithmetic}
+use Rattle.ec_ctypes.specs.trees.Exprs.{ExprData, integer, character, identifier, binary, call, index, member, ExprList, no_exprs, exprs}
+use Rattle.ec_ctypes.specs.trees.Embedded.{ActionData, continue_action, goto_action, print_action, stop_action, break_action, next_action, call_action}
+use Rattle.ec_ctypes.specs.trees.Stmts.{StmtData, stmt, StmtKindData, expr_stmt, if_stmt, break_stmt, continue_stmt, goto_stmt, no_stmt}
 
 -- an int constant
 abbrev pub int_constant : ℕ → ExprData

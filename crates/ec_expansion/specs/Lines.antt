@@ -1,7 +1,7 @@
 -- The line behind a written statement, which begins with a line of its own; it does not depend on the lines before it. And the line behind a written program.
 use Rattle.std.specs.Prelude.{ℕ, suc, List, [], ◌∷◌, Option, Some, None}
-use Rattle.ec_arguments.specs.ec_ctypes.trees.Stmts.{StmtData, stmt, StmtKindData, empty_stmt, expr_stmt, block_stmt, if_stmt, while_stmt, do_stmt, for_stmt, break_stmt, continue_stmt, return_stmt, goto_stmt, label_stmt, decl_stmt, emb_stmt, mark_stmt, StmtList, no_stmts, stmts, StmtOption, no_stmt, some_stmt}
-use Rattle.ec_arguments.specs.ec_ctypes.trees.Units.{TopData, include_top, directive_top, decl_top, func_top, mark_top}
+use Rattle.ec_ctypes.specs.trees.Stmts.{StmtData, stmt, StmtKindData, empty_stmt, expr_stmt, block_stmt, if_stmt, while_stmt, do_stmt, for_stmt, break_stmt, continue_stmt, return_stmt, goto_stmt, label_stmt, decl_stmt, emb_stmt, mark_stmt, StmtList, no_stmts, stmts, StmtOption, no_stmt, some_stmt}
+use Rattle.ec_ctypes.specs.trees.Units.{TopData, include_top, directive_top, decl_top, func_top, mark_top}
 use Rattle.ec_statement_parts.specs.ec_language.Productions.{line_of}
 
 abbrev mutual

@@ -1,10 +1,10 @@
 -- The program that is written for a program with embedded SQL.
 use Rattle.std.specs.Prelude.{ℕ, List, [], ◌∷◌, Option, option_map, option_and_then, slice_get}
-use Rattle.ec_arguments.specs.ec_ctypes.trees.Checked.{MarkData, BoundData, TypedData}
-use Rattle.ec_arguments.specs.ec_ctypes.trees.Embedded.{EmbData}
-use Rattle.ec_arguments.specs.ec_ctypes.trees.Exprs.{ExprData}
-use Rattle.ec_arguments.specs.ec_ctypes.trees.Stmts.{stmt, StmtKindData, expr_stmt, block_stmt}
-use Rattle.ec_arguments.specs.ec_ctypes.trees.Units.{TopData, UnitData}
+use Rattle.ec_ctypes.specs.trees.Checked.{MarkData, BoundData, TypedData}
+use Rattle.ec_ctypes.specs.trees.Embedded.{EmbData}
+use Rattle.ec_ctypes.specs.trees.Exprs.{ExprData}
+use Rattle.ec_ctypes.specs.trees.Stmts.{stmt, StmtKindData, expr_stmt, block_stmt}
+use Rattle.ec_ctypes.specs.trees.Units.{TopData, UnitData}
 use Rattle.ec_arguments.specs.Arguments.{Call}
 use Rattle.ec_statement_parts.specs.Handlers.{action_among}
 use Rattle.ec_writing.specs.Programs.{last_line}

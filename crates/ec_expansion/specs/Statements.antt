@@ -1,9 +1,9 @@
 -- Statements and functions as they are written: a block in the place of each embedded statement, and nothing in that of a directive or a mark of a declare section.
 use Rattle.std.specs.Prelude.{ℕ, suc, List, [], ◌∷◌, ◌++◌, map, Option, Some, None, false}
-use Rattle.ec_arguments.specs.ec_base.declared.line.Line.{Line}
-use Rattle.ec_arguments.specs.ec_ctypes.trees.Exprs.{DeclData}
-use Rattle.ec_arguments.specs.ec_ctypes.trees.Stmts.{StmtData, stmt, StmtKindData, empty_stmt, expr_stmt, block_stmt, if_stmt, while_stmt, do_stmt, for_stmt, break_stmt, continue_stmt, return_stmt, goto_stmt, label_stmt, decl_stmt, emb_stmt, mark_stmt, StmtList, no_stmts, stmts, StmtOption, no_stmt, some_stmt}
-use Rattle.ec_arguments.specs.ec_ctypes.trees.Units.{ParamData, FuncData, TopData, include_top, directive_top, decl_top, func_top, mark_top}
+use Rattle.ec_base.specs.declared.line.Line.{Line}
+use Rattle.ec_ctypes.specs.trees.Exprs.{DeclData}
+use Rattle.ec_ctypes.specs.trees.Stmts.{StmtData, stmt, StmtKindData, empty_stmt, expr_stmt, block_stmt, if_stmt, while_stmt, do_stmt, for_stmt, break_stmt, continue_stmt, return_stmt, goto_stmt, label_stmt, decl_stmt, emb_stmt, mark_stmt, StmtList, no_stmts, stmts, StmtOption, no_stmt, some_stmt}
+use Rattle.ec_ctypes.specs.trees.Units.{ParamData, FuncData, TopData, include_top, directive_top, decl_top, func_top, mark_top}
 use Rattle.ec_statement_parts.specs.ec_language.Productions.{line_of}
 use Rattle.ec_expansion.specs.Lines.{line_after}
 use Rattle.ec_expansion.specs.Declarations.{written_expr, written_base, written_dims, written_decl, written_option}

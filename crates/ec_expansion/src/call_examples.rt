@@ -1,9 +1,9 @@
 //! Statements, and the calls that are written for them, as the contracts of functions that do nothing.
 
 ghost use Rattle.std.specs.Prelude.{◌≡◌, [], ◌∷◌, codes, true, false, Some, None};
-ghost use Rattle.ec_arguments.specs.ec_ctypes.declared.embedded.emb.Cond.TheVariants.{NotFound, Error};
-ghost use Rattle.ec_arguments.specs.ec_ctypes.declared.embedded.emb.Item.TheVariants.{Content, Indicator, Label};
-ghost use Rattle.ec_arguments.specs.ec_ctypes.trees.Embedded.{connect, set_connection, disconnect, autocommit, trans, server_text, declare_cursor, open_cursor, execute_immediate, prepare, execute, deallocate, allocate_area, free_area, get_count, get_items, set_count, set_items, whenever, include_sqlca, no_outs, listed_outs, area_outs, listed_ins, area_ins, bytes_part, const_input, goto_action, stop_action};
+ghost use Rattle.ec_ctypes.specs.declared.embedded.emb.Cond.TheVariants.{NotFound, Error};
+ghost use Rattle.ec_ctypes.specs.declared.embedded.emb.Item.TheVariants.{Content, Indicator, Label};
+ghost use Rattle.ec_ctypes.specs.trees.Embedded.{connect, set_connection, disconnect, autocommit, trans, server_text, declare_cursor, open_cursor, execute_immediate, prepare, execute, deallocate, allocate_area, free_area, get_count, get_items, set_count, set_items, whenever, include_sqlca, no_outs, listed_outs, area_outs, listed_ins, area_ins, bytes_part, const_input, goto_action, stop_action};
 ghost use Rattle.ec_expansion.specs.CallExamples.{emb, bound, null, lit, var, w, plain, int_place, told_place, constant_place, area_place, call_text, call_behind, writes, program_text};
 ghost use Rattle.ec_expansion.specs.Examples.{is};
 

@@ -1,9 +1,9 @@
 //! Sources, and what is written of them, as the contracts of functions that do nothing.
 
 ghost use Rattle.std.specs.Prelude.{◌≡◌, codes, Ok, true};
-ghost use Rattle.ec_arguments.specs.ec_ctypes.declared.embedded.emb.Cond.TheVariants.{NotFound, Warning, Error};
-ghost use Rattle.ec_arguments.specs.ec_ctypes.trees.Embedded.{continue_action, goto_action, print_action, stop_action, break_action, next_action, call_action};
-ghost use Rattle.ec_arguments.specs.ec_ctypes.trees.Exprs.{exprs, no_exprs, identifier};
+ghost use Rattle.ec_ctypes.specs.declared.embedded.emb.Cond.TheVariants.{NotFound, Warning, Error};
+ghost use Rattle.ec_ctypes.specs.trees.Embedded.{continue_action, goto_action, print_action, stop_action, break_action, next_action, call_action};
+ghost use Rattle.ec_ctypes.specs.trees.Exprs.{exprs, no_exprs, identifier};
 ghost use Rattle.ec_expansion.specs.Examples.{written_of, is, is_read_back, always, only, tests_text};
 
 /// Marks of declare sections and directives are gone. A VARCHAR is its struct, each by a declaration of its own: the last

@@ -1,8 +1,8 @@
 //! What holds of written lines, as the contract of a function that does nothing.
 
 ghost use Rattle.std.specs.Prelude.{◌≡◌, ℕ};
-ghost use Rattle.ec_arguments.specs.ec_ctypes.trees.Stmts.{StmtData};
-ghost use Rattle.ec_arguments.specs.ec_ctypes.trees.Units.{UnitData};
+ghost use Rattle.ec_ctypes.specs.trees.Stmts.{StmtData};
+ghost use Rattle.ec_ctypes.specs.trees.Units.{UnitData};
 ghost use Rattle.ec_expansion.specs.Lines.{line_after, line_after_tops};
 ghost use Rattle.ec_writing.specs.Chunks.{line_behind};
 ghost use Rattle.ec_writing.specs.Programs.{stmt_chunks, last_line};

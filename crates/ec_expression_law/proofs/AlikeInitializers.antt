@@ -5,7 +5,7 @@ use Rattle.ec_base.specs.declared.fault.FaultKind.TheVariants.{F14, F19}
 use Rattle.ec_ctypes.specs.trees.Types.{TyData, void, arithmetic, pointer, array, structure}
 use Rattle.ec_ctypes.specs.trees.Exprs.{ExprData, string, InitData, one, many, InitList, no_inits, inits, InitOption, no_init, some_init}
 use Rattle.ec_statement_law.specs.ec_expansion.Declarations.{written_expr, written_init, written_inits, written_initializer}
-use Rattle.ec_statement_law.specs.ec_objects.Memory.{ScalarType, scalar_type}
+use Rattle.ec_objects.specs.Memory.{ScalarType, scalar_type}
 use Rattle.ec_statement_law.specs.ec_resolved.Resolved.{Exp}
 use Rattle.ec_statement_law.specs.ec_typing.Known.{literal_in}
 use Rattle.ec_statement_law.specs.ec_typing.Types.{is_scalar, is_char_array}

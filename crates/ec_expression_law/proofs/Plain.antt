@@ -10,7 +10,7 @@ use Rattle.ec_ctypes.specs.declared.tree.expr.UnOp.TheVariants.{Addr, Deref, Plu
 use Rattle.ec_ctypes.specs.trees.Types.{TyData, arithmetic}
 use Rattle.ec_ctypes.specs.trees.Exprs.{ExprData, integer, character, unary, binary, DimData, open_dim, dim, DimList, no_dims, dims}
 use Rattle.ec_statement_law.specs.ec_expansion.Declarations.{written_expr, written_dim, written_dims, last_dim}
-use Rattle.ec_statement_law.specs.ec_objects.Memory.{number}
+use Rattle.ec_objects.specs.Memory.{number}
 use Rattle.ec_statement_law.specs.ec_resolved.Resolved.{Exp, constant}
 use Rattle.ec_statement_law.specs.ec_resolving.Conversions.{sign_exp, integers_exp}
 use Rattle.ec_statement_law.specs.ec_resolving.Expressions.{expr, lengths, last_length, length_at}

@@ -12,7 +12,7 @@ use Rattle.ec_ctypes.specs.trees.Exprs.{ExprData, ExprList}
 use Rattle.ec_statement_law.specs.ec_functions.Formats.{Part, format_parts}
 use Rattle.ec_statement_law.specs.ec_functions.Functions.{Channel, Known}
 use Rattle.ec_statement_law.specs.ec_language.Letters.{Text, same_text}
-use Rattle.ec_statement_law.specs.ec_objects.Memory.{number, ScalarType, integer_type, pointer_type, scalar_type}
+use Rattle.ec_objects.specs.Memory.{number, ScalarType, integer_type, pointer_type, scalar_type}
 use Rattle.ec_statement_law.specs.ec_resolved.Operations.{Comparison, Operation, pointer_plus, plus_pointer}
 use Rattle.ec_statement_law.specs.ec_resolved.Resolved.{Exp, constant, copy, operate, whole, convert, faulty}
 use Rattle.ec_statement_law.specs.ec_resolving.Conversions.{same_kind, converted_to, between, as_type, as_known_type, promoted_value, read_at, operation_in, comparison_of, left_type, right_type, operated, integers_exp, compared, pointers_exp, pointer_exp, reversed_exp, binary_exp, element_exp, sign_exp, unary_exp, stored_scalar, assigned, updated, pointer_step, compound, bumped, size_in, as_arith, as_pointer}

@@ -2,8 +2,8 @@
 use Rattle.std.proofs.Common.{◌≡◌, ◌∙◌, Bool, true, false, List, [], ◌∷◌, Option, Some, None, refl, ap, subst}
 use Rattle.ec_ctypes.specs.declared.tree.expr.UnOp.TheVariants.{Addr, Deref, Plus, Minus, Not, Flip}
 use Rattle.ec_ctypes.specs.trees.Exprs.{ExprData, integer, character, string, identifier, unary, binary, assign, bump, call, call_other, index, member, arrow, cast, size_type, size_expr}
-use Rattle.ec_members.specs.ec_forms.declared.resolver.Resolver.{Resolver}
-use Rattle.ec_members.specs.ec_forms.Seen.{from}
+use Rattle.ec_forms.specs.declared.resolver.Resolver.{Resolver}
+use Rattle.ec_forms.specs.Seen.{from}
 use Rattle.ec_resolving.specs.Expressions.{expr, args}
 use Rattle.ec_resolving.specs.Operands.{Found, no_expression}
 use Rattle.ec_resolving.specs.Storage.{Resolving, Reached, followed, chain, pure}

@@ -7,15 +7,15 @@ use Rattle.ec_ctypes.specs.declared.tree.decl.Init.{Init}
 use Rattle.ec_ctypes.specs.declared.tree.expr.Expr.{Expr}
 use Rattle.ec_ctypes.specs.trees.Types.{TyData}
 use Rattle.ec_ctypes.specs.views.Exprs.{expr_view, exprs_view, dim_of, dims_view, expr_option_view, inits_view, init_view, decl_view, decls_view, declarator_view, declarators_view}
-use Rattle.ec_members.specs.ec_forms.declared.found.Found.{Found}
-use Rattle.ec_members.specs.ec_forms.declared.resolver.Resolver.{Resolver}
-use Rattle.ec_members.specs.ec_forms.Seen.{found_view, from, mapped, IsReached}
-use Rattle.ec_members.proofs.ec_forms_proofs.Following.{follow, gather, reached_as}
+use Rattle.ec_forms.specs.declared.found.Found.{Found}
+use Rattle.ec_forms.specs.declared.resolver.Resolver.{Resolver}
+use Rattle.ec_forms.specs.Seen.{found_view, from, mapped, IsReached}
+use Rattle.ec_forms.proofs.Following.{follow, gather, reached_as}
 use Rattle.ec_resolving.specs.Expressions.{args, lengths, length_at, last_length, outer_lengths, members, member_decl, member_items, member_item, init_exprs, all_init_exprs}
 use Rattle.ec_resolving.specs.Operands as of
 use Rattle.ec_resolving.specs.Storage.{Reached, Resolving, chain, pure, checks}
 use Rattle.ec_scopes.specs.Seen.{world_of, IsDone}
-use Rattle.ec_members.specs.ec_storage.Stored.{storage_of}
+use Rattle.ec_storage.specs.Stored.{storage_of}
 use Rattle.ec_scopes.proofs.Loops.{drop_item, one_done, one_more}
 use Rattle.ec_typing.specs.Expressions.{Members}
 use Rattle.ec_typing.specs.Known.{ArgumentsData, behind_first_argument}

@@ -4,7 +4,7 @@
 ghost use Rattle.std.specs.Prelude.{◌≡◌, [], map, None, true};
 ghost use Rattle.ec_ctypes.specs.trees.Exprs.{assign, call};
 ghost use Rattle.ec_ctypes.specs.views.Exprs.{expr_view, expr_option_view, exprs_view, dim_of, base_view, dims_view, init_view, inits_view, init_option_view, decl_view, decls_view, declarator_view};
-ghost use Rattle.ec_members.specs.ec_forms.Seen.{found_view, from, Reaches};
+ghost use Rattle.ec_forms.specs.Seen.{found_view, from, Reaches};
 ghost use Rattle.ec_known.specs.Forms.{arguments_view};
 ghost use Rattle.ec_resolving.specs.Expressions as rule;
 ghost use Rattle.ec_scopes.specs.Entries.{place_view, named_view, type_view};
@@ -18,15 +18,15 @@ use crate::spines::left_of;
 use ec_base::{List, OutOfMemory};
 use ec_call_forms::call_rule;
 use ec_ctypes::{Base, BinOp, Decl, Declarator, Expr, Init, Ty, UnOp};
-use ec_known::{Arguments, arguments_of, is_identifier};
-use ec_members::ec_forms::{
+use ec_forms::{
     Found, Resolver, address_rule, assign_rule, binary_rule, bump_rule, cast_rule, compound_rule,
     index_rule, literal_rule, name_rule, size_rule, unary_rule, value_rule,
 };
+use ec_known::{Arguments, arguments_of, is_identifier};
 use ec_members::{arrow_rule, member_rule};
+use ec_rules::{copy_type, declared_type, length_rule};
 use ec_scopes::{Place, Table};
 use ec_walk::base as checked_base;
-use ec_walk::ec_rules::{copy_type, declared_type, length_rule};
 
 /// What is found of an expression. One that leans to the left is gone down by a loop, and up by another.
 #[cycle(walk)]

@@ -4,7 +4,7 @@
 ghost use Rattle.std.specs.Prelude.{◌≡◌, IfOk, false, pos};
 ghost use Rattle.ec_ctypes.specs.views.Exprs.{expr_view};
 ghost use Rattle.ec_ctypes.specs.views.Types.{ty_view};
-ghost use Rattle.ec_members.specs.ec_forms.Seen.{found_view, from, Reaches};
+ghost use Rattle.ec_forms.specs.Seen.{found_view, from, Reaches};
 ghost use Rattle.ec_known.specs.Forms.{arguments_view};
 ghost use Rattle.ec_objects.specs.Memory.{number};
 ghost use Rattle.ec_resolved.specs.Resolved.{constant};
@@ -15,14 +15,14 @@ ghost use Rattle.ec_typing.specs.Operands as checked;
 ghost use Rattle.ec_typing.specs.Types.{int_type};
 
 use ec_base::OutOfMemory;
-use ec_call_forms::ec_code::{Expression, Leaf};
-use ec_call_forms::ec_values::Word;
+use ec_code::{Expression, Leaf};
+use ec_conversions::faulty;
 use ec_ctypes::{Expr, Ty, copy_ty};
+use ec_forms::{Found, Resolver};
 use ec_known::Arguments;
-use ec_members::ec_conversions::faulty;
-use ec_members::ec_forms::{Found, Resolver};
+use ec_rules::{Operand, value_rule as checked_value};
 use ec_scopes::Place;
-use ec_walk::ec_rules::{Operand, value_rule as checked_value};
+use ec_values::Word;
 use ec_walk::expr as checked_expr;
 use std::alloc::Global;
 

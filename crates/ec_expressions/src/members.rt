@@ -8,8 +8,8 @@ ghost use Rattle.ec_scopes.specs.Seen.{world_of, IsDone};
 
 use ec_base::{FaultKind, OutOfMemory};
 use ec_ctypes::{Base, Ty};
+use ec_rules::{complete_rule, within_rule};
 use ec_scopes::{Checker, Place, Table};
-use ec_walk::ec_rules::{complete_rule, within_rule};
 
 /// Whether this is the type of a VARCHAR.
 #[tactic(auto, using(ec_ctypes::specs::declared::tree::decl::Base::the_lemmas))]

@@ -3,7 +3,7 @@
 ghost use Rattle.std.specs.Prelude.{◌≡◌};
 ghost use Rattle.ec_ctypes.specs.trees.Exprs.{call};
 ghost use Rattle.ec_ctypes.specs.views.Exprs.{expr_view, exprs_view, base_view, dims_view};
-ghost use Rattle.ec_members.specs.ec_forms.Seen.{found_view, from, Reaches};
+ghost use Rattle.ec_forms.specs.Seen.{found_view, from, Reaches};
 ghost use Rattle.ec_resolving.specs.Expressions as rule;
 ghost use Rattle.ec_scopes.specs.Entries.{place_view, type_view};
 
@@ -12,7 +12,7 @@ use crate::cycle::{
 };
 use ec_base::{List, OutOfMemory};
 use ec_ctypes::{Base, Expr, Ty};
-use ec_members::ec_forms::{Found, Resolver};
+use ec_forms::{Found, Resolver};
 use ec_scopes::Place;
 
 /// How many levels of a tree are walked. What nests deeper would take more stack than there may be, and counts as want of

@@ -17,7 +17,6 @@ use crate::found::{Found, with_join};
 use crate::resolver::Resolver;
 use crate::sizes::{scalar_of, struct_size};
 use ec_base::OutOfMemory;
-use ec_code::ec_values::Word;
 use ec_code::{Expression, Leaf};
 use ec_conversions::{Joined, assignment, bump, compound};
 use ec_ctypes::{BinOp, Ty};
@@ -25,6 +24,7 @@ use ec_rules::{
     assign_rule as checked_assign, bump_rule as checked_bump, compound_rule as checked_compound,
 };
 use ec_scopes::{Checker, Place};
+use ec_values::Word;
 
 /// What `=` does with a place of the first type and a value of the second.
 fn assign_form(checker: &Checker, to: &Option<Ty>, from: &Option<Ty>) -> Option<Joined>

@@ -24,7 +24,6 @@ use crate::resolver::Resolver;
 use crate::sizes::size_of;
 use crate::values::{Reading, discarding, read, reading_of};
 use ec_base::OutOfMemory;
-use ec_code::ec_values::Word;
 use ec_code::{Expression, Leaf};
 use ec_conversions::{Conversion, converted, scalar_conversion};
 use ec_ctypes::Ty;
@@ -32,6 +31,7 @@ use ec_objects::Kind;
 use ec_rules::{Operand, cast_rule as checked_cast, size_rule as checked_size};
 use ec_scopes::{Checker, Place};
 use ec_type_rules::is_void;
+use ec_values::Word;
 use std::alloc::Global;
 
 /// The scalar type of a value of this type: an array is a pointer.

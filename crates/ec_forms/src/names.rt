@@ -13,12 +13,12 @@ ghost use Rattle.ec_forms.specs.Seen.{found_view, from, Reaches};
 use crate::found::Found;
 use crate::resolver::Resolver;
 use ec_base::OutOfMemory;
-use ec_code::ec_bytes::Ptr;
-use ec_code::ec_values::Word;
+use ec_bytes::Ptr;
 use ec_code::{Expression, Leaf};
 use ec_rules::{Operand, name_rule as checked_name};
 use ec_scopes::{Checker, Entry, Place};
 use ec_storage::{Storage, site_leaf};
+use ec_values::Word;
 
 /// A name that is known without a declaration.
 fn predefined(name: &[u8]) -> Leaf

@@ -5,9 +5,9 @@ use Rattle.ec_ctypes.specs.declared.tree.unit.Top.{Top}
 use Rattle.ec_ctypes.specs.declared.types.ty.Ty.{Ty}
 use Rattle.ec_ctypes.specs.trees.Types.{TyData}
 use Rattle.ec_ctypes.specs.views.Units.{param_view, top_view}
-use Rattle.ec_statement_forms.specs.ec_forms.declared.resolver.Resolver.{Resolver}
-use Rattle.ec_statement_forms.specs.ec_forms.Seen.{from, mapped, IsReached}
-use Rattle.ec_statement_forms.proofs.ec_forms_proofs.Following.{follow, gather, reached_as}
+use Rattle.ec_forms.specs.declared.resolver.Resolver.{Resolver}
+use Rattle.ec_forms.specs.Seen.{from, mapped, IsReached}
+use Rattle.ec_forms.proofs.Following.{follow, gather, reached_as}
 use Rattle.ec_resolving.specs.Programs.{param, params, top_rule, tops_rule}
 use Rattle.ec_resolving.specs.Storage.{Reached, pure}
 use Rattle.ec_scopes.specs.Entries.{type_view}

@@ -6,9 +6,9 @@ use Rattle.ec_ctypes.specs.declared.tree.unit.Top.{Top}
 use Rattle.ec_ctypes.specs.declared.tree.unit.Top.TheVariants as top
 use Rattle.ec_ctypes.specs.trees.Units.{FuncData}
 use Rattle.ec_ctypes.specs.views.Units.{func_view, top_view}
-use Rattle.ec_statement_forms.specs.ec_forms.declared.resolver.Resolver.{Resolver}
-use Rattle.ec_statement_forms.specs.ec_forms.Seen.{from, Reaches}
-use Rattle.ec_statement_forms.proofs.ec_forms_proofs.Following.{reached_as}
+use Rattle.ec_forms.specs.declared.resolver.Resolver.{Resolver}
+use Rattle.ec_forms.specs.Seen.{from, Reaches}
+use Rattle.ec_forms.proofs.Following.{reached_as}
 use Rattle.ec_resolving.specs.Programs.{function_rule, top_rule}
 use Rattle.ec_resolving.specs.Storage.{chain, ask}
 use Rattle.ec_function_forms.specs.Functions.{function_parts}

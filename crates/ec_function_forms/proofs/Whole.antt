@@ -6,14 +6,14 @@ use Rattle.ec_ctypes.specs.declared.tree.unit.Top.{Top}
 use Rattle.ec_ctypes.specs.declared.tree.unit.Unit.{Unit as Source}
 use Rattle.ec_ctypes.specs.views.Embedded.{emb_view}
 use Rattle.ec_ctypes.specs.views.Units.{top_view, unit_view}
-use Rattle.ec_statement_forms.specs.ec_forms.declared.resolver.Resolver.{Resolver}
-use Rattle.ec_statement_forms.specs.ec_forms.Seen.{from, IsReached}
+use Rattle.ec_forms.specs.declared.resolver.Resolver.{Resolver}
+use Rattle.ec_forms.specs.Seen.{from, IsReached}
 use Rattle.ec_resolving.specs.Programs.{no_storage, program_by, resolved_by, tops_rule, walked}
 use Rattle.ec_resolving.specs.Storage as of
 use Rattle.ec_scopes.specs.Seen.{world_of}
 use Rattle.ec_scopes.specs.Starts.{fresh}
-use Rattle.ec_statement_forms.specs.ec_storage.Stored.{call_view, storage_of}
-use Rattle.ec_statement_forms.specs.ec_storage.declared.resolved.Resolved.{Resolved}
+use Rattle.ec_storage.specs.Stored.{call_view, storage_of}
+use Rattle.ec_storage.specs.declared.resolved.Resolved.{Resolved}
 use Rattle.ec_typing.specs.Programs.{defined_in, start}
 use Rattle.ec_typing.specs.Tables.{Named}
 use Rattle.ec_typing.specs.Worlds.{World}

@@ -1,4 +1,4 @@
-pub use Rattle.ec_statement_forms.specs.ec_storage as ec_storage
+pub use Rattle.ec_storage.specs as ec_storage
 pub mod Clean
 pub mod Counting
 pub mod Entries

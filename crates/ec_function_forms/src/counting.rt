@@ -9,7 +9,7 @@ ghost use Rattle.ec_function_forms.specs.Counting.{globals_of};
 use ec_base::OutOfMemory;
 use ec_ctypes::Top;
 use ec_scopes::Table;
-use ec_statement_forms::ec_storage::Names;
+use ec_storage::Names;
 use std::alloc::Global;
 
 fn add_if_defined(alloc: Global, top: &Top, defined: &mut Table<()>) -> Result<(), OutOfMemory>

@@ -15,8 +15,8 @@ ghost use Rattle.ec_function_forms.specs.Types.{types_view};
 use crate::types::type_or_void;
 use ec_base::{FaultKind, List, Name, OutOfMemory};
 use ec_ctypes::{Func, Ty};
+use ec_rules::copy_type;
 use ec_scopes::{Checker, Entry, Place};
-use ec_statement_forms::ec_rules::copy_type;
 use std::alloc::Global;
 
 /// The name of a parameter, which it has in a definition (ISO/IEC 9899:1999, 6.9.1, 5).

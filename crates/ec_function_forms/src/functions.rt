@@ -5,7 +5,7 @@ ghost use Rattle.std.specs.Prelude.{◌≡◌, [], length, map, option_map, IfOk
 ghost use Rattle.ec_ctypes.specs.trees.Types.{TyData};
 ghost use Rattle.ec_ctypes.specs.views.Stmts.{stmts_view};
 ghost use Rattle.ec_ctypes.specs.views.Units.{func_view};
-ghost use Rattle.ec_statement_forms.specs.ec_forms.Seen.{from, Reaches};
+ghost use Rattle.ec_forms.specs.Seen.{from, Reaches};
 ghost use Rattle.ec_objects.specs.Kinds.{kind_type};
 ghost use Rattle.ec_resolving.specs.Programs as rule;
 ghost use Rattle.ec_resolving.specs.Storage.{in_block};
@@ -19,13 +19,13 @@ use crate::types::{parameter_kinds, result_rule};
 use ec_base::{List, OutOfMemory};
 use ec_code::{Function, ObjectSize};
 use ec_ctypes::{Func, Stmt, Ty};
+use ec_forms::Resolver;
 use ec_objects::Kind;
+use ec_rules::declared_type;
 use ec_scopes::Place;
 use ec_statement_forms::ec_expressions::base;
-use ec_statement_forms::ec_forms::Resolver;
-use ec_statement_forms::ec_rules::declared_type;
-use ec_statement_forms::ec_storage::Site;
 use ec_statement_forms::{Body, function_body};
+use ec_storage::Site;
 use ec_values::Word;
 
 /// What `main` gives where it ends without `return` (ISO/IEC 9899:1999, 5.1.2.2.3).

@@ -9,5 +9,5 @@ mod params;
 mod programs;
 mod types;
 
-pub use ec_statement_forms::ec_storage;
+pub use ec_storage;
 pub use programs::resolve;

@@ -3,7 +3,7 @@
 
 ghost use Rattle.std.specs.Prelude.{map};
 ghost use Rattle.ec_ctypes.specs.views.Units.{param_view};
-ghost use Rattle.ec_statement_forms.specs.ec_forms.Seen.{from, Reaches};
+ghost use Rattle.ec_forms.specs.Seen.{from, Reaches};
 ghost use Rattle.ec_resolving.specs.Programs as rule;
 ghost use Rattle.ec_scopes.specs.Entries.{place_view, type_view};
 ghost use Rattle.ec_function_forms.specs.Params.{param_named, param_placed};
@@ -14,10 +14,10 @@ use crate::types::{param_type, size_of_type};
 use ec_base::{List, Name, OutOfMemory};
 use ec_code::ObjectSize;
 use ec_ctypes::{Param, Ty};
+use ec_forms::Resolver;
+use ec_rules::copy_type;
 use ec_scopes::Place;
 use ec_statement_forms::ec_expressions::{base, lengths};
-use ec_statement_forms::ec_forms::Resolver;
-use ec_statement_forms::ec_rules::copy_type;
 
 /// The name of a parameter stands for it from here on.
 fn name_param(

@@ -4,10 +4,10 @@
 ghost use Rattle.std.specs.Prelude.{◌≡◌, ◌+◌, [], map, IfOk};
 ghost use Rattle.ec_code.specs.Views.{program_view};
 ghost use Rattle.ec_ctypes.specs.views.Units.{top_view, unit_view};
-ghost use Rattle.ec_statement_forms.specs.ec_forms.Seen.{from, Reaches};
+ghost use Rattle.ec_forms.specs.Seen.{from, Reaches};
 ghost use Rattle.ec_resolving.specs.Programs as rule;
 ghost use Rattle.ec_scopes.specs.Seen.{world_of};
-ghost use Rattle.ec_statement_forms.specs.ec_storage.Stored.{call_view, storage_of};
+ghost use Rattle.ec_storage.specs.Stored.{call_view, storage_of};
 ghost use Rattle.ec_typing.specs.Programs as checked;
 ghost use Rattle.ec_function_forms.specs.Clean.{FindsNothing, called_form, resolved_form, walked_form};
 
@@ -15,10 +15,10 @@ use crate::counting::{defined_names, defined_table, globals_in};
 use crate::functions::function_rule;
 use ec_base::OutOfMemory;
 use ec_ctypes::{Top, Unit};
+use ec_forms::Resolver;
 use ec_scopes::Checker;
 use ec_statement_forms::declaration;
-use ec_statement_forms::ec_forms::Resolver;
-use ec_statement_forms::ec_storage::{Resolved, Storage};
+use ec_storage::{Resolved, Storage};
 use std::alloc::Global;
 
 /// What stands at the top level.

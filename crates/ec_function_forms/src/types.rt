@@ -14,11 +14,11 @@ ghost use Rattle.ec_function_forms.specs.Types.{types_view};
 
 use ec_base::{Boxed, FaultKind, List, OutOfMemory};
 use ec_ctypes::Ty;
+use ec_forms::size_of;
 use ec_objects::Kind;
+use ec_rules::{complete_rule, declared_type, within_rule};
 use ec_scopes::{Checker, Place};
-use ec_statement_forms::ec_forms::size_of;
-use ec_statement_forms::ec_rules::{complete_rule, declared_type, within_rule};
-use ec_statement_forms::ec_type_rules::{is_structure, is_void};
+use ec_type_rules::{is_structure, is_void};
 use std::alloc::Global;
 
 /// The type, or `void` where there is none.

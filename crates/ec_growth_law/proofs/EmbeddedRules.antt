@@ -1,6 +1,6 @@
 -- What is known grows by embedded statements.
 use Rattle.std.proofs.Common.{ℕ, Bool, List, [], ◌∷◌, refl, Option, Some, None}
-use Rattle.ec_ctypes.specs.ec_base.declared.fault.FaultKind.TheVariants.{F30}
+use Rattle.ec_base.specs.declared.fault.FaultKind.TheVariants.{F30}
 use Rattle.ec_ctypes.specs.declared.embedded.emb.Cond.TheVariants.{NotFound, Warning, Error}
 use Rattle.ec_ctypes.specs.trees.Types.{TyData}
 use Rattle.ec_ctypes.specs.trees.Exprs.{ExprData, call}

@@ -1,8 +1,8 @@
 -- What is known grows by expressions, and by types and declarators in them.
 use Rattle.std.proofs.Common.{◌≡◌, ℕ, Bool, true, false, [], ◌∷◌, refl, sym, ap, subst, ◌∙◌, Option, Some, None}
 use Rattle.std.specs.Prelude.{option_map, slice_set}
-use Rattle.ec_ctypes.specs.ec_base.declared.fault.FaultKind.TheVariants.{F10}
-use Rattle.ec_ctypes.specs.ec_base.declared.fault.LimitKind.TheVariants.{L1}
+use Rattle.ec_base.specs.declared.fault.FaultKind.TheVariants.{F10}
+use Rattle.ec_base.specs.declared.fault.LimitKind.TheVariants.{L1}
 use Rattle.ec_ctypes.specs.declared.tree.expr.UnOp.{UnOp}
 use Rattle.ec_ctypes.specs.declared.tree.expr.UnOp.TheVariants.{Addr, Deref, Plus, Minus, Not, Flip}
 use Rattle.ec_ctypes.specs.trees.Types.{TyData}

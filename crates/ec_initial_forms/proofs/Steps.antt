@@ -8,17 +8,17 @@ use Rattle.ec_ctypes.specs.declared.tree.decl.Init.{Init}
 use Rattle.ec_ctypes.specs.trees.Exprs.{ExprData, one, many, InitData, InitList}
 use Rattle.ec_ctypes.specs.trees.Types.{TyData}
 use Rattle.ec_ctypes.specs.views.Exprs.{init_view, inits_view}
-use Rattle.ec_expressions.proofs.ec_forms_proofs.Following.{follow, then_reached, reached_as}
-use Rattle.ec_expressions.specs.ec_forms.declared.found.Found.{Found as CodeFound}
-use Rattle.ec_expressions.specs.ec_forms.declared.resolver.Resolver.{Resolver}
-use Rattle.ec_expressions.specs.ec_forms.Seen.{found_view, from, mapped, IsReached}
+use Rattle.ec_forms.proofs.Following.{follow, then_reached, reached_as}
+use Rattle.ec_forms.specs.declared.found.Found.{Found as CodeFound}
+use Rattle.ec_forms.specs.declared.resolver.Resolver.{Resolver}
+use Rattle.ec_forms.specs.Seen.{found_view, from, mapped, IsReached}
 use Rattle.ec_resolving.specs.Expressions.{expr}
 use Rattle.ec_resolving.specs.Initializers.{PartData, Spot, spot_at, Left, left, Filled, Goal, goal_of, next_in, stored_at, fixed_exp, init_value, initializer, fill, fill_part}
 use Rattle.ec_resolving.specs.Operands.{Found, value_rule}
 use Rattle.ec_resolving.specs.Storage.{Storage, Reached, reached, followed, Resolving, chain, pure, checks, ask}
 use Rattle.ec_scopes.proofs.Loops.{drop_item}
 use Rattle.ec_scopes.specs.Seen.{world_of}
-use Rattle.ec_expressions.specs.ec_storage.Stored.{storage_of}
+use Rattle.ec_storage.specs.Stored.{storage_of}
 use Rattle.ec_typing.specs.Initializers.{Frames, next_part, going_in, max_depth, suits, suits_rule, is_fixed_value, fixed_rule, go_by, go_to, part_rule, slot_of, slot_rule, single_by, completed_by, braced_frames, completed_in_braces}
 use Rattle.ec_typing.specs.Operands.{OperandData}
 use Rattle.ec_typing.specs.Worlds.{Place, World, Rule, note, demand}

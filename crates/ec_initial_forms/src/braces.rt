@@ -7,7 +7,7 @@ ghost use Rattle.ec_ctypes.specs.views.Exprs.{expr_view, init_view, inits_view};
 ghost use Rattle.ec_ctypes.specs.trees.Exprs.{inits, no_inits};
 ghost use Rattle.ec_scopes.specs.Entries.{type_view};
 ghost use Rattle.ec_scopes.specs.Seen.{world_of};
-ghost use Rattle.ec_expressions.specs.ec_rules.Seen.{operand_view};
+ghost use Rattle.ec_rules.specs.Seen.{operand_view};
 ghost use Rattle.ec_typing.specs.Initializers as rule;
 ghost use Rattle.ec_typing.specs.Types as types;
 ghost use Rattle.ec_initial_forms.specs.Frames.{frames_view, known_frames, listed_count};
@@ -16,9 +16,9 @@ use crate::frames::{Frame, Frames, elements_begun};
 use crate::goals::parts_of;
 use ec_base::{Boxed, List, OutOfMemory};
 use ec_ctypes::{Expr, Init, Ty, copy_ty};
-use ec_expressions::ec_rules::Operand;
-use ec_expressions::ec_type_rules::{is_char_array, is_character};
+use ec_rules::Operand;
 use ec_scopes::Checker;
+use ec_type_rules::{is_char_array, is_character};
 use std::alloc::Global;
 
 fn is_literal(e: &Expr) -> bool

@@ -4,9 +4,9 @@
 ghost use Rattle.std.specs.Prelude.{◌≡◌, ◌∷◌, [], IfOk};
 ghost use Rattle.ec_ctypes.specs.views.Exprs.{expr_view, init_view, inits_view};
 ghost use Rattle.ec_ctypes.specs.trees.Exprs.{many, one};
-ghost use Rattle.ec_expressions.specs.ec_forms.Seen.{from, mapped, IsReached, Reaches};
+ghost use Rattle.ec_forms.specs.Seen.{from, mapped, IsReached, Reaches};
 ghost use Rattle.ec_resolving.specs.Initializers as of;
-ghost use Rattle.ec_expressions.specs.ec_rules.Seen.{operand_view};
+ghost use Rattle.ec_rules.specs.Seen.{operand_view};
 ghost use Rattle.ec_scopes.specs.Entries.{place_view, type_view};
 ghost use Rattle.ec_initial_forms.specs.Filled.{filled_behind, initialized_view, single_type};
 ghost use Rattle.ec_initial_forms.specs.Frames.{known_frames};
@@ -22,8 +22,8 @@ use crate::storing::{Parts, store_at};
 use crate::values::init_value;
 use ec_base::{List, OutOfMemory};
 use ec_ctypes::{Expr, Init, Ty, copy_ty};
-use ec_expressions::ec_forms::Resolver;
-use ec_expressions::ec_rules::Operand;
+use ec_forms::Resolver;
+use ec_rules::Operand;
 use ec_scopes::Place;
 use std::alloc::Global;
 

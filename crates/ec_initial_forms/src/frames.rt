@@ -7,7 +7,7 @@ ghost use Rattle.ec_initial_forms.specs.Frames.{frames_view, frame_taken, frame_
 
 use ec_base::{List, OutOfMemory};
 use ec_ctypes::{Ty, copy_ty};
-use ec_expressions::ec_rules::copy_type;
+use ec_rules::copy_type;
 use ec_scopes::{Shared, Table};
 use std::alloc::Global;
 

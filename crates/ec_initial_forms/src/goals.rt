@@ -4,7 +4,7 @@ ghost use Rattle.std.specs.Prelude.{◌≡◌, [], false, IfOk, Some, option_map
 ghost use Rattle.ec_ctypes.specs.trees.Types.{array, structure};
 ghost use Rattle.ec_ctypes.specs.views.Types.{ty_view};
 ghost use Rattle.ec_resolving.specs.Initializers as of;
-ghost use Rattle.ec_expressions.specs.ec_rules.Seen.{operand_view};
+ghost use Rattle.ec_rules.specs.Seen.{operand_view};
 ghost use Rattle.ec_scopes.specs.Entries.{type_view};
 ghost use Rattle.ec_scopes.specs.Seen.{world_of};
 ghost use Rattle.ec_typing.specs.Initializers as rule;
@@ -20,7 +20,7 @@ use crate::left::{Left, Next, next_part};
 use crate::spots::{Spots, open_spot, shape_of};
 use ec_base::{List, OutOfMemory, beside};
 use ec_ctypes::{Ty, copy_ty};
-use ec_expressions::ec_rules::{Operand, is_whole};
+use ec_rules::{Operand, is_whole};
 use ec_scopes::{Checker, Members, Shared, Table};
 use std::alloc::Global;
 

@@ -4,7 +4,7 @@ ghost use Rattle.std.specs.Prelude.{◌≡◌, ◌∷◌, IfOk, Some};
 ghost use Rattle.std.specs.Int.{next_multiple_of};
 ghost use Rattle.ec_ctypes.specs.Layout.{with_member};
 ghost use Rattle.ec_ctypes.specs.views.Types.{ty_view};
-ghost use Rattle.ec_expressions.specs.ec_forms.Readings.{shape_by};
+ghost use Rattle.ec_forms.specs.Readings.{shape_by};
 ghost use Rattle.ec_resolving.specs.Initializers as of;
 ghost use Rattle.ec_scopes.specs.Entries.{type_view};
 ghost use Rattle.ec_scopes.specs.Seen.{world_of};

@@ -3,11 +3,11 @@
 
 ghost use Rattle.std.specs.Prelude.{◌≡◌, ◌++◌, ◌∷◌, [], IfOk, Some};
 ghost use Rattle.std.specs.Option.{option_copied};
-ghost use Rattle.ec_initial_parts.specs.ec_code.Views.{expression_view};
-ghost use Rattle.ec_expressions.specs.ec_conversions.Forms.{converted as converted_by};
+ghost use Rattle.ec_code.specs.Views.{expression_view};
+ghost use Rattle.ec_conversions.specs.Forms.{converted as converted_by};
 ghost use Rattle.ec_ctypes.specs.views.Exprs.{expr_view};
 ghost use Rattle.ec_ctypes.specs.views.Types.{ty_view};
-ghost use Rattle.ec_expressions.specs.ec_forms.Seen.{found_view, from, mapped, IsReached};
+ghost use Rattle.ec_forms.specs.Seen.{found_view, from, mapped, IsReached};
 ghost use Rattle.ec_objects.specs.Kinds.{kind_type};
 ghost use Rattle.ec_resolved.specs.Resolved.{Exp};
 ghost use Rattle.ec_resolving.specs.Conversions.{as_known_type};
@@ -20,13 +20,13 @@ ghost use Rattle.ec_initial_forms.specs.Filled.{literal_front, parts_behind};
 ghost use Rattle.ec_initial_parts.specs.Parts.{parts_view};
 
 use ec_base::{Bytes, List, OutOfMemory};
+use ec_code::Expression;
+use ec_conversions::{Conversion, converted, type_conversion};
 use ec_ctypes::{Expr, Ty};
-use ec_expressions::ec_conversions::{Conversion, converted, type_conversion};
-use ec_expressions::ec_forms::{Found, Resolver, size_of};
-use ec_expressions::ec_rules::is_text_for;
+use ec_forms::{Found, Resolver, size_of};
 use ec_initial_parts::Part;
-use ec_initial_parts::ec_code::Expression;
 use ec_objects::Kind;
+use ec_rules::is_text_for;
 use ec_scopes::Checker;
 use std::alloc::Global;
 

@@ -2,23 +2,23 @@
 #![tactic(auto, unfolding(ec_resolving::specs::Storage::chain, ec_resolving::specs::Storage::pure, ec_resolving::specs::Storage::checks, ec_resolving::specs::Storage::ask, ec_resolving::specs::Storage::arrange))]
 
 ghost use Rattle.std.specs.Prelude.{◌≡◌, IfOk};
-ghost use Rattle.ec_initial_parts.specs.ec_code.Views.{expression_view};
+ghost use Rattle.ec_code.specs.Views.{expression_view};
 ghost use Rattle.ec_ctypes.specs.views.Exprs.{expr_view};
-ghost use Rattle.ec_expressions.specs.ec_forms.Seen.{found_view, from, Reaches};
+ghost use Rattle.ec_forms.specs.Seen.{found_view, from, Reaches};
 ghost use Rattle.ec_objects.specs.Memory.{number};
 ghost use Rattle.ec_resolving.specs.Initializers as of;
 ghost use Rattle.ec_scopes.specs.Entries.{place_view};
-ghost use Rattle.ec_expressions.specs.ec_type_rules.Views.{constant_view};
-ghost use Rattle.ec_initial_parts.specs.ec_values.Words.{word_view};
+ghost use Rattle.ec_type_rules.specs.Views.{constant_view};
+ghost use Rattle.ec_values.specs.Words.{word_view};
 
 use ec_base::{OutOfMemory, beside};
+use ec_code::{Expression, Leaf};
 use ec_ctypes::Expr;
-use ec_expressions::ec_forms::{Found, Resolver, value_rule};
-use ec_expressions::ec_type_rules::Constant;
 use ec_expressions::expr;
-use ec_initial_parts::ec_code::{Expression, Leaf};
-use ec_initial_parts::ec_values::Word;
+use ec_forms::{Found, Resolver, value_rule};
 use ec_scopes::Place;
+use ec_type_rules::Constant;
+use ec_values::Word;
 use std::alloc::Global;
 
 /// The value of an integer constant. There is no memory for one that no integer type has.

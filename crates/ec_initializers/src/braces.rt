@@ -8,7 +8,7 @@ ghost use Rattle.ec_ctypes.specs.views.Exprs.{expr_view, init_view, inits_view};
 ghost use Rattle.ec_ctypes.specs.trees.Exprs.{inits, no_inits};
 ghost use Rattle.ec_scopes.specs.Entries.{place_view, type_view};
 ghost use Rattle.ec_scopes.specs.Seen.{world_of, IsDone};
-ghost use Rattle.ec_walk.specs.ec_rules.Seen.{operand_view};
+ghost use Rattle.ec_rules.specs.Seen.{operand_view};
 ghost use Rattle.ec_typing.specs.Initializers as rule;
 ghost use Rattle.ec_typing.specs.Types as types;
 ghost use Rattle.ec_initializers.specs.Frames.{frames_view, known_frames, listed_count};
@@ -17,9 +17,9 @@ use crate::frames::{Frame, Frames, elements_begun};
 use crate::parts::parts_of;
 use ec_base::{Boxed, FaultKind, List, OutOfMemory};
 use ec_ctypes::{Expr, Init, Ty, copy_ty};
+use ec_rules::Operand;
 use ec_scopes::{Checker, Place};
-use ec_walk::ec_rules::Operand;
-use ec_walk::ec_type_rules::{is_char_array, is_character, is_scalar};
+use ec_type_rules::{is_char_array, is_character, is_scalar};
 use std::alloc::Global;
 
 fn is_literal(e: &Expr) -> bool

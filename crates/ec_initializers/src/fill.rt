@@ -5,7 +5,7 @@ ghost use Rattle.std.specs.Prelude.{◌≡◌};
 ghost use Rattle.ec_ctypes.specs.views.Exprs.{expr_view, init_view, inits_view};
 ghost use Rattle.ec_scopes.specs.Entries.{place_view, type_view};
 ghost use Rattle.ec_scopes.specs.Seen.{world_of, Does};
-ghost use Rattle.ec_walk.specs.ec_rules.Seen.{operand_view};
+ghost use Rattle.ec_rules.specs.Seen.{operand_view};
 ghost use Rattle.ec_typing.specs.Initializers as rule;
 ghost use Rattle.ec_initializers.specs.Frames.{known_frames};
 
@@ -14,8 +14,8 @@ use crate::frames::Frames;
 use crate::parts::{Slot, part_rule, slot_rule};
 use ec_base::OutOfMemory;
 use ec_ctypes::{Expr, Init, Ty};
+use ec_rules::{Operand, fixed_rule, suits_rule, value_rule};
 use ec_scopes::{Checker, Place};
-use ec_walk::ec_rules::{Operand, fixed_rule, suits_rule, value_rule};
 use ec_walk::expr;
 
 // An expression as a value, which is known before the program runs where it has to be.

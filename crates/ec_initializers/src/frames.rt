@@ -7,8 +7,8 @@ ghost use Rattle.ec_initializers.specs.Frames.{frames_view, frame_taken, frame_v
 
 use ec_base::{List, OutOfMemory};
 use ec_ctypes::{Ty, copy_ty};
+use ec_rules::copy_type;
 use ec_scopes::{Shared, Table};
-use ec_walk::ec_rules::copy_type;
 use std::alloc::Global;
 
 /// A part of an object of which some elements or members are left.

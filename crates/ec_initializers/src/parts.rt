@@ -6,7 +6,7 @@ ghost use Rattle.ec_ctypes.specs.views.Types.{ty_view};
 ghost use Rattle.ec_ctypes.specs.trees.Types.{array, structure};
 ghost use Rattle.ec_scopes.specs.Entries.{place_view};
 ghost use Rattle.ec_scopes.specs.Seen.{world_of, Does};
-ghost use Rattle.ec_walk.specs.ec_rules.Seen.{operand_view};
+ghost use Rattle.ec_rules.specs.Seen.{operand_view};
 ghost use Rattle.ec_typing.specs.Initializers as rule;
 ghost use Rattle.ec_typing.specs.Initializers.{members_left};
 ghost use Rattle.ec_typing.specs.Types.{is_scalar};
@@ -17,8 +17,8 @@ ghost use Rattle.ec_initializers.specs.Slots.{slot_view};
 use crate::frames::{Frame, Frames, next_part};
 use ec_base::{FaultKind, List, OutOfMemory};
 use ec_ctypes::{Ty, copy_ty};
+use ec_rules::{Operand, is_whole, suits_rule};
 use ec_scopes::{Checker, Members, Place, Shared, Table};
-use ec_walk::ec_rules::{Operand, is_whole, suits_rule};
 use std::alloc::Global;
 
 // More parts than stand one in another in any program.

@@ -11,10 +11,10 @@ use Rattle.ec_evaluation.specs.Results.{Res, value, on, broke, continued, went, 
 use Rattle.ec_evaluation.specs.State.{Answer, Ending, State, trapped}
 use Rattle.ec_evaluation.specs.Whole.{Observed, main_run, observed, opening_state, program_meaning, seen, whole, whole_within}
 use Rattle.ec_evaluation.proofs.WholeRuns.{enough_turns}
-use Rattle.ec_running.specs.ec_machine.declared.machine.Machine.{Machine}
-use Rattle.ec_running.specs.ec_machine.declared.stop.End.{End}
-use Rattle.ec_running.specs.ec_machine.declared.stop.End.TheVariants as ends
-use Rattle.ec_running.specs.ec_machine.Goes.{at, ending_view, tasks}
+use Rattle.ec_machine.specs.declared.machine.Machine.{Machine}
+use Rattle.ec_machine.specs.declared.stop.End.{End}
+use Rattle.ec_machine.specs.declared.stop.End.TheVariants as ends
+use Rattle.ec_machine.specs.Goes.{at, ending_view, tasks}
 use Rattle.ec_memory.specs.declared.store.MakeStop.{MakeStop}
 use Rattle.ec_memory.specs.declared.store.MakeStop.TheVariants as makes
 use Rattle.ec_objects.specs.Memory.{Memory}

@@ -1,6 +1,6 @@
 -- The ends of runs, as the machine names them.
 use Rattle.ec_base.specs.declared.stop.Trap.TheVariants as traps
-use Rattle.ec_running.specs.ec_machine.declared.stop.End.TheVariants as ends
+use Rattle.ec_machine.specs.declared.stop.End.TheVariants as ends
 use Rattle.ec_memory.specs.declared.store.MakeStop.{MakeStop}
 use Rattle.ec_memory.specs.declared.store.MakeStop.TheVariants as makes
 use Rattle.ec_running.specs.declared.halt.Halt.{Halt}

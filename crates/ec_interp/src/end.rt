@@ -4,9 +4,9 @@ ghost use Rattle.std.specs.Prelude.{◌≡◌};
 ghost use Rattle.ec_interp.specs.Ends.{halt_of, stopped};
 
 use ec_base::{Line, Trap};
+use ec_machine::End;
 use ec_memory::MakeStop;
 use ec_running::Halt;
-use ec_running::ec_machine::End;
 
 /// How a run ended, or why it was given up.
 #[derive(Clone, Copy)]

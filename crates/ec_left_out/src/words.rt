@@ -7,9 +7,9 @@ ghost use Rattle.ec_left_out.specs.Words as words;
 ghost use Rattle.ec_embedded.specs.Terminals.{is, word_but, sort_of, is_word_among};
 
 use crate::areas::names_area;
-use ec_clex::ec_split::scanning::words::same_word;
 use ec_clex::{SqlClass, SqlToken};
 use ec_references::{Class, is_any_word, is_class, is_keyword, is_mark};
+use ec_split::scanning::words::same_word;
 
 /// Whether the first token is this word.
 pub fn is_first(tokens: &[SqlToken], word: &[u8]) -> bool

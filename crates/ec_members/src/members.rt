@@ -2,7 +2,7 @@
 #![tactic(auto, unfolding(ec_resolving::specs::Storage::chain, ec_resolving::specs::Storage::pure, ec_resolving::specs::Storage::checks, ec_resolving::specs::Storage::ask))]
 
 ghost use Rattle.std.specs.Prelude.{◌≡◌, IfOk, option_and_then};
-ghost use Rattle.ec_forms.specs.ec_code.Views.{expression_view};
+ghost use Rattle.ec_code.specs.Views.{expression_view};
 ghost use Rattle.ec_forms.specs.Seen.{found_view, from, Reaches};
 ghost use Rattle.ec_resolving.specs.Operands as rule;
 ghost use Rattle.ec_scopes.specs.Entries.{place_view, type_view};
@@ -10,13 +10,13 @@ ghost use Rattle.ec_typing.specs.Types.{struct_number};
 
 use crate::offsets::offset_in;
 use ec_base::OutOfMemory;
+use ec_code::{Expression, Unary};
+use ec_conversions::faulty;
 use ec_ctypes::Ty;
-use ec_forms::ec_code::{Expression, Unary};
-use ec_forms::ec_conversions::faulty;
-use ec_forms::ec_rules::{arrow_rule as checked_arrow, member_rule as checked_member};
-use ec_forms::ec_type_rules::struct_number;
 use ec_forms::{Found, Resolver, with_form};
+use ec_rules::{arrow_rule as checked_arrow, member_rule as checked_member};
 use ec_scopes::Place;
+use ec_type_rules::struct_number;
 use std::alloc::Global;
 
 /// The address of a member at this offset, from that of its struct.

@@ -1,4 +1,4 @@
-pub use Rattle.ec_objects.proofs.ec_ctypes_proofs as ec_ctypes_proofs
+pub use Rattle.ec_ctypes.proofs as ec_ctypes_proofs
 pub mod Numbers
 pub mod Pieces
 pub mod Joined

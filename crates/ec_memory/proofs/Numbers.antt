@@ -5,11 +5,11 @@ use Rattle.std.specs.Int.{from_le_bytes, w128}
 use mir.Val.{SFits}
 use Rattle.std.proofs.Math.Facts.{to_z-neg}
 use Rattle.std.proofs.lemmas.Int.{ints}
-use Rattle.ec_objects.specs.ec_ctypes.Arithmetic.{wrapped_signed}
-use Rattle.ec_objects.specs.ec_ctypes.declared.types.arith.Arith.TheVariants.{Long, ULong, LLong, ULLong}
-use Rattle.ec_objects.specs.ec_ctypes.declared.types.ty.Ty.{the_lemmas}
-use Rattle.ec_objects.specs.ec_ctypes.declared.types.ty.Ty as Ty
-use Rattle.ec_objects.specs.ec_ctypes.views.Types.{ty_view}
+use Rattle.ec_ctypes.specs.Arithmetic.{wrapped_signed}
+use Rattle.ec_ctypes.specs.declared.types.arith.Arith.TheVariants.{Long, ULong, LLong, ULLong}
+use Rattle.ec_ctypes.specs.declared.types.ty.Ty.{the_lemmas}
+use Rattle.ec_ctypes.specs.declared.types.ty.Ty as Ty
+use Rattle.ec_ctypes.specs.views.Types.{ty_view}
 use Rattle.ec_objects.specs.Memory.{scalar_type, ValueData, number, address, integer_type, Fits, little_endian}
 
 -- the number of eight bytes, as std reads it

@@ -1,4 +1,4 @@
-pub use Rattle.ec_objects.specs.ec_ctypes as ec_ctypes
+pub use Rattle.ec_ctypes.specs as ec_ctypes
 pub use Rattle.ec_objects.specs as ec_objects
 pub mod SingleBytes
 pub mod Objects

@@ -13,8 +13,8 @@ mod texts;
 mod value;
 
 pub use ec_bytes;
+pub use ec_ctypes;
 pub use ec_objects;
-pub use ec_objects::ec_ctypes;
 pub use elements::Elements;
 pub use pointers::{difference, order};
 pub use store::{MakeStop, Store};

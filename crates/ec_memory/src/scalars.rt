@@ -1,7 +1,7 @@
 //! Loads and stores of scalars.
 
 ghost use Rattle.std.specs.Prelude.{◌≡◌, ℕ, List, IfOk, OnErr, IsSome, Some, Ok};
-ghost use Rattle.ec_objects.specs.ec_ctypes.views.Types.{ty_view};
+ghost use Rattle.ec_ctypes.specs.views.Types.{ty_view};
 ghost use Rattle.ec_objects.specs.Memory.{ScalarType, scalar_type, Fits, span, put, load, store};
 ghost use Rattle.ec_objects.specs.Kinds.{kind_type};
 ghost use Rattle.ec_bytes.specs.Scalars.{AreBytes};
@@ -13,8 +13,8 @@ use crate::store::Store;
 use crate::value::{Held, Value};
 use ec_base::Trap;
 use ec_bytes::{Flag, I8, I16, I32, I64, Ptr, Scalar, U8, U16, U32, U64};
+use ec_ctypes::Ty;
 use ec_objects::Kind;
-use ec_objects::ec_ctypes::Ty;
 
 impl Store {
     /// The value at a pointer, read as one access (ISO/IEC 9899:1999, 6.2.6, 6.3.2.1). `ty` is its type: an integer type or a

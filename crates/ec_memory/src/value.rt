@@ -1,7 +1,7 @@
 //! The values that are loaded and stored.
 
 ghost use Rattle.std.specs.Prelude.{◌≡◌, ℕ, ◌<◌, List, length, slice_index, refl};
-ghost use Rattle.ec_objects.specs.ec_ctypes.declared.types.arith.Arith.TheVariants as arith;
+ghost use Rattle.ec_ctypes.specs.declared.types.arith.Arith.TheVariants as arith;
 ghost use Rattle.ec_objects.specs.Memory.{ScalarType, integer_type, pointer_type, scalar_size, Fits, decoded, encoded};
 ghost use Rattle.ec_memory.specs.Values.{value_view, number_in};
 

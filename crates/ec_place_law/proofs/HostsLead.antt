@@ -15,7 +15,7 @@ use Rattle.ec_typing.specs.ec_statement_parts.References.{of_host}
 use Rattle.ec_typing.specs.Answers.{struct_order, place_of, renumbered, structs_of}
 use Rattle.ec_typing.specs.Types.{is_void}
 use Rattle.ec_typing.specs.Worlds.{Place, World}
-use Rattle.ec_expression_law.specs.ec_objects.Memory.{pointer_type}
+use Rattle.ec_objects.specs.Memory.{pointer_type}
 use Rattle.ec_expression_law.specs.ec_resolved.Resolved.{Exp, member, load, faulty}
 use Rattle.ec_expression_law.specs.ec_resolving.Storage.{Storage, ReferenceForm}
 use Rattle.ec_expression_law.specs.ec_direct.Leaves.{leaf_place, member_place}

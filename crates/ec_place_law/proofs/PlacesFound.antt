@@ -4,7 +4,7 @@ use Rattle.ec_ctypes.specs.declared.types.arith.Arith.{Arith}
 use Rattle.ec_ctypes.specs.trees.Exprs.{ExprData, index, arrow}
 use Rattle.ec_ctypes.specs.trees.Types.{TyData, arithmetic, pointer, array, structure}
 use Rattle.ec_typing.specs.ec_language.Letters.{Text}
-use Rattle.ec_expression_law.specs.ec_objects.Memory.{pointer_type}
+use Rattle.ec_objects.specs.Memory.{pointer_type}
 use Rattle.ec_expression_law.specs.ec_resolved.Operations.{pointer_plus}
 use Rattle.ec_expression_law.specs.ec_resolved.Resolved.{Exp, member, load, operate}
 use Rattle.ec_typing.specs.Types.{element_type}

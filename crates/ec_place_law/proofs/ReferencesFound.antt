@@ -5,7 +5,7 @@ use Rattle.ec_ctypes.specs.declared.types.arith.Arith.{Arith}
 use Rattle.ec_ctypes.specs.trees.Exprs.{ExprData, integer, identifier, index, member, arrow}
 use Rattle.ec_ctypes.specs.trees.Types.{TyData, void, arithmetic, pointer, array, structure, StructData}
 use Rattle.ec_typing.specs.ec_language.Letters.{Text, same_text}
-use Rattle.ec_ctypes.specs.ec_base.declared.fault.FaultKind.TheVariants.{F11, F14}
+use Rattle.ec_base.specs.declared.fault.FaultKind.TheVariants.{F11, F14}
 use Rattle.ec_expression_law.specs.ec_hosts.Programs as tables
 use Rattle.ec_expression_law.specs.ec_hosts.Programs.{ProgramData, Denoted, variable_of, variable_type, declared_type, reference_type, type_along, element_of, is_among}
 use Rattle.ec_typing.specs.Statements.{type_or_void}
@@ -19,7 +19,7 @@ use Rattle.ec_typing.specs.Expressions as checked_parts
 use Rattle.ec_typing.specs.Embedded as checked_embedded
 use Rattle.ec_typing.specs.Embedded.{is_function_entry, is_function_name, denoted_by}
 use Rattle.ec_typing.specs.Answers.{struct_order, renumbered, structs_of, numbered_from}
-use Rattle.ec_expression_law.specs.ec_objects.Memory.{number, pointer_type}
+use Rattle.ec_objects.specs.Memory.{number, pointer_type}
 use Rattle.ec_expression_law.specs.ec_resolved.Resolved.{Exp, load, constant}
 use Rattle.ec_expression_law.specs.ec_resolving.Agreement.{Finds, operand_of}
 use Rattle.ec_expression_law.specs.ec_resolving.Storage.{Storage, Resolving, Reached, reached, followed, chain, pure, checks, ask, stored}

@@ -2,7 +2,7 @@
 use Rattle.std.proofs.Common.{◌≡◌, ◌∙◌, ℕ, true, Some, refl, sym, subst}
 use Rattle.ec_ctypes.specs.trees.Exprs.{ExprData}
 use Rattle.ec_ctypes.specs.trees.Types.{TyData, pointer, array}
-use Rattle.ec_resolved.specs.ec_objects.Memory.{pointer_type}
+use Rattle.ec_objects.specs.Memory.{pointer_type}
 use Rattle.ec_resolved.specs.Resolved.{Exp, load}
 use Rattle.ec_typing.specs.Expressions as checked_parts
 use Rattle.ec_typing.specs.Library.{points_to_text}

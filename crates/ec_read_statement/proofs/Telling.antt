@@ -28,7 +28,7 @@ use Rattle.ec_embedded.specs.Findings.{Found, kind, stops, passes, found_in, Ans
 use Rattle.ec_embedded.specs.Statements.{at_form, at_of, kind_at, said, named_at, made, answer}
 use Rattle.ec_embedded.proofs.OneAnswer.{answered as rules_answered, is_the_answer}
 use Rattle.ec_embedded.specs.Terminals.{Counts, no_counts, alphabet}
-use Rattle.ec_server_text.specs.ec_references.Readers.{State, Reads}
+use Rattle.ec_references.specs.Readers.{State, Reads}
 use Rattle.ec_statements.proofs.Forms.{at_read}
 use Rattle.ec_read_statement.specs.Answers.{stop_of, whole_of, result_of, kind_answer, first_word_line, with_at, behind_name, answered, IsRead}
 use Rattle.ec_read_statement.specs.Deciding.{any_statement}

@@ -7,7 +7,7 @@ use Rattle.ec_embedded.specs.LeftOut.{begin_with, is_first, first_is_among}
 use Rattle.ec_embedded.specs.ServerText.{Tokens, Reading}
 use Rattle.ec_embedded.specs.Statements.{transaction_words}
 use Rattle.ec_embedded.specs.Terminals.{Counts, is, any_word}
-use Rattle.ec_server_text.specs.ec_references.Readers.{Reader}
+use Rattle.ec_references.specs.Readers.{Reader}
 use Rattle.ec_server_text.specs.Readers.{sending, controlling, declaring, declaring_prepared}
 use Rattle.ec_statements.specs.Readers as form
 

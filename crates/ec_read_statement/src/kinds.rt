@@ -7,13 +7,13 @@ ghost use Rattle.ec_embedded.specs.LeftOut.{begin_with};
 ghost use Rattle.ec_embedded.specs.Statements.{transaction_words};
 ghost use Rattle.ec_embedded.specs.LeftOut as words;
 ghost use Rattle.ec_embedded.specs.Terminals.{is_word_among};
-ghost use Rattle.ec_server_text.specs.ec_references.States.{CursorReads};
+ghost use Rattle.ec_references.specs.States.{CursorReads};
 ghost use Rattle.ec_read_statement.specs.Deciding as spec;
 
 use ec_base::Name;
 use ec_clex::SqlToken;
 use ec_ctypes::EmbKind;
-use ec_server_text::ec_references::{Cursor, copy_name, is_any_word, is_keyword};
+use ec_references::{Cursor, copy_name, is_any_word, is_keyword};
 use ec_server_text::{declare, declare_prepared, server, transaction};
 use ec_shapes::Failure;
 use ec_split::scanning::words::same_word;

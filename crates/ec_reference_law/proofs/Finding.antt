@@ -5,7 +5,7 @@ use Rattle.ec_ctypes.specs.trees.Exprs.{ExprData, integer, identifier, index, me
 use Rattle.ec_ctypes.specs.trees.Types.{arithmetic}
 use Rattle.ec_typing.specs.ec_language.Letters.{Text, same_text}
 use Rattle.ec_known_law.specs.ec_expansion.Declarations.{written_expr}
-use Rattle.ec_known_law.specs.ec_objects.Memory.{number, address}
+use Rattle.ec_objects.specs.Memory.{number, address}
 use Rattle.ec_known_law.specs.ec_resolved.Resolved.{constant, faulty}
 use Rattle.ec_typing.specs.Embedded as checked
 use Rattle.ec_typing.specs.Embedded.{is_function_entry, is_function_name}

@@ -13,9 +13,9 @@ use crate::cursor::Cursor;
 use crate::references::{hosted, spelled_host};
 use ec_base::{Boxed, Bytes, List, OutOfMemory};
 use ec_clex::SqlToken;
-use ec_clex::ec_split::scanning::words::same_word;
 use ec_ctypes::{Host, TextArg};
 use ec_shapes::Failure;
+use ec_split::scanning::words::same_word;
 use std::alloc::Global;
 
 /// The bytes of a token.

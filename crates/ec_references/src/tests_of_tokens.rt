@@ -10,8 +10,8 @@ ghost use Rattle.ec_references.specs.Readers.{FitsLong};
 ghost use Rattle.ec_references.specs.States.{terminal_view};
 
 use crate::class::Class;
-use ec_clex::ec_split::scanning::words::same_word;
 use ec_clex::{SqlClass, SqlToken, character, digits_value};
+use ec_split::scanning::words::same_word;
 
 /// Whether all bytes are digits.
 fn are_digits(text: &[u8]) -> bool

@@ -18,7 +18,7 @@ use crate::faults::fault;
 use crate::operand::Operand;
 use ec_base::{FaultKind, List, OutOfMemory};
 use ec_ctypes::{Expr, LibName, Ty};
-use ec_scopes::ec_known::{
+use ec_known::{
     Known, cuts, has_stream, is_format_of, known_function, library_call, literal_at,
     optional_types, takes_stream,
 };

@@ -12,7 +12,7 @@ use crate::faults::fault;
 use crate::operand::Operand;
 use ec_base::{FaultKind, OutOfMemory};
 use ec_ctypes::Ty;
-use ec_scopes::ec_known::is_known_function;
+use ec_known::is_known_function;
 use ec_scopes::{Checker, Entry, Place};
 
 /// A name: an object is a place, and a function is no value here. F11 of a name that is not in scope.

@@ -22,8 +22,8 @@ use Rattle.ec_formats.specs.Known.{channel_view, known_view}
 use Rattle.ec_functions.specs.Functions.{Effect, answers, ends, misfit as no_call, puts_bytes, effect_of, traps as traps_there}
 use Rattle.ec_objects.specs.Kinds.{kind_type}
 use Rattle.ec_objects.specs.Memory.{Memory, ValueData, address, copy, end_to, last_number, make, number, store}
-use Rattle.ec_machine.specs.ec_plain.Steps.{both_on, followed, step_on}
-use Rattle.ec_machine.proofs.ec_plain_proofs.Walks.{walk_leads}
+use Rattle.ec_plain.specs.Steps.{both_on, followed, step_on}
+use Rattle.ec_plain.proofs.Walks.{walk_leads}
 use Rattle.ec_resolved.specs.Labels.{holds, holds_any}
 use Rattle.ec_resolved.specs.Operations.{Worked, gives, is_true, misfit, traps, value_as, worked}
 use Rattle.ec_resolved.specs.Programs.{Function as Resolved}

@@ -18,7 +18,7 @@ use Rattle.ec_evaluation.specs.Whole.{main_run}
 use Rattle.ec_formats.specs.declared.known.Channel.{Channel}
 use Rattle.ec_formats.specs.declared.known.Channel.TheVariants as channels
 use Rattle.ec_objects.specs.Memory.{Memory}
-use Rattle.ec_machine.specs.ec_plain.Answered.{context}
+use Rattle.ec_plain.specs.Answered.{context}
 use Rattle.ec_machine.specs.declared.frame.Focus.{Focus}
 use Rattle.ec_machine.specs.declared.frame.Focus.TheVariants as focus
 use Rattle.ec_machine.specs.declared.machine.Machine.{Machine}

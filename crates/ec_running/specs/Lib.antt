@@ -1,5 +1,5 @@
 pub use Rattle.ec_machine.specs as ec_machine
-pub use Rattle.ec_machine.specs.ec_plain as ec_plain
+pub use Rattle.ec_plain.specs as ec_plain
 pub mod Halts
 pub mod LibraryRuns
 pub mod Printing

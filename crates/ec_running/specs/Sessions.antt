@@ -10,7 +10,7 @@ use Rattle.ec_evaluation.specs.Evaluate.{World, Step as Knowing}
 use Rattle.ec_evaluation.specs.Expanded.{itself}
 use Rattle.ec_evaluation.specs.Results.{Res, on, over}
 use Rattle.ec_evaluation.specs.State.{Answer, Connection, Item, State}
-use Rattle.ec_machine.specs.ec_plain.Answered.{context}
+use Rattle.ec_plain.specs.Answered.{context}
 use Rattle.ec_machine.specs.declared.stop.Stop.{Stop}
 use Rattle.ec_machine.specs.declared.stop.Stop.TheVariants as stop
 use Rattle.ec_machine.specs.Goes.{Fits, ending_view}

@@ -9,6 +9,6 @@ mod printing;
 
 pub use driving::{run_main, run_main_with, run_on, run_on_with};
 pub use ec_machine;
-pub use ec_machine::ec_plain;
+pub use ec_plain;
 pub use halt::Halt;
 pub use library::{Library, NoLibrary};

@@ -6,7 +6,7 @@ ghost use Rattle.ec_running.specs.Sessions.{Called};
 use ec_base::Line;
 use ec_bytes::Ptr;
 use ec_machine::{End, Stop};
-use ec_values::ec_memory::Store;
+use ec_memory::Store;
 
 /// What makes the calls of the library in a program.
 pub trait Library {

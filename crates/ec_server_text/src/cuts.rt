@@ -1,7 +1,7 @@
 //! A statement for the server: its tokens as they stand, its hosts as parts, and the list of its INTO.
 
 ghost use Rattle.std.specs.Prelude.{◌≡◌, ◌≤◌, ◌<◌, ◌+◌, ◌^◌, IfOk, map};
-ghost use Rattle.ec_references.specs.ec_clex.Sql.{sql_view, sql_views};
+ghost use Rattle.ec_clex.specs.Sql.{sql_view, sql_views};
 ghost use Rattle.ec_ctypes.specs.views.Embedded.{emb_kind_view, host_view, outs_view, part_view};
 ghost use Rattle.ec_references.specs.States.{CursorReads};
 ghost use Rattle.ec_embedded.specs.ServerText.{bytes_in, depth_behind};
@@ -11,8 +11,8 @@ ghost use Rattle.ec_server_text.specs.Views.{cutting_view};
 use crate::hosts::{input_host, outputs};
 use crate::lookahead::{begins_host, begins_into};
 use ec_base::{Boxed, Bytes, List, Name, OutOfMemory};
+use ec_clex::SqlToken;
 use ec_ctypes::{EmbKind, Host, Outs, Part};
-use ec_references::ec_clex::SqlToken;
 use ec_references::{Cursor, is_mark};
 use ec_shapes::Failure;
 use std::alloc::Global;

@@ -1,11 +1,11 @@
 //! What begins with the next tokens.
 
 ghost use Rattle.std.specs.Prelude.{◌≡◌};
-ghost use Rattle.ec_references.specs.ec_clex.Sql.{sql_view, sql_views};
+ghost use Rattle.ec_clex.specs.Sql.{sql_view, sql_views};
 ghost use Rattle.ec_embedded.specs.ServerText as text;
 ghost use Rattle.ec_server_text.specs.Readers as spec;
 
-use ec_references::ec_clex::SqlToken;
+use ec_clex::SqlToken;
 use ec_references::{Class, is_class, is_glued_mark, is_keyword, is_mark};
 
 /// Whether a `:` stands directly before a word.

@@ -19,7 +19,7 @@ use Rattle.ec_language.specs.Tokens.{Tokens}
 use Rattle.ec_hosts.specs.Examples.{statement_places, with_statements}
 use Rattle.ec_phases.specs.Sources.{ReadsStatements, ReadsTree}
 use Rattle.ec_split.specs.Answers as split
-use Rattle.ec_read_statement.specs.ec_clex.Answers as lexer
+use Rattle.ec_clex.specs.Answers as lexer
 use Rattle.ec_source.specs.Answers.{HaveLines, Tells, seen, TreeOfPieces, TellsPieces, TellsTree}
 
 -- ---- lines

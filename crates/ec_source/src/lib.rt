@@ -6,6 +6,6 @@ mod statements;
 mod tree;
 
 pub use checked::read_checked;
-pub use ec_read_statement::ec_clex;
+pub use ec_clex;
 pub use ec_split;
 pub use tree::read_tree;

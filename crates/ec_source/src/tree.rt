@@ -12,10 +12,10 @@ ghost use Rattle.ec_source.specs.Answers.{seen, TellsStatements, TellsPieces, Te
 
 use crate::statements::{read_statements, statement_places};
 use ec_base::{LimitKind, List, Stop};
+use ec_clex::tokens;
 use ec_csyntax::parse;
 use ec_ctypes::{Emb, Piece, Token, Unit};
 use ec_phases::sources_are_read;
-use ec_read_statement::ec_clex::tokens;
 use ec_split::split;
 use std::alloc::Global;
 

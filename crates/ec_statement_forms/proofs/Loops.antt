@@ -10,9 +10,9 @@ use Rattle.ec_ctypes.specs.trees.Types.{TyData}
 use Rattle.ec_ctypes.specs.views.Exprs.{declarator_view, declarators_view}
 use Rattle.ec_ctypes.specs.views.Stmts.{stmt_view, stmts_view}
 use Rattle.ec_initial_forms.proofs.ec_expressions_proofs.Steps.{mapped_as}
-use Rattle.ec_initial_forms.specs.ec_forms.declared.resolver.Resolver.{Resolver}
-use Rattle.ec_initial_forms.specs.ec_forms.Seen.{from, mapped, IsReached}
-use Rattle.ec_initial_forms.proofs.ec_forms_proofs.Following.{gather, reached_as}
+use Rattle.ec_forms.specs.declared.resolver.Resolver.{Resolver}
+use Rattle.ec_forms.specs.Seen.{from, mapped, IsReached}
+use Rattle.ec_forms.proofs.Following.{gather, reached_as}
 use Rattle.ec_resolved.specs.Resolved.{Stm, Stms, no_stms, stms}
 use Rattle.ec_resolving.specs.Statements.{Around, object_item, object_items, statement, statements}
 use Rattle.ec_resolving.specs.Storage.{Reached, pure}

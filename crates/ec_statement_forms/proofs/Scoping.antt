@@ -2,14 +2,14 @@
 use Rattle.std.proofs.Common.{◌≡◌, ◌∙◌, ℕ, List, [], Option, Some, sym, ap}
 use Rattle.ec_ctypes.specs.trees.Stmts.{StmtList}
 use Rattle.ec_ctypes.specs.trees.Types.{TyData}
-use Rattle.ec_initial_forms.specs.ec_forms.declared.resolver.Resolver.{Resolver}
-use Rattle.ec_initial_forms.specs.ec_forms.Seen.{from, mapped, IsReached}
-use Rattle.ec_initial_forms.proofs.ec_forms_proofs.Following.{reached_as}
+use Rattle.ec_forms.specs.declared.resolver.Resolver.{Resolver}
+use Rattle.ec_forms.specs.Seen.{from, mapped, IsReached}
+use Rattle.ec_forms.proofs.Following.{reached_as}
 use Rattle.ec_resolving.specs.Programs.{Body, body_rule, in_body}
 use Rattle.ec_resolving.specs.Statements.{scoped, objects_in_all, statements}
 use Rattle.ec_resolving.specs.Storage.{BlockObjects, Reached, Resolving, chain, pure, checks, stored, arrange, in_block, inside_block, back_in_block}
 use Rattle.ec_scopes.specs.Seen.{world_of, IsDone}
-use Rattle.ec_initial_forms.specs.ec_storage.Stored.{storage_of}
+use Rattle.ec_storage.specs.Stored.{storage_of}
 use Rattle.ec_typing.specs.Statements.{labels_in_all}
 use Rattle.ec_typing.specs.Tables.{Named}
 use Rattle.ec_typing.specs.Worlds.{change, enter, leave}

@@ -1,7 +1,7 @@
 -- Objects that are declared.
 use Rattle.std.specs.Prelude.{ℕ}
 use Rattle.ec_resolving.specs.Storage.{Site}
-use Rattle.ec_initial_forms.specs.ec_storage.Stored.{site_view}
+use Rattle.ec_storage.specs.Stored.{site_view}
 use Rattle.ec_statement_forms.specs.declared.objects.Begun.{Begun}
 
 abbrev pub begun_view : Begun → ℕ × Site

@@ -1,5 +1,5 @@
-pub use Rattle.ec_initial_forms.specs.ec_forms as ec_forms
-pub use Rattle.ec_initial_forms.specs.ec_storage as ec_storage
+pub use Rattle.ec_forms.specs as ec_forms
+pub use Rattle.ec_storage.specs as ec_storage
 pub mod Around
 pub mod Begun
 pub mod Bodies

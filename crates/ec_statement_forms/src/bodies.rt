@@ -4,7 +4,7 @@
 ghost use Rattle.std.specs.Prelude.{◌≡◌, [], Some};
 ghost use Rattle.ec_code.specs.Views.{statements_view};
 ghost use Rattle.ec_ctypes.specs.views.Stmts.{stmts_view};
-ghost use Rattle.ec_initial_forms.specs.ec_forms.Seen.{from, Reaches};
+ghost use Rattle.ec_forms.specs.Seen.{from, Reaches};
 ghost use Rattle.ec_resolving.specs.Programs.{body_rule};
 ghost use Rattle.ec_resolving.specs.Statements as rule;
 ghost use Rattle.ec_resolving.specs.Storage.{in_block};
@@ -19,7 +19,7 @@ use crate::walk::statements_within;
 use ec_base::{List, OutOfMemory};
 use ec_code::{ObjectSize, Statement};
 use ec_ctypes::{Stmt, Ty};
-use ec_initial_forms::ec_forms::Resolver;
+use ec_forms::Resolver;
 
 /// How many levels of a tree are walked. What nests deeper would take more stack than there may be, and counts as want of
 /// memory; a tree that is read has at most 64 levels of nesting.

@@ -4,7 +4,7 @@
 ghost use Rattle.std.specs.Prelude.{◌≡◌, ◌++◌, OnOk};
 ghost use Rattle.ec_ctypes.specs.trees.Exprs.{no_declarators};
 ghost use Rattle.ec_ctypes.specs.views.Exprs.{base_view, decl_view, declarators_view};
-ghost use Rattle.ec_initial_forms.specs.ec_forms.Seen.{from, Reaches};
+ghost use Rattle.ec_forms.specs.Seen.{from, Reaches};
 ghost use Rattle.ec_resolving.specs.Statements as rule;
 ghost use Rattle.ec_scopes.specs.Entries.{place_view, type_view};
 ghost use Rattle.ec_scopes.specs.Seen.{world_of, Does};
@@ -16,8 +16,8 @@ use crate::objects::object_item;
 use ec_base::{Boxed, List, OutOfMemory};
 use ec_code::Statement;
 use ec_ctypes::{Base, Decl, Declarator, Ty};
+use ec_forms::Resolver;
 use ec_initial_forms::ec_expressions::base;
-use ec_initial_forms::ec_forms::Resolver;
 use ec_scopes::{Checker, Place};
 
 /// Whether this is the type of a VARCHAR.

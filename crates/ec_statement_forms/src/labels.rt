@@ -7,7 +7,7 @@ ghost use Rattle.ec_typing.specs.Statements as rule;
 
 use ec_base::{Boxed, OutOfMemory};
 use ec_ctypes::{Stmt, StmtKind};
-use ec_initial_forms::ec_storage::Names;
+use ec_storage::Names;
 use std::alloc::Global;
 
 /// Adds the labels of the statement.

@@ -5,7 +5,7 @@ ghost use Rattle.std.specs.Prelude.{◌≡◌, IfOk, true};
 ghost use Rattle.ec_code.specs.Views.{statement_view};
 ghost use Rattle.ec_ctypes.specs.trees.Stmts.{decl_stmt, expr_stmt, goto_stmt};
 ghost use Rattle.ec_ctypes.specs.views.Exprs.{decl_view, expr_view, expr_option_view};
-ghost use Rattle.ec_initial_forms.specs.ec_forms.Seen.{from, Reaches};
+ghost use Rattle.ec_forms.specs.Seen.{from, Reaches};
 ghost use Rattle.ec_resolved.specs.Resolved as of;
 ghost use Rattle.ec_resolving.specs.Statements as rule;
 ghost use Rattle.ec_scopes.specs.Entries.{place_view};
@@ -20,7 +20,7 @@ use crate::values::{alone, optional, optional_condition};
 use ec_base::{Boxed, OutOfMemory};
 use ec_code::{Expression, Statement};
 use ec_ctypes::{Decl, Expr, ForParts};
-use ec_initial_forms::ec_forms::Resolver;
+use ec_forms::Resolver;
 use ec_scopes::Place;
 use std::alloc::Global;
 

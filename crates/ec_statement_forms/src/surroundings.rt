@@ -1,7 +1,7 @@
 //! What stands round a statement.
 
 use ec_ctypes::Ty;
-use ec_initial_forms::ec_storage::Names;
+use ec_storage::Names;
 
 /// What stands round a statement in a program without embedded statements.
 #[derive(Clone, Copy)]

@@ -4,7 +4,7 @@
 ghost use Rattle.std.specs.Prelude.{◌≡◌, IfOk, Some, option_map};
 ghost use Rattle.ec_code.specs.Views.{expression_view, statement_view};
 ghost use Rattle.ec_ctypes.specs.views.Exprs.{expr_view, expr_option_view};
-ghost use Rattle.ec_initial_forms.specs.ec_forms.Seen.{found_view, from, Reaches};
+ghost use Rattle.ec_forms.specs.Seen.{found_view, from, Reaches};
 ghost use Rattle.ec_resolved.specs.Resolved as of;
 ghost use Rattle.ec_resolving.specs.Conversions.{as_known_type};
 ghost use Rattle.ec_resolving.specs.Statements as rule;
@@ -14,10 +14,10 @@ ghost use Rattle.ec_statement_forms.specs.Made.{optional_view};
 use crate::making::{returned, returned_nothing};
 use ec_base::{Boxed, OutOfMemory};
 use ec_code::{Expression, Statement};
+use ec_conversions::{converted, known_conversion};
 use ec_ctypes::{Expr, Ty};
-use ec_initial_forms::ec_conversions::{converted, known_conversion};
+use ec_forms::{Found, Resolver, done_alone, value_rule};
 use ec_initial_forms::ec_expressions::expr;
-use ec_initial_forms::ec_forms::{Found, Resolver, done_alone, value_rule};
 use ec_scopes::Place;
 use std::alloc::Global;
 

@@ -6,7 +6,7 @@ ghost use Rattle.ec_code.specs.Views.{statement_view, statements_view};
 ghost use Rattle.ec_ctypes.specs.trees.Stmts.{block_stmt, do_stmt, for_stmt, if_stmt, label_stmt, while_stmt};
 ghost use Rattle.ec_ctypes.specs.views.Exprs.{expr_view, expr_option_view};
 ghost use Rattle.ec_ctypes.specs.views.Stmts.{stmt_view, kind_view, stmts_view, stmt_option_view};
-ghost use Rattle.ec_initial_forms.specs.ec_forms.Seen.{from, Reaches};
+ghost use Rattle.ec_forms.specs.Seen.{from, Reaches};
 ghost use Rattle.ec_resolving.specs.Statements as rule;
 ghost use Rattle.ec_scopes.specs.Entries.{place_view};
 ghost use Rattle.ec_statement_forms.specs.Around.{around_view};
@@ -22,7 +22,7 @@ use crate::values::{condition, return_by};
 use ec_base::{Boxed, List, OutOfMemory};
 use ec_code::Statement;
 use ec_ctypes::{Expr, ForParts, Stmt, StmtKind};
-use ec_initial_forms::ec_forms::Resolver;
+use ec_forms::Resolver;
 use ec_scopes::Place;
 
 /// A statement, which is a place.

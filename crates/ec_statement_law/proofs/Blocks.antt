@@ -7,7 +7,7 @@ use Rattle.ec_ctypes.specs.declared.embedded.emb.Cond.{Cond}
 use Rattle.ec_ctypes.specs.declared.embedded.emb.Cond.TheVariants.{NotFound, Warning, Error}
 use Rattle.ec_ctypes.specs.trees.Checked.{TypedData}
 use Rattle.ec_ctypes.specs.trees.Types.{StructData}
-use Rattle.ec_direct.specs.ec_objects.Memory.{ValueData, number, address, last_number}
+use Rattle.ec_objects.specs.Memory.{ValueData, number, address, last_number}
 use Rattle.ec_direct.specs.ec_resolved.Labels.{holds, holds_any}
 use Rattle.ec_direct.specs.ec_resolved.Resolved.{Exp, Stms, no_stms, stms}
 use Rattle.ec_direct.specs.ec_resolving.Storage.{StatementForm, LibraryCall, ActionForm, goes_on, jumps, prints, stops, leaves, continues, calls_function, ActionForms}

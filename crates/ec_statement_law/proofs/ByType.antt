@@ -7,7 +7,7 @@ use Rattle.ec_ctypes.specs.trees.Types.{TyData, void, arithmetic, pointer, array
 use Rattle.ec_direct.specs.ec_hosts.Elements.{Symbol, symbol_of, struct_symbol, varchar_symbol, capacity}
 use Rattle.ec_direct.specs.ec_hosts.Leaves.{LeafData}
 use Rattle.ec_direct.specs.ec_hosts.Places.{size_of, symbol_or_none, symbol_in}
-use Rattle.ec_direct.specs.ec_transfer.Hosts.{Holding, holding, indicator_type, IndicatorData, HostData}
+use Rattle.ec_transfer.specs.Hosts.{Holding, holding, indicator_type, IndicatorData, HostData}
 use Rattle.ec_direct.specs.ec_calls.Inputs as call
 use Rattle.ec_direct.specs.Leaves.{element_holds, struct_holds, capacity_holds, indicator_kind, indicators_data, leaf_data, Leaf}
 use Rattle.ec_statement_law.specs.Calls.{indicator_of, place_of}

@@ -1,7 +1,7 @@
 -- Two programs of which the second is a copy of the first do the same, if what stands in the place of each embedded statement does what the statement does: by induction over the copies and the turns.
 use Rattle.std.proofs.Common.{◌≡◌, ◌∙◌, ℕ, zero, suc, Bool, true, false, List, [], ◌∷◌, ◌++◌, map, Option, Some, None, refl, sym, subst, inl}
 use Rattle.std.specs.Prelude.{nat_eq, slice_get, ◌||◌}
-use Rattle.ec_direct.specs.ec_objects.Memory.{ValueData, scalar_size, last_number, fill}
+use Rattle.ec_objects.specs.Memory.{ValueData, scalar_size, last_number, fill}
 use Rattle.ec_direct.specs.ec_resolved.Labels.{holds, holds_any}
 use Rattle.ec_direct.specs.ec_resolved.Operations.{is_true}
 use Rattle.ec_direct.specs.ec_resolved.Programs.{Function, Program, sqlca_bytes, global_bytes, literal_bytes}

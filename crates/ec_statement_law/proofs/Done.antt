@@ -7,10 +7,10 @@ use Rattle.ec_direct.specs.ec_arguments.Arguments.{TextArg, Place, Member, host}
 use Rattle.ec_ctypes.specs.declared.embedded.emb.Item.{Item as Kind}
 use Rattle.ec_ctypes.specs.trees.Types.{StructData}
 use Rattle.ec_direct.specs.ec_hosts.Leaves.{LeafData}
-use Rattle.ec_direct.specs.ec_link.Table.{Sheet}
-use Rattle.ec_direct.specs.ec_transfer.declared.finding.Finding.TheVariants as found
-use Rattle.ec_direct.specs.ec_transfer.Conversion.{parameter}
-use Rattle.ec_direct.specs.ec_transfer.Hosts.{HostData}
+use Rattle.ec_link.specs.Table.{Sheet}
+use Rattle.ec_transfer.specs.declared.finding.Finding.TheVariants as found
+use Rattle.ec_transfer.specs.Conversion.{parameter}
+use Rattle.ec_transfer.specs.Hosts.{HostData}
 use Rattle.ec_direct.specs.ec_evaluation.State.{Item, State}
 use Rattle.ec_direct.specs.ec_calls.Outcomes.{Text, Field, Outcome, gives, finished, over, next, trying, present, begun_area, raised}
 use Rattle.ec_direct.specs.ec_calls.Connections.{connection_for, asked, begun}

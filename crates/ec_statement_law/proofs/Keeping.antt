@@ -3,20 +3,20 @@ use Rattle.std.proofs.Common.{◌≡◌, ℕ, zero, suc, Bool, true, false, ℤ,
 use Rattle.std.specs.Prelude.{pos, negsuc, nat_lt, reverse, codes}
 use Rattle.std.specs.Fmt.{decimal}
 use Rattle.ec_direct.specs.ec_arguments.Arguments.{TextArg, absent, word, held}
-use Rattle.ec_ctypes.specs.ec_base.declared.stop.Trap.{Trap}
+use Rattle.ec_base.specs.declared.stop.Trap.{Trap}
 use Rattle.ec_ctypes.specs.declared.embedded.emb.Item.{Item as Kind}
 use Rattle.ec_ctypes.specs.declared.types.arith.Arith.TheVariants.{Long}
 use Rattle.ec_ctypes.specs.trees.Types.{StructData}
-use Rattle.ec_direct.specs.ec_link.declared.reply.Reply.{Reply}
-use Rattle.ec_direct.specs.ec_link.declared.reply.Reply.TheVariants.{Connected, NoTarget, Rows, Done, Refused, Broken}
-use Rattle.ec_direct.specs.ec_link.declared.request.Request.{Request}
-use Rattle.ec_direct.specs.ec_link.declared.request.Request.TheVariants as request
-use Rattle.ec_direct.specs.ec_link.Table.{Sheet}
-use Rattle.ec_direct.specs.ec_objects.Memory.{Memory, alive, ended, and_then, integer_type, number, moved, put, store, text_at}
-use Rattle.ec_direct.specs.ec_transfer.Area.{Member, with_member, with_members, opening, sqlcode, sqlerrml, sqlerrmc, sqlstate, sqlwarn, sqlerrd_2, text_length, in_sqlerrmc, message_on}
-use Rattle.ec_direct.specs.ec_transfer.Conversion.{parameter, bytes_place, with_bytes, with_indicator, trapped as trapped_there, refused as refused_there, Stored, or_before, null_stored, told, value_told, bytes_stored, field_stored, told_length, is_cut, field_bytes}
-use Rattle.ec_direct.specs.ec_transfer.Hosts.{IndicatorData, HostData}
-use Rattle.ec_direct.specs.ec_transfer.declared.finding.Finding.{Finding}
+use Rattle.ec_link.specs.declared.reply.Reply.{Reply}
+use Rattle.ec_link.specs.declared.reply.Reply.TheVariants.{Connected, NoTarget, Rows, Done, Refused, Broken}
+use Rattle.ec_link.specs.declared.request.Request.{Request}
+use Rattle.ec_link.specs.declared.request.Request.TheVariants as request
+use Rattle.ec_link.specs.Table.{Sheet}
+use Rattle.ec_objects.specs.Memory.{Memory, alive, ended, and_then, integer_type, number, moved, put, store, text_at}
+use Rattle.ec_transfer.specs.Area.{Member, with_member, with_members, opening, sqlcode, sqlerrml, sqlerrmc, sqlstate, sqlwarn, sqlerrd_2, text_length, in_sqlerrmc, message_on}
+use Rattle.ec_transfer.specs.Conversion.{parameter, bytes_place, with_bytes, with_indicator, trapped as trapped_there, refused as refused_there, Stored, or_before, null_stored, told, value_told, bytes_stored, field_stored, told_length, is_cut, field_bytes}
+use Rattle.ec_transfer.specs.Hosts.{IndicatorData, HostData}
+use Rattle.ec_transfer.specs.declared.finding.Finding.{Finding}
 use Rattle.ec_direct.specs.ec_evaluation.State.{Answer, Connection, Item, State}
 use Rattle.ec_direct.specs.ec_calls.Outcomes.{Text, Field, Outcome, gives, finished, over, next, trying, present, with_memory, fresh_area, told_area, warned_area, counted_area, refused, raised, begun_area}
 use Rattle.ec_direct.specs.ec_calls.Connections.{exchange, connection_named, wanted_name, found_connection, connection_of, connection_for, answered, asked, controlled, control_sent, begins, begin_text, begun, same_name}
@@ -42,7 +42,7 @@ use Rattle.ec_direct.specs.Executing.{asked_read, targets_read, targets_found, h
 use Rattle.ec_direct.specs.ec_calls.Steps.{settled}
 use Rattle.ec_statement_law.specs.Lives.{Tidy, LeavesTidy}
 use Rattle.ec_statement_law.proofs.Memories.{tidy_same, tidy_then, OkIs, ok_then, with_cells_tidy, store_tidy}
-use Rattle.ec_direct.specs.ec_objects.Cells.{set_cells}
+use Rattle.ec_objects.specs.Cells.{set_cells}
 
 abbrev pub Keeps : {A : Type 0} → Memory → Outcome A → Type 0
 Keeps m (gives a t) = Tidy m t.memory

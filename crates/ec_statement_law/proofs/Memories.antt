@@ -1,10 +1,10 @@
 -- Which objects are alive behind an access, and behind the end of a block.
 use Rattle.std.proofs.Common.{◌≡◌, ◌∙◌, ℕ, zero, suc, ◌+◌, ◌-◌, Bool, true, false, List, [], ◌∷◌, ◌++◌, length, map, take, drop, Option, Some, None, Result, Ok, Err, refl, sym, subst, arith}
 use Rattle.std.specs.Prelude.{nat_lt, nat_le, ◌&&◌, slice_get, slice_set, if◌then◌else◌, unsigned_abs}
-use Rattle.ec_ctypes.specs.ec_base.declared.stop.Trap.{Trap}
-use Rattle.ec_ctypes.specs.ec_base.declared.stop.Trap.TheVariants.{Outside}
-use Rattle.ec_direct.specs.ec_objects.Cells.{Cell, written, set_cells, filled_cells, unset_cells}
-use Rattle.ec_direct.specs.ec_objects.Memory.{Memory, ObjectData, alive, ended, and_then, object_of, offset_of, cells_found, object_cells, cells_at, with_cells, put, fill, unset, copy, moved, store, encoded, ScalarType, ValueData, make, end_to, text_at, text_up_to, with_object}
+use Rattle.ec_base.specs.declared.stop.Trap.{Trap}
+use Rattle.ec_base.specs.declared.stop.Trap.TheVariants.{Outside}
+use Rattle.ec_objects.specs.Cells.{Cell, written, set_cells, filled_cells, unset_cells}
+use Rattle.ec_objects.specs.Memory.{Memory, ObjectData, alive, ended, and_then, object_of, offset_of, cells_found, object_cells, cells_at, with_cells, put, fill, unset, copy, moved, store, encoded, ScalarType, ValueData, make, end_to, text_at, text_up_to, with_object}
 use Rattle.ec_statement_law.specs.Lives.{SameLife, HaveEnded, Goes, Tidy, AnyObjects, Grown}
 
 life_same : (o : ObjectData) → SameLife o o

@@ -1,11 +1,11 @@
 -- An expression gives a value, or the run is over; and one without a call of the library does the same under every step.
 use Rattle.std.proofs.Common.{◌≡◌, ◌∙◌, ℕ, zero, suc, Bool, true, false, ℤ, List, [], ◌∷◌, ◌++◌, Option, Some, None, Result, Ok, Err, refl, sym, subst, ◌⊎◌, inl, inr}
 use Rattle.std.specs.Prelude.{pos, not as negation, slice_get, ◌||◌}
-use Rattle.ec_ctypes.specs.ec_base.declared.stop.Trap.{Trap}
+use Rattle.ec_base.specs.declared.stop.Trap.{Trap}
 use Rattle.ec_ctypes.specs.declared.embedded.emb.Cond.{Cond}
 use Rattle.ec_ctypes.specs.declared.embedded.emb.Cond.TheVariants.{NotFound, Warning, Error}
 use Rattle.ec_direct.specs.ec_functions.Functions.{Effect, answers, traps as traps_there, ends, misfit as no_call, effect_of}
-use Rattle.ec_direct.specs.ec_objects.Memory.{Memory, ValueData, number, address, moved, cells_at, load as loaded, store as stored, copy as copied, put as put_bytes}
+use Rattle.ec_objects.specs.Memory.{Memory, ValueData, number, address, moved, cells_at, load as loaded, store as stored, copy as copied, put as put_bytes}
 use Rattle.ec_direct.specs.ec_resolved.Operations.{Worked, gives, traps, misfit, is_true, truth, value_as, negated, flipped, number_worked, worked}
 use Rattle.ec_direct.specs.ec_resolved.Resolved.{Update, Exp, object, slot, member, constant, load, whole, store, copy, put, update, convert, negate, flip, not, operate, both, either, call, known, library_call, faulty, Exps, no_exps, exps, library}
 use Rattle.ec_direct.specs.ec_resolving.Storage.{ActionForm, goes_on, jumps, prints, stops, leaves, continues, calls_function, ActionForms}

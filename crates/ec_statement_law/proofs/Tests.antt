@@ -4,16 +4,16 @@ use Rattle.std.specs.Prelude.{nat_le, ◌&&◌, slice_get, if◌then◌else◌, 
 use Rattle.std.proofs.lemmas.Int.{ints}
 use Rattle.std.proofs.lemmas.Grind.{common_steps}
 use Rattle.std.proofs.lemmas.Bool.Decides.{nat_tests}
-use Rattle.ec_ctypes.specs.ec_base.declared.stop.Trap.{Trap}
-use Rattle.ec_ctypes.specs.ec_base.declared.stop.Trap.TheVariants.{Outside}
+use Rattle.ec_base.specs.declared.stop.Trap.{Trap}
+use Rattle.ec_base.specs.declared.stop.Trap.TheVariants.{Outside}
 use Rattle.ec_ctypes.specs.declared.embedded.emb.Cond.{Cond}
 use Rattle.ec_ctypes.specs.declared.embedded.emb.Cond.TheVariants.{NotFound, Warning, Error}
 use Rattle.ec_ctypes.specs.declared.types.arith.Arith.TheVariants.{Int, Long, Char}
 use Rattle.ec_ctypes.specs.Arithmetic.{IsValue, converted, Converts}
 use Rattle.ec_ctypes.specs.Arithmetic.Converts.{wraps}
 use Rattle.ec_ctypes.proofs.Conversions.{follows_rule, one_result}
-use Rattle.ec_direct.specs.ec_objects.Cells.{Cell, bytes_of}
-use Rattle.ec_direct.specs.ec_objects.Memory.{Memory, ObjectData, alive, ended, ValueData, number, address, number_of, ScalarType, integer_type, scalar_size, and_then, cells_found, or_unset, little_endian, decoded, span, moved, load as loaded, pointer_to}
+use Rattle.ec_objects.specs.Cells.{Cell, bytes_of}
+use Rattle.ec_objects.specs.Memory.{Memory, ObjectData, alive, ended, ValueData, number, address, number_of, ScalarType, integer_type, scalar_size, and_then, cells_found, or_unset, little_endian, decoded, span, moved, load as loaded, pointer_to}
 use Rattle.ec_direct.specs.ec_resolved.Operations.{Comparison, equal, less, compare, compares, truth, is_true, value_as, pointer_plus, address_worked, worked}
 use Rattle.ec_direct.specs.ec_resolved.Resolved.{Exp, Stm, on_line, nothing, choose, Stms, no_stms, stms}
 use Rattle.ec_direct.specs.ec_resolving.Storage.{ActionForm, goes_on, jumps, prints, stops, leaves, continues, calls_function, ActionForms}

@@ -2,10 +2,10 @@
 use Rattle.std.proofs.Common.{◌≡◌, ℕ, zero, suc, Bool, true, false, ℤ, List, [], ◌∷◌, ◌++◌, length, map, Option, Some, None, Result, Ok, Err, codes, refl}
 use Rattle.ec_ctypes.specs.declared.types.arith.Arith.TheVariants.{Int}
 use Rattle.std.specs.Prelude.{pos, nat_eq, slice_get, unsigned_abs, ◌+◌}
-use Rattle.ec_ctypes.specs.ec_base.declared.stop.Trap.{Trap}
+use Rattle.ec_base.specs.declared.stop.Trap.{Trap}
 use Rattle.ec_direct.specs.ec_functions.Functions.{Channel, standard_output, standard_error, Known, print, puts, putchar, strlen, strcmp, strncmp, memcmp, strcpy, strncpy, strcat, memcpy, memset, exit, sqlprint, Effect, answers, traps as traps_there, ends, misfit as no_call, effect_of, tried as tried_effect, puts_bytes, printing, taking_nothing, taking_number, taking_address, taking_addresses, taking_sizes, taking_byte, writing, answers_number, error_printed, message_length, message_bytes, message_size, byte_of}
-use Rattle.ec_direct.specs.ec_objects.Memory.{Memory, ValueData, number, address, ScalarType, integer_type, span, scalar_size, moved, cells_at, load as loaded, store as stored, copy as copied, put as put_bytes, fill, unset, text_at, text_up_to, last_number, make}
-use Rattle.ec_direct.specs.ec_objects.Cells.{set_cells, filled_cells, unset_cells}
+use Rattle.ec_objects.specs.Memory.{Memory, ValueData, number, address, ScalarType, integer_type, span, scalar_size, moved, cells_at, load as loaded, store as stored, copy as copied, put as put_bytes, fill, unset, text_at, text_up_to, last_number, make}
+use Rattle.ec_objects.specs.Cells.{set_cells, filled_cells, unset_cells}
 use Rattle.ec_direct.specs.ec_resolved.Operations.{Worked, gives, traps, misfit, is_true, value_as, negated, number_worked, worked}
 use Rattle.ec_direct.specs.ec_resolved.Labels.{holds, holds_any}
 use Rattle.ec_direct.specs.ec_resolved.Programs.{Function}

@@ -5,7 +5,7 @@ use Rattle.ec_ctypes.specs.declared.types.arith.Arith.TheVariants.{Long, Char}
 use Rattle.ec_ctypes.specs.trees.Checked.{TypedData}
 use Rattle.ec_ctypes.specs.trees.Embedded.{EmbData}
 use Rattle.ec_direct.specs.ec_functions.Functions.{sqlprint}
-use Rattle.ec_direct.specs.ec_objects.Memory.{ValueData, load, number_of, integer_type, last_number}
+use Rattle.ec_objects.specs.Memory.{ValueData, load, number_of, integer_type, last_number}
 use Rattle.ec_direct.specs.ec_resolved.Labels.{holds}
 use Rattle.ec_direct.specs.ec_resolved.Programs.{Program}
 use Rattle.ec_direct.specs.ec_resolved.Resolved.{Exp, known, no_exps, embedded, library, Stm}

@@ -3,7 +3,7 @@ pub use Rattle.ec_direct.specs.ec_expansion as ec_expansion
 pub use Rattle.ec_direct.specs.ec_functions as ec_functions
 pub use Rattle.ec_direct.specs.ec_hosts as ec_hosts
 pub use Rattle.ec_direct.specs.ec_language as ec_language
-pub use Rattle.ec_direct.specs.ec_objects as ec_objects
+pub use Rattle.ec_objects.specs as ec_objects
 pub use Rattle.ec_direct.specs.ec_resolved as ec_resolved
 pub use Rattle.ec_direct.specs.ec_resolving as ec_resolving
 pub use Rattle.ec_direct.specs.ec_sections as ec_sections

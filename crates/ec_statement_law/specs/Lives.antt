@@ -1,6 +1,6 @@
 -- Which objects are alive before and after a part of a program.
 use Rattle.std.specs.Prelude.{ℕ, List, [], ◌∷◌}
-use Rattle.ec_direct.specs.ec_objects.Memory.{Memory, ObjectData, alive, ended}
+use Rattle.ec_objects.specs.Memory.{Memory, ObjectData, alive, ended}
 use Rattle.ec_direct.specs.ec_evaluation.State.{State}
 use Rattle.ec_direct.specs.ec_evaluation.Results.{Res, value, on, broke, continued, went, back, over}
 use Rattle.ec_direct.specs.ec_evaluation.Evaluate.{World, Task, Context, Step}

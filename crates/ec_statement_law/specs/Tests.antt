@@ -4,7 +4,7 @@ use Rattle.ec_ctypes.specs.declared.embedded.emb.Cond.{Cond}
 use Rattle.ec_ctypes.specs.declared.embedded.emb.Cond.TheVariants.{NotFound, Warning, Error}
 use Rattle.ec_ctypes.specs.declared.types.arith.Arith.TheVariants.{Int, Long, Char}
 use Rattle.ec_direct.specs.ec_functions.Functions.{exit, sqlprint}
-use Rattle.ec_direct.specs.ec_objects.Memory.{number, integer_type}
+use Rattle.ec_objects.specs.Memory.{number, integer_type}
 use Rattle.ec_direct.specs.ec_resolved.Operations.{equal, less, compare, pointer_plus}
 use Rattle.ec_direct.specs.ec_resolved.Resolved.{Exp, object, member, constant, load, convert, operate, known, no_exps, exps, Stm, on_line, nothing, evaluate, choose, leave, next, goto, Stms, no_stms, stms}
 use Rattle.ec_direct.specs.ec_resolving.Storage.{ActionForm, goes_on, jumps, prints, stops, leaves, continues, calls_function, ActionForms}

@@ -18,7 +18,7 @@ ghost use Rattle.ec_statement_law.specs.Steps.{stepped_alone};
 ghost use Rattle.ec_statement_law.specs.Tests.{tests_stms};
 ghost use Rattle.ec_statement_law.specs.Blocks.{block_stm, any_calls_library};
 ghost use Rattle.ec_ctypes.specs.trees.Checked.{TypedData};
-ghost use Rattle.ec_direct.specs.ec_objects.Memory.{last_number};
+ghost use Rattle.ec_objects.specs.Memory.{last_number};
 ghost use Rattle.ec_direct.specs.ec_evaluation.Results.{closing};
 ghost use Rattle.ec_direct.specs.ec_calls.Steps.{library_step};
 ghost use Rattle.ec_direct.specs.Direct.{executed_at};

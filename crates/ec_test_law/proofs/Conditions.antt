@@ -12,7 +12,7 @@ use Rattle.ec_ctypes.specs.declared.types.sizes.Shape.{Shape}
 use Rattle.ec_ctypes.specs.trees.Types.{TyData, arithmetic, array, structure}
 use Rattle.ec_ctypes.specs.trees.Exprs.{ExprData, member as member_expr, identifier, character}
 use Rattle.ec_language.specs.Letters.{Text}
-use Rattle.ec_resolved.specs.ec_objects.Memory.{number}
+use Rattle.ec_objects.specs.Memory.{number}
 use Rattle.ec_typing.specs.Operands as checked
 use Rattle.ec_typing.specs.Operands.{OperandData, computed, object_operand, integer_operand, valued, member_type, member_by}
 use Rattle.ec_typing.specs.Expressions as checked_parts

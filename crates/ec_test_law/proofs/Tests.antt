@@ -27,7 +27,7 @@ use Rattle.ec_expression_law.specs.ec_expansion.Declarations.{written_expr, writ
 use Rattle.ec_expression_law.specs.ec_expansion.Handlers.{condition, called, int_constant, test_for}
 use Rattle.ec_expression_law.specs.ec_expansion.Statements.{before_stmts}
 use Rattle.ec_resolved.specs.ec_functions.Functions.{exit, sqlprint}
-use Rattle.ec_resolved.specs.ec_objects.Memory.{number}
+use Rattle.ec_objects.specs.Memory.{number}
 use Rattle.ec_resolved.specs.Resolved.{Exp, constant, known, no_exps, exps, Stm, on_line, nothing, evaluate, choose, leave, next, goto, Stms, stms}
 use Rattle.ec_resolving.specs.Agreement.{around_of, operand_of}
 use Rattle.ec_resolving.specs.Embedded.{action_rule}

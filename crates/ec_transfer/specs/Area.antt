@@ -1,7 +1,7 @@
 -- The communication area, which is the first object of every program: its members, and what the library writes into them. The bytes between the members are never written.
 use Rattle.std.specs.Prelude.{◌≡◌, ℕ, zero, suc, ◌-◌, ℤ, pos, List, [], ◌∷◌, ◌++◌, length, take, replicate, codes}
 use Rattle.std.specs.Fmt.{decimal}
-use Rattle.ec_objects.specs.ec_ctypes.declared.types.arith.Arith.TheVariants.{Int, Long}
+use Rattle.ec_ctypes.specs.declared.types.arith.Arith.TheVariants.{Int, Long}
 use Rattle.ec_objects.specs.Cells.{written, set_cells}
 use Rattle.ec_objects.specs.Memory.{Memory, alive, ended}
 use Rattle.ec_transfer.specs.Conversion.{integer_bytes}

@@ -3,11 +3,11 @@ use Rattle.std.specs.Prelude.{ℕ, zero, suc, ◌-◌, ◌==◌, Bool, true, fal
 use Rattle.std.specs.Fmt.{signed_decimal}
 use Rattle.std.specs.Str.{all_ascii_digits}
 use Rattle.std.specs.Str.Parse.{without_leading_sign, signed_digits_value}
-use Rattle.ec_objects.specs.ec_base.declared.stop.Trap.{Trap}
-use Rattle.ec_objects.specs.ec_base.declared.stop.Trap.TheVariants.{BadLen}
-use Rattle.ec_objects.specs.ec_ctypes.declared.types.arith.Arith.{Arith}
-use Rattle.ec_objects.specs.ec_ctypes.declared.types.arith.Arith.TheVariants.{Bool as Boolean, Int}
-use Rattle.ec_objects.specs.ec_ctypes.Arithmetic.{is_signed, least, greatest}
+use Rattle.ec_base.specs.declared.stop.Trap.{Trap}
+use Rattle.ec_base.specs.declared.stop.Trap.TheVariants.{BadLen}
+use Rattle.ec_ctypes.specs.declared.types.arith.Arith.{Arith}
+use Rattle.ec_ctypes.specs.declared.types.arith.Arith.TheVariants.{Bool as Boolean, Int}
+use Rattle.ec_ctypes.specs.Arithmetic.{is_signed, least, greatest}
 use Rattle.ec_objects.specs.Memory.{Memory, and_then, integer_type, pointer_type, number, number_of, encoded, load, put, store, moved, text_at, text_up_to}
 use Rattle.ec_transfer.specs.declared.finding.Finding.{Finding}
 use Rattle.ec_transfer.specs.declared.finding.Finding.TheVariants as found

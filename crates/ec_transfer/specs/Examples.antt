@@ -1,7 +1,7 @@
 -- Memories and hosts of the worked examples.
 use Rattle.std.specs.Prelude.{ℕ, negsuc, List, [], ◌∷◌, Option, Some, None, codes}
-use Rattle.ec_objects.specs.ec_ctypes.declared.types.arith.Arith.{Arith}
-use Rattle.ec_objects.specs.ec_ctypes.declared.types.arith.Arith.TheVariants.{Short}
+use Rattle.ec_ctypes.specs.declared.types.arith.Arith.{Arith}
+use Rattle.ec_ctypes.specs.declared.types.arith.Arith.TheVariants.{Short}
 use Rattle.ec_objects.specs.Cells.{set_cells, filled_cells}
 use Rattle.ec_objects.specs.Memory.{Memory, alive, pointer_to}
 use Rattle.ec_transfer.specs.Area.{area_raised}

@@ -1,9 +1,9 @@
 -- A host of a library call: where its elements are, and what each of them holds.
 use Rattle.std.specs.Prelude.{ℕ, zero, suc, Option, Some, None}
-use Rattle.ec_objects.specs.ec_ctypes.declared.checked.library.Sym.{Sym}
-use Rattle.ec_objects.specs.ec_ctypes.declared.checked.library.Sym.TheVariants as sym
-use Rattle.ec_objects.specs.ec_ctypes.declared.types.arith.Arith.{Arith}
-use Rattle.ec_objects.specs.ec_ctypes.declared.types.arith.Arith.TheVariants.{Short, UShort, Int, UInt, Long, ULong, LLong, ULLong}
+use Rattle.ec_ctypes.specs.declared.checked.library.Sym.{Sym}
+use Rattle.ec_ctypes.specs.declared.checked.library.Sym.TheVariants as sym
+use Rattle.ec_ctypes.specs.declared.types.arith.Arith.{Arith}
+use Rattle.ec_ctypes.specs.declared.types.arith.Arith.TheVariants.{Short, UShort, Int, UInt, Long, ULong, LLong, ULLong}
 
 -- what one element holds
 pub data Holding : Type 0 where

@@ -1,9 +1,9 @@
 //! What passes between hosts and statements, as the contracts of functions that do nothing.
 
 ghost use Rattle.std.specs.Prelude.{◌≡◌, ◌+◌, ◌-◌, ◌^◌, true, false, pos, negsuc, [], ◌∷◌, ◌++◌, Some, None, Ok, Err, replicate, length, codes};
-ghost use Rattle.ec_objects.specs.ec_base.declared.stop.Trap.TheVariants as trap;
-ghost use Rattle.ec_objects.specs.ec_ctypes.declared.checked.library.Sym.TheVariants as sym;
-ghost use Rattle.ec_objects.specs.ec_ctypes.declared.types.arith.Arith.TheVariants as arith;
+ghost use Rattle.ec_base.specs.declared.stop.Trap.TheVariants as trap;
+ghost use Rattle.ec_ctypes.specs.declared.checked.library.Sym.TheVariants as sym;
+ghost use Rattle.ec_ctypes.specs.declared.types.arith.Arith.TheVariants as arith;
 ghost use Rattle.ec_objects.specs.Cells.{set_cells, filled_cells, unset_cells};
 ghost use Rattle.ec_objects.specs.Memory.{alive, ended, pointer_to, span};
 ghost use Rattle.ec_transfer.specs.declared.finding.Finding.TheVariants as found;

@@ -2,11 +2,11 @@
 use Rattle.std.proofs.Common.{◌≡◌, ◌∙◌, sym, refl, ap, subst, ℕ, ◌-◌, ◌^◌, ℤ, pos, negsuc, ◌≤ℤ◌, List, Result, Ok, Err, arith}
 use Rattle.std.proofs.lemmas.Int.{ints}
 use Rattle.ec_base.specs.declared.stop.Trap.{Trap}
-use Rattle.ec_memory.specs.ec_ctypes.Arithmetic.{converted, Converts, false_value, true_value, wraps, IsValue}
-use Rattle.ec_memory.specs.ec_ctypes.declared.types.arith.Arith.{Arith}
-use Rattle.ec_memory.specs.ec_ctypes.declared.types.arith.Arith.TheVariants.{Bool, Char, UChar, Short, UShort, Int, UInt, Long, ULong, LLong, ULLong}
-use Rattle.ec_memory.proofs.ec_ctypes_proofs.Conversions.{follows_rule}
-use Rattle.ec_memory.specs.ec_objects.Memory.{Memory, ScalarType, integer_type, pointer_type, number, address, and_then, span, load, decoded, scalar_size, little_endian}
+use Rattle.ec_ctypes.specs.Arithmetic.{converted, Converts, false_value, true_value, wraps, IsValue}
+use Rattle.ec_ctypes.specs.declared.types.arith.Arith.{Arith}
+use Rattle.ec_ctypes.specs.declared.types.arith.Arith.TheVariants.{Bool, Char, UChar, Short, UShort, Int, UInt, Long, ULong, LLong, ULLong}
+use Rattle.ec_ctypes.proofs.Conversions.{follows_rule}
+use Rattle.ec_objects.specs.Memory.{Memory, ScalarType, integer_type, pointer_type, number, address, and_then, span, load, decoded, scalar_size, little_endian}
 use Rattle.ec_values.specs.Words.{HasWord}
 
 value_bounds : (t : Arith) (z : ℤ) → IsValue t z → HasWord z

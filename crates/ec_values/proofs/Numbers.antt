@@ -7,9 +7,9 @@ use lib.Signed.{mag, mag_rem}
 use mir.Val.{to_z, of_z, SFits}
 use Rattle.ec_base.specs.declared.stop.Trap.{Trap}
 use Rattle.ec_base.specs.declared.stop.Trap.TheVariants.{Shift, Zero}
-use Rattle.ec_memory.specs.ec_ctypes.declared.types.arith.Arith.{Arith}
-use Rattle.ec_memory.specs.ec_ctypes.Arithmetic.{width}
-use Rattle.ec_memory.specs.ec_objects.Memory.{and_then}
+use Rattle.ec_ctypes.specs.declared.types.arith.Arith.{Arith}
+use Rattle.ec_ctypes.specs.Arithmetic.{width}
+use Rattle.ec_objects.specs.Memory.{and_then}
 use Rattle.ec_resolved.specs.Operations.{is_amount, is_zero, quotient, result_of, remainder_of, shifted, shifted_left}
 use Rattle.ec_values.specs.Words.{HasWord}
 

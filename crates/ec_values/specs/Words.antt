@@ -1,8 +1,8 @@
 -- Values in machine words, as values of the definition.
 use Rattle.std.specs.Prelude.{◌^◌, ◌<◌, ◌-◌, ℤ, pos, negsuc, ◌≤ℤ◌, ◌<ℤ◌, Result, Ok, Err}
 use Rattle.ec_base.specs.declared.stop.Trap.{Trap}
-use Rattle.ec_memory.specs.ec_ctypes.declared.types.arith.Arith.{Arith}
-use Rattle.ec_memory.specs.ec_objects.Memory.{ValueData, number, address}
+use Rattle.ec_ctypes.specs.declared.types.arith.Arith.{Arith}
+use Rattle.ec_objects.specs.Memory.{ValueData, number, address}
 use Rattle.ec_resolved.specs.Operations.{Worked, gives, traps, misfit, number_worked, negated, flipped}
 use Rattle.ec_values.specs.declared.word.Stop.{Stop}
 use Rattle.ec_values.specs.declared.word.Stop.TheVariants as stop

@@ -1,16 +1,16 @@
 //! Loads and stores of values in machine words.
 
 ghost use Rattle.std.specs.Prelude.{◌≡◌, OnErr};
-ghost use Rattle.ec_memory.specs.ec_objects.Kinds.{kind_type};
-ghost use Rattle.ec_memory.specs.ec_objects.Memory.{load, store as stored};
+ghost use Rattle.ec_objects.specs.Kinds.{kind_type};
+ghost use Rattle.ec_objects.specs.Memory.{load, store as stored};
 ghost use Rattle.ec_memory.specs.Store.{outcome, seen};
 ghost use Rattle.ec_values.specs.Words.{word_view};
 
 use crate::word::Word;
 use ec_base::Trap;
-use ec_memory::ec_bytes::{Ptr, U8, U16, U32, U64};
-use ec_memory::ec_objects::Kind;
+use ec_bytes::{Ptr, U8, U16, U32, U64};
 use ec_memory::{Store, Value};
+use ec_objects::Kind;
 
 /// The value at a pointer, read as one access (ISO/IEC 9899:1999, 6.3.2.1). The traps are `Null`, `Dead`, `Outside` and
 /// `Unset`.

@@ -2,14 +2,14 @@
 
 ghost use Rattle.std.specs.Prelude.{◌≡◌, ◌≢◌, ◌<◌, ◌*◌, ◌^◌, ◌+ℤ◌, ◌-ℤ◌, ◌*ℤ◌, ◌<ℤ◌, ◌≤ℤ◌, neg_ℤ, int_div, int_rem, pos, IfOk};
 ghost use Rattle.std.specs.Int.{int_div_euclid};
-ghost use Rattle.ec_memory.specs.ec_ctypes.Arithmetic.{converted};
+ghost use Rattle.ec_ctypes.specs.Arithmetic.{converted};
 ghost use Rattle.ec_resolved.specs.Operations.{bits_of, calculated, compares, negated, flipped, quotient, remainder_of, result_of, times, shifted, shifted_left, shifted_right};
 ghost use Rattle.ec_values.specs.Operations.{operator_view, comparison_view};
 ghost use Rattle.ec_values.specs.Words.{HasWord};
 
 use crate::operation::{Comparison, IntegerOperator};
 use ec_base::Trap;
-use ec_memory::ec_ctypes::{Arith, convert};
+use ec_ctypes::{Arith, convert};
 
 /// What an operator gives for two numbers.
 pub(crate) fn calculated(

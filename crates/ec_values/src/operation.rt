@@ -1,6 +1,6 @@
 //! What is done with two values.
 
-use ec_memory::ec_ctypes::Arith;
+use ec_ctypes::Arith;
 
 /// An operator whose operands and result have one type (ISO/IEC 9899:1999, 6.5.5, 6.5.6 and 6.5.10 to 6.5.12).
 #[derive(Clone, Copy, Debug, PartialEq, Eq)]

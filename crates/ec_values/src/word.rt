@@ -1,12 +1,12 @@
 //! Values in machine words.
 
 ghost use Rattle.std.specs.Prelude.{◌≡◌, not};
-ghost use Rattle.ec_memory.specs.ec_objects.Memory.{number, address, number_of};
+ghost use Rattle.ec_objects.specs.Memory.{number, address, number_of};
 ghost use Rattle.ec_resolved.specs.Operations.{is_true, truth};
 ghost use Rattle.ec_values.specs.Words.{word_view, HasWord};
 
 use ec_base::Trap;
-use ec_memory::ec_bytes::Ptr;
+use ec_bytes::Ptr;
 
 /// A value of a scalar type of C (ISO/IEC 9899:1999, 6.2.5), as a machine holds it.
 #[derive(Clone, Copy, Debug, PartialEq, Eq)]

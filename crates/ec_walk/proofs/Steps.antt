@@ -12,10 +12,10 @@ use Rattle.ec_typing.specs.Known.{ArgumentsData, behind_first_argument}
 use Rattle.ec_typing.specs.Worlds.{Place, World, Out, Rule, chain, pure}
 use Rattle.ec_typing.specs.Operands.{OperandData}
 use Rattle.ec_typing.specs.Expressions.{Members, args, lengths, length_at, last_length, outer_lengths, members, member_decl, member_items, member_item, init_exprs, all_init_exprs}
-use Rattle.ec_rules.specs.ec_scopes.declared.state.Checker.{Checker}
-use Rattle.ec_rules.specs.ec_scopes.Seen.{world_of, notes_of, noted, IsDone}
-use Rattle.ec_rules.proofs.ec_scopes_proofs.Loops.{drop_item, one_done, one_more}
-use Rattle.ec_rules.proofs.ec_scopes_proofs.Steps.{Goes, goes_step, goes_gather, goes_as, goes_from, noted-append}
+use Rattle.ec_scopes.specs.declared.state.Checker.{Checker}
+use Rattle.ec_scopes.specs.Seen.{world_of, notes_of, noted, IsDone}
+use Rattle.ec_scopes.proofs.Loops.{drop_item, one_done, one_more}
+use Rattle.ec_scopes.proofs.Steps.{Goes, goes_step, goes_gather, goes_as, goes_from, noted-append}
 use Rattle.ec_rules.specs.declared.operand.Operand.{Operand}
 use Rattle.ec_rules.specs.Seen.{operand_view}
 use Rattle.ec_walk.specs.Dims.{last_length_of}

@@ -1,12 +1,12 @@
 //! The walk itself, in which each function stops at a number of levels.
-#![tactic(auto, using(ec_rules::ec_scopes::proofs::Steps::noting, crate::proofs::Trees::seeing, ec_ctypes::specs::declared::tree::expr::Expr::the_lemmas), unfolding(ec_typing::specs::Worlds::chain, ec_typing::specs::Worlds::pure, ec_typing::specs::Worlds::ask, ec_typing::specs::Worlds::note))]
+#![tactic(auto, using(ec_scopes::proofs::Steps::noting, crate::proofs::Trees::seeing, ec_ctypes::specs::declared::tree::expr::Expr::the_lemmas), unfolding(ec_typing::specs::Worlds::chain, ec_typing::specs::Worlds::pure, ec_typing::specs::Worlds::ask, ec_typing::specs::Worlds::note))]
 
 ghost use Rattle.std.specs.Prelude.{◌≡◌, [], map, false, true};
 ghost use Rattle.ec_ctypes.specs.views.Exprs.{expr_view, expr_option_view, exprs_view, dim_of, base_view, dims_view, init_view, inits_view, init_option_view, decl_view, decls_view, declarator_view};
-ghost use Rattle.ec_rules.specs.ec_known.Forms.{arguments_view};
+ghost use Rattle.ec_known.specs.Forms.{arguments_view};
 ghost use Rattle.ec_typing.specs.Expressions as rule;
-ghost use Rattle.ec_rules.specs.ec_scopes.Entries.{place_view, named_view, type_view};
-ghost use Rattle.ec_rules.specs.ec_scopes.Seen.{world_of, Does};
+ghost use Rattle.ec_scopes.specs.Entries.{place_view, named_view, type_view};
+ghost use Rattle.ec_scopes.specs.Seen.{world_of, Does};
 ghost use Rattle.ec_rules.specs.Seen.{operand_view};
 ghost use Rattle.ec_ctypes.specs.trees.Exprs.{call};
 ghost use Rattle.ec_walk.specs.Spines.{argument, behind};
@@ -16,13 +16,13 @@ use crate::members::{has_init, is_varchar, member_named, words_rule};
 use crate::spines::left_of;
 use ec_base::{FaultKind, List, OutOfMemory};
 use ec_ctypes::{Base, Decl, Declarator, Expr, Init, Ty, UnOp, copy_ty};
-use ec_rules::ec_known::{Arguments, arguments_of, is_identifier};
-use ec_rules::ec_scopes::{Checker, Place, Table};
+use ec_known::{Arguments, arguments_of, is_identifier};
 use ec_rules::{
     Operand, address_rule, arrow_rule, assign_rule, binary_rule, bump_rule, call_rule, cast_rule,
     compound_rule, copy_type, declared_type, elements_rule, index_rule, length_rule, member_rule,
     name_rule, size_rule, unary_rule, value_rule,
 };
+use ec_scopes::{Checker, Place, Table};
 
 /// What is found out about an expression. One that leans to the left is gone down by a loop, and up by another.
 #[cycle(walk)]

@@ -8,5 +8,5 @@ mod spines;
 mod walk;
 
 pub use ec_rules;
-pub use ec_rules::ec_type_rules;
+pub use ec_type_rules;
 pub use walk::{base, call, expr, last_length, lengths, outer_lengths};

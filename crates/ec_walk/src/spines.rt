@@ -6,7 +6,7 @@ ghost use Rattle.ec_ctypes.specs.views.Exprs.{expr_view};
 ghost use Rattle.ec_walk.specs.Spines.{left_of};
 
 use ec_ctypes::Expr;
-use ec_rules::ec_known::is_identifier;
+use ec_known::is_identifier;
 
 /// The part that is looked at first, where all else stands behind it.
 #[tactic(auto, using(ec_ctypes::specs::declared::tree::expr::Expr::the_lemmas))]

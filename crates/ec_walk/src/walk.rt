@@ -4,8 +4,8 @@ ghost use Rattle.std.specs.Prelude.{◌≡◌};
 ghost use Rattle.ec_ctypes.specs.trees.Exprs.{call};
 ghost use Rattle.ec_ctypes.specs.views.Exprs.{expr_view, exprs_view, base_view, dims_view};
 ghost use Rattle.ec_typing.specs.Expressions as rule;
-ghost use Rattle.ec_rules.specs.ec_scopes.Entries.{place_view, type_view};
-ghost use Rattle.ec_rules.specs.ec_scopes.Seen.{world_of, Does};
+ghost use Rattle.ec_scopes.specs.Entries.{place_view, type_view};
+ghost use Rattle.ec_scopes.specs.Seen.{world_of, Does};
 ghost use Rattle.ec_rules.specs.Seen.{operand_view};
 
 use crate::cycle::{
@@ -14,7 +14,7 @@ use crate::cycle::{
 use ec_base::{List, OutOfMemory};
 use ec_ctypes::{Base, Expr, Ty};
 use ec_rules::Operand;
-use ec_rules::ec_scopes::{Checker, Place};
+use ec_scopes::{Checker, Place};
 
 /// How many levels of a tree are walked. What nests deeper would take more stack than there may be, and counts as want of
 /// memory; a tree that is read has at most 64 levels of nesting, of up to a dozen operators each.

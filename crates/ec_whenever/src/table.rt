@@ -7,7 +7,7 @@ ghost use Rattle.ec_statement_parts.specs.Handlers as spec;
 ghost use Rattle.ec_statement_parts.specs.Handlers.{marks_in, mark_of, with_mark};
 ghost use Rattle.ec_whenever.specs.Tables.{marks_for, table_of, are_in_order, AnswersFor};
 
-use ec_ctypes::ec_base::{List, OutOfMemory};
+use ec_base::{List, OutOfMemory};
 use ec_ctypes::{Action, Cond, Emb, EmbKind, HandlerTable, copy_action};
 use std::alloc::Global;
 

@@ -1,10 +1,10 @@
 -- Written C as a list of chunks, one after the other: its tokens, and what parts them. A tree decides its chunks, and three functions of chunks are all that is said of texts: their bytes, their tokens and their lines.
 use Rattle.std.specs.Prelude.{ℕ, suc, ◌+◌, ◌-◌, ◌/◌, ◌%◌, Bool, true, false, ◌||◌, ◌&&◌, nat_le, ◌==◌, List, [], ◌∷◌, ◌++◌, codes, ℤ, pos, negsuc}
 use Rattle.std.specs.Fmt.{decimal}
-use Rattle.ec_language.specs.ec_ctypes.declared.types.arith.Arith.TheVariants.{UInt, Long, ULong, LLong, ULLong}
-use Rattle.ec_language.specs.ec_ctypes.trees.Types.{TyData, arithmetic}
-use Rattle.ec_language.specs.ec_ctypes.trees.Tokens.{TokData, word_token, integer_token, character_token, string_token, punct_token, include_token}
-use Rattle.ec_language.specs.ec_ctypes.Texts.{punct_text}
+use Rattle.ec_ctypes.specs.declared.types.arith.Arith.TheVariants.{UInt, Long, ULong, LLong, ULLong}
+use Rattle.ec_ctypes.specs.trees.Types.{TyData, arithmetic}
+use Rattle.ec_ctypes.specs.trees.Tokens.{TokData, word_token, integer_token, character_token, string_token, punct_token, include_token}
+use Rattle.ec_ctypes.specs.Texts.{punct_text}
 use Rattle.ec_language.specs.Letters.{Text, newline, single_quote, double_quote, backslash}
 use Rattle.ec_language.specs.Productions.{Placed}
 use Rattle.ec_language.specs.Tokens.{token}

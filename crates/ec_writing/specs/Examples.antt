@@ -1,15 +1,15 @@
 -- Trees of the worked examples, and their texts.
 use Rattle.std.specs.Prelude.{ℕ, false, List, [], ◌∷◌, codes, Option, Some}
 use Prim.Native.String.{String}
-use Rattle.ec_language.specs.ec_base.declared.line.Line.{Line}
-use Rattle.ec_language.specs.ec_ctypes.declared.types.arith.Arith.{Arith}
-use Rattle.ec_language.specs.ec_ctypes.declared.types.arith.Arith.TheVariants.{Int, Long}
-use Rattle.ec_language.specs.ec_ctypes.declared.tree.expr.UnOp.TheVariants as un
-use Rattle.ec_language.specs.ec_ctypes.declared.tree.expr.BinOp.TheVariants as bin
-use Rattle.ec_language.specs.ec_ctypes.trees.Types.{arithmetic}
-use Rattle.ec_language.specs.ec_ctypes.trees.Exprs.{ExprData, integer, string, identifier, unary, binary, call, ExprList, no_exprs, exprs, BaseData, words, struct_base, DimList, no_dims, no_init, DeclaratorData, declarator, DeclaratorList, no_declarators, declarators, DeclData, decl, DeclList, no_decls, decls}
-use Rattle.ec_language.specs.ec_ctypes.trees.Stmts.{StmtData, stmt, StmtKindData, expr_stmt, block_stmt, return_stmt, StmtList, no_stmts, stmts}
-use Rattle.ec_language.specs.ec_ctypes.trees.Units.{ParamData, TopData, decl_top, func_top, UnitData}
+use Rattle.ec_base.specs.declared.line.Line.{Line}
+use Rattle.ec_ctypes.specs.declared.types.arith.Arith.{Arith}
+use Rattle.ec_ctypes.specs.declared.types.arith.Arith.TheVariants.{Int, Long}
+use Rattle.ec_ctypes.specs.declared.tree.expr.UnOp.TheVariants as un
+use Rattle.ec_ctypes.specs.declared.tree.expr.BinOp.TheVariants as bin
+use Rattle.ec_ctypes.specs.trees.Types.{arithmetic}
+use Rattle.ec_ctypes.specs.trees.Exprs.{ExprData, integer, string, identifier, unary, binary, call, ExprList, no_exprs, exprs, BaseData, words, struct_base, DimList, no_dims, no_init, DeclaratorData, declarator, DeclaratorList, no_declarators, declarators, DeclData, decl, DeclList, no_decls, decls}
+use Rattle.ec_ctypes.specs.trees.Stmts.{StmtData, stmt, StmtKindData, expr_stmt, block_stmt, return_stmt, StmtList, no_stmts, stmts}
+use Rattle.ec_ctypes.specs.trees.Units.{ParamData, TopData, decl_top, func_top, UnitData}
 use Rattle.ec_language.specs.Letters.{Text}
 use Rattle.ec_writing.specs.Chunks.{text_of}
 use Rattle.ec_writing.specs.Expressions.{expr_chunks, decl_chunks}

@@ -1,13 +1,13 @@
 -- How expressions are written, and the declarations that may stand in them. An operand has parentheses in three cases and in no other: its level is below that of its place; a unary operator, a cast or `sizeof` stands directly under another; it is an integer and a `.` follows.
 use Rattle.std.specs.Prelude.{ℕ, zero, suc, Bool, true, false, nat_lt, List, [], ◌∷◌, ◌++◌, codes, Option, Some, None}
-use Rattle.ec_language.specs.ec_ctypes.declared.text.token.Punct.{Punct}
-use Rattle.ec_language.specs.ec_ctypes.declared.text.token.Punct.TheVariants as p
-use Rattle.ec_language.specs.ec_ctypes.declared.tree.expr.UnOp.{UnOp}
-use Rattle.ec_language.specs.ec_ctypes.declared.tree.expr.UnOp.TheVariants as un
-use Rattle.ec_language.specs.ec_ctypes.declared.tree.expr.BinOp.{BinOp}
-use Rattle.ec_language.specs.ec_ctypes.declared.tree.expr.BinOp.TheVariants as bin
-use Rattle.ec_language.specs.ec_ctypes.trees.Exprs.{ExprData, integer, character, string, identifier, unary, binary, assign, bump, call, call_other, index, member, arrow, cast, size_type, size_expr, ExprList, no_exprs, exprs, BaseData, words, varchar, tagged, struct_base, DimData, open_dim, dim, DimList, no_dims, dims, InitData, one, many, InitList, no_inits, inits, InitOption, no_init, some_init, DeclaratorData, declarator, DeclaratorList, no_declarators, declarators, DeclData, decl, DeclList, no_decls, decls}
-use Rattle.ec_language.specs.ec_ctypes.trees.Tokens.{word_token, integer_token, character_token, string_token, punct_token}
+use Rattle.ec_ctypes.specs.declared.text.token.Punct.{Punct}
+use Rattle.ec_ctypes.specs.declared.text.token.Punct.TheVariants as p
+use Rattle.ec_ctypes.specs.declared.tree.expr.UnOp.{UnOp}
+use Rattle.ec_ctypes.specs.declared.tree.expr.UnOp.TheVariants as un
+use Rattle.ec_ctypes.specs.declared.tree.expr.BinOp.{BinOp}
+use Rattle.ec_ctypes.specs.declared.tree.expr.BinOp.TheVariants as bin
+use Rattle.ec_ctypes.specs.trees.Exprs.{ExprData, integer, character, string, identifier, unary, binary, assign, bump, call, call_other, index, member, arrow, cast, size_type, size_expr, ExprList, no_exprs, exprs, BaseData, words, varchar, tagged, struct_base, DimData, open_dim, dim, DimList, no_dims, dims, InitData, one, many, InitList, no_inits, inits, InitOption, no_init, some_init, DeclaratorData, declarator, DeclaratorList, no_declarators, declarators, DeclData, decl, DeclList, no_decls, decls}
+use Rattle.ec_ctypes.specs.trees.Tokens.{word_token, integer_token, character_token, string_token, punct_token}
 use Rattle.ec_language.specs.Letters.{Text}
 use Rattle.ec_language.specs.Productions.{Rank, or_rank, and_rank, bit_or_rank, bit_xor_rank, bit_and_rank, equal_rank, relation_rank, shift_rank, add_rank, multiply_rank}
 use Rattle.ec_writing.specs.Chunks.{Chunk, the, blank, Chunks}

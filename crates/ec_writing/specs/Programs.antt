@@ -1,10 +1,10 @@
 -- How statements, functions and programs are written: each declaration, function and statement behind its line `#line N`, with no indentation.
 use Rattle.std.specs.Prelude.{ℕ, List, [], ◌∷◌, ◌++◌, codes, Option, Some, None}
-use Rattle.ec_language.specs.ec_ctypes.declared.text.token.Punct.TheVariants as p
-use Rattle.ec_language.specs.ec_ctypes.trees.Exprs.{ExprData}
-use Rattle.ec_language.specs.ec_ctypes.trees.Stmts.{StmtData, stmt, StmtKindData, empty_stmt, expr_stmt, block_stmt, if_stmt, while_stmt, do_stmt, for_stmt, break_stmt, continue_stmt, return_stmt, goto_stmt, label_stmt, decl_stmt, emb_stmt, mark_stmt, StmtList, no_stmts, stmts, StmtOption, no_stmt, some_stmt}
-use Rattle.ec_language.specs.ec_ctypes.trees.Tokens.{include_token}
-use Rattle.ec_language.specs.ec_ctypes.trees.Units.{ParamData, FuncData, TopData, include_top, decl_top, func_top, UnitData}
+use Rattle.ec_ctypes.specs.declared.text.token.Punct.TheVariants as p
+use Rattle.ec_ctypes.specs.trees.Exprs.{ExprData}
+use Rattle.ec_ctypes.specs.trees.Stmts.{StmtData, stmt, StmtKindData, empty_stmt, expr_stmt, block_stmt, if_stmt, while_stmt, do_stmt, for_stmt, break_stmt, continue_stmt, return_stmt, goto_stmt, label_stmt, decl_stmt, emb_stmt, mark_stmt, StmtList, no_stmts, stmts, StmtOption, no_stmt, some_stmt}
+use Rattle.ec_ctypes.specs.trees.Tokens.{include_token}
+use Rattle.ec_ctypes.specs.trees.Units.{ParamData, FuncData, TopData, include_top, decl_top, func_top, UnitData}
 use Rattle.ec_language.specs.Letters.{Text}
 use Rattle.ec_language.specs.Productions.{line_of}
 use Rattle.ec_writing.specs.Chunks.{the, blank, line_end, line_mark, Chunks, text_of, line_behind}

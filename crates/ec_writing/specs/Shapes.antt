@@ -1,14 +1,14 @@
 -- Which trees can be written so that they are read back, as a test that computes. `docs/LANGUAGE.md` has the reason for each part.
 use Rattle.std.specs.Prelude.{ℕ, suc, Bool, true, false, not, ◌&&◌, ◌||◌, nat_lt, ◌==◌, ℤ, pos, negsuc, int_le, List, [], ◌∷◌, ◌++◌, codes, Option, Some, None}
-use Rattle.ec_language.specs.ec_ctypes.declared.types.arith.Arith.TheVariants.{Int, UInt, Long, ULong, LLong, ULLong}
-use Rattle.ec_language.specs.ec_ctypes.declared.tree.expr.BinOp.{BinOp}
-use Rattle.ec_language.specs.ec_ctypes.declared.tree.expr.BinOp.TheVariants as bin
-use Rattle.ec_language.specs.ec_ctypes.trees.Types.{TyData, arithmetic}
-use Rattle.ec_language.specs.ec_ctypes.Arithmetic.{greatest}
-use Rattle.ec_language.specs.ec_ctypes.trees.Exprs.{ExprData, integer, character, string, identifier, unary, binary, assign, bump, call, call_other, index, member, arrow, cast, size_type, size_expr, ExprList, no_exprs, exprs, BaseData, words, varchar, tagged, struct_base, DimData, open_dim, dim, DimList, no_dims, dims, InitData, one, many, InitList, no_inits, inits, InitOption, no_init, some_init, DeclaratorData, declarator, DeclaratorList, no_declarators, declarators, DeclData, decl, DeclList, no_decls, decls}
-use Rattle.ec_language.specs.ec_ctypes.trees.Embedded.{EmbData}
-use Rattle.ec_language.specs.ec_ctypes.trees.Stmts.{StmtData, stmt, StmtKindData, empty_stmt, expr_stmt, block_stmt, if_stmt, while_stmt, do_stmt, for_stmt, break_stmt, continue_stmt, return_stmt, goto_stmt, label_stmt, decl_stmt, emb_stmt, mark_stmt, StmtList, no_stmts, stmts, StmtOption, no_stmt, some_stmt}
-use Rattle.ec_language.specs.ec_ctypes.trees.Units.{ParamData, FuncData, TopData, include_top, decl_top, func_top, UnitData}
+use Rattle.ec_ctypes.specs.declared.types.arith.Arith.TheVariants.{Int, UInt, Long, ULong, LLong, ULLong}
+use Rattle.ec_ctypes.specs.declared.tree.expr.BinOp.{BinOp}
+use Rattle.ec_ctypes.specs.declared.tree.expr.BinOp.TheVariants as bin
+use Rattle.ec_ctypes.specs.trees.Types.{TyData, arithmetic}
+use Rattle.ec_ctypes.specs.Arithmetic.{greatest}
+use Rattle.ec_ctypes.specs.trees.Exprs.{ExprData, integer, character, string, identifier, unary, binary, assign, bump, call, call_other, index, member, arrow, cast, size_type, size_expr, ExprList, no_exprs, exprs, BaseData, words, varchar, tagged, struct_base, DimData, open_dim, dim, DimList, no_dims, dims, InitData, one, many, InitList, no_inits, inits, InitOption, no_init, some_init, DeclaratorData, declarator, DeclaratorList, no_declarators, declarators, DeclData, decl, DeclList, no_decls, decls}
+use Rattle.ec_ctypes.specs.trees.Embedded.{EmbData}
+use Rattle.ec_ctypes.specs.trees.Stmts.{StmtData, stmt, StmtKindData, empty_stmt, expr_stmt, block_stmt, if_stmt, while_stmt, do_stmt, for_stmt, break_stmt, continue_stmt, return_stmt, goto_stmt, label_stmt, decl_stmt, emb_stmt, mark_stmt, StmtList, no_stmts, stmts, StmtOption, no_stmt, some_stmt}
+use Rattle.ec_ctypes.specs.trees.Units.{ParamData, FuncData, TopData, include_top, decl_top, func_top, UnitData}
 use Rattle.ec_language.specs.Letters.{Text, newline, is_not_newline, each, is_among, is_empty, begins_with, same_text, same_word}
 use Rattle.ec_language.specs.ReadPieces.{c_stop}
 use Rattle.ec_language.specs.ReadTokens.{include_behind}

@@ -1,12 +1,12 @@
 //! Each rule of the layout of written C, as the contracts of functions that do nothing: a tree and its text.
 
 ghost use Rattle.std.specs.Prelude.{◌≡◌, true, false, negsuc, pos, [], ◌∷◌, codes, Some, None};
-ghost use Rattle.ec_language.specs.ec_ctypes.declared.types.arith.Arith.TheVariants.{UInt, Long, ULong, LLong, ULLong};
-ghost use Rattle.ec_language.specs.ec_ctypes.declared.tree.expr.UnOp.TheVariants as un;
-ghost use Rattle.ec_language.specs.ec_ctypes.declared.tree.expr.BinOp.TheVariants as bin;
-ghost use Rattle.ec_language.specs.ec_ctypes.trees.Exprs.{character, string, assign, bump, binary, unary, call, call_other, index, member, arrow, cast, size_type, size_expr, no_exprs, words, tagged, struct_base, varchar, open_dim, dim, no_dims, dims, one, many, no_inits, inits, some_init, no_init, declarator, no_declarators, declarators, decl, no_decls};
-ghost use Rattle.ec_language.specs.ec_ctypes.trees.Stmts.{empty_stmt, expr_stmt, block_stmt, if_stmt, while_stmt, do_stmt, for_stmt, break_stmt, continue_stmt, return_stmt, goto_stmt, label_stmt, decl_stmt, no_stmt, some_stmt};
-ghost use Rattle.ec_language.specs.ec_ctypes.trees.Units.{include_top, decl_top, UnitData};
+ghost use Rattle.ec_ctypes.specs.declared.types.arith.Arith.TheVariants.{UInt, Long, ULong, LLong, ULLong};
+ghost use Rattle.ec_ctypes.specs.declared.tree.expr.UnOp.TheVariants as un;
+ghost use Rattle.ec_ctypes.specs.declared.tree.expr.BinOp.TheVariants as bin;
+ghost use Rattle.ec_ctypes.specs.trees.Exprs.{character, string, assign, bump, binary, unary, call, call_other, index, member, arrow, cast, size_type, size_expr, no_exprs, words, tagged, struct_base, varchar, open_dim, dim, no_dims, dims, one, many, no_inits, inits, some_init, no_init, declarator, no_declarators, declarators, decl, no_decls};
+ghost use Rattle.ec_ctypes.specs.trees.Stmts.{empty_stmt, expr_stmt, block_stmt, if_stmt, while_stmt, do_stmt, for_stmt, break_stmt, continue_stmt, return_stmt, goto_stmt, label_stmt, decl_stmt, no_stmt, some_stmt};
+ghost use Rattle.ec_ctypes.specs.trees.Units.{include_top, decl_top, UnitData};
 ghost use Rattle.ec_writing.specs.Examples.{expr_text, decl_text, stmt_text, top_text, int, typed, var, a, b, c, minus, sum, product, difference, on, int_words, one_item, declared, named, two_members, pair, at, list, arguments, function, param, example};
 ghost use Rattle.ec_writing.specs.Programs.{last_line, written_text};
 ghost use Rattle.ec_writing.specs.Shapes.{is_written_shape, is_written_expr, is_written_base, is_written_kind, is_written_top};

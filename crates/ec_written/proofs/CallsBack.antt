@@ -1,10 +1,10 @@
 -- A written call is cut back by the checks.
 use Rattle.std.proofs.Common.{◌≡◌, ◌∙◌, ℕ, Bool, true, List, [], ◌∷◌, map, Option, Some, None, is_some, refl, sym, ap}
 use Rattle.std.specs.Prelude.{◌&&◌, nat_eq, option_map}
-use Rattle.ec_exact.specs.ec_ctypes.declared.checked.library.Sym.{Sym}
-use Rattle.ec_exact.specs.ec_ctypes.declared.checked.library.Sym.TheVariants as symbols_of
-use Rattle.ec_exact.specs.ec_ctypes.trees.Exprs.{ExprData}
-use Rattle.ec_exact.specs.ec_ctypes.trees.Types.{TyData}
+use Rattle.ec_ctypes.specs.declared.checked.library.Sym.{Sym}
+use Rattle.ec_ctypes.specs.declared.checked.library.Sym.TheVariants as symbols_of
+use Rattle.ec_ctypes.specs.trees.Exprs.{ExprData}
+use Rattle.ec_ctypes.specs.trees.Types.{TyData}
 use Rattle.ec_expansion.specs.ec_arguments.Arguments.{Arg, symbol, literal, null, int_constant, long_constant, pointer, stray, TextArg, absent, word, held, Indicator, Place, Member, host, constant, descriptor, Statement, normal, prepared, immediate, opening, ItemMember, Call, run, connect, disconnect, set_connection, set_autocommit, control, prepare, deallocate, allocate_descriptor, deallocate_descriptor, get_count, set_count, get_items, set_items, Cut, name_of}
 use Rattle.ec_expansion.specs.ec_arguments.Rules.{fits_element, element_size, fits_indicators, fits_place, is_single, is_value, is_target, are_inputs, are_hosts, are_outputs, are_targets, are_settings, is_settable, is_call, is_statement, is_given_text, is_optional_text, cut}
 use Rattle.ec_expansion.specs.ec_arguments.Writing.{item_symbol, switch_word, text_argument, indicator_arguments, member_arguments, members_arguments, items_arguments, statement_arguments, call_arguments, arguments}

@@ -1,8 +1,8 @@
 -- Written C has one reading.
 use Rattle.std.proofs.Common.{◌≡◌, ◌∙◌, Bool, true, Result, refl, sym, ap}
-use Rattle.ec_exact.specs.ec_base.declared.stop.Stop.{Stop}
-use Rattle.ec_exact.specs.ec_ctypes.trees.Checked.{TypedData}
-use Rattle.ec_exact.specs.ec_ctypes.trees.Units.{UnitData}
+use Rattle.ec_base.specs.declared.stop.Stop.{Stop}
+use Rattle.ec_ctypes.specs.trees.Checked.{TypedData}
+use Rattle.ec_ctypes.specs.trees.Units.{UnitData}
 use Rattle.ec_exact.specs.ec_language.First.{Reads}
 use Rattle.ec_exact.specs.ec_language.Letters.{Text}
 use Rattle.ec_exact.specs.ec_language.ReadText.{read_text}

@@ -3,8 +3,8 @@ use Rattle.std.specs.Prelude.{◌≡◌, ⊤, Bool, true, List, [], ◌∷◌, m
 use Rattle.ec_expansion.specs.ec_arguments.Arguments.{Arg, symbol, literal, null, int_constant, long_constant, pointer, stray, TextArg, absent, word, held, Indicator, Place, Member, host, constant, descriptor, Statement, normal, prepared, immediate, opening, ItemMember, Call, run, connect, disconnect, set_connection, set_autocommit, control, prepare, deallocate, allocate_descriptor, deallocate_descriptor, get_count, set_count, get_items, set_items, Cut, name_of}
 use Rattle.ec_expansion.specs.ec_arguments.Rules.{is_call, cut}
 use Rattle.ec_expansion.specs.ec_arguments.Writing.{arguments}
-use Rattle.ec_exact.specs.ec_ctypes.trees.Exprs.{ExprData}
-use Rattle.ec_exact.specs.ec_ctypes.trees.Types.{TyData}
+use Rattle.ec_ctypes.specs.trees.Exprs.{ExprData}
+use Rattle.ec_ctypes.specs.trees.Types.{TyData}
 use Rattle.ec_expansion.specs.Calls.{argument_exprs}
 use Rattle.ec_sections.specs.ec_typing.Library.{argument_of, arguments_of_call, leads_to_text, cuts}
 

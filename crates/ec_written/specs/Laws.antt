@@ -1,7 +1,7 @@
 -- What holds of the phases.
 use Rattle.std.specs.Prelude.{◌≡◌, Result}
-use Rattle.ec_exact.specs.ec_base.declared.stop.Stop.{Stop}
-use Rattle.ec_exact.specs.ec_ctypes.trees.Checked.{TypedData}
+use Rattle.ec_base.specs.declared.stop.Stop.{Stop}
+use Rattle.ec_ctypes.specs.trees.Checked.{TypedData}
 use Rattle.ec_exact.specs.ec_language.Letters.{Text}
 use Rattle.ec_written.specs.Written.{ReadsWritten}
 

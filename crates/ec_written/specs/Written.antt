@@ -1,8 +1,8 @@
 -- How written C is read, one phase after the other: pieces, tokens, syntax, declare sections, checks. The first phase that refuses it decides. What is embedded is refused with the tokens, and a VARCHAR where declare sections are looked for, since there are none.
 use Rattle.std.specs.Prelude.{◌≡◌, ℕ, true, List, [], Result, Ok, Err}
-use Rattle.ec_exact.specs.ec_base.declared.stop.Stop.{Stop}
-use Rattle.ec_exact.specs.ec_ctypes.trees.Checked.{TypedData}
-use Rattle.ec_exact.specs.ec_ctypes.trees.Units.{UnitData}
+use Rattle.ec_base.specs.declared.stop.Stop.{Stop}
+use Rattle.ec_ctypes.specs.trees.Checked.{TypedData}
+use Rattle.ec_ctypes.specs.trees.Units.{UnitData}
 use Rattle.ec_exact.specs.ec_language.First.{Reads}
 use Rattle.ec_exact.specs.ec_language.Letters.{Text}
 use Rattle.ec_sections.specs.Answers.{hosts_answer}

@@ -3,7 +3,7 @@ use Rattle.ec_ctypes.specs.views.Exprs.{exprs_view}
 use Rattle.ec_forms.specs.Seen.{found_view, founds_view}
 use Rattle.ec_forms.proofs.Passing.{nil-right, one_behind}
 use Rattle.ec_resolving.specs.Operands as of
-use Rattle.ec_forms.specs.ec_storage.Stored.{argument_view}
+use Rattle.ec_storage.specs.Stored.{argument_view}
 use Rattle.ec_call_forms.proofs.Gathering.{none_argued}
 use Rattle.ec_call_forms.proofs.arguments.arguments_of_call.Goals as goal
 

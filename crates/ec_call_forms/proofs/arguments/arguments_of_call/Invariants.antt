@@ -2,7 +2,7 @@ use Rattle.std.proofs.Common.{◌≡◌, ◌++◌, List, map}
 use Rattle.ec_ctypes.specs.views.Exprs.{exprs_view}
 use Rattle.ec_forms.specs.Seen.{founds_view}
 use Rattle.ec_resolving.specs.Operands as of
-use Rattle.ec_forms.specs.ec_storage.Stored.{argument_view}
+use Rattle.ec_storage.specs.Stored.{argument_view}
 use Rattle.ec_call_forms.proofs.arguments.arguments_of_call.Given as goal
 
 abbrev pub invariant-loop-f : goal.invariant-loop-f

@@ -4,9 +4,9 @@ use Rattle.ec_ctypes.specs.views.Exprs.{exprs_view}
 use Rattle.ec_forms.specs.Seen.{founds_view}
 use Rattle.ec_forms.proofs.Following.{then_reached}
 use Rattle.ec_resolving.specs.Operands as of
-use Rattle.ec_forms.specs.ec_rules.Seen.{operand_view}
-use Rattle.ec_forms.specs.ec_scopes.Entries.{place_view}
-use Rattle.ec_forms.specs.ec_scopes.Seen.{world_of, IsDone}
+use Rattle.ec_rules.specs.Seen.{operand_view}
+use Rattle.ec_scopes.specs.Entries.{place_view}
+use Rattle.ec_scopes.specs.Seen.{world_of, IsDone}
 use Rattle.ec_typing.specs.Operands as checked
 use Rattle.ec_typing.specs.Operands.{OperandData}
 use Rattle.ec_call_forms.proofs.Calling.{form_done}

@@ -1,7 +1,7 @@
 use Rattle.std.proofs.Common.{◌≡◌, take}
 use Rattle.ec_forms.specs.Seen.{founds_view}
 use Rattle.ec_resolving.specs.Operands as of
-use Rattle.ec_forms.specs.ec_rules.Seen.{operands_view}
+use Rattle.ec_rules.specs.Seen.{operands_view}
 use Rattle.ec_call_forms.proofs.operands.operands_of.Given as goal
 
 abbrev pub invariant-loop-f : goal.invariant-loop-f

@@ -1,4 +1,4 @@
-use Rattle.ec_run.specs.ec_execute.Executables.{executable_view}
+use Rattle.ec_execute.specs.Executables.{executable_view}
 use Rattle.ec_cli.proofs.Executions.{carries_by}
 use Rattle.ec_cli.proofs.execution.run_over.Goals as goal
 

@@ -1,4 +1,4 @@
-use Rattle.ec_walk.specs.ec_rules.Seen.{operand_view}
+use Rattle.ec_rules.specs.Seen.{operand_view}
 use Rattle.ec_scopes.specs.Entries.{place_view}
 use Rattle.ec_embedded_rules.proofs.Loops.{references_step}
 use Rattle.ec_embedded_rules.proofs.references.references_rule.Goals as goal

@@ -1,9 +1,9 @@
 use Rattle.std.proofs.Common.{◌≡◌, ◌∙◌, ℕ, List, [], ◌∷◌, ◌++◌, Option, drop, map, sym, ap, subst, refl, arith}
 use Rattle.ec_ctypes.specs.declared.tree.decl.Decl as a
 use Rattle.ec_ctypes.specs.views.Exprs.{expr_view, base_view, dims_view, declarators_view, decl_view}
-use Rattle.ec_members.specs.ec_forms.declared.resolver.Resolver.{Resolver}
-use Rattle.ec_members.specs.ec_forms.Seen.{found_view, from, IsReached}
-use Rattle.ec_members.proofs.ec_forms_proofs.Following.{follow}
+use Rattle.ec_forms.specs.declared.resolver.Resolver.{Resolver}
+use Rattle.ec_forms.specs.Seen.{found_view, from, IsReached}
+use Rattle.ec_forms.proofs.Following.{follow}
 use Rattle.ec_known.specs.Forms.{arguments_view}
 use Rattle.ec_resolving.specs.Expressions.{expr, base, lengths, last_length, member_decl, member_items}
 use Rattle.ec_resolving.specs.Storage.{Resolving, chain, checks}

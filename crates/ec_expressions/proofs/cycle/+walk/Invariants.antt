@@ -1,6 +1,6 @@
 use Rattle.std.proofs.Common.{◌≡◌, ◌+◌, ◌*◌, List, [], ◌++◌, length, drop, map}
 use Rattle.ec_ctypes.specs.views.Exprs.{expr_view, exprs_view, dims_view, inits_view, decl_view, decls_view, declarators_view}
-use Rattle.ec_members.specs.ec_forms.Seen.{found_view, from, mapped}
+use Rattle.ec_forms.specs.Seen.{found_view, from, mapped}
 use Rattle.ec_known.specs.Forms.{arguments_view}
 use Rattle.ec_resolving.specs.Expressions.{expr, args, lengths, members, member_decl, member_items, all_init_exprs}
 use Rattle.ec_resolving.specs.Storage.{chain}

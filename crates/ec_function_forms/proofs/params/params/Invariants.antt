@@ -1,6 +1,6 @@
 use Rattle.std.proofs.Common.{◌≡◌, ◌++◌, drop, map}
 use Rattle.ec_ctypes.specs.views.Units.{param_view}
-use Rattle.ec_statement_forms.specs.ec_forms.Seen.{from, mapped}
+use Rattle.ec_forms.specs.Seen.{from, mapped}
 use Rattle.ec_resolving.specs.Programs.{params}
 use Rattle.ec_scopes.specs.Entries.{place_view, type_view}
 use Rattle.ec_function_forms.proofs.params.params.Given as goal

@@ -1,6 +1,6 @@
 use Rattle.std.proofs.Common.{◌≡◌, [], drop, map}
 use Rattle.ec_ctypes.specs.views.Units.{top_view}
-use Rattle.ec_statement_forms.specs.ec_forms.Seen.{from}
+use Rattle.ec_forms.specs.Seen.{from}
 use Rattle.ec_resolving.specs.Programs.{tops_rule}
 use Rattle.ec_function_forms.proofs.programs.tops_rule.Given as goal
 

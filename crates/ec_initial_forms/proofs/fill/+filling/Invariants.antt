@@ -1,6 +1,6 @@
 use Rattle.std.proofs.Common.{◌≡◌, drop}
 use Rattle.ec_ctypes.specs.views.Exprs.{inits_view}
-use Rattle.ec_expressions.specs.ec_forms.Seen.{from, mapped}
+use Rattle.ec_forms.specs.Seen.{from, mapped}
 use Rattle.ec_resolving.specs.Initializers.{fill}
 use Rattle.ec_scopes.specs.Entries.{place_view}
 use Rattle.ec_initial_forms.specs.Filled.{filled_behind}

@@ -1,5 +1,5 @@
 use Rattle.ec_ctypes.specs.views.Types.{ty_view}
-use Rattle.ec_expressions.specs.ec_rules.Seen.{operand_view}
+use Rattle.ec_rules.specs.Seen.{operand_view}
 use Rattle.ec_scopes.specs.Seen.{world_of}
 use Rattle.ec_initial_forms.specs.Frames.{frames_view}
 use Rattle.ec_initial_forms.specs.Spots.{spots_view}

@@ -1,7 +1,7 @@
 use Rattle.std.proofs.Common.{◌∙◌, ap}
 use Rattle.ec_ctypes.specs.views.Types.{ty_view}
-use Rattle.ec_expressions.proofs.ec_forms_proofs.Sizing.{shape_measured}
-use Rattle.ec_expressions.specs.ec_forms.Readings.{shape_by}
+use Rattle.ec_forms.proofs.Sizing.{shape_measured}
+use Rattle.ec_forms.specs.Readings.{shape_by}
 use Rattle.ec_resolving.specs.Initializers.{shape_or_none}
 use Rattle.ec_scopes.specs.Seen.{world_of}
 use Rattle.ec_typing.specs.Worlds.{shape_in}

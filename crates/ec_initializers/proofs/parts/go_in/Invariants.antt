@@ -1,7 +1,7 @@
 use Rattle.std.proofs.Common.{◌≡◌}
 use Rattle.ec_ctypes.specs.views.Types.{ty_view}
 use Rattle.ec_scopes.specs.Seen.{world_of}
-use Rattle.ec_walk.specs.ec_rules.Seen.{operand_view}
+use Rattle.ec_rules.specs.Seen.{operand_view}
 use Rattle.ec_typing.specs.Initializers as rule
 use Rattle.ec_initializers.specs.Frames.{frames_view}
 use Rattle.ec_initializers.proofs.parts.go_in.Given as goal

@@ -3,7 +3,7 @@ use Rattle.std.specs.Prelude.{slice_get}
 use Rattle.ec_code.specs.declared.program.Function.{Function}
 use Rattle.ec_code.specs.Views.{function_view, program_view}
 use Rattle.ec_evaluation.specs.Whole.{main_run}
-use Rattle.ec_running.specs.ec_machine.Goes.{at, tasks}
+use Rattle.ec_machine.specs.Goes.{at, tasks}
 use Rattle.ec_running.specs.LibraryRuns.{HaltsWith}
 use Rattle.ec_running.specs.Runs.{Run}
 use Rattle.ec_interp.proofs.Whole.{halts_same, without_main}

@@ -1,8 +1,8 @@
 use Rattle.std.proofs.Common.{◌∙◌, true, refl, ap}
-use Rattle.ec_forms.specs.ec_code.Views.{expression_view}
+use Rattle.ec_code.specs.Views.{expression_view}
 use Rattle.ec_forms.proofs.Reaching.{asked_reached}
 use Rattle.ec_resolving.specs.Operands.{found, member_at, member_exp}
-use Rattle.ec_forms.specs.ec_rules.Seen.{operand_view}
+use Rattle.ec_rules.specs.Seen.{operand_view}
 use Rattle.ec_scopes.specs.Seen.{world_of}
 use Rattle.ec_members.proofs.Passing.{member_found}
 use Rattle.ec_members.proofs.members.member_rule.Goals as goal

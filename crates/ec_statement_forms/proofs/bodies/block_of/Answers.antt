@@ -1,6 +1,6 @@
 use Rattle.std.proofs.Common.{refl}
 use Rattle.ec_ctypes.specs.views.Stmts.{stmts_view}
-use Rattle.ec_initial_forms.specs.ec_forms.declared.resolver.Resolver.{Resolver}
+use Rattle.ec_forms.specs.declared.resolver.Resolver.{Resolver}
 use Rattle.ec_resolving.specs.Statements.{objects_in_all, statements}
 use Rattle.ec_statement_forms.specs.Around.{around_view}
 use Rattle.ec_statement_forms.proofs.Scoping.{block_reached}

@@ -1,6 +1,6 @@
 use Rattle.std.proofs.Common.{◌≡◌, ◌++◌, drop}
 use Rattle.ec_ctypes.specs.views.Exprs.{declarators_view}
-use Rattle.ec_initial_forms.specs.ec_forms.Seen.{from, mapped}
+use Rattle.ec_forms.specs.Seen.{from, mapped}
 use Rattle.ec_resolving.specs.Statements.{object_items}
 use Rattle.ec_scopes.specs.Entries.{place_view, type_view}
 use Rattle.ec_statement_forms.specs.Made.{listed_view}

@@ -1,7 +1,7 @@
 use Rattle.std.proofs.Common.{Option, subst}
 use Rattle.ec_ctypes.specs.trees.Types.{TyData}
 use Rattle.ec_ctypes.specs.views.Exprs.{base_view}
-use Rattle.ec_initial_forms.specs.ec_forms.Seen.{from, Reaches}
+use Rattle.ec_forms.specs.Seen.{from, Reaches}
 use Rattle.ec_resolving.specs.Storage.{Resolving}
 use Rattle.ec_scopes.specs.Entries.{place_view, type_view}
 use Rattle.ec_statement_forms.proofs.Seeing.{specifier_base}

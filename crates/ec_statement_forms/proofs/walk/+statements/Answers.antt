@@ -1,7 +1,7 @@
 use Rattle.std.proofs.Common.{◌∙◌, [], ◌∷◌, ◌++◌, ap, refl}
 use Rattle.ec_ctypes.specs.views.Exprs.{expr_view, expr_option_view}
 use Rattle.ec_ctypes.specs.views.Stmts.{stmt_view, stmts_view, stmt_option_view}
-use Rattle.ec_initial_forms.specs.ec_forms.declared.resolver.Resolver.{Resolver}
+use Rattle.ec_forms.specs.declared.resolver.Resolver.{Resolver}
 use Rattle.ec_resolving.specs.Statements.{objects_in_all, scoped, statements, with_sizes}
 use Rattle.ec_resolving.specs.Storage.{in_block}
 use Rattle.ec_scopes.specs.Entries.{place_view}

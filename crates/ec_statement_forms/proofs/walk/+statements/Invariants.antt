@@ -1,6 +1,6 @@
 use Rattle.std.proofs.Common.{◌≡◌, ◌+◌, ◌*◌, drop}
 use Rattle.ec_ctypes.specs.views.Stmts.{stmts_view}
-use Rattle.ec_initial_forms.specs.ec_forms.Seen.{from, mapped}
+use Rattle.ec_forms.specs.Seen.{from, mapped}
 use Rattle.ec_resolving.specs.Statements.{statements}
 use Rattle.ec_statement_forms.specs.Around.{around_view}
 use Rattle.ec_statement_forms.specs.Made.{listed_view}

@@ -1,12 +1,12 @@
 use Rattle.std.proofs.Common.{◌≡◌, ◌∙◌, ℕ, List, [], ◌∷◌, ◌++◌, Option, drop, map, sym, ap, subst, refl}
 use Rattle.ec_ctypes.specs.declared.tree.decl.Decl as a
 use Rattle.ec_ctypes.specs.views.Exprs.{expr_view, base_view, dims_view, declarators_view}
-use Rattle.ec_rules.specs.ec_known.Forms.{arguments_view}
+use Rattle.ec_known.specs.Forms.{arguments_view}
 use Rattle.ec_typing.specs.Worlds.{Rule}
 use Rattle.ec_typing.specs.Expressions.{lengths, is_varchar, last_length, member_decl, member_items}
-use Rattle.ec_rules.specs.ec_scopes.Entries.{place_view, named_view, type_view}
-use Rattle.ec_rules.specs.ec_scopes.Seen.{world_of, IsDone}
-use Rattle.ec_rules.proofs.ec_scopes_proofs.Steps.{goes_same, goes_step, goes_from}
+use Rattle.ec_scopes.specs.Entries.{place_view, named_view, type_view}
+use Rattle.ec_scopes.specs.Seen.{world_of, IsDone}
+use Rattle.ec_scopes.proofs.Steps.{goes_same, goes_step, goes_from}
 use Rattle.ec_rules.specs.Seen.{operand_view}
 use Rattle.ec_walk.specs.Dims.{last_length_of}
 use Rattle.ec_walk.specs.Spines.{behind, risen}

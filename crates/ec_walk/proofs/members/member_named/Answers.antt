@@ -2,10 +2,10 @@ use Rattle.std.proofs.Common.{◌≡◌, ◌∙◌, Bool, not, sym, ap, subst}
 use Rattle.ec_base.specs.declared.fault.FaultKind.TheVariants.{F10}
 use Rattle.ec_typing.specs.Worlds.{demand}
 use Rattle.ec_typing.specs.Expressions.{member_named}
-use Rattle.ec_rules.specs.ec_scopes.Entries.{place_view, type_view, named_view}
-use Rattle.ec_rules.specs.ec_scopes.Seen.{world_of, IsDone}
-use Rattle.ec_rules.proofs.ec_scopes_proofs.Steps.{then_done, pure_done}
-use Rattle.ec_rules.proofs.ec_scopes_proofs.Views.{is_there, put-named}
+use Rattle.ec_scopes.specs.Entries.{place_view, type_view, named_view}
+use Rattle.ec_scopes.specs.Seen.{world_of, IsDone}
+use Rattle.ec_scopes.proofs.Steps.{then_done, pure_done}
+use Rattle.ec_scopes.proofs.Views.{is_there, put-named}
 use Rattle.ec_walk.proofs.members.member_named.Goals as goal
 
 pub returns : goal.returns

@@ -2,8 +2,8 @@ use Rattle.std.proofs.Common.{subst, sym, refl, Ok, Err}
 use Rattle.std.specs.Prelude.{slice_get}
 use Rattle.ec_code.specs.Views.{program_view}
 use Rattle.ec_evaluation.specs.Whole.{main_run}
-use Rattle.ec_running.specs.ec_machine.declared.machine.Machine.{Machine}
-use Rattle.ec_running.specs.ec_machine.Goes.{at, tasks}
+use Rattle.ec_machine.specs.declared.machine.Machine.{Machine}
+use Rattle.ec_machine.specs.Goes.{at, tasks}
 use Rattle.ec_opening.specs.Opens.{Opens}
 use Rattle.ec_resolved.specs.Programs.{opening_objects}
 use Rattle.ec_interp.specs.Ends.{halt_of}
