@@ -7,7 +7,7 @@ use Rattle.ec_ctypes.specs.views.Embedded.{emb_view}
 use Rattle.ec_run.specs.Runnable.{on_lines}
 
 -- These statements have been put on lines; these lines are left.
-pub IsPut : List Line → List Line → List Emb → List Emb → Type 0
+unfoldable pub IsPut : List Line → List Line → List Emb → List Emb → Type 0
 IsPut lines left seen placed = (more : List Emb) → map emb_view placed ++ on_lines left (map emb_view more) ≡ on_lines lines (map emb_view (seen ++ more))
 
 none_put : (lines : List Line) → on_lines lines [] ≡ []
@@ -36,3 +36,10 @@ pub put_all : (lines left : List Line) (embs placed : List Emb) → IsPut lines 
 unfolding IsPut
 put_all lines left embs placed is =
     sym (append-nil (map emb_view placed)) ∙ ap (λ l. map emb_view placed ++ l) (sym (none_put left)) ∙ is [] ∙ ap (λ l. on_lines lines (map emb_view l)) (append-nil embs)
+
+-- And so far this is what is made of them.
+abbrev pub IsPutSoFar : List Line → List Line → List Emb → List Emb → Type 0
+IsPutSoFar lines left seen placed = IsPut lines left seen placed × (map emb_view placed ≡ on_lines lines (map emb_view seen))
+
+pub so_far : (lines left : List Line) (seen placed : List Emb) → IsPut lines left seen placed → IsPutSoFar lines left seen placed
+so_far lines left seen placed is = (is, put_all lines left seen placed is)

@@ -1,6 +1,6 @@
 //! Where the words of the embedded statements of a source begin.
 
-ghost use Rattle.std.specs.Prelude.{◌≡◌, ◌+◌, ◌<◌, ◌^◌, length, map, IfOk, IfSome, OnOk, Ok};
+ghost use Rattle.std.specs.Prelude.{◌≡◌, ◌∷◌, ◌+◌, ◌<◌, ◌^◌, length, map, IfOk, IfSome, OnOk, Ok};
 ghost use Rattle.ec_ctypes.specs.views.Embedded.{emb_view};
 ghost use Rattle.ec_ctypes.specs.trees.Units.{UnitData};
 ghost use Rattle.ec_language.specs.Tokens.{HasSqlTokens, HaveSqlTokens};
@@ -114,6 +114,16 @@ pub(crate) fn lines_of_words(alloc: Global, text: &[u8]) -> Result<List<Line>, S
     }
 }
 
+// The first of these lines, and the others.
+fn parted(lines: &[Line]) -> Option<(Line, &[Line])>
+    ensures { IfSome result (λ parts. lines.now ≡ parts.0 ∷ parts.1.now) }
+{
+    match lines {
+        [line, rest @ ..] => Some((*line, rest)),
+        [] => None,
+    }
+}
+
 /// Statements, each on its line of these.
 pub(crate) fn on_lines(alloc: Global, lines: &[Line], embs: List<Emb>) -> Option<List<Emb>>
     ensures { IfSome result (λ placed. map emb_view placed
@@ -122,7 +132,7 @@ pub(crate) fn on_lines(alloc: Global, lines: &[Line], embs: List<Emb>) -> Option
     let mut placed = List::new(alloc);
     let mut left = lines;
     for emb in embs {
-        let [line, rest @ ..] = left else {
+        let Some((line, rest)) = parted(left) else {
             return None;
         };
         left = rest;
@@ -132,7 +142,6 @@ pub(crate) fn on_lines(alloc: Global, lines: &[Line], embs: List<Emb>) -> Option
             kind,
             ..
         } = emb;
-        let line = *line;
         match placed.push(Emb {
             line,
             place,
