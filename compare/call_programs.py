@@ -381,6 +381,12 @@ class Programs:
     def connection(self):
         return self.pick(["NULL"] * 22 + ['"db"', '"d" "b"', '"d\\142"', '"no"', '""', "connection", "(unsigned char *)connection"])
 
+    def text_sent(self):
+        """The symbol of a statement, and its text."""
+        if self.chance(0.85):
+            return ["ECPGst_normal", self.pick(STATEMENTS)]
+        return ["ECPGst_exec_immediate", self.pick(STATEMENTS + ["room", "connection", self.text_pointer()] + self.texts)]
+
     def line_told(self):
         return self.number if self.is_lined and self.chance(0.8) else self.pick([1, 7, 42, 1000, 2147483647, "0x1f", 0])
 
@@ -393,7 +399,7 @@ class Programs:
         inputs = [self.constant() if self.chance(0.12) else self.member(True, 1) for _ in range(self.pick([0, 0, 0, 1, 1, 2, 3, 6]))]
         most = self.pick([1, 1, 2, 3, 4])
         outputs = [self.member(False, most) for _ in range(self.pick([0, 1, 1, 1, 2, 2, 3, 4, 6]))]
-        parts = [str(self.line_told()), self.connection(), "ECPGst_normal", self.pick(STATEMENTS), *inputs, "ECPGt_EOIT", *outputs, "ECPGt_EORT"]
+        parts = [str(self.line_told()), self.connection(), *self.text_sent(), *inputs, "ECPGt_EOIT", *outputs, "ECPGt_EORT"]
         gap = ",\n" if self.chance(0.1) else ", "
         return f"ECPGdo({gap.join(parts)})"
 
@@ -601,7 +607,7 @@ def tampered(rng, text):
         return text
     at = rng.choice(calls)
     change = rng.choice([
-        ("ECPGst_normal", "ECPGst_execute"), ("ECPGst_normal", "ECPGst_exec_immediate"), (" 0L, ", " "), ("1L", "0L"), ("1L", "1"),
+        ("ECPGst_normal", "ECPGst_execute"), (" 0L, ", " "), ("1L", "0L"), ("1L", "1"),
         ("NULL, ECPGst", '"a", ECPGst'), ("ECPGt_EOIT", "ECPGt_EORT"), (", ECPGt_EORT", ""), ("ECPGt_int", "ECPGt_long"),
         ("ECPGt_short", "ECPGt_unsigned_short"), ("2L", "16777217L"), ("NULL, 0L, 0L, 0L", "NULL, 0L, 1L, 0L"), ("NULL", "0"),
         ("ECPGt_EOIT", "ECPGt_descriptor, \"d\", 1L, 1L, 1L, ECPGt_NO_INDICATOR, NULL, 0L, 0L, 0L, ECPGt_EOIT"),

@@ -130,7 +130,7 @@ class Call:
             self.outputs, _ = members(rest, "ECPGt_EORT")
 
 
-SENT = ("ECPGst_normal",)
+SENT = ("ECPGst_normal", "ECPGst_exec_immediate")
 
 
 def is_made(name, arguments):

@@ -10,7 +10,7 @@ use ec_convert::HostPlace;
 use ec_ctypes::Sym;
 use ec_link::{MemLink, Rack, Reply};
 use ec_memory::Store;
-use ec_runtime::{Call, Host, Input, Kind, Library, Statement, TextArg};
+use ec_runtime::{Call, Host, Input, Kind, Library, Statement, TextArg, Wanted};
 use std::alloc::Global;
 
 // An int at the front of an object.
@@ -39,7 +39,11 @@ fn select(alloc: Global) -> Result<Call, OutOfMemory> {
     Ok(Call {
         line: Line(3),
         connection: TextArg::Absent,
-        kind: Kind::Run(Statement { text, ins, outs }),
+        kind: Kind::Run(Statement {
+            wanted: Wanted::Normal(text),
+            ins,
+            outs,
+        }),
     })
 }
 

@@ -1,13 +1,12 @@
 //! Calls that are cut, as the library is given them: transaction control, autocommit, and ECPGdo
-//! with a text, over hosts and constants.
+//! with a text that is sent, over hosts and constants.
 
 ghost use Rattle.std.specs.Prelude.{◌≡◌, IfSome, map, option_map};
-ghost use Rattle.ec_arguments.specs.Arguments.{normal};
 ghost use Rattle.ec_cut.specs.Views.{indicators_view, place_view};
 ghost use Rattle.ec_runtime.specs.declared.call.Kind.TheVariants as kinds;
 ghost use Rattle.ec_runtime.specs.Places as places;
-ghost use Rattle.ec_runtime.specs.Reading.{input_view, text_view};
-ghost use Rattle.ec_runtime.specs.Statements.{cut_view, target_view};
+ghost use Rattle.ec_runtime.specs.Reading.{given_view, input_view, text_view};
+ghost use Rattle.ec_runtime.specs.Statements.{cut_view, target_view, wanted_view};
 ghost use Rattle.ec_runtime.specs.Views.{host_view};
 ghost use Rattle.ec_calling.specs.Giving.{number_of};
 ghost use Rattle.ec_calling.specs.Serving.{call_seen, cut_seen, member_seen, members_seen, run_seen, statement_seen, text_seen};
@@ -18,7 +17,7 @@ use ec_bytes::Ptr;
 use ec_convert::HostPlace;
 use ec_ctypes::Sym;
 use ec_cut::{Call as CutCall, Cut, Indicator, Member, Place, Statement as Asked, Text};
-use ec_runtime::{Call, Host, Input, Kind, Statement, TextArg};
+use ec_runtime::{Call, GivenText, Host, Input, Kind, Statement, TextArg, Wanted};
 use std::alloc::Global;
 
 // A text.
@@ -144,20 +143,17 @@ fn made_of(
     alloc: Global,
     line: u64,
     connection: Text<&[u8], Address>,
-    text: &[u8],
+    wanted: Wanted,
     ins: &[Member<&[u8], Address>],
     outs: &[Member<&[u8], Address>],
 ) -> Option<Call>
     ensures { IfSome result (λ made. cut_view made
-        ≡ run_seen line connection.entry (normal text.now) ins.now outs.now) }
+        ≡ run_seen line connection.entry (wanted_view wanted) ins.now outs.now) }
 {
     let Some(line) = line_of(line) else {
         return None;
     };
     let Some(connection) = text_of(alloc, connection) else {
-        return None;
-    };
-    let Ok(text) = Bytes::from_slice(alloc, text) else {
         return None;
     };
     let Some(ins) = inputs_of(alloc, ins) else {
@@ -166,12 +162,44 @@ fn made_of(
     let Some(outs) = outputs_of(alloc, outs) else {
         return None;
     };
-    let kind = Kind::Run(Statement { text, ins, outs });
+    let kind = Kind::Run(Statement { wanted, ins, outs });
     Some(Call {
         line,
         connection,
         kind,
     })
+}
+
+// A text that is there.
+fn given_of(alloc: Global, text: Text<&[u8], Address>) -> Option<GivenText>
+    ensures { IfSome result (λ made. given_view made ≡ text_seen text.entry) }
+{
+    match text {
+        Text::Absent => None,
+        Text::Word(bytes) => match Bytes::from_slice(alloc, bytes) {
+            Ok(copy) => Some(GivenText::Word(copy)),
+            Err(_) => None,
+        },
+        Text::Held(address) => Some(GivenText::Held(address.0)),
+    }
+}
+
+// The text of a statement.
+fn wanted_of(alloc: Global, statement: Asked<&[u8], Address>) -> Option<Wanted>
+    ensures { IfSome result (λ made. wanted_view made ≡ statement_seen statement.entry) }
+{
+    match statement {
+        Asked::Normal(text) => match Bytes::from_slice(alloc, text) {
+            Ok(copy) => Some(Wanted::Normal(copy)),
+            Err(_) => None,
+        },
+        Asked::Prepared(_) => None,
+        Asked::Immediate(text) => match given_of(alloc, text) {
+            Some(given) => Some(Wanted::Immediate(given)),
+            None => None,
+        },
+        Asked::Opening(_, _) => None,
+    }
 }
 
 // A statement with the parts of its call.
@@ -186,11 +214,9 @@ fn run_of(
     ensures { IfSome result (λ made. cut_view made
         ≡ run_seen line connection.entry (statement_seen statement.entry) ins.now outs.now) }
 {
-    match statement {
-        Asked::Normal(text) => made_of(alloc, line, connection, text, ins, outs),
-        Asked::Prepared(_) => None,
-        Asked::Immediate(_) => None,
-        Asked::Opening(_, _) => None,
+    match wanted_of(alloc, statement) {
+        Some(wanted) => made_of(alloc, line, connection, wanted, ins, outs),
+        None => None,
     }
 }
 

@@ -36,10 +36,14 @@ abbrev pub is_symbol : Sym → ExprData → Bool
 is_symbol s (identifier x) = same_text (symbol_text s) x
 is_symbol s _ = false
 
--- whether the third argument, behind the line and the connection, says that a text is sent
-abbrev pub is_normal : ExprList → Bool
-is_normal (exprs line (exprs connection (exprs kind rest))) = is_symbol symbol.StatementNormal kind
-is_normal _ = false
+-- whether a statement is a text that is sent: one that is written there, or one that is known when it runs
+abbrev pub is_text : ExprData → Bool
+is_text kind = is_symbol symbol.StatementNormal kind || is_symbol symbol.StatementExecImmediate kind
+
+-- by the third argument, behind the line and the connection
+abbrev pub sends_text : ExprList → Bool
+sends_text (exprs line (exprs connection (exprs kind rest))) = is_text kind
+sends_text _ = false
 
 abbrev pub has_descriptor : ExprList → Bool
 has_descriptor no_exprs = false
@@ -48,7 +52,7 @@ has_descriptor (exprs e es) = is_symbol symbol.Descriptor e || has_descriptor es
 -- The calls that the library makes: transaction control; autocommit; a text that is sent, over hosts
 -- and constants. No function is called for an argument.
 abbrev pub is_made : LibName → ExprList → Bool
-is_made library.Do es = is_normal es && not (has_descriptor es) && not (any_calls_function es)
+is_made library.Do es = sends_text es && not (has_descriptor es) && not (any_calls_function es)
 is_made library.Trans es = not (any_calls_function es)
 is_made library.SetCommit es = not (any_calls_function es)
 is_made _ es = false

@@ -25,6 +25,9 @@ pub fn worked_examples()
     ensures prepared { unmade_in
         "ECPGdo(2, NULL, ECPGst_execute, \"s\", ECPGt_EOIT, ECPGt_EORT);"
         ≡ on_line 2 }
+    ensures immediate { unmade_in
+        "ECPGdo(2, NULL, ECPGst_exec_immediate, \"s\", ECPGt_EOIT, ECPGt_EORT);"
+        ≡ nowhere }
     ensures control { unmade_in
         "ECPGtrans(2, NULL, \"commit\");"
         ≡ nowhere }

@@ -52,12 +52,19 @@ fn is_symbol(symbol: Sym, e: &Expr) -> bool
     }
 }
 
+/// Whether the symbol of a statement says that a text is sent.
+fn is_text(kind: &Expr) -> bool
+    ensures { result ≡ rule.is_text (expr_view kind.now) }
+{
+    is_symbol(Sym::StatementNormal, kind) || is_symbol(Sym::StatementExecImmediate, kind)
+}
+
 /// Whether the third argument says that a text is sent.
-fn is_normal(es: &[Expr]) -> bool
-    ensures { result ≡ rule.is_normal (exprs_view es.now) }
+fn sends_text(es: &[Expr]) -> bool
+    ensures { result ≡ rule.sends_text (exprs_view es.now) }
 {
     match es {
-        [_, _, kind, ..] => is_symbol(Sym::StatementNormal, kind),
+        [_, _, kind, ..] => is_text(kind),
         _ => false,
     }
 }
@@ -79,7 +86,7 @@ fn is_made(call: LibName, es: &[Expr]) -> bool
     ensures { result ≡ rule.is_made call (exprs_view es.now) }
 {
     match call {
-        LibName::Do => is_normal(es) && !has_descriptor(es) && !any_calls_function(es),
+        LibName::Do => sends_text(es) && !has_descriptor(es) && !any_calls_function(es),
         LibName::Trans | LibName::SetCommit => !any_calls_function(es),
         _ => false,
     }

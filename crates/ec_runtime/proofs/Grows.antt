@@ -41,7 +41,7 @@ front_next xs (over halt s) go p h = p
 pub next_grows : {A B : Type 0} (first : State → Outcome A) (go : A → State → Outcome B) → Grows first → ((a : A) → Grows (go a)) → Grows (λ s. next (first s) go)
 next_grows first go p h s = front_next s.conversation (first s) go (p s) h
 
-trying_grows : {A : Type 0} (r : Result A Trap) → Grows (trying r)
+pub trying_grows : {A : Type 0} (r : Result A Trap) → Grows (trying r)
 trying_grows (Ok a) s = same_front s.conversation
 trying_grows (Err trap) s = same_front s.conversation
 

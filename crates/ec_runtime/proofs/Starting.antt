@@ -11,21 +11,25 @@ use Rattle.ec_link.specs.declared.request.Request.{Request}
 use Rattle.ec_link.specs.declared.request.Request.TheVariants as request
 use Rattle.ec_link.specs.Logged.{Talk}
 use Rattle.ec_link.proofs.Runs.{Asks-nil}
-use Rattle.ec_objects.specs.Memory.{Memory}
+use Rattle.ec_objects.specs.Memory.{Memory, text_at}
 use Rattle.ec_transfer.specs.declared.finding.Finding.TheVariants as found
 use Rattle.ec_transfer.specs.Codes.{code_of, state_of, text_of_finding}
 use Rattle.ec_evaluation.specs.State.{Answer, Connection, State}
 use Rattle.ec_calls.specs.Growth.{Grows}
 use Rattle.ec_calls.specs.Outcomes.{Text, Field, trapped, Outcome, gives, finished, over, next, with_memory, fresh_area, told_area, begun_area, raised}
 use Rattle.ec_calls.specs.Connections.{same_name, found_connection, connection_for}
-use Rattle.ec_calls.specs.Inputs.{text_read, Inputs, with_param, inputs_read, value_read, member_read}
+use Rattle.ec_calls.specs.Inputs.{text_read, given_read, Inputs, with_param, inputs_read, value_read, member_read}
 use Rattle.ec_calls.specs.Library.{call_done}
-use Rattle.ec_calls.specs.Running.{places_of, into_places, outputs_read, outputs_found, carried_out, run_call, text}
+use Rattle.ec_calls.specs.Running.{places_of, into_places, outputs_read, outputs_found, carried_out, statement_read as statement_said, text}
 use Rattle.ec_runtime.specs.declared.call.Call.{Call}
 use Rattle.ec_runtime.specs.declared.call.Kind.{Kind}
 use Rattle.ec_runtime.specs.declared.call.Kind.TheVariants as kinds
 use Rattle.ec_runtime.specs.declared.call.Statement.{Statement}
+use Rattle.ec_runtime.specs.declared.call.Wanted.{Wanted}
+use Rattle.ec_runtime.specs.declared.call.Wanted.TheVariants as wants
 use Rattle.ec_runtime.specs.declared.host.Host.{Host}
+use Rattle.ec_runtime.specs.declared.inputs.GivenText.{GivenText}
+use Rattle.ec_runtime.specs.declared.inputs.GivenText.TheVariants as givens
 use Rattle.ec_runtime.specs.declared.inputs.Input.{Input}
 use Rattle.ec_runtime.specs.declared.inputs.Input.TheVariants as inputs
 use Rattle.ec_runtime.specs.declared.open.Open.{Open}
@@ -34,11 +38,11 @@ use Rattle.ec_runtime.specs.declared.stop.Stop.TheVariants as stops
 use Rattle.ec_runtime.specs.Calling.{bare}
 use Rattle.ec_runtime.specs.Does.{Seen, placed, seen, Does, Over}
 use Rattle.ec_runtime.specs.Opening.{open_view}
-use Rattle.ec_runtime.specs.Reading.{text_view, input_view, values_read, is_named, TextIs}
-use Rattle.ec_runtime.specs.Says.{Quiet}
-use Rattle.ec_runtime.specs.Statements.{reached, carried, started, statement_read, ran, controlling, kind_done, target_view, kind_view, call_action}
+use Rattle.ec_runtime.specs.Reading.{text_view, given_view, input_view, values_read, is_named, TextIs}
+use Rattle.ec_runtime.specs.Says.{Says, Quiet}
+use Rattle.ec_runtime.specs.Statements.{reached, carried, started, wanted_read, wanted_view, statement_read, ran, controlling, kind_done, target_view, kind_view, call_action}
 use Rattle.ec_runtime.specs.Views.{host_view, hosts_view, outputs_of}
-use Rattle.ec_runtime.proofs.Grows.{same_front, next_grows, begun_area_grows, connection_grows, member_grows}
+use Rattle.ec_runtime.proofs.Grows.{same_front, next_grows, trying_grows, begun_area_grows, connection_grows, member_grows}
 use Rattle.ec_runtime.proofs.Joining.{quiet, same_action, and_next, and_stop, no_memory, over_quiet, over_next, over_stop}
 use Rattle.ec_runtime.proofs.Sending.{carried_grows}
 use Rattle.ec_runtime.proofs.Targets.{stopped_next}
@@ -56,8 +60,21 @@ values_grow [] = λ s. same_front s.conversation
 values_grow (m ∷ ms) = next_grows (member_read m) (λ field t. next (values_read ms t) (λ fields u. gives (field ∷ fields) u)) (member_grows m) (λ field.
     next_grows (values_read ms) (λ fields u. gives (field ∷ fields) u) (values_grow ms) (λ fields u. same_front u.conversation))
 
+given_grows : (text : GivenText) → Grows (given_read (given_view text))
+given_grows (givens.Word bytes) s = same_front s.conversation
+given_grows (givens.Held at) s = trying_grows (text_at s.memory at.0) s
+
+wanted_grows : (it : Wanted) → Grows (wanted_read it)
+wanted_grows (wants.Normal bytes) s = same_front s.conversation
+wanted_grows (wants.Immediate given) s = given_grows given s
+
+-- the request with this text
+abbrev with_values : Statement → Text → State → Outcome Request
+with_values it bytes t = next (values_read (map input_view it.ins) t) (λ params u. gives (request.Text bytes params) u)
+
 pub statement_grows : (it : Statement) → Grows (statement_read it)
-statement_grows it = next_grows (values_read (map input_view it.ins)) (λ params t. gives (request.Text it.text params) t) (values_grow (map input_view it.ins)) (λ params t. same_front t.conversation)
+statement_grows it = next_grows (wanted_read it.wanted) (λ bytes t. with_values it bytes t) (wanted_grows it.wanted) (λ bytes.
+    next_grows (values_read (map input_view it.ins)) (λ params u. gives (request.Text bytes params) u) (values_grow (map input_view it.ins)) (λ params u. same_front u.conversation))
 
 -- ---- inputs and outputs
 
@@ -110,11 +127,31 @@ behind_values line bytes hs name (over halt t) = refl
 
 -- ---- a call is what follows behind the name of its connection
 
+-- once its text is read
+with_text : (line : ℕ) (it : Statement) (name : Option Text) (bytes : Text) (s : State)
+    → next (inputs_read (map input_view it.ins) s) (λ given t. next (outputs_read (map target_view it.outs) t) (λ outputs u. carried_out line name (text bytes) given outputs u))
+    ≡ next (with_values it bytes s) (λ asks t. started line asks it.outs name t)
+with_text line it name bytes s =
+    (λ j. next (inputs_split it.ins s j) (λ given t. next (outputs_read (map target_view it.outs) t) (λ outputs u. carried_out line name (text bytes) given outputs u)))
+    ∙ behind_values line bytes it.outs name (values_read (map input_view it.ins) s)
+
+behind_text : (line : ℕ) (it : Statement) (name : Option Text) (o : Outcome Text)
+    → next (next o (λ bytes t. gives (text bytes) t)) (λ wanted t. next (inputs_read (map input_view it.ins) t) (λ given u. next (outputs_read (map target_view it.outs) u) (λ outputs v. carried_out line name wanted given outputs v)))
+    ≡ next (next o (λ bytes t. with_values it bytes t)) (λ asks t. started line asks it.outs name t)
+behind_text line it name (gives bytes t) = with_text line it name bytes t
+behind_text line it name (finished t) = refl
+behind_text line it name (over halt t) = refl
+
+behind_wanted : (line : ℕ) (it : Statement) (name : Option Text) (w : Wanted) (s : State)
+    → next (statement_said (wanted_view w) s) (λ wanted t. next (inputs_read (map input_view it.ins) t) (λ given u. next (outputs_read (map target_view it.outs) u) (λ outputs v. carried_out line name wanted given outputs v)))
+    ≡ next (next (wanted_read w s) (λ bytes t. with_values it bytes t)) (λ asks t. started line asks it.outs name t)
+behind_wanted line it name (wants.Normal bytes) s = with_text line it name bytes s
+behind_wanted line it name (wants.Immediate given) s = behind_text line it name (given_read (given_view given) s)
+
 behind_name : (line : ℕ) (it : Statement) (o : Outcome (Option Text))
-    → next o (λ name t. next (inputs_read (map input_view it.ins) t) (λ given u. next (outputs_read (map target_view it.outs) u) (λ outputs v. carried_out line name (text it.text) given outputs v))) ≡ next o (λ name t. ran line it name t)
-behind_name line it (gives name t) =
-    (λ j. next (inputs_split it.ins t j) (λ given u. next (outputs_read (map target_view it.outs) u) (λ outputs v. carried_out line name (text it.text) given outputs v)))
-    ∙ behind_values line it.text it.outs name (values_read (map input_view it.ins) t)
+    → next o (λ name t. next (statement_said (wanted_view it.wanted) t) (λ wanted u. next (inputs_read (map input_view it.ins) u) (λ given v. next (outputs_read (map target_view it.outs) v) (λ outputs w. carried_out line name wanted given outputs w))))
+    ≡ next o (λ name t. ran line it name t)
+behind_name line it (gives name t) = behind_wanted line it name it.wanted t
 behind_name line it (finished t) = refl
 behind_name line it (over halt t) = refl
 
@@ -195,14 +232,21 @@ reached_closed line name m m1 m' stop area told is =
 
 -- ---- what a statement reads
 
-pub reading_stops : (it : Statement) (lent : List Input) (m : Memory) (stop : Stop) → lent ≡ it.ins → Quiet {A = List Field} (Err stop) (values_read (map input_view lent)) m m → Quiet {A = Request} (Err stop) (statement_read it) m m
-reading_stops it lent m stop e q s =
-    stopped_next stop (values_read (map input_view it.ins) (with_memory m s)) (with_memory m s) (λ params t. gives (request.Text it.text params) t)
-    (subst (λ x. Quiet {A = List Field} (Err stop) (values_read (map input_view x)) m m) e q s)
+pub text_stops : (it : Statement) (m : Memory) (stop : Stop) → Quiet {A = Text} (Err stop) (wanted_read it.wanted) m m → Quiet {A = Request} (Err stop) (statement_read it) m m
+text_stops it m stop q s = stopped_next stop (wanted_read it.wanted (with_memory m s)) (with_memory m s) (λ bytes t. with_values it bytes t) (q s)
 
-pub reading_gives : (it : Statement) (lent : List Input) (m : Memory) (bytes : Text) (params : List Field) → lent ≡ it.ins → bytes ≡ it.text → Quiet (Ok params) (values_read (map input_view lent)) m m → Quiet (Ok (request.Text bytes params)) (statement_read it) m m
-reading_gives it lent m bytes params e f q s =
-    (λ j. next (subst (λ x. Quiet (Ok params) (values_read (map input_view x)) m m) e q s j) (λ given t. gives (request.Text it.text given) t)) ∙ (λ j. gives (request.Text (sym f j) params) (with_memory m s))
+module _ (it : Statement) (lent : List Input) (m : Memory) (bytes : Text) (e : lent ≡ it.ins) (read : Quiet (Ok bytes) (wanted_read it.wanted) m m) where
+  read_first : (s : State) → statement_read it (with_memory m s) ≡ with_values it bytes (with_memory m s)
+  read_first s = λ j. next (read s j) (λ x t. with_values it x t)
+
+  pub reading_stops : (stop : Stop) → Quiet {A = List Field} (Err stop) (values_read (map input_view lent)) m m → Quiet {A = Request} (Err stop) (statement_read it) m m
+  reading_stops stop q s =
+      subst (λ o. Says {A = Request} (Err stop) o (with_memory m s)) (sym (read_first s))
+      (stopped_next stop (values_read (map input_view it.ins) (with_memory m s)) (with_memory m s) (λ params t. gives (request.Text bytes params) t)
+      (subst (λ x. Quiet {A = List Field} (Err stop) (values_read (map input_view x)) m m) e q s))
+
+  pub reading_gives : (params : List Field) → Quiet (Ok params) (values_read (map input_view lent)) m m → Quiet (Ok (request.Text bytes params)) (statement_read it) m m
+  reading_gives params q s = read_first s ∙ (λ j. next (subst (λ x. Quiet (Ok params) (values_read (map input_view x)) m m) e q s j) (λ given t. gives (request.Text bytes given) t))
 
 module _ {X : Type 0} {F : X → Type 0} (talk : DynBox X Global F → Option Talk) (faults : DynBox X Global F → ℕ) where
   -- the action is another one in the states that are met

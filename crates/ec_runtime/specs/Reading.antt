@@ -9,6 +9,8 @@ use Rattle.ec_calls.specs.Connections.{same_name}
 use Rattle.ec_calls.specs.Inputs.{text_read, member_read}
 use Rattle.ec_runtime.specs.declared.inputs.TextArg.{TextArg}
 use Rattle.ec_runtime.specs.declared.inputs.TextArg.TheVariants as texts
+use Rattle.ec_runtime.specs.declared.inputs.GivenText.{GivenText}
+use Rattle.ec_runtime.specs.declared.inputs.GivenText.TheVariants as givens
 use Rattle.ec_runtime.specs.declared.inputs.Input.{Input}
 use Rattle.ec_runtime.specs.declared.inputs.Input.TheVariants as inputs
 use Rattle.ec_runtime.specs.Views.{host_view}
@@ -17,6 +19,10 @@ abbrev pub text_view : TextArg → TextData ℕ
 text_view texts.Absent = absent
 text_view (texts.Word bytes) = word bytes
 text_view (texts.Held at) = held at.0
+
+abbrev pub given_view : GivenText → TextData ℕ
+given_view (givens.Word bytes) = word bytes
+given_view (givens.Held at) = held at.0
 
 abbrev pub input_view : Input → Member ℕ
 input_view (inputs.Host h) = host (host_view h)

@@ -2,20 +2,23 @@
 use Rattle.std.specs.Prelude.{ℕ, Bool, List, Option, map}
 use Rattle.ec_link.specs.declared.request.Request.{Request}
 use Rattle.ec_link.specs.declared.request.Request.TheVariants as request
-use Rattle.ec_arguments.specs.Arguments.{Call as CutCall, Cut, Member, TextArg, control, host, normal, run, set_autocommit}
+use Rattle.ec_arguments.specs.Arguments.{Call as CutCall, Cut, Member, Statement as Asked, TextArg, control, host, immediate, normal, run, set_autocommit}
 use Rattle.ec_evaluation.specs.State.{Connection, State}
 use Rattle.ec_calls.specs.Outcomes.{Text, Outcome, gives, next, begun_area}
 use Rattle.ec_calls.specs.Connections.{asked, begun, connection_for, control_sent}
 use Rattle.ec_calls.specs.Autocommit.{autocommit_set}
 use Rattle.ec_calls.specs.Answers.{replied}
 use Rattle.ec_calls.specs.Running.{is_wanted, table_kept}
+use Rattle.ec_calls.specs.Inputs.{given_read}
 use Rattle.ec_calls.specs.Library.{cut_done}
 use Rattle.ec_runtime.specs.declared.host.Host.{Host}
 use Rattle.ec_runtime.specs.declared.call.Call.{Call}
 use Rattle.ec_runtime.specs.declared.call.Kind.{Kind}
 use Rattle.ec_runtime.specs.declared.call.Kind.TheVariants as kinds
 use Rattle.ec_runtime.specs.declared.call.Statement.{Statement}
-use Rattle.ec_runtime.specs.Reading.{text_view, input_view, values_read}
+use Rattle.ec_runtime.specs.declared.call.Wanted.{Wanted}
+use Rattle.ec_runtime.specs.declared.call.Wanted.TheVariants as wants
+use Rattle.ec_runtime.specs.Reading.{text_view, given_view, input_view, values_read}
 use Rattle.ec_runtime.specs.Views.{host_view, outputs_of}
 
 -- a request over a slot is sent, and its reply is answered
@@ -37,11 +40,17 @@ abbrev pub started : ℕ → Request → List Host → Option Text → State →
 started line request hosts name s =
     next (reached line name s) (λ c t. carried line request hosts c t)
 
--- the request of a statement, with the values that it reads
+-- the text that is sent
+abbrev pub wanted_read : Wanted → State → Outcome Text
+wanted_read (wants.Normal text) s = gives text s
+wanted_read (wants.Immediate text) s = given_read (given_view text) s
+
+-- the request of a statement, with the text and the values that it reads
 abbrev pub statement_read : Statement → State → Outcome Request
 statement_read it s =
-    next (values_read (map input_view it.ins) s)
-    (λ params t. gives (request.Text it.text params) t)
+    next (wanted_read it.wanted s) (λ text t.
+    next (values_read (map input_view it.ins) t)
+    (λ params u. gives (request.Text text params) u))
 
 -- what each call does behind the name of its connection
 abbrev pub ran : ℕ → Statement → Option Text → State → Outcome (Unit {0})
@@ -63,10 +72,14 @@ kind_done line (kinds.Autocommit on) name s = switching line on name s
 abbrev pub target_view : Host → Member ℕ
 target_view h = host (host_view h)
 
+abbrev pub wanted_view : Wanted → Asked ℕ
+wanted_view (wants.Normal text) = normal text
+wanted_view (wants.Immediate text) = immediate (given_view text)
+
 -- a call, cut
 abbrev pub kind_view : TextArg ℕ → Kind → CutCall ℕ
 kind_view connection (kinds.Run it) =
-    run connection (normal it.text) (map input_view it.ins) (map target_view it.outs)
+    run connection (wanted_view it.wanted) (map input_view it.ins) (map target_view it.outs)
 kind_view connection (kinds.Control text) = control connection text
 kind_view connection (kinds.Autocommit on) = set_autocommit on connection
 

@@ -1,7 +1,7 @@
 //! A call of the library, cut.
 
 use crate::host::Host;
-use crate::inputs::{Input, TextArg};
+use crate::inputs::{GivenText, Input, TextArg};
 use ec_base::{Bytes, Line, List};
 
 /// A call over a connection.
@@ -25,10 +25,19 @@ pub enum Kind {
     Autocommit(bool),
 }
 
-/// A statement that is sent as its text stands, with the values that it is given and the hosts that its rows go into.
+/// The text of a statement.
+#[derive(Debug, Drop)]
+pub enum Wanted {
+    /// A text that is sent as it stands.
+    Normal(Bytes),
+    /// The text of EXECUTE IMMEDIATE, which is known when it runs.
+    Immediate(GivenText),
+}
+
+/// A statement, with the values that it is given and the hosts that its rows go into.
 #[derive(Debug, Drop)]
 pub struct Statement {
-    pub text: Bytes,
+    pub wanted: Wanted,
     pub ins: List<Input>,
     pub outs: List<Host>,
 }

@@ -1,11 +1,12 @@
 //! What a call reads before it does anything.
 
-ghost use Rattle.std.specs.Prelude.{◌≡◌, map, IsSome};
-ghost use Rattle.ec_calls.specs.Inputs.{member_read};
+ghost use Rattle.std.specs.Prelude.{◌≡◌, map, IsSome, IfOk, IfErr};
+ghost use Rattle.ec_calls.specs.Inputs.{given_read, member_read};
 ghost use Rattle.ec_evaluation.specs.State.{Connection};
 ghost use Rattle.std.specs.declared.option.Option.{Option};
-ghost use Rattle.ec_runtime.specs.Reading.{values_read, input_view, text_view, Finds, Reads};
+ghost use Rattle.ec_runtime.specs.Reading.{values_read, given_view, input_view, text_view, Finds, Reads};
 ghost use Rattle.ec_runtime.specs.Says.{Quiet};
+ghost use Rattle.ec_runtime.specs.declared.stop.Stop.TheVariants as stops;
 
 use crate::host::Host;
 use crate::stop::Stop;
@@ -19,6 +20,13 @@ use std::alloc::Global;
 #[derive(Debug, Drop)]
 pub enum TextArg {
     Absent,
+    Word(Bytes),
+    Held(Ptr),
+}
+
+/// A text that is there: the bytes of a literal, or those that a pointer leads to up to the zero byte.
+#[derive(Debug, Drop)]
+pub enum GivenText {
     Word(Bytes),
     Held(Ptr),
 }
@@ -74,6 +82,30 @@ pub(crate) fn values(
         }
     }
     Ok(texts)
+}
+
+/// Keeps the bytes of a text.
+fn kept(alloc: Global, bytes: &[u8]) -> Result<Bytes, Stop>
+    ensures ok { IfOk result (λ copy. copy ≡ bytes.now) }
+    ensures err { IfErr result (λ stop. stop ≡ stops.OutOfMemory) }
+{
+    match Bytes::from_slice(alloc, bytes) {
+        Ok(copy) => Ok(copy),
+        Err(_) => Err(Stop::OutOfMemory),
+    }
+}
+
+/// Reads a text that is there.
+pub(crate) fn given_text(alloc: Global, store: &Store, text: &GivenText) -> Result<Bytes, Stop>
+    ensures { Quiet result (given_read (given_view text.now)) store.now store.now }
+{
+    match text {
+        GivenText::Word(bytes) => kept(alloc, bytes.as_slice()),
+        GivenText::Held(at) => match store.text(*at) {
+            Ok(bytes) => kept(alloc, bytes),
+            Err(trap) => Err(Stop::Trapped(trap)),
+        },
+    }
 }
 
 /// Reads a text, of which nothing is kept.

@@ -15,9 +15,9 @@ mod running;
 mod stop;
 mod storing;
 
-pub use call::{Call, Kind, Statement};
+pub use call::{Call, Kind, Statement, Wanted};
 pub use ec_convert;
 pub use host::{Host, places_that_fit};
-pub use inputs::{Input, TextArg};
+pub use inputs::{GivenText, Input, TextArg};
 pub use library::Library;
 pub use stop::CallStop;

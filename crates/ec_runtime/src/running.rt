@@ -13,15 +13,15 @@ ghost use Rattle.ec_runtime.specs.Does.{Over};
 ghost use Rattle.ec_runtime.specs.Opening.{open_view};
 ghost use Rattle.ec_runtime.specs.Reading.{is_named};
 ghost use Rattle.ec_runtime.specs.Says.{Quiet};
-ghost use Rattle.ec_runtime.specs.Statements.{sent, carried, started, ran, statement_read};
+ghost use Rattle.ec_runtime.specs.Statements.{sent, carried, started, ran, statement_read, wanted_read};
 ghost use Rattle.ec_calls.specs.Outcomes.{Text};
 ghost use Rattle.std.specs.declared.option.Option.{Option};
 
 use crate::answering::answered;
-use crate::call::Statement;
+use crate::call::{Statement, Wanted};
 use crate::control::send_control;
 use crate::host::Host;
-use crate::inputs::values;
+use crate::inputs::{given_text, values};
 use crate::open::{Open, ask, is_due};
 use crate::reaching::reach;
 use crate::stop::Stop;
@@ -111,18 +111,30 @@ pub(crate) fn carry_out(
     }
 }
 
+/// Reads the text that is sent.
+fn wanted(alloc: Global, store: &Store, it: &Wanted) -> Result<Bytes, Stop>
+    ensures { Quiet result (wanted_read it.now) store.now store.now }
+{
+    match it {
+        Wanted::Normal(text) => match Bytes::from_slice(alloc, text.as_slice()) {
+            Ok(text) => Ok(text),
+            Err(_) => Err(Stop::OutOfMemory),
+        },
+        Wanted::Immediate(text) => given_text(alloc, store, text),
+    }
+}
+
 /// The request that a statement asks for, with what it reads behind the name of its connection: the text, and the values.
 pub(crate) fn read(alloc: Global, store: &Store, it: &Statement) -> Result<Request, Stop>
     ensures quiet { Quiet result (statement_read it.now) store.now store.now }
     ensures asks { IfOk result (λ request. IsAsk request) }
 {
-    let text = match Bytes::from_slice(alloc, it.text.as_slice()) {
-        Ok(text) => text,
-        Err(_) => return Err(Stop::OutOfMemory),
-    };
-    match values(alloc, store, it.ins.as_slice()) {
+    match wanted(alloc, store, &it.wanted) {
         Err(stop) => Err(stop),
-        Ok(params) => Ok(Request::Text { text, params }),
+        Ok(text) => match values(alloc, store, it.ins.as_slice()) {
+            Err(stop) => Err(stop),
+            Ok(params) => Ok(Request::Text { text, params }),
+        },
     }
 }
 
