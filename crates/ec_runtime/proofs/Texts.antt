@@ -8,7 +8,7 @@ use Rattle.ec_objects.specs.Memory.{Memory, text_at}
 use Rattle.ec_transfer.specs.Conversion.{parameter}
 use Rattle.ec_transfer.specs.Hosts.{HostData}
 use Rattle.ec_evaluation.specs.State.{State}
-use Rattle.ec_calls.specs.Outcomes.{Field, trapped, gives, over, next, trying, present, with_memory}
+use Rattle.ec_calls.specs.Outcomes.{Field, Outcome, trapped, gives, over, next, trying, present, with_memory}
 use Rattle.ec_calls.specs.Inputs.{text_read, given_read, value_read}
 use Rattle.ec_runtime.specs.declared.inputs.GivenText.{GivenText}
 use Rattle.ec_runtime.specs.declared.inputs.GivenText.TheVariants as givens
