@@ -32,7 +32,7 @@ fn declarators_in(items: &[Declarator]) -> Result<u32, OutOfMemory>
 }
 
 /// How many objects a declaration makes.
-#[tactic(auto, using(ec_initial_forms::ec_walk::proofs::Trees::seeing))]
+#[tactic(auto, using(ec_walk::proofs::Trees::seeing))]
 fn objects_of(d: &Decl) -> Result<u32, OutOfMemory>
     ensures { IfOk result (λ n. n ≡ rule.objects_of_decl (decl_view d.now)) }
 {

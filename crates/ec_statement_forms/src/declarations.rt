@@ -117,7 +117,7 @@ fn specifier(
 
 /// The statements of a declaration of objects or of a struct, at file level or not: an object of a function has one, and a
 /// global none, since its bytes are there when the program begins (ISO/IEC 9899:1999, 6.7).
-#[tactic(auto, using(ec_initial_forms::ec_walk::proofs::Trees::seeing), unfolding(ec_resolving::specs::Storage::chain, ec_resolving::specs::Storage::pure, ec_resolving::specs::Storage::checks, ec_resolving::specs::Storage::ask))]
+#[tactic(auto, using(ec_walk::proofs::Trees::seeing), unfolding(ec_resolving::specs::Storage::chain, ec_resolving::specs::Storage::pure, ec_resolving::specs::Storage::checks, ec_resolving::specs::Storage::ask))]
 pub fn declaration(
     resolver: &mut Resolver,
     is_global: bool,

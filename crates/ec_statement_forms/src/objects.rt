@@ -368,7 +368,7 @@ fn object_of(
 }
 
 /// An object, at file level or not, of this base or of a VARCHAR of its own.
-#[tactic(auto, using(ec_initial_forms::ec_walk::proofs::Trees::seeing), unfolding(ec_resolving::specs::Storage::chain, ec_resolving::specs::Storage::pure, ec_resolving::specs::Storage::checks, ec_resolving::specs::Storage::ask, ec_resolving::specs::Storage::stored, ec_resolving::specs::Storage::arrange))]
+#[tactic(auto, using(ec_walk::proofs::Trees::seeing), unfolding(ec_resolving::specs::Storage::chain, ec_resolving::specs::Storage::pure, ec_resolving::specs::Storage::checks, ec_resolving::specs::Storage::ask, ec_resolving::specs::Storage::stored, ec_resolving::specs::Storage::arrange))]
 pub(crate) fn object_item(
     resolver: &mut Resolver,
     at: Place,
