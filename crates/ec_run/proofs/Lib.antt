@@ -1,6 +1,6 @@
 mod Keeping
 mod Lines
-mod Placing
+mod WordLines
 mod Telling
-mod Unmade
+mod UnmadeCalls
 mod Words

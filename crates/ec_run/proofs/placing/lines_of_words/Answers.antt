@@ -1,8 +1,10 @@
 use Rattle.std.proofs.Common.{sym, subst, ◌∙◌}
+use Rattle.std.specs.Prelude.{IfOk}
 use Rattle.ec_language.specs.Tokens.{HaveSqlTokens}
 use Rattle.ec_translate.specs.ec_source.Answers.{HaveLines}
 use Rattle.ec_translate.proofs.ec_source_proofs.Trees.{have_lines}
-use Rattle.ec_run.proofs.Unmade.{has_pieces, same_pieces, lines_told}
+use Rattle.ec_run.specs.Runnable.{WordLines}
+use Rattle.ec_run.proofs.UnmadeCalls.{has_pieces, same_pieces, lines_told}
 use Rattle.ec_run.proofs.placing.lines_of_words.Goals as goal
 
 pub split-requires : goal.split-requires
@@ -18,4 +20,4 @@ word_lines-requires-clause-tokens c =
     subst HaveSqlTokens (sym (c.as_slice.ensures ∙ same_pieces c.in-Ok.pieces has.pieces (c.in-Ok.ensures.all_pieces has.pieces has.cut))) has.tokens
 
 pub returns-in-Ok : goal.returns-in-Ok
-returns-in-Ok c = lines_told c.args.text.now c.in-Ok.pieces c.in-Ok.ensures.pieces c.word_lines.result (rw c.as_slice.ensures c.word_lines.ensures)
+returns-in-Ok c = lines_told c.args.text.now c.in-Ok.pieces c.in-Ok.ensures.pieces c.word_lines.result (subst (λ ps. IfOk c.word_lines.result (WordLines ps)) c.as_slice.ensures c.word_lines.ensures)

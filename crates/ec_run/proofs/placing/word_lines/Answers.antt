@@ -1,5 +1,5 @@
 use Rattle.std.proofs.Common.{sym, ◌∙◌}
-use Rattle.ec_run.proofs.Placing.{kept_other, kept_statement, ended_at}
+use Rattle.ec_run.proofs.WordLines.{kept_other, kept_statement, ended_at}
 use Rattle.ec_run.proofs.placing.word_lines.Goals as goal
 use Rattle.ec_run.proofs.placing.word_lines.Goals.{then-is_statement+in-Ok, else-is_statement}
 

@@ -1,5 +1,5 @@
 use Rattle.std.proofs.Common.{drop}
-use Rattle.ec_run.proofs.Placing.{IsPlacing}
+use Rattle.ec_run.proofs.WordLines.{IsPlacing}
 use Rattle.ec_run.proofs.placing.word_lines.Given as goal
 
 abbrev pub invariant-loop-piece : goal.invariant-loop-piece

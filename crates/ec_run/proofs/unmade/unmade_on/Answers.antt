@@ -2,7 +2,7 @@ use Rattle.std.proofs.Common.{true, ◌≡◌, map, sym, ap, subst, ◌∙◌}
 use Rattle.ec_ctypes.specs.views.Checked.{bound_view, typed_view}
 use Rattle.ec_translation.specs.ec_phases.ec_whenever.Tables.{is_sorted}
 use Rattle.ec_run.specs.Runnable.{with_lines}
-use Rattle.ec_run.proofs.Unmade.{of_placed}
+use Rattle.ec_run.proofs.UnmadeCalls.{of_placed}
 use Rattle.ec_run.proofs.unmade.unmade_on.Goals as goal
 
 pub unmade_call-requires : goal.unmade_call-requires
