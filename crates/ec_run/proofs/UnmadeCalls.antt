@@ -1,9 +1,8 @@
 -- Where a call is written that the library doesn't make yet.
-use Rattle.std.proofs.Common.{◌≡◌, ◌∙◌, ◌≤◌, ◌^◌, ℕ, true, List, Option, Some, None, Result, Ok, Err, length, map, refl, sym, ap, subst}
+use Rattle.std.proofs.Common.{◌≡◌, ◌∙◌, ◌≤◌, ◌^◌, List, Option, Some, None, Result, Ok, Err, length, refl, sym, ap, subst}
 use Rattle.std.specs.Prelude.{IfOk, IfSome}
 use Rattle.ec_base.specs.declared.line.Line.{Line}
 use Rattle.ec_base.specs.declared.stop.Stop.{Stop}
-use Rattle.ec_base.specs.declared.stop.Stop.TheVariants.{Refused, Limit, OutOfMemory}
 use Rattle.ec_ctypes.specs.declared.text.piece.Piece.{Piece}
 use Rattle.ec_ctypes.specs.trees.Checked.{BoundData, TypedData}
 use Rattle.ec_ctypes.specs.trees.Units.{UnitData}
@@ -11,10 +10,10 @@ use Rattle.ec_language.specs.Letters.{Text}
 use Rattle.ec_language.specs.Pieces.{Pieces}
 use Rattle.ec_language.specs.Tokens.{HaveSqlTokens}
 use Rattle.ec_language.proofs.StatementTokens.{statements_have_tokens}
-use Rattle.ec_translation.specs.ec_phases.Sources.{ReadsTree, ReadsChecked, ReadsSource, BoundProgram, checked_tree, program_with, bound_from}
+use Rattle.ec_translation.specs.ec_phases.Sources.{ReadsTree, ReadsChecked, checked_tree, program_with, bound_from}
 use Rattle.ec_expansion.specs.Programs.{written_program}
 use Rattle.ec_execute.specs.ec_library_calls.LibraryCalls.{first_unmade_call}
-use Rattle.ec_run.specs.Runnable.{AreWordLines, IsUnmadeAt, IsUnmadeIn, WordLines, with_lines}
+use Rattle.ec_run.specs.Runnable.{AreWordLines, IsUnmadeIn, WordLines, with_lines}
 
 -- the pieces of a source, whose statements have tokens
 pub record HasPieces (text : Text) : Type 0 where

@@ -7,7 +7,7 @@ use Rattle.ec_ctypes.specs.declared.text.piece.PieceKind.TheVariants.{C, Emb, In
 use Rattle.ec_translate.specs.ec_hosts.Examples.{is_statement}
 use Rattle.ec_language.specs.Tokens.{HasSqlTokens, HaveSqlTokens}
 use Rattle.ec_translate.specs.ec_source.Answers.{HaveLines}
-use Rattle.ec_run.specs.Runnable.{HasWordAt, AddsLine, WordLines, end, other, statement}
+use Rattle.ec_run.specs.Runnable.{AddsLine, WordLines, end, other, statement}
 
 pub is_emb : (kind : PieceKind) → is_statement kind ≡ true → kind ≡ Emb
 is_emb Emb e = refl

@@ -1,4 +1,4 @@
-use Rattle.std.proofs.Common.{◌≡◌, ◌∷◌, [], ◌++◌, sym, subst}
+use Rattle.std.proofs.Common.{◌∷◌, [], ◌++◌, sym, subst}
 use Rattle.ec_run.proofs.Lines.{IsPut, IsPutSoFar, so_far, put_first, put_next}
 use Rattle.ec_run.proofs.placing.on_lines.Goals as goal
 

@@ -1,4 +1,4 @@
-use Rattle.std.proofs.Common.{true, ◌≡◌, map, sym, ap, subst, ◌∙◌}
+use Rattle.std.proofs.Common.{map, ap, ◌∙◌}
 use Rattle.ec_ctypes.specs.views.Checked.{bound_view, typed_view}
 use Rattle.ec_translation.specs.ec_phases.ec_whenever.Tables.{is_sorted}
 use Rattle.ec_run.specs.Runnable.{with_lines}
