@@ -33,7 +33,7 @@ module _ (single : HasOneTranslation)
   is_text q reads = ap (text_in w) (single text (Ok (text_of_program q)) (Ok w) (translation (Ok q) reads refl) h)
 
   run_of : (p q : BoundProgram) (x : written.Executable) → ReadsSource text (Ok q)
-      → IsProgram (text_of_program q) (Ok x) → Ok p ≡ Ok q → MeansSource p w
+      → IsProgram (text_of_program q) (Ok x) → ◌≡◌ {A = Result BoundProgram Stop} (Ok p) (Ok q) → MeansSource p w
   unfolding program_in
   run_of p q x reads is e =
       let same : q ≡ p = sym (ap (program_in p) e) in

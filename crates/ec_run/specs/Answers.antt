@@ -1,5 +1,5 @@
 -- What reading a source to run it answers. Want of memory is the one answer that says nothing of it.
-use Rattle.std.specs.Prelude.{◌≡◌, ℕ, ⊤, ⊥, List, Option, Result, Ok, Err}
+use Rattle.std.specs.Prelude.{◌≡◌, ℕ, ⊤, List, Option, Result, Ok, Err}
 use Rattle.ec_base.specs.declared.fault.FaultKind.TheVariants.{F9}
 use Rattle.ec_base.specs.declared.stop.Stop.{Stop}
 use Rattle.ec_base.specs.declared.stop.Stop.TheVariants.{Refused, Limit, OutOfMemory}
