@@ -1,3 +1,5 @@
+pub mod Free
+pub mod Opening
 pub mod Places
 pub mod Ready
 pub mod Replies

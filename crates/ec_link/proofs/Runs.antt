@@ -40,6 +40,11 @@ growth_of-grown old new growth e = ap (λ log. growth_of old log) e ∙ growth_o
 pub last_reply_of-append : (log : List Logged) (x : Logged) → last_reply_of (log ++ x ∷ []) ≡ Some x.reply
 last_reply_of-append log x = ap (option_map (λ (y : Logged). y.reply)) (slice_get-last log x)
 
+-- a log with an exchange that was put over a blank one
+pub log-set : (old between new : List Logged) (blank x : Logged) → between ≡ old ++ blank ∷ [] → new ≡ slice_set between (length between - 1) x → new ≡ old ++ x ∷ []
+log-set old between new blank x b n =
+    n ∙ ap (λ log. slice_set log (length log - 1) x) b ∙ set_at old blank [] x (length (old ++ blank ∷ []) - 1) (omega (arith, length_push old blank))
+
 -- a choice between two talks, by its cases
 told_cases : (b : Bool) (x y z : Option Talk) → (b ≡ true → x ≡ z) → (b ≡ false → y ≡ z) → cond b x y ≡ z
 told_cases true x y z f g = f refl
@@ -55,11 +60,11 @@ apart : (i k : ℕ) → (k == i) ≡ false → i ≢ k
 apart i k e = grind (arith, nat_tests)
 
 -- an exchange over slot k has another slot than i
-other_slot : (i k : ℕ) (slot : Option ℕ) → i ≢ k → slot ≡ Some k → is_slot i slot ≡ false
+pub other_slot : (i k : ℕ) (slot : Option ℕ) → i ≢ k → slot ≡ Some k → is_slot i slot ≡ false
 other_slot i k slot n e = ap (is_slot i) e ∙ is_slot-other i k n
 
 -- one exchange over slot i is the talk of that slot
-talk_of-one : (i : ℕ) (x : Logged) → x.slot ≡ Some i → talk_of i (x ∷ []) ≡ (x.request, x.reply) ∷ []
+pub talk_of-one : (i : ℕ) (x : Logged) → x.slot ≡ Some i → talk_of i (x ∷ []) ≡ (x.request, x.reply) ∷ []
 talk_of-one i x e = talk_of-cons i x [] (ap (is_slot i) e ∙ eq-eqb i i refl)
 
 module _ {X : Type 0} {F : X → Type 0} where
@@ -78,10 +83,10 @@ module _ {X : Type 0} {F : X → Type 0} where
 
   module _ (talk : DynBox X Global F → Option Talk) (faults : DynBox X Global F → ℕ) where
     -- the talk of a slot, by what stands there
-    talk_at-same : (old new : List (Slot X F)) (i : ℕ) → slice_get new i ≡ slice_get old i → talk_at talk new i ≡ talk_at talk old i
+    pub talk_at-same : (old new : List (Slot X F)) (i : ℕ) → slice_get new i ≡ slice_get old i → talk_at talk new i ≡ talk_at talk old i
     talk_at-same old new i e = ap (λ (slot : Option (Slot X F)). option_and_then talk (option_and_then link_in slot)) e
 
-    talk_at-slot : (slots : List (Slot X F)) (i : ℕ) (slot : Slot X F) → slice_get slots i ≡ Some slot → talk_at talk slots i ≡ option_and_then talk (link_in slot)
+    pub talk_at-slot : (slots : List (Slot X F)) (i : ℕ) (slot : Slot X F) → slice_get slots i ≡ Some slot → talk_at talk slots i ≡ option_and_then talk (link_in slot)
     talk_at-slot slots i slot e = ap (λ (o : Option (Slot X F)). option_and_then talk (option_and_then link_in o)) e
 
     -- a link that moves from its slot into a connection tells what it told
@@ -127,15 +132,12 @@ module _ {X : Type 0} {F : X → Type 0} where
 
     -- one ask, whose exchange was put over a blank one at the end of the log
     pub AsksOnce-set : (request : Request) (old between new : List Logged) (was now : Conn X F) (blank x : Logged) → between ≡ old ++ blank ∷ [] → new ≡ slice_set between (length between - 1) x → x.slot ≡ Some (slot_of was) → x.request ≡ request → talk (link_of now) ≡ talk_after (talk (link_of was)) request x.reply → (x.reply ≡ Broken → Rose (faults (link_of was)) (faults (link_of now))) → AsksOnce talk faults request old was new now
-    AsksOnce-set request old between new was now blank x b n slot asked told broken =
-        let whole : new ≡ old ++ x ∷ [] =
-        n ∙ ap (λ log. slice_set log (length log - 1) x) b ∙ set_at old blank [] x (length (old ++ blank ∷ []) - 1) (omega (arith, length_push old blank)) in
-        record {
-          reply = x.reply;
-          logged = whole ∙ ap (λ s. old ++ record { slot = s; request = x.request; reply = x.reply } ∷ []) slot ∙ ap (λ r. old ++ record { slot = Some (slot_of was); request = r; reply = x.reply } ∷ []) asked;
-          told = told;
-          broken = broken;
-        }
+    AsksOnce-set request old between new was now blank x b n slot asked told broken = record {
+      reply = x.reply;
+      logged = log-set old between new blank x b n ∙ ap (λ s. old ++ record { slot = s; request = x.request; reply = x.reply } ∷ []) slot ∙ ap (λ r. old ++ record { slot = Some (slot_of was); request = r; reply = x.reply } ∷ []) asked;
+      told = told;
+      broken = broken;
+    }
 
     -- some asks, by what the log grew by
     pub Asks-growth_of : (old : Rack X F) (was : Conn X F) (new : Rack X F) (now : Conn X F) (growth : List Logged) → Asks talk faults old was new now growth → Asks talk faults old was new now (growth_of (log_of old) (log_of new))

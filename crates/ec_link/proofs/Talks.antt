@@ -39,7 +39,7 @@ KeepsTalks-append before between after xs ys f g =
     λ i. IfSome-grown (before i) (between i) (after i) (talk_of i xs) (talk_of i ys) (talk_of i (xs ++ ys)) (f i) (g i) (talk_of-append i xs ys)
 
 -- a talk that grew, where it is told
-IfSome-told : (x y : Option Talk) (p : Talk) → y ≡ told_more x p → IfSome y (λ now. IsSomeAnd x (λ was. now ≡ was ++ p))
+pub IfSome-told : (x y : Option Talk) (p : Talk) → y ≡ told_more x p → IfSome y (λ now. IsSomeAnd x (λ was. now ≡ was ++ p))
 IfSome-told None None p e = tt
 IfSome-told None (Some b) p e = cc
 IfSome-told (Some a) None p e = tt

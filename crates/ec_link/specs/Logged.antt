@@ -1,5 +1,5 @@
 -- What a log says of its slots.
-use Rattle.std.specs.Prelude.{◌-◌, ◌==◌, ℕ, Bool, false, Option, Some, None, option_map, List, map, filter, drop, length, slice_get}
+use Rattle.std.specs.Prelude.{◌-◌, ◌==◌, ℕ, Bool, false, Option, Some, None, option_map, List, [], map, filter, drop, length, slice_get}
 use Rattle.ec_link.specs.declared.logged.Logged.{Logged}
 use Rattle.ec_link.specs.declared.request.Request.{Request}
 use Rattle.ec_link.specs.declared.request.Request.TheVariants.{Connect, Close}
@@ -35,3 +35,13 @@ abbrev pub IsAsk : Request → Type 0
 IsAsk (Connect _ _ _) = ⊥
 IsAsk Close = ⊥
 IsAsk _ = Unit {0}
+
+-- a request that opens a connection
+abbrev pub IsConnect : Request → Type 0
+IsConnect (Connect _ _ _) = Unit {0}
+IsConnect _ = ⊥
+
+-- the name of the server that a Connect asks for, and no byte of another request
+abbrev pub target_of : Request → List ℕ
+target_of (Connect target _ _) = target
+target_of _ = []

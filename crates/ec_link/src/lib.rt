@@ -2,6 +2,7 @@
 //! said over them.
 #![tactic(auto)]
 
+mod connecting;
 mod connection;
 mod copies;
 mod link;

@@ -17,8 +17,8 @@ use std::alloc::Global;
 /// The links of a program, and the log of what was said over them.
 #[derive(Drop)]
 pub struct Rack {
-    slots: List<Slot>,
-    log: List<Logged>,
+    pub(crate) slots: List<Slot>,
+    pub(crate) log: List<Logged>,
     ghost numbered: { length slots < 2 ^ 32 },
 }
 
@@ -228,7 +228,7 @@ fn first_ready(slots: &[Slot]) -> Option<usize>
 }
 
 // Makes room for an exchange, by one that is to be overwritten.
-fn push_blank(log: &mut List<Logged>) -> Result<(), OutOfMemory>
+pub(crate) fn push_blank(log: &mut List<Logged>) -> Result<(), OutOfMemory>
     ensures ok { OnOk result ((blank : _) × (log.new ≡ log.old ++ blank ∷ [])) }
     ensures err { OnErr result (log.new ≡ log.old) }
 {
@@ -240,7 +240,7 @@ fn push_blank(log: &mut List<Logged>) -> Result<(), OutOfMemory>
 }
 
 // Puts an exchange in the place of the last one.
-fn set_last(log: &mut List<Logged>, logged: Logged)
+pub(crate) fn set_last(log: &mut List<Logged>, logged: Logged)
     requires { 0 < length log.old }
     ensures { log.new ≡ slice_set log.old (length log.old - 1) logged }
 {
@@ -249,7 +249,7 @@ fn set_last(log: &mut List<Logged>, logged: Logged)
 }
 
 // Takes the last exchange away.
-fn drop_last(log: &mut List<Logged>)
+pub(crate) fn drop_last(log: &mut List<Logged>)
     ensures { log.new ≡ take (length log.old - 1) log.old }
 {
     let _ = log.pop();

@@ -48,7 +48,14 @@ pub enum Reply {
 }
 
 impl Reply {
-    ghost use Rattle.ec_link.specs.Reply.{is_broken};
+    ghost use Rattle.ec_link.specs.Reply.{is_broken, is_connected};
+
+    /// Whether the connection is open.
+    pub fn is_connected(&self) -> bool
+        ensures { result ≡ is_connected self.now }
+    {
+        matches!(self, Reply::Connected)
+    }
 
     /// Whether the connection broke.
     pub fn is_broken(&self) -> bool

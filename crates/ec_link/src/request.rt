@@ -36,6 +36,20 @@ pub enum Request {
     Close,
 }
 
+impl Request {
+    ghost use Rattle.ec_link.specs.Logged.{target_of};
+
+    // The name of the server that a Connect asks for, and no byte of another request.
+    pub(crate) fn target(&self) -> &[u8]
+        ensures { result.now ≡ target_of self.now }
+    {
+        match self {
+            Request::Connect { target, .. } => target.as_slice(),
+            _ => &[],
+        }
+    }
+}
+
 impl Clone for Request {
     ghost is_clone = { λ it copy. copy ≡ it };
 

@@ -1,5 +1,5 @@
 ghost use Rattle.std.specs.Prelude.{◌≡◌};
-ghost use Rattle.ec_link.specs.SlotState.{is_ready};
+ghost use Rattle.ec_link.specs.SlotState.{is_free, is_ready};
 
 use crate::link::Link;
 use ec_base::Name;
@@ -25,5 +25,15 @@ impl Slot {
         ensures { result ≡ is_ready (state_of self.now) }
     {
         matches!(self, Slot::Ready(..))
+    }
+
+    /// Whether the link can be connected, and its server has that name.
+    pub fn is_free(&self, target: &[u8]) -> bool
+        ensures { result ≡ is_free target.now (state_of self.now) }
+    {
+        match self {
+            Slot::Free(name, _) => name.as_slice() == target,
+            _ => false,
+        }
     }
 }
