@@ -1,4 +1,4 @@
--- Statements and declarations as they are written, behind others.
+-- Statements as they are written, behind others.
 use Rattle.std.proofs.Common.{◌≡◌, ℕ, zero, suc, true, false, List, [], ◌∷◌, ◌++◌, map, Option, Some, option_map, slice_get, refl, sym, ap, ◌∙◌}
 use Rattle.std.specs.Option.{option_and_then}
 use Rattle.ec_base.specs.declared.line.Line.{Line}
@@ -8,49 +8,23 @@ use Rattle.ec_ctypes.specs.declared.embedded.emb.Emb.{Emb}
 use Rattle.ec_ctypes.specs.declared.tree.stmt.Stmt.{Stmt}
 use Rattle.ec_ctypes.specs.trees.Checked.{MarkData}
 use Rattle.ec_ctypes.specs.trees.Embedded.{EmbData}
-use Rattle.ec_ctypes.specs.trees.Exprs.{words, varchar, tagged, struct_base, DeclaratorData, declarator, DeclData, decl}
 use Rattle.ec_ctypes.specs.trees.Stmts.{StmtData, stmt, StmtKindData, empty_stmt, expr_stmt, block_stmt, if_stmt, while_stmt, do_stmt, for_stmt, break_stmt, continue_stmt, return_stmt, goto_stmt, label_stmt, decl_stmt, emb_stmt, mark_stmt, StmtList, stmts}
 use Rattle.ec_ctypes.specs.trees.Units.{TopData}
 use Rattle.ec_ctypes.specs.views.Checked.{typed_view, bound_view}
 use Rattle.ec_ctypes.specs.views.Embedded.{emb_view}
-use Rattle.ec_ctypes.specs.views.Stmts.{stmt_view, stmts_of, stmts_view}
+use Rattle.ec_ctypes.specs.views.Stmts.{stmt_view, stmts_view}
 use Rattle.ec_language.specs.Letters.{Text}
 use Rattle.ec_statement_parts.specs.Cursors.{declare_opened}
 use Rattle.ec_expansion.specs.Calls.{prepared_in, call_by}
-use Rattle.ec_expansion.specs.Declarations as written
 use Rattle.ec_expansion.specs.Lines.{line_after_tops}
 use Rattle.ec_expansion.specs.Programs.{block_of, block_for, unit_of}
-use Rattle.ec_expansion.specs.Statements.{before_stmts, listed_stmts, written_kind, written_item, written_items}
+use Rattle.ec_expansion.specs.Statements.{before_stmts, written_kind, written_item, written_items}
 use Rattle.ec_expansion.proofs.LinesBehind.{tops_line}
 use Rattle.ec_expand.specs.Blocks.{written_at}
 use Rattle.ec_expand.specs.Items.{is_plain_kind, other_item}
-use Rattle.ec_expand.specs.Lists.{varchar_of, plain_decl, is_varchar_decl, items_of}
-
--- ---- declarations
-
-abbrev pub name_of : DeclaratorData → Text
-name_of (declarator stars name ds init) = name
-
-pub object_is : (n : ℕ) (x : DeclaratorData) (tag : Text) → tag ≡ written.varchar_tag (name_of x) → varchar_of n (Some tag) (written.written_declarator n x) ≡ written.varchar_object n x
-object_is n (declarator stars name ds init) tag e = ap (λ t. written.varchar_decl n (Some t) stars name (written.written_dims n ds) (written.written_initializer n init)) e
-
-pub varchars_are : (n : ℕ) (d : DeclData) → is_varchar_decl d ≡ true → written.varchar_objects n (items_of d) ≡ written.written_decl n d
-varchars_are n (decl (words ws) ds section line) p = cc
-varchars_are n (decl varchar ds section line) p = refl
-varchars_are n (decl (tagged t) ds section line) p = cc
-varchars_are n (decl (struct_base t ms) ds section line) p = cc
-
-pub plain_is : (n : ℕ) (d : DeclData) → is_varchar_decl d ≡ false → plain_decl n d ∷ [] ≡ written.written_decl n d
-plain_is n (decl (words ws) ds section line) p = refl
-plain_is n (decl varchar ds section line) p = cc
-plain_is n (decl (tagged t) ds section line) p = refl
-plain_is n (decl (struct_base t ms) ds section line) p = refl
+use Rattle.ec_written_blocks.proofs.Listed.{listed}
 
 -- ---- statements
-
-pub listed : (ss : List StmtData) → stmts_of ss ≡ listed_stmts ss
-listed [] = refl
-listed (s ∷ ss) = ap (stmts s) (listed ss)
 
 before_assoc : (as' bs : List StmtData) (rest : StmtList) → before_stmts (as' ++ bs) rest ≡ before_stmts as' (before_stmts bs rest)
 before_assoc [] bs rest = refl

@@ -1,4 +1,2 @@
 pub mod Blocks
 pub mod Items
-pub mod Lists
-pub mod Pushed

@@ -1,25 +1,21 @@
 //! What is written in the place of an embedded statement: a block with its call, and the tests behind it.
 
-ghost use Rattle.std.specs.Prelude.{◌≡◌, ◌++◌, IfOk, OnOk, true, map, option_map, option_and_then};
+ghost use Rattle.std.specs.Prelude.{◌≡◌, IfOk, true, map, option_map, option_and_then};
 ghost use Rattle.std.specs.Option.{option_copied};
 ghost use Rattle.ec_ctypes.specs.views.Checked.{handlers_view, bound_view};
 ghost use Rattle.ec_ctypes.specs.views.Embedded.{emb_view};
-ghost use Rattle.ec_ctypes.specs.views.Exprs.{expr_view};
-ghost use Rattle.ec_ctypes.specs.views.Stmts.{stmt_view, kind_view};
+ghost use Rattle.ec_ctypes.specs.views.Stmts.{kind_view};
 ghost use Rattle.ec_cursors.specs.Declares.{declare_numbers};
-ghost use Rattle.ec_expand.specs.Blocks.{written_at, block_with};
+ghost use Rattle.ec_expand.specs.Blocks.{written_at};
 ghost use Rattle.ec_expansion.specs.Calls.{prepared_in, call_by};
-ghost use Rattle.ec_expansion.specs.Handlers.{tests};
 ghost use Rattle.ec_expansion.specs.Programs.{block_of};
-ghost use Rattle.ec_statement_parts.specs.Handlers.{action_among};
 ghost use Rattle.ec_whenever.specs.Tables.{is_sorted};
 
-use crate::calls::call_of;
-use crate::handlers::push_test;
 use ec_base::{List, Name, OutOfMemory};
-use ec_ctypes::{Bound, Cond, Emb, EmbKind, Expr, HandlerTable, Stmt, StmtKind, Typed};
+use ec_ctypes::{Bound, Emb, EmbKind, HandlerTable, StmtKind, Typed};
 use ec_cursors::CursorTable;
-use ec_whenever::HandlerLookup;
+use ec_written_blocks::block_with;
+use ec_written_calls::call_of;
 use std::alloc::Global;
 
 /// A program, with what is bound for its statements and the DECLAREs of the cursors that they open.
@@ -61,62 +57,6 @@ fn prepared_in(declare: Option<&Emb>) -> Option<&Name>
         Some(emb) => prepared_of(emb),
         None => None,
     }
-}
-
-// The tests of a statement, one for each condition with an action, in their order.
-fn push_tests(
-    alloc: Global,
-    list: &mut List<Stmt>,
-    handlers: &HandlerTable,
-    emb: &Emb,
-) -> Result<(), OutOfMemory>
-    requires { is_sorted (handlers_view handlers.now) ≡ true }
-    ensures { OnOk result (map stmt_view list.new ≡ map stmt_view list.old
-        ++ tests emb.now.line (action_among (handlers_view handlers.now) emb.now.place)) }
-{
-    push_test(
-        alloc,
-        list,
-        emb.line,
-        Cond::NotFound,
-        handlers.at(emb.place, Cond::NotFound),
-    )?;
-    push_test(
-        alloc,
-        list,
-        emb.line,
-        Cond::Warning,
-        handlers.at(emb.place, Cond::Warning),
-    )?;
-    push_test(
-        alloc,
-        list,
-        emb.line,
-        Cond::Error,
-        handlers.at(emb.place, Cond::Error),
-    )?;
-    Ok(())
-}
-
-// The block of a statement with this call. All in it has the line of the statement.
-#[tactic(auto, using(crate::proofs::Written::listed))]
-fn block_with(
-    alloc: Global,
-    handlers: &HandlerTable,
-    emb: &Emb,
-    call: Expr,
-) -> Result<StmtKind, OutOfMemory>
-    requires { is_sorted (handlers_view handlers.now) ≡ true }
-    ensures { IfOk result (λ k. kind_view k ≡ block_with (handlers_view handlers.now)
-        (emb_view emb.now) (expr_view call)) }
-{
-    let mut list = List::new(alloc);
-    list.push(Stmt {
-        line: emb.line,
-        kind: StmtKind::Expr(call),
-    })?;
-    push_tests(alloc, &mut list, handlers, emb)?;
-    Ok(StmtKind::Block(list))
 }
 
 // The block of a statement, whose hosts are bound. A directive has none.

@@ -14,13 +14,12 @@ ghost use Rattle.ec_language.specs.Productions.{line_of};
 ghost use Rattle.ec_whenever.specs.Tables.{is_sorted};
 
 use crate::blocks::Blocks;
-use crate::declarations::{written_base, written_dims};
 use crate::lines::{line_after_all, next};
-use crate::objects::push_globals;
 use crate::statements::written_items;
 use ec_base::{Boxed, Line, List, Name, OutOfMemory};
 use ec_ctypes::{Bound, Decl, Func, Param, Stmt, Top, Typed, Unit};
 use ec_cursors::cursors;
+use ec_written_declarations::{push_globals, written_base, written_dims};
 use std::alloc::Global;
 
 // ---- functions

@@ -12,12 +12,11 @@ ghost use Rattle.ec_expansion.specs.Lines as lines;
 ghost use Rattle.ec_expansion.specs.Statements as spec;
 
 use crate::blocks::Blocks;
-use crate::declarations::written_expr;
-use crate::handlers::on_line;
 use crate::lines::line_after;
-use crate::objects::push_objects;
 use ec_base::{Boxed, Line, List, Name, OutOfMemory};
 use ec_ctypes::{Expr, ForParts, Stmt, StmtKind};
+use ec_written_blocks::on_line;
+use ec_written_declarations::{push_objects, written_expr};
 use std::alloc::Global;
 
 // ---- parts

@@ -1,0 +1,3 @@
+pub mod Dims
+pub mod Members
+pub mod Written
