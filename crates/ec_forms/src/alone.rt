@@ -25,7 +25,7 @@ fn head_without_use(head: Head) -> Head
         Head::Call(function, _, arguments) => Head::Call(function, false, arguments),
         Head::Begun(plain) => Head::Begun(plain),
         Head::Known(known, arguments) => Head::Known(known, arguments),
-        Head::LibraryCall(number) => Head::LibraryCall(number),
+        Head::LibraryCall(number, pointers) => Head::LibraryCall(number, pointers),
     }
 }
 

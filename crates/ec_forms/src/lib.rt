@@ -29,4 +29,4 @@ pub use names::{literal_rule, name_rule};
 pub use resolver::Resolver;
 pub use sizes::size_of;
 pub use unary::{address_rule, unary_rule};
-pub use values::{discarded, value_rule};
+pub use values::{discarded, result_value, value_rule};

@@ -4,9 +4,10 @@
 ghost use Rattle.std.specs.Prelude.{◌≡◌, IfOk};
 ghost use Rattle.ec_code.specs.Views.{expression_view};
 ghost use Rattle.ec_resolved.specs.Resolved.{Exp};
+ghost use Rattle.ec_resolving.specs.Conversions.{as_known_type};
 ghost use Rattle.ec_resolving.specs.Operands as rule;
 ghost use Rattle.ec_rules.specs.Seen.{operand_view};
-ghost use Rattle.ec_scopes.specs.Entries.{place_view};
+ghost use Rattle.ec_scopes.specs.Entries.{place_view, type_view};
 ghost use Rattle.ec_scopes.specs.Seen.{world_of};
 ghost use Rattle.ec_forms.specs.Readings.{read_by};
 ghost use Rattle.ec_forms.specs.Seen.{found_view, from, Reaches};
@@ -16,7 +17,7 @@ use crate::resolver::Resolver;
 use crate::sizes::size_of;
 use ec_base::OutOfMemory;
 use ec_code::{Expression, Unary};
-use ec_conversions::faulty;
+use ec_conversions::{converted, faulty, known_conversion};
 use ec_ctypes::Ty;
 use ec_objects::Kind;
 use ec_rules::{Operand, value_rule as checked_value};
@@ -84,6 +85,19 @@ pub fn value_rule(resolver: &mut Resolver, at: Place, f: Found) -> Result<Found,
     let reading = reading_of(&operand, is_address);
     let operand = checked_value(&mut resolver.checker, at, operand);
     with_form(operand, read(alloc, reading, exp), false)
+}
+
+/// A value as one of the function's type, as by assignment (ISO/IEC 9899:1999, 6.8.6.4, 3).
+pub fn result_value(
+    alloc: Global,
+    result_type: &Option<Ty>,
+    f: Found,
+) -> Result<Expression, OutOfMemory>
+    ensures { IfOk result (λ e. expression_view e ≡ as_known_type
+        (found_view f).operand.type (type_view result_type.now) (found_view f).exp) }
+{
+    let conversion = known_conversion(&f.operand.ty, result_type);
+    converted(alloc, conversion, f.exp)
 }
 
 /// How an expression whose value isn't wanted is evaluated: a place of a struct is an access to all of it.

@@ -1,12 +1,11 @@
 //! The expressions of statements (ISO/IEC 9899:1999, 6.8).
 #![tactic(auto, unfolding(ec_resolving::specs::Storage::chain, ec_resolving::specs::Storage::pure, ec_resolving::specs::Storage::ask))]
 
-ghost use Rattle.std.specs.Prelude.{◌≡◌, IfOk, Some, option_map};
+ghost use Rattle.std.specs.Prelude.{Some, option_map};
 ghost use Rattle.ec_code.specs.Views.{expression_view, statement_view};
 ghost use Rattle.ec_ctypes.specs.views.Exprs.{expr_view, expr_option_view};
-ghost use Rattle.ec_forms.specs.Seen.{found_view, from, Reaches};
+ghost use Rattle.ec_forms.specs.Seen.{from, Reaches};
 ghost use Rattle.ec_resolved.specs.Resolved as of;
-ghost use Rattle.ec_resolving.specs.Conversions.{as_known_type};
 ghost use Rattle.ec_resolving.specs.Statements as rule;
 ghost use Rattle.ec_scopes.specs.Entries.{place_view, type_view};
 ghost use Rattle.ec_statement_forms.specs.Made.{optional_view};
@@ -14,12 +13,10 @@ ghost use Rattle.ec_statement_forms.specs.Made.{optional_view};
 use crate::making::{returned, returned_nothing};
 use ec_base::{Boxed, OutOfMemory};
 use ec_code::{Expression, Statement};
-use ec_conversions::{converted, known_conversion};
 use ec_ctypes::{Expr, Ty};
-use ec_forms::{Found, Resolver, done_alone, value_rule};
+use ec_forms::{Resolver, done_alone, result_value, value_rule};
 use ec_initial_forms::ec_expressions::expr;
 use ec_scopes::Place;
-use std::alloc::Global;
 
 /// A condition: the value of an expression.
 pub(crate) fn condition(
@@ -91,19 +88,6 @@ pub(crate) fn optional_condition(
             Ok(Some(exp))
         }
     }
-}
-
-/// A value as one of the function's type, as by assignment (ISO/IEC 9899:1999, 6.8.6.4, 3).
-fn result_value(
-    alloc: Global,
-    result_type: &Option<Ty>,
-    f: Found,
-) -> Result<Expression, OutOfMemory>
-    ensures { IfOk result (λ e. expression_view e ≡ as_known_type
-        (found_view f).operand.type (type_view result_type.now) (found_view f).exp) }
-{
-    let conversion = known_conversion(&f.operand.ty, result_type);
-    converted(alloc, conversion, f.exp)
 }
 
 /// `return`, with a value or without, in a function with a result of this type.
