@@ -12,11 +12,11 @@ ghost use Rattle.ec_plain.specs.Ready.{readied};
 ghost use Rattle.ec_plain.specs.Steps.{both_on, old_on, two_on};
 
 use crate::outcome::Outcome;
-use crate::quick::operate;
+use crate::quick::{converted, operate};
 use ec_code::{Binary, Update};
 use ec_memory::Store;
 use ec_objects::Kind;
-use ec_values::{Stop, Word, convert, load, store as stored};
+use ec_values::{Stop, Word, load, store as stored};
 
 /// What a step does before the other expression is evaluated.
 #[derive(Clone, Copy, Debug)]
@@ -141,10 +141,10 @@ fn renew(store: &mut Store, update: Update, left: Word, old: Word, right: Word) 
 {
     match left {
         Word::Address(ptr) => {
-            let widened = convert(update.widened, old);
+            let widened = converted(update.widened, old);
             match operate(update.operation, store, widened, right).get() {
                 Ok(new) => {
-                    let new = convert(update.kind, new);
+                    let new = converted(update.kind, new);
                     match stored(store, ptr, update.kind, new) {
                         Ok(()) => Outcome::value(if update.gives_old { old } else { new }),
                         Err(trap) => Outcome::trapped(trap),

@@ -9,11 +9,12 @@ ghost use Rattle.ec_plain.specs.Outcomes.{outcome_view};
 ghost use Rattle.ec_plain.specs.Steps.{one_on};
 
 use crate::outcome::Outcome;
+use crate::quick::converted;
 use ec_base::Bytes;
 use ec_code::Unary;
 use ec_memory::Store;
 use ec_objects::Kind;
-use ec_values::{Word, convert, flip, load as loaded, negate};
+use ec_values::{Word, flip, load as loaded, negate};
 
 /// What a step makes of the value so far.
 pub fn unary(store: &mut Store, step: &Unary, value: Word) -> Outcome
@@ -25,7 +26,7 @@ pub fn unary(store: &mut Store, step: &Unary, value: Word) -> Outcome
         Unary::Load(kind) => load(store, *kind, value),
         Unary::Whole(size) => whole(store, *size, value),
         Unary::Put(bytes) => put(store, bytes, value),
-        Unary::Convert(_, to) => Outcome::value(convert(*to, value)),
+        Unary::Convert(_, to) => Outcome::value(converted(*to, value)),
         Unary::Negate(ty) => Outcome::of(negate(*ty, value)),
         Unary::Flip(ty) => Outcome::of(flip(*ty, value)),
         Unary::Not => Outcome::value(Word::truth(!value.is_true())),

@@ -1,8 +1,10 @@
-//! Operations on two numbers that `long` has, which are the most of all, done in its arithmetic; and all others.
+//! Operations on two numbers that `long` has, which are the most of all, done in its arithmetic; all others; and
+//! conversions.
 
 ghost use Rattle.std.specs.Prelude.{◌≡◌, ◌≤ℤ◌, Ok, pos, int_div, int_rem, IfSome};
+ghost use Rattle.ec_objects.specs.Kinds.{kind_type};
 ghost use Rattle.ec_objects.specs.Memory.{Memory, moved, number};
-ghost use Rattle.ec_resolved.specs.Operations.{address_worked, calculated, compares, gives, quotient, result_of, worked};
+ghost use Rattle.ec_resolved.specs.Operations.{address_worked, calculated, compares, gives, quotient, result_of, value_as, worked};
 ghost use Rattle.ec_values.specs.Operations.{comparison_view, operation_view, operator_view};
 ghost use Rattle.ec_values.specs.Words.{word_view, worked_by};
 ghost use Rattle.ec_plain.specs.Outcomes.{outcome_view};
@@ -11,7 +13,8 @@ use crate::outcome::Outcome;
 use ec_bytes::Ptr;
 use ec_ctypes::Arith;
 use ec_memory::Store;
-use ec_values::{Comparison, IntegerOperator, Operation, Word, work};
+use ec_objects::Kind;
+use ec_values::{Comparison, IntegerOperator, Operation, Word, convert, work};
 
 /// What an operation gives for two values. Pointers move within their objects.
 #[inline(always)]
@@ -167,5 +170,27 @@ fn compared(comparison: Comparison, x: i64, y: i64) -> bool
         Comparison::Greater => x > y,
         Comparison::AtMost => x <= y,
         Comparison::AtLeast => x >= y,
+    }
+}
+
+/// A value as one of another type: at once, where it is a number that the type has.
+#[inline(always)]
+pub fn converted(to: Kind, word: Word) -> Word
+    ensures { word_view result ≡ value_as (kind_type to) (word_view word) }
+{
+    match word {
+        Word::Signed(amount) => match to {
+            Kind::Int => {
+                if i32::MIN as i64 <= amount && amount <= i32::MAX as i64 {
+                    word
+                } else {
+                    convert(to, word)
+                }
+            }
+            Kind::Long => word,
+            Kind::LLong => word,
+            _ => convert(to, word),
+        },
+        _ => convert(to, word),
     }
 }
