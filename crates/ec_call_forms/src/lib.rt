@@ -3,6 +3,7 @@
 #![tactic(auto)]
 
 mod arguments;
+mod called_functions;
 mod calls;
 mod known;
 mod library;

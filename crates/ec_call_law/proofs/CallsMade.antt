@@ -1,6 +1,6 @@
 -- A call of the library that is written for a statement is resolved to that call.
 use Rattle.std.proofs.Common.{◌≡◌, ◌∙◌, ℕ, Bool, true, false, List, [], ◌∷◌, length, Option, Some, None, refl, sym, subst, codes}
-use Rattle.std.specs.Prelude.{◌++◌, if◌then◌else◌}
+use Rattle.std.specs.Prelude.{◌++◌, ◌||◌, if◌then◌else◌}
 use Rattle.ec_base.specs.declared.fault.FaultKind.TheVariants.{F16}
 use Rattle.ec_base.specs.declared.line.Line.{Line}
 use Rattle.ec_ctypes.specs.Texts.{symbol_text, library_text}
@@ -25,9 +25,10 @@ use Rattle.ec_typing.specs.Operands.{OperandData, unknown, computed, types_of, u
 use Rattle.ec_expression_law.specs.ec_expansion.Calls.{argument_expr, argument_exprs, call_expr}
 use Rattle.ec_argument_law.specs.ec_written.Calls.{HaveTypes}
 use Rattle.ec_argument_law.proofs.ec_written_proofs.CallsBack.{are_taken}
-use Rattle.ec_resolved.specs.Resolved.{Exp, faulty, evaluate, on_line, library_call}
+use Rattle.ec_resolved.specs.Resolved.{Exp, Exps, faulty, evaluate, on_line, library_call, no_exps}
 use Rattle.ec_resolving.specs.Storage.{Storage, reached, followed, chain, pure, checks, ask, stored, arrange, with_call}
-use Rattle.ec_resolving.specs.Operands.{Found, found, as_value, with_form, operands_of, value_rule, library_exp, function_called, call_rule, done_alone, argument_of, name_argument, constant_argument, arguments_of_call}
+use Rattle.ec_resolving.specs.Operands.{Found, found, as_value, with_form, operands_of, value_rule, library_exp, function_called, call_rule, done_alone, argument_of, name_argument, constant_argument, arguments_of_call, evaluated_before, left_of}
+use Rattle.ec_resolving.specs.Calling.{any_calls_function}
 use Rattle.ec_resolving.specs.Expressions.{expr, args}
 use Rattle.ec_resolving.proofs.Agreeing.{chain_finds, value_finds, expr_finds, args_find}
 use Rattle.ec_argument_law.specs.Arguments.{IsArgument, AreArguments, AreResolved}
@@ -320,7 +321,24 @@ module _ (all : AllResolved) (at : Place) (t : Storage) (w : World) (g : ExprDat
       ∙ (λ i. check_followed (of_checks.is i) (λ os. operands.call_rule at f es os))
       ∙ (λ i. let o = ruled of_checks.operands takes i in out o.answer o.found o.world)
 
-  resolved_call : expr at (call_expr line c) t w ≡ reached (found (computed (Some void)) (library_call (length t.calls)) false) (with_call (made_for g line c) t) w
+  -- no function is called for its arguments
+  silent_all : (xs : List (Arg ExprData)) → AreSeen at w is_text xs → any_calls_function (argument_exprs xs) ≡ false
+  silent_all [] p = refl
+  silent_all (symbol x ∷ more) p = silent_all more p
+  silent_all (literal bytes ∷ more) p = silent_all more p
+  silent_all (null ∷ more) p = silent_all more p
+  silent_all (int_constant n ∷ more) p = silent_all more p
+  silent_all (long_constant n ∷ more) p = silent_all more p
+  silent_all (pointer e ∷ more) p = (λ i. p.0.silent i || any_calls_function (argument_exprs more)) ∙ silent_all more p.1
+  silent_all (stray ∷ more) p = silent_all more p
+
+  silent : any_calls_function es ≡ false
+  silent = silent_all written h.seen
+
+  abbrev before_call : Bool → Exps
+  before_call b = evaluated_before b (arguments_of_call es of_walk.found)
+
+  resolved_call : expr at (call_expr line c) t w ≡ reached (found (computed (Some void)) (library_call (length t.calls) no_exps) false) (with_call (made_for g line c) t) w
   unfolding chain ask stored arrange pure checks
   resolved_call =
       (λ i. followed (reached (forms i) t w) (λ a. chain (args at a es) (λ fs. call_rule at f es fs)))
@@ -328,8 +346,9 @@ module _ (all : AllResolved) (at : Place) (t : Storage) (w : World) (g : ExprDat
       ∙ (λ i. followed (followed (reached (of_library i) t w) (λ l. elim l [ Some n ↦ library_exp n es of_walk.found | None ↦ function_called f es of_walk.found ]))
       (λ e. with_form (as_value e) (operands.call_rule at f es (operands_of of_walk.found))))
       ∙ (λ i. let o = ruled (operands_of of_walk.found) ((λ j. cuts (name_of c) es (types_of (same_operands j))) ∙ takes) i in
-      reached (found o.answer (library_call (length t.calls)) false) (with_call (name_of c, arguments_of_call es of_walk.found) t) o.world)
-      ∙ (λ i. reached (found (computed (Some void)) (library_call (length t.calls)) false)
+      reached (found o.answer (library_call (length t.calls) (before_call (any_calls_function es))) false) (with_call (name_of c, left_of (any_calls_function es) (arguments_of_call es of_walk.found)) t) o.world)
+      ∙ (λ i. reached (found (computed (Some void)) (library_call (length t.calls) (before_call (silent i))) false) (with_call (name_of c, left_of (silent i) (arguments_of_call es of_walk.found)) t) w)
+      ∙ (λ i. reached (found (computed (Some void)) (library_call (length t.calls) no_exps) false)
       (with_call (name_of c, (of_walk.are ∙ arguments_placed g line c) i) t) w)
 
   pub made : IsMade at t w g line c

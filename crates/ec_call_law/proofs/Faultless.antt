@@ -17,6 +17,7 @@ use Rattle.ec_typing.specs.Expressions as checked
 use Rattle.ec_typing.specs.Operands.{OperandData, unknown, given, name_rule, named_by, value_rule, address_rule, index_rule, element_by, member_rule, member_in, member_by, arrow_rule}
 use Rattle.ec_resolved.specs.Resolved.{Exp}
 use Rattle.ec_resolving.specs.Agreement.{Finds, operand_of}
+use Rattle.ec_resolving.specs.Calling.{calls_function}
 use Rattle.ec_resolving.specs.Expressions as resolving
 use Rattle.ec_resolving.specs.Operands as resolving_operands
 use Rattle.ec_resolving.specs.Storage.{Storage}
@@ -168,6 +169,29 @@ module _ (at : Place) where
   simple_tells (size_type b stars) p = absurd p
   simple_tells (size_expr e) p = absurd p
 
+  simple_silent : (e : ExprData) → IsSimple e → calls_function e ≡ false
+  simple_silent (integer n t) p = refl
+  simple_silent (character c) p = refl
+  simple_silent (string s) p = refl
+  simple_silent (identifier x) p = refl
+  simple_silent (unary Addr e) p = simple_silent e p
+  simple_silent (unary Deref e) p = absurd p
+  simple_silent (unary Plus e) p = absurd p
+  simple_silent (unary Minus e) p = absurd p
+  simple_silent (unary Not e) p = absurd p
+  simple_silent (unary Flip e) p = absurd p
+  simple_silent (binary op a b) p = absurd p
+  simple_silent (assign op a b) p = absurd p
+  simple_silent (bump before up e) p = absurd p
+  simple_silent (call f es) p = absurd p
+  simple_silent (call_other f es) p = absurd p
+  simple_silent (index a b) p = (λ i. simple_silent a p.0 i || calls_function b) ∙ simple_silent b p.1
+  simple_silent (member e m) p = simple_silent e p
+  simple_silent (arrow e m) p = simple_silent e p
+  simple_silent (cast b stars e) p = absurd p
+  simple_silent (size_type b stars) p = absurd p
+  simple_silent (size_expr e) p = absurd p
+
   value_tells : (e : ExprData) → IsSimple e → Tells (checked_value at e)
   value_tells e p = valued _ (simple_tells e p)
 
@@ -182,6 +206,7 @@ module _ (at : Place) where
 
     pub pointer_seen : (e : ExprData) (t : TyData) (x : Exp) → IsSimple e → IsPointer at s w e t x → IsSeen at w (text_there at w) e
     pointer_seen e t x p h = record {
+      silent = simple_silent e p;
       without_fault = (value_tells e p).clean w (λ i. is_some (typed e t x h i));
       kind = (λ i. pointer_argument (typed e t x h i)) ∙ sym (λ i. pointer (leads_to_text (typed e t x h i)));
     }

@@ -14,7 +14,8 @@ use Rattle.ec_typing.specs.Statements as checked_statements
 use Rattle.ec_typing.specs.Worlds.{Place, World, Rule, out, ◌>>=◌}
 use Rattle.ec_expression_law.specs.ec_expansion.Calls.{call_expr}
 use Rattle.ec_argument_law.specs.ec_written.Calls.{call_with}
-use Rattle.ec_resolved.specs.Resolved.{Exp, library_call}
+use Rattle.ec_resolved.specs.Resolved.{Exp, library_call, no_exps}
+use Rattle.ec_resolving.specs.Calling.{calls_function}
 use Rattle.ec_resolving.specs.Expressions.{expr}
 use Rattle.ec_resolving.specs.Operands.{found}
 use Rattle.ec_resolving.specs.Statements.{Around, statement}
@@ -35,8 +36,9 @@ cut_of line c = record { line = line; call = c }
 
 -- where a call stands
 module _ (at : Place) (w : World) (is_text : ExprData → Bool) where
-  -- the checks find no fault in a pointer, and see by its type whether it may lead to a text
+  -- no function is called in a pointer, the checks find no fault in it, and see by its type whether it may lead to a text
   pub record IsSeen (e : ExprData) : Type 0 where
+    pub silent : calls_function e ≡ false
     pub without_fault : (checked_value at e w).found ≡ []
     pub kind : pointer_argument (checked_value at e w).answer.type ≡ pointer (is_text e)
 
@@ -66,7 +68,7 @@ made_for g line c = (name_of c, arguments (cut_of line (call_with g c)))
 pub record IsMade (at : Place) (t : Storage) (w : World) (g : ExprData → Exp)
     (line : ℕ) (c : Call ExprData) : Type 0 where
   pub resolved : expr at (call_expr line c) t w
-      ≡ reached (found (computed (Some void)) (library_call (length t.calls)) false)
+      ≡ reached (found (computed (Some void)) (library_call (length t.calls) no_exps) false)
       (with_call (made_for g line c) t) w
   pub checked : checked.expr at (call_expr line c) w ≡ out (computed (Some void)) [] w
 

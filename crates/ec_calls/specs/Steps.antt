@@ -2,7 +2,8 @@
 use Rattle.std.specs.Prelude.{ℕ, List, [], ◌∷◌, slice_get, Option, Some, None}
 use Rattle.ec_arguments.specs.Arguments.{Arg, symbol, literal, null, int_constant, long_constant, pointer, stray}
 use Rattle.ec_ctypes.specs.declared.checked.library.LibName.{LibName}
-use Rattle.ec_evaluation.specs.ec_resolved.Resolved.{Exp, embedded, library}
+use Rattle.ec_evaluation.specs.ec_resolved.Resolved.{Exp, constant, embedded, library}
+use Rattle.ec_objects.specs.Memory.{ValueData}
 use Rattle.ec_evaluation.specs.State.{State, trapped, waits, Ending}
 use Rattle.ec_evaluation.specs.State as state
 use Rattle.ec_evaluation.specs.Results.{Res, on, over, on_value, at_address, turn}
@@ -51,10 +52,30 @@ abbrev pub called_of : Step → World → Context → Option (LibName × List (A
 called_of step w c None s = over state.stuck s
 called_of step w c (Some call) s = called step w c call.0 call.1 s
 
--- the step of written C: its calls of the library, in their order in the program. Written C has no embedded statement. The arguments of a call hold no call of the library, so that a step that knows none evaluates them
+-- the step of written C: its calls of the library, in their order in the program. Written C has no embedded statement. The arguments of a call that are evaluated with it hold no call of the library, so that a step that knows none evaluates them
 abbrev pub no_step : Step
 no_step w c atom s = over state.stuck s
 
+-- arguments whose first pointers have these values
+abbrev pub given_first : List ValueData → List (Arg Exp) → List (Arg Exp)
+given_first [] args = args
+given_first (v ∷ vs) [] = []
+given_first (v ∷ vs) (symbol x ∷ args) = symbol x ∷ given_first (v ∷ vs) args
+given_first (v ∷ vs) (literal bytes ∷ args) = literal bytes ∷ given_first (v ∷ vs) args
+given_first (v ∷ vs) (null ∷ args) = null ∷ given_first (v ∷ vs) args
+given_first (v ∷ vs) (int_constant n ∷ args) = int_constant n ∷ given_first (v ∷ vs) args
+given_first (v ∷ vs) (long_constant n ∷ args) = long_constant n ∷ given_first (v ∷ vs) args
+given_first (v ∷ vs) (pointer e ∷ args) = pointer (constant v) ∷ given_first vs args
+given_first (v ∷ vs) (stray ∷ args) = stray ∷ given_first (v ∷ vs) args
+
+-- a call whose first pointers have these values
+abbrev pub call_given : List ValueData →
+    Option (LibName × List (Arg Exp)) → Option (LibName × List (Arg Exp))
+call_given [] call = call
+call_given (v ∷ vs) None = None
+call_given (v ∷ vs) (Some call) = Some (call.0, given_first (v ∷ vs) call.1)
+
 abbrev pub library_step : List (LibName × List (Arg Exp)) → Step
 library_step calls w c (embedded n) s = over state.stuck s
-library_step calls w c (library n) s = called_of no_step w c (slice_get calls n) s
+library_step calls w c (library n vs) s =
+    called_of no_step w c (call_given vs (slice_get calls n)) s

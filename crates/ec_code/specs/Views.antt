@@ -45,7 +45,7 @@ abbrev pub head_step : Head-F of.Exp Step of.Exp of.Exp → of.Exp
 head_step (Head-F.Begun p) = plain_view p
 head_step (Head-F.Call f used es) = of.call f used (exps_of es)
 head_step (Head-F.Known f es) = of.known (known_view f) (exps_of es)
-head_step (Head-F.LibraryCall n) = of.library_call n
+head_step (Head-F.LibraryCall n es) = of.library_call n (exps_of es)
 
 abbrev pub full_step_step : FullStep-F of.Exp Step of.Exp of.Exp → Step
 full_step_step (FullStep-F.One u) = one u

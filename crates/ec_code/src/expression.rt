@@ -47,8 +47,8 @@ pub enum Head {
     Call(u32, bool, List<Expression>),
     /// A call of a known function.
     Known(Known, List<Expression>),
-    /// A call of the library, by its number among these.
-    LibraryCall(u32),
+    /// A call of the library, by its number among these, with the pointers that are evaluated before it.
+    LibraryCall(u32, List<Expression>),
 }
 
 /// A step of an expression that holds a call.

@@ -38,11 +38,12 @@ impl Expression {
         full(alloc, Head::Known(known, arguments))
     }
 
-    /// A call of the library, by its number among these. It takes no memory.
-    pub fn library_call(alloc: Global, number: u32) -> Expression
-        ensures { expression_view result ≡ of.library_call number }
+    /// A call of the library, by its number among these, with the pointers that are evaluated before it. It takes no
+    /// memory.
+    pub fn library_call(alloc: Global, number: u32, pointers: List<Expression>) -> Expression
+        ensures { expression_view result ≡ of.library_call number (expressions_view pointers) }
     {
-        full(alloc, Head::LibraryCall(number))
+        full(alloc, Head::LibraryCall(number, pointers))
     }
 
     /// The expression with a unary step behind it.

@@ -67,7 +67,7 @@ module _ (t : TypedData) (forms : List StatementForm) where
   -- the step of a source, which has no call of the library
   abbrev pub direct_step : Step
   direct_step w c (embedded n) s = stepped w c n (slice_get t.unit.embs n) (form_of n forms) s
-  direct_step w c (library n) s = over stuck s
+  direct_step w c (library n vs) s = over stuck s
 
 -- what a source means, for so many turns, a connection that is ready or none, and the answers that come
 abbrev pub direct_meaning : TypedData → ℕ → Option (ℕ × List ℕ) → List Answer → Observed

@@ -40,7 +40,7 @@ module _ (P : State → Type 0) (E : Endings) (G : State → State → Type 0) (
   asking_agrees = record {
     no_label = λ l n. refl;
     embeds = λ w w' r c n. turn_good P E G d more kept asks_good;
-    libraries = λ w w' r c n. turn_good P E G d more kept asks_good;
+    libraries = λ w w' r c n vs. turn_good P E G d more kept asks_good;
   }
 
 said_grows : (a : Answer) (rest : List Answer) (s : State) → Grows s (told a rest s)
@@ -76,7 +76,7 @@ calls_agree =
         same = λ s s' p. subst (λ o. Same Always Never Any 0 [] (turn s (λ t. asks t.answers t)) o) (sym (turn_plain s')) (b.same s s' p);
         later = λ u. tt;
       };
-      libraries = λ w w' r c n. b;
+      libraries = λ w w' r c n vs. b;
     }
 
 pub asking_counts : CountsTurns asking

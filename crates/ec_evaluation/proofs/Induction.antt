@@ -532,7 +532,7 @@ module _ (P : State → Type 0) (E : Endings) (G : State → State → Type 0) (
             value_then (eval_good c a) (λ x. bool_good (is_true x) (value_good (truth true)) (value_then (eval_good c b) (λ y. value_good (truth (is_true y)))))
         eval_good c (call f used es) = collect_good c [] es (λ vs. answered_good c.line used (call_good c.line f vs))
         eval_good c (known f es) = collect_good c [] es (λ vs. effect_good c.line (λ m. effect_of f m vs))
-        eval_good c (library_call n) = silent_good (agree.libraries w w' related c n)
+        eval_good c (library_call n es) = collect_good c [] es (λ vs. silent_good (agree.libraries w w' related c n vs))
         eval_good c faulty = over_good stuck tt
 
         pub collect_good : (c : Context) (vs : List ValueData) (es : Exps) {k k' : List ValueData → State → Res} → ((vs : List ValueData) → Good (k vs) (k' vs)) → Good (λ s. collect step w c vs es s k) (λ s. collect step' w' c vs es s k')

@@ -343,7 +343,7 @@ without_agrees : (P : State → Type 0) (E : Endings) (G : State → State → T
 without_agrees P E G d more b g = record {
   no_label = λ l n. refl;
   embeds = λ w w' r c n. record { same = λ s s' p. same_over b p; later = g };
-  libraries = λ w w' r c n. record { same = λ s s' p. same_over b p; later = g };
+  libraries = λ w w' r c n vs. record { same = λ s s' p. same_over b p; later = g };
 }
 
 pub without_counts : CountsTurns without_atoms

@@ -108,8 +108,9 @@ pub record Agree (P : State → Type 0) (E : Endings) (G : State → State → T
   pub no_label : (l n : ℕ) → holds l (text n) ≡ false
   pub embeds : (w w' : World) → Related P E G d more text w w' → (c : Context) (n : ℕ)
       → Alike P E G d more (step w c (embedded n)) (run step' w' c (text n))
-  pub libraries : (w w' : World) → Related P E G d more text w w' → (c : Context) (n : ℕ)
-      → Alike P E G d more (step w c (library n)) (step' w' c (library n))
+  pub libraries : (w w' : World) → Related P E G d more text w w'
+      → (c : Context) (n : ℕ) (vs : List ValueData)
+      → Alike P E G d more (step w c (library n vs)) (step' w' c (library n vs))
 
 -- ---- what is kept, and which endings let the second run go on
 

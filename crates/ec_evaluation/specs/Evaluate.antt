@@ -91,7 +91,8 @@ abbrev mutual
       collect step w c [] es s (λ vs t. answered c.line used (w (calls c.line f vs) t))
   eval step w c (known f es) s =
       collect step w c [] es s (λ vs t. done_there c.line (effect_of f t.memory vs) t)
-  eval step w c (library_call n) s = without_answer (step w c (library n) s)
+  eval step w c (library_call n es) s =
+      collect step w c [] es s (λ vs t. without_answer (step w c (library n vs) t))
   eval step w c faulty s = over stuck s
 
   -- expressions one after the other, their values behind others

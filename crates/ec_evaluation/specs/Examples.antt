@@ -204,4 +204,4 @@ asking_run p turns answers = program_meaning asking p turns None answers
 
 -- an embedded statement as a call of the library
 abbrev pub as_call : ℕ → Stm
-as_call n = evaluate (library_call n)
+as_call n = evaluate (library_call n no_exps)

@@ -6,7 +6,7 @@ ghost use Rattle.ec_resolved.specs.ec_functions.Functions.{exit};
 ghost use Rattle.ec_resolved.specs.ec_objects.Cells.{set_cells, unset_cells};
 ghost use Rattle.ec_resolved.specs.ec_objects.Memory.{ScalarType, ValueData, number, alive, ended, make, scalar_size, with_object};
 ghost use Rattle.ec_resolved.specs.Programs.{Function, sqlca_bytes};
-ghost use Rattle.ec_resolved.specs.Resolved.{Stms, slot, call, known, on_line, nothing, block, choose, loop, not, return, embedded_statement, library_call};
+ghost use Rattle.ec_resolved.specs.Resolved.{Stms, slot, call, known, on_line, nothing, block, choose, loop, not, return, embedded_statement, library_call, no_exps, exps};
 ghost use Rattle.ec_evaluation.specs.State.{State, exited, trapped, turns_spent, waits, stuck};
 ghost use Rattle.ec_evaluation.specs.Results.{Res, over};
 ghost use Rattle.ec_evaluation.specs.Evaluate.{Context, Step, World};
@@ -134,13 +134,16 @@ pub fn step_examples()
     ensures without_a_turn { (asking_run (program [] (embedded_statement 0 ∷ [])) 0 (broken ∷
         [])).ending
         ≡ turns_spent }
-    ensures library_call { (asking_run (program [] (does (library_call 0) ∷ gives (lit 3) ∷ [])) 1
-        (broken ∷ [])).ending
+    ensures library_call { (asking_run (program [] (does (library_call 0 no_exps) ∷ gives (lit 3)
+        ∷ [])) 1 (broken ∷ [])).ending
         ≡ exited 3 }
     ensures behind_a_body { (asking_run (program [] (loop true (Some (not (get global))) (Some
-        (library_call 0)) (does (set global (lit 1))) ∷ [])) 2 []).ending
+        (library_call 0 no_exps)) (does (set global (lit 1))) ∷ [])) 2 []).ending
         ≡ waits None Close }
-    ensures library_call_without_the_step { ends 9 (program [] (does (library_call 0) ∷ []))
+    ensures pointers_before_a_call { (asking_run (program [] (does (library_call 0
+        (exps (set global (lit 4)) no_exps)) ∷ gives (get global) ∷ [])) 1 (broken ∷ [])).ending
+        ≡ exited 4 }
+    ensures library_call_without_the_step { ends 9 (program [] (does (library_call 0 no_exps) ∷ []))
         ≡ stuck }
     ensures without_the_step { ends 9 (program [] (embedded_statement 0 ∷ [])) ≡ stuck }
 {}

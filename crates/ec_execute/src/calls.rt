@@ -34,6 +34,7 @@ fn argument_of(argument: Stored) -> Option<Argument>
         Stored::Int(number) => Some(Argument::Int(number)),
         Stored::Long(number) => Some(Argument::Long(number)),
         Stored::Pointer(expression) => pointer_of(expression),
+        Stored::Before => Some(Argument::Before),
         Stored::Stray => Some(Argument::Stray),
     }
 }
@@ -67,8 +68,8 @@ fn call_of(alloc: Global, call: LibraryCall) -> Option<Call>
     }
 }
 
-/// The calls of a program, by their numbers. There are none without memory for them, and none where a pointer is evaluated
-/// by a call.
+/// The calls of a program, by their numbers. There are none without memory for them, and none where a call is made for a
+/// pointer that isn't evaluated before.
 pub(crate) fn calls_of(alloc: Global, calls: List<LibraryCall>) -> Option<List<Call>>
     ensures { IfSome result (λ given. map made.call_view given ≡ map stored.call_view calls) }
 {

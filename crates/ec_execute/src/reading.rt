@@ -35,8 +35,8 @@ fn linked(alloc: Global, resolved: Resolved) -> Option<Executable>
     }
 }
 
-// What is left of a program that was checked. That pointers in its calls are evaluated without calls is sure where all of
-// them are made; it isn't proved, and there is no memory for a program with another.
+// What is left of a program that was checked. That pointers which aren't evaluated before their calls are evaluated without
+// calls is sure; it isn't proved, and there is no memory for a program with another.
 #[tactic(auto, unfolding(ec_function_forms::specs::Clean::FindsNothing, ec_function_forms::specs::Clean::resolved_form, ec_function_forms::specs::Clean::called_form))]
 fn resolve_checked(alloc: Global, typed: &Typed) -> Result<Executable, Stop>
     requires no_statements { typed.now.unit.embs ≡ [] }

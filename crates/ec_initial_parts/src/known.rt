@@ -92,7 +92,7 @@ fn known_head(head: &Head) -> Option<Word>
         Head::Begun(plain) => known_plain(plain),
         Head::Call(_, _, _) => None,
         Head::Known(_, _) => None,
-        Head::LibraryCall(_) => None,
+        Head::LibraryCall(_, _) => None,
     }
 }
 

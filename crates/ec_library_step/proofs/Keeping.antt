@@ -19,7 +19,7 @@ use Rattle.ec_calls.specs.Growth.{state_of as outcome_state}
 use Rattle.ec_calls.specs.Library.{cut_done, library_call}
 use Rattle.ec_calls.specs.Outcomes as outcome
 use Rattle.ec_calls.specs.Outcomes.{Text, Outcome}
-use Rattle.ec_calls.specs.Steps.{ending_of, settled, arguments_given, called_of, no_step, library_step}
+use Rattle.ec_calls.specs.Steps.{ending_of, settled, arguments_given, call_given, called_of, no_step, library_step}
 use Rattle.ec_library_step.proofs.Calls.{told, with_session, Waits, KeptByCalls, SameOutcome, same_gives, same_finished, same_halts, halts_first, DoesSame, cut_does, library_call_does}
 
 module _ (P : State → Type 0) (E : Endings) (G : State → State → Type 0) (d : ℕ) (more : List Answer) (kept : Kept P E G d more) (by_calls : KeptByCalls P E G d more) where
@@ -88,7 +88,7 @@ module _ (P : State → Type 0) (E : Endings) (G : State → State → Type 0) (
   no_step_agrees = record {
     no_label = λ l n. refl;
     embeds = λ w w' r c n. stuck_good;
-    libraries = λ w w' r c n. stuck_good;
+    libraries = λ w w' r c n vs. stuck_good;
   }
 
   module _ (w w' : World) (related : Related P E G d more itself w w') (c : Context) where
@@ -115,7 +115,7 @@ module _ (P : State → Type 0) (E : Endings) (G : State → State → Type 0) (
   library_agrees calls = record {
     no_label = λ l n. refl;
     embeds = λ w w' r c n. stuck_good;
-    libraries = λ w w' r c n. called_good w w' r c (slice_get calls n);
+    libraries = λ w w' r c n vs. called_good w w' r c (call_given vs (slice_get calls n));
   }
 
 -- ---- the laws

@@ -53,10 +53,11 @@ module _ (knowing : Knowing) (w : World) (c : Context) (s : State) where
       ∙ ap (λ z. followed knowing w c (map full_step_view xs) (eval knowing w c z s)) (view-Known f es)
       ∙ ap (λ z. followed knowing w c (map full_step_view xs) (collect knowing w c [] (expressions_view z) s (λ vs t. done_there c.line (effect_of (known_view f) t.memory vs) t))) (sym m)
 
-  pub to_LibraryCall : (x : Full) (n : ℕ) (xs : List FullStep) → (out-Full x).head ≡ head.LibraryCall n → xs ≡ (out-Full x).steps → eval knowing w c (full_view x) s ≡ followed knowing w c (map full_step_view xs) (without_answer (knowing w c (library n) s))
-  to_LibraryCall x n xs i j =
-      full_leads x (head.LibraryCall n) xs i j
-      ∙ ap (λ z. followed knowing w c (map full_step_view xs) (eval knowing w c z s)) (view-LibraryCall n)
+  pub to_LibraryCall : (x : Full) (n : ℕ) (es es' : List Expression) (xs : List FullStep) → (out-Full x).head ≡ head.LibraryCall n es → es' ≡ es → xs ≡ (out-Full x).steps → eval knowing w c (full_view x) s ≡ followed knowing w c (map full_step_view xs) (collect knowing w c [] (expressions_view es') s (λ vs t. without_answer (knowing w c (library n vs) t)))
+  to_LibraryCall x n es es' xs i m j =
+      full_leads x (head.LibraryCall n es) xs i j
+      ∙ ap (λ z. followed knowing w c (map full_step_view xs) (eval knowing w c z s)) (view-LibraryCall n es)
+      ∙ ap (λ z. followed knowing w c (map full_step_view xs) (collect knowing w c [] (expressions_view z) s (λ vs t. without_answer (knowing w c (library n vs) t)))) (sym m)
 
   pub to_One : (xs rest : List FullStep) (u : Unary) (v : Word) → xs ≡ step.One u ∷ rest → followed knowing w c (map full_step_view xs) (value (word_view v) s) ≡ followed knowing w c (map full_step_view rest) (one_on c.line u (word_view v) s)
   to_One xs rest u v i =

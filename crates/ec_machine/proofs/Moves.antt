@@ -47,6 +47,7 @@ plug_over knowing w e (frame.Steps line xs) x s = followed_over knowing w (here 
 plug_over knowing w e (frame.Right line b v old xs) x s = followed_over knowing w (here e line) (map full_step_view xs.now) x s
 plug_over knowing w e (frame.Arguments line callee n es xs) x s = followed_over knowing w (here e line) (map full_step_view xs.now) x s
 plug_over knowing w e (frame.Call line used otherwise xs first) x s = followed_over knowing w (here (record e { first = first }) line) (map full_step_view xs.now) x s
+plug_over knowing w e (frame.Called line n xs) x s = followed_over knowing w (here e line) (map full_step_view xs.now) x s
 plug_over knowing w e frame.Do x s = refl
 plug_over knowing w e frame.Give x s = refl
 plug_over knowing w e (frame.Choose line a b) x s = refl
@@ -198,7 +199,7 @@ returns_stand knowing w s m (Ok (focus.Runs x)) o h = absurd h
 returns_stand knowing w s m (Ok (focus.Looks l x)) o h = absurd h
 returns_stand knowing w s m (Ok (focus.Evaluates x)) o h = absurd h
 returns_stand knowing w s m (Ok (focus.Puts c v)) o h = absurd h
-returns_stand knowing w s m (Ok (focus.Calls n)) o h = absurd h
+returns_stand knowing w s m (Ok (focus.Calls n k)) o h = absurd h
 returns_stand knowing w s m (Err x) o h = lifted knowing w (env_of m) (reverse m.frames) (at s m) x (o (at s m)) (h (at s m))
 
 -- what the end of a run and a flow do to what waits

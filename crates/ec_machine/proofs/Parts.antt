@@ -102,3 +102,8 @@ front_any (x ∷ ys) d h = ap (λ zs. x ∷ zs) (sym (take_all (length (x ∷ ys
 
 pub front_is : {A : Type 0} (xs : List A) (x : A) → 1 ≤ length xs → x ≡ get_or xs 0 x → xs ≡ x ∷ take (length xs - 1) (drop 1 xs)
 front_is xs x h e = front_any xs x h ∙ ap (λ y. y ∷ take (length xs - 1) (drop 1 xs)) (sym e)
+
+pub only_is : {A : Type 0} (xs : List A) (x : A) → length xs ≡ 1 → x ≡ get_or xs 0 x → xs ≡ x ∷ []
+only_is [] x h e = absurd (omega (arith, h))
+only_is (y ∷ []) x h e = ap (λ z. z ∷ []) (sym e)
+only_is (y ∷ z ∷ zs) x h e = absurd (omega (arith, h))

@@ -1,5 +1,5 @@
 -- What statements do, one form at a time.
-use Rattle.std.proofs.Common.{◌≡◌, ◌∙◌, refl, sym, ap, subst, arith, ℕ, List, map, Option, Some, None, Bool, true, false}
+use Rattle.std.proofs.Common.{◌≡◌, ◌∙◌, refl, sym, ap, subst, arith, ℕ, List, [], ◌∷◌, map, Option, Some, None, Bool, true, false}
 use Rattle.std.specs.Option.{option_map}
 use Rattle.std.specs.Prelude.{nat_eq}
 use Rattle.std.specs.Borrow.{Bor}
@@ -12,7 +12,7 @@ use Rattle.ec_code.specs.declared.statement.Statement.TheVariants as statement
 use Rattle.ec_code.specs.Views.{expression_view, expressions_view, size_view, loop_view, statement_view, statements_view}
 use Rattle.ec_evaluation.specs.Evaluate.{Context, World, Step as Knowing, turn_of, eval}
 use Rattle.ec_evaluation.specs.Execute.{run, run_all, look, look_all, tested, again, declared, initialized, enter, returning}
-use Rattle.ec_evaluation.specs.Results.{Res, on, broke, continued, went, over, turn, after_body}
+use Rattle.ec_evaluation.specs.Results.{Res, value, on, broke, continued, went, back, over, turn, after_body, on_done}
 use Rattle.ec_evaluation.specs.State.{State, stuck}
 use Rattle.ec_resolved.specs.Labels.{holds}
 use Rattle.ec_resolved.specs.Resolved.{Stm}
@@ -167,3 +167,17 @@ module _ (knowing : Knowing) (w : World) (e : Env) (s : State) (line : Line) (x 
 
   pub look_Embedded : (l : ℕ) (n : ℕ) → x ≡ statement.Embedded n → look knowing w l (here e line) (statement_view x) s ≡ on s
   look_Embedded l n p = looks l (of.embedded_statement n) (ap statement_view p ∙ view-Embedded n)
+
+-- ---- the last statement
+
+done_on : (r : Res) → on_done r on ≡ r
+done_on (value v s) = refl
+done_on (on s) = refl
+done_on (broke s) = refl
+done_on (continued s) = refl
+done_on (went l s) = refl
+done_on (back v s) = refl
+done_on (over e s) = refl
+
+pub only_run : (knowing : Knowing) (w : World) (c : Context) (xs : List Statement) (x : Statement) (s : State) → xs ≡ x ∷ [] → run_all knowing w c (statements_view xs) s ≡ run knowing w c (statement_view x) s
+only_run knowing w c xs x s p = ap (λ ys. run_all knowing w c (statements_view ys) s) p ∙ done_on (run knowing w c (statement_view x) s)

@@ -86,8 +86,8 @@ view-Call f used es = search (rules, head_lemmas)
 pub view-Known : (f : Known) (es : List Expression) → head_view (head.Known f es) ≡ of.known (known_view f) (expressions_view es)
 view-Known f es = search (rules, head_lemmas)
 
-pub view-LibraryCall : (n : ℕ) → head_view (head.LibraryCall n) ≡ of.library_call n
-view-LibraryCall n = search (rules, head_lemmas)
+pub view-LibraryCall : (n : ℕ) (es : List Expression) → head_view (head.LibraryCall n es) ≡ of.library_call n (expressions_view es)
+view-LibraryCall n es = search (rules, head_lemmas)
 
 pub view-One : (u : Unary) → full_step_view (step.One u) ≡ one u
 view-One u = search (rules, step_lemmas)

@@ -116,9 +116,9 @@ pub weight-Known : (f : Known) (es : List Expression) → head_weight (head.Know
 unfolding expression_weight full_weight head_weight full_step_weight
 weight-Known f es = search (rules, head_lemmas)
 
-pub weight-LibraryCall : (n : ℕ) → head_weight (head.LibraryCall n) ≡ 2
+pub weight-LibraryCall : (n : ℕ) (es : List Expression) → head_weight (head.LibraryCall n es) ≡ 3 + expressions_weight es
 unfolding expression_weight full_weight head_weight full_step_weight
-weight-LibraryCall n = search (rules, head_lemmas)
+weight-LibraryCall n es = search (rules, head_lemmas)
 
 pub weight-One : (u : Unary) → full_step_weight (step.One u) ≡ 0
 unfolding expression_weight full_weight head_weight full_step_weight
@@ -213,6 +213,7 @@ some_weight (frame.Steps line xs) = omega arith
 some_weight (frame.Right line step v old xs) = omega arith
 some_weight (frame.Arguments line callee n es xs) = omega arith
 some_weight (frame.Call line used otherwise xs first) = omega arith
+some_weight (frame.Called line n xs) = omega arith
 some_weight frame.Do = omega arith
 some_weight frame.Give = omega arith
 some_weight (frame.Choose line a b) = omega arith

@@ -74,16 +74,19 @@ body_of x = statement_view (out-Loop x).body
 -- ---- frames
 
 -- what becomes of the values that were collected
-abbrev pub received : World → Line → Callee → List ValueData → State → Res
-received w line (callee.Function f used) vs t = answered line.0 used (w (calls line.0 f vs) t)
-received w line (callee.Known f) vs t =
-    done_there line.0 (effect_of (known_view f.now) t.memory vs) t
-received w line callee.Object vs t = on t
+abbrev pub received : Knowing → World → Context → Callee → List ValueData → State → Res
+received knowing w c (callee.Function f used) vs t =
+    answered c.line used (w (calls c.line f vs) t)
+received knowing w c (callee.Known f) vs t =
+    done_there c.line (effect_of (known_view f.now) t.memory vs) t
+received knowing w c (callee.Library n) vs t = without_answer (knowing w c (library n vs) t)
+received knowing w c callee.Object vs t = on t
 
 -- where the frames below stand
 abbrev pub below : Env → Frame → Env
 below e (frame.Arguments line callee n es xs) = record e { values = without_last n e.values }
 below e (frame.Call line used otherwise xs first) = record e { first = first }
+below e (frame.Called line n xs) = record e { values = without_last n e.values }
 below e (frame.Close mark height count) = record e { scope = cut height count e.scope }
 below e f = e
 
@@ -97,10 +100,12 @@ plug knowing w e (frame.Right line step v old xs) o =
 plug knowing w e (frame.Arguments line callee n es xs) o =
     followed knowing w (here e line) (map full_step_view xs.now) (on_value o (λ v t.
     collect knowing w (here e line) (waiting n e ++ v ∷ [])
-    (expressions_view es.now) t (received w line callee)))
+    (expressions_view es.now) t (received knowing w (here e line) callee)))
 plug knowing w e (frame.Call line used otherwise xs first) o =
     followed knowing w (here (record e { first = first }) line) (map full_step_view xs.now)
     (answered line.0 used (function_end (option_map word_view otherwise) o))
+plug knowing w e (frame.Called line n xs) o =
+    followed knowing w (here e line) (map full_step_view xs.now) o
 plug knowing w e frame.Do o = on_value o (λ v t. on t)
 plug knowing w e frame.Give o = on_value o (λ v t. returned e.first (Some v) t)
 plug knowing w e (frame.Choose line a b) o =
@@ -152,6 +157,6 @@ denote knowing w e line text (focus.Evaluates x) s =
 denote knowing w e line text (focus.Value v) s = value (word_view v) s
 denote knowing w e line text (focus.Puts channel v) s =
     done_there line.0 (puts_bytes (channel_view channel) (option_map word_view v) s.memory text) s
-denote knowing w e line text (focus.Calls n) s =
-    without_answer (knowing w (here e line) (library n) s)
+denote knowing w e line text (focus.Calls n k) s =
+    without_answer (knowing w (here e line) (library n (waiting k e)) s)
 denote knowing w e line text (focus.Leads f) s = led f s

@@ -39,7 +39,7 @@ abbrev pub head_step : Head-F ℕ ℕ ℕ ℕ → ℕ
 head_step (Head-F.Begun p) = 1
 head_step (Head-F.Call f used es) = 3 + each es
 head_step (Head-F.Known f es) = 3 + each es
-head_step (Head-F.LibraryCall n) = 2
+head_step (Head-F.LibraryCall n es) = 3 + each es
 
 abbrev pub full_step_step : FullStep-F ℕ ℕ ℕ ℕ → ℕ
 full_step_step (FullStep-F.One u) = 0
@@ -113,6 +113,7 @@ frame_weight (frame.Right line step v old xs) = 1 + steps_weight xs.now
 frame_weight (frame.Arguments line callee n es xs) =
     2 + expressions_weight es.now + steps_weight xs.now
 frame_weight (frame.Call line used otherwise xs first) = 1 + steps_weight xs.now
+frame_weight (frame.Called line n xs) = steps_weight xs.now
 frame_weight frame.Do = 1
 frame_weight frame.Give = 1
 frame_weight (frame.Choose line a b) = 1 + statement_weight a.now + statement_weight b.now
@@ -133,6 +134,7 @@ frame_answer (frame.Steps line xs) = 0
 frame_answer (frame.Right line step v old xs) = 0
 frame_answer (frame.Arguments line callee n es xs) = 0
 frame_answer (frame.Call line used otherwise xs first) = 0
+frame_answer (frame.Called line n xs) = 0
 frame_answer frame.Do = 0
 frame_answer frame.Give = 0
 frame_answer (frame.Choose line a b) = 0
@@ -163,7 +165,7 @@ focus_weight (focus.Looks l x) fs = statement_weight x.now
 focus_weight (focus.Evaluates x) fs = expression_weight x.now
 focus_weight (focus.Value v) fs = 0
 focus_weight (focus.Puts channel v) fs = 1
-focus_weight (focus.Calls n) fs = 1
+focus_weight (focus.Calls n k) fs = 1
 focus_weight (focus.Leads f) fs = flow_weight f (frames_answer fs)
 
 abbrev pub weight : List Frame → Focus → ℕ
@@ -177,7 +179,7 @@ remaining turns (Ok f) m = elim (turns - m.turns) [ zero ↦ suc (weight m.frame
 -- what is done outside of the machine: bytes are to be put, or the library is called
 abbrev pub IsOutside : Focus → Type 0
 IsOutside (focus.Puts channel v) = Unit {0}
-IsOutside (focus.Calls n) = Unit {0}
+IsOutside (focus.Calls n k) = Unit {0}
 IsOutside (focus.Runs x) = ⊥
 IsOutside (focus.Looks l x) = ⊥
 IsOutside (focus.Evaluates x) = ⊥

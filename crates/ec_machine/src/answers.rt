@@ -53,6 +53,11 @@ impl<'p> Machine<'p> {
                 self.pass_on(functions, callee, count, value, rest, steps)
             }
             Frame::Call(_, _, _, _, _) => Err(Stop::Over(End::Stuck)),
+            Frame::Called(line, count, steps) => {
+                self.line = line;
+                drop_last(&mut self.values, count);
+                self.follow(steps, value)
+            }
             Frame::Do => Ok(Focus::Leads(Flow::On)),
             Frame::Give => gives(self.first, Some(value)),
             Frame::Choose(line, first, second) => {
@@ -93,11 +98,20 @@ impl<'p> Machine<'p> {
                 drop_last(&mut self.values, count);
                 Ok(Focus::Leads(flow))
             }
+            Frame::Called(_, count, _) => {
+                drop_last(&mut self.values, count);
+                Ok(Focus::Leads(flow))
+            }
             Frame::Call(line, used, otherwise, steps, first) => {
                 self.line = line;
                 self.first = first;
-                self.frames.push(Frame::Steps(line, steps))?;
-                returned(line, used, otherwise, flow)
+                match steps {
+                    [] => returned(line, used, otherwise, flow),
+                    _ => {
+                        self.frames.push(Frame::Steps(line, steps))?;
+                        returned(line, used, otherwise, flow)
+                    }
+                }
             }
             Frame::Body(line, inner) => {
                 self.line = line;

@@ -6,10 +6,11 @@ ghost use Rattle.ec_code.specs.declared.program.Function.{Function as FunctionDa
 ghost use Rattle.ec_code.specs.Views.{full_step_view, function_view};
 ghost use Rattle.ec_evaluation.specs.Evaluate.{calls};
 ghost use Rattle.ec_evaluation.specs.Execute.{called};
-ghost use Rattle.ec_evaluation.specs.Results.{answered, done_there, on};
+ghost use Rattle.ec_evaluation.specs.Results.{answered, done_there, on, without_answer};
 ghost use Rattle.ec_formats.specs.Known.{known_view};
 ghost use Rattle.ec_functions.specs.Functions.{effect_of};
 ghost use Rattle.ec_plain.specs.Steps.{followed};
+ghost use Rattle.ec_resolved.specs.Resolved.{library};
 ghost use Rattle.ec_machine.specs.Frames.{here, last_of, received, waiting, without_last};
 ghost use Rattle.ec_machine.specs.Goes.{Goes, env_of, taken};
 ghost use Rattle.ec_machine.specs.Weights.{frames_weight, remaining, steps_weight};
@@ -25,7 +26,7 @@ use ec_stdlib::{Refusal, call as call_known};
 use ec_values::Word;
 
 /// The last values.
-pub(crate) fn last(values: &List<Word>, count: usize) -> &[Word]
+pub fn last(values: &List<Word>, count: usize) -> &[Word]
     ensures { result.now ≡ last_of count values.now }
 {
     let from = values.len().saturating_sub(count);
@@ -52,8 +53,8 @@ impl<'p> Machine<'p> {
         ensures goes { Goes functions.now self.old (taken count (env_of self.old))
             (λ knowing w t. followed knowing w (here (env_of self.old) self.old.line) (map
             full_step_view steps.now)
-            (received w self.old.line callee.entry (waiting count (env_of self.old)) t)) result
-            self.new }
+            (received knowing w (here (env_of self.old) self.old.line) callee.entry
+            (waiting count (env_of self.old)) t)) result self.new }
         ensures turns { self.new.turns ≤ self.old.turns }
         ensures nears { remaining self.old.turns result self.new ≤
             2 + frames_weight self.old.frames + steps_weight steps.now }
@@ -61,8 +62,30 @@ impl<'p> Machine<'p> {
         match callee {
             Callee::Function(number, used) => self.call(functions, number, used, count, steps),
             Callee::Known(known) => self.know(known, count, steps),
+            Callee::Library(number) => self.call_library(number, count, steps),
             Callee::Object => self.fill(count),
         }
+    }
+
+    /// The library is called, and the last values are those of the call's first pointers.
+    fn call_library(
+        &mut self,
+        number: u32,
+        count: usize,
+        steps: &'p [FullStep],
+    ) -> Result<Focus<'p>, Stop>
+        ensures goes { (functions : List FunctionData) → Goes functions self.old (taken count
+            (env_of self.old))
+            (λ knowing w t. followed knowing w (here (env_of self.old) self.old.line) (map
+            full_step_view steps.now)
+            (without_answer (knowing w (here (env_of self.old) self.old.line)
+            (library number (waiting count (env_of self.old))) t))) result self.new }
+        ensures turns { self.new.turns ≤ self.old.turns }
+        ensures nears { remaining self.old.turns result self.new ≤
+            2 + frames_weight self.old.frames + steps_weight steps.now }
+    {
+        self.frames.push(Frame::Called(self.line, count, steps))?;
+        Ok(Focus::Calls(number, count))
     }
 
     /// The last values were stored in an object that is initialized.

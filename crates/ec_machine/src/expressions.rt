@@ -4,9 +4,8 @@ ghost use Rattle.std.specs.Prelude.{◌≡◌, ◌≤◌, ◌+◌, ◌∷◌, �
 ghost use Rattle.ec_code.specs.declared.program.Function.{Function as FunctionData};
 ghost use Rattle.ec_code.specs.Views.{expression_view, expressions_view, full_step_view, full_view, plain_view};
 ghost use Rattle.ec_evaluation.specs.Evaluate.{collect, eval};
-ghost use Rattle.ec_evaluation.specs.Results.{value as valued, without_answer};
+ghost use Rattle.ec_evaluation.specs.Results.{value as valued};
 ghost use Rattle.ec_plain.specs.Steps.{both_on, followed, one_on, two_on};
-ghost use Rattle.ec_resolved.specs.Resolved.{library};
 ghost use Rattle.ec_values.specs.Words.{word_view};
 ghost use Rattle.ec_machine.specs.Frames.{here, received, waiting};
 ghost use Rattle.ec_machine.specs.Goes.{Goes, env_of, taken};
@@ -74,7 +73,10 @@ impl<'p> Machine<'p> {
             Head::Known(known, arguments) => {
                 self.pass_all(functions, Callee::Known(known), arguments.as_slice(), steps)
             }
-            Head::LibraryCall(number) => self.library_call(*number, steps),
+            Head::LibraryCall(number, pointers) => {
+                let callee = Callee::Library(*number);
+                self.pass_all(functions, callee, pointers.as_slice(), steps)
+            }
         }
     }
 
@@ -95,21 +97,6 @@ impl<'p> Machine<'p> {
         }
     }
 
-    /// The library is called, behind which these steps are taken.
-    fn library_call(&mut self, number: u32, steps: &'p [FullStep]) -> Result<Focus<'p>, Stop>
-        ensures goes { (functions : List FunctionData) → Goes functions self.old (env_of self.old)
-            (λ knowing w t. followed knowing w (here (env_of self.old) self.old.line) (map
-            full_step_view steps.now)
-            (without_answer (knowing w (here (env_of self.old) self.old.line) (library number) t)))
-            result self.new }
-        ensures turns { self.new.turns ≤ self.old.turns }
-        ensures nears { remaining self.old.turns result self.new ≤
-            2 + frames_weight self.old.frames + steps_weight steps.now }
-    {
-        self.frames.push(Frame::Steps(self.line, steps))?;
-        Ok(Focus::Calls(number))
-    }
-
     /// All arguments of a call are evaluated.
     pub(crate) fn pass_all(
         &mut self,
@@ -123,7 +110,7 @@ impl<'p> Machine<'p> {
             full_step_view steps.now)
             (collect knowing w (here (env_of self.old) self.old.line) [] (expressions_view
             arguments.now) t
-            (received w self.old.line callee.entry))) result self.new }
+            (received knowing w (here (env_of self.old) self.old.line) callee.entry))) result self.new }
         ensures turns { self.new.turns ≤ self.old.turns }
         ensures nears { remaining self.old.turns result self.new ≤
             2 + frames_weight self.old.frames + expressions_weight arguments.now + steps_weight
@@ -146,7 +133,7 @@ impl<'p> Machine<'p> {
             full_step_view steps.now)
             (collect knowing w (here (env_of self.old) self.old.line) (waiting count (env_of
             self.old)) (expressions_view arguments.now) t
-            (received w self.old.line callee.entry))) result self.new }
+            (received knowing w (here (env_of self.old) self.old.line) callee.entry))) result self.new }
         ensures turns { self.new.turns ≤ self.old.turns }
         ensures nears { remaining self.old.turns result self.new ≤
             2 + frames_weight self.old.frames + expressions_weight arguments.now + steps_weight
@@ -178,7 +165,7 @@ impl<'p> Machine<'p> {
             full_step_view steps.now)
             (collect knowing w (here (env_of self.old) self.old.line) (waiting count (env_of
             self.old) ++ word_view value ∷ []) (expressions_view arguments.now) t
-            (received w self.old.line callee.entry))) result self.new }
+            (received knowing w (here (env_of self.old) self.old.line) callee.entry))) result self.new }
         ensures turns { self.new.turns ≤ self.old.turns }
         ensures nears { remaining self.old.turns result self.new ≤
             2 + frames_weight self.old.frames + expressions_weight arguments.now + steps_weight
@@ -203,6 +190,24 @@ impl<'p> Machine<'p> {
         match steps {
             [] => Ok(Focus::Value(value)),
             [first, rest @ ..] => self.follow_first(first, rest, value),
+        }
+    }
+
+    /// The steps behind a value wait, where there are any.
+    fn wait(&mut self, steps: &'p [FullStep], value: Word) -> Result<Focus<'p>, Stop>
+        ensures goes { (functions : List FunctionData) → Goes functions self.old (env_of self.old)
+            (λ knowing w t. followed knowing w (here (env_of self.old) self.old.line) (map
+            full_step_view steps.now) (valued (word_view value) t)) result self.new }
+        ensures turns { self.new.turns ≡ self.old.turns }
+        ensures nears { remaining self.old.turns result self.new ≤
+            1 + frames_weight self.old.frames + steps_weight steps.now }
+    {
+        match steps {
+            [] => Ok(Focus::Value(value)),
+            _ => {
+                self.frames.push(Frame::Steps(self.line, steps))?;
+                Ok(Focus::Value(value))
+            }
         }
     }
 
@@ -243,10 +248,7 @@ impl<'p> Machine<'p> {
             1 + frames_weight self.old.frames + steps_weight rest.now }
     {
         match unary(&mut self.store, step, value).get() {
-            Ok(next) => {
-                self.frames.push(Frame::Steps(self.line, rest))?;
-                Ok(Focus::Value(next))
-            }
+            Ok(next) => self.wait(rest, next),
             Err(why) => Err(stopped(self.line, why)),
         }
     }
@@ -302,10 +304,7 @@ impl<'p> Machine<'p> {
             1 + frames_weight self.old.frames + steps_weight rest.now }
     {
         match finish(&mut self.store, step, left, old, right).get() {
-            Ok(next) => {
-                self.frames.push(Frame::Steps(self.line, rest))?;
-                Ok(Focus::Value(next))
-            }
+            Ok(next) => self.wait(rest, next),
             Err(why) => Err(stopped(self.line, why)),
         }
     }

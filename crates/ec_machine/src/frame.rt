@@ -11,6 +11,8 @@ pub enum Callee<'p> {
     /// The function of this number is called, and whether its value is used.
     Function(u32, bool),
     Known(&'p Known),
+    /// The library's call of this number is made, whose first pointers they are.
+    Library(u32),
     /// They were stored in an object that is initialized, and nothing is left to do.
     Object,
 }
@@ -37,8 +39,8 @@ pub enum Focus<'p> {
     Value(Word),
     /// The bytes of the machine's text go out, and the call that put them has this value.
     Puts(Channel, Option<Word>),
-    /// The library's call of this number is made.
-    Calls(u32),
+    /// The library's call of this number is made. The last values, so many, are those of its first pointers.
+    Calls(u32, usize),
     Leads(Flow),
 }
 
@@ -54,6 +56,8 @@ pub enum Frame<'p> {
     /// A call: whether its value is used, what it gives where the body ends, and whether the function that called is the
     /// first `main`.
     Call(Line, bool, Option<Word>, &'p [FullStep], bool),
+    /// A call of the library, and how many values are those of its pointers.
+    Called(Line, usize, &'p [FullStep]),
     /// An expression as a statement.
     Do,
     /// `return`

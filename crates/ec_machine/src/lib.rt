@@ -16,6 +16,7 @@ mod statements;
 mod step;
 mod stop;
 
+pub use calls::last;
 pub use ec_plain;
 pub use frame::{Callee, Flow, Focus, Frame};
 pub use labels::{holds, holds_any};

@@ -32,6 +32,7 @@ impl<'p> Machine<'p> {
     {
         match statements {
             [] => Ok(Focus::Leads(Flow::On)),
+            [only] => Ok(Focus::Runs(only)),
             [first, rest @ ..] => {
                 self.frames.push(Frame::Rest(self.line, rest))?;
                 Ok(Focus::Runs(first))
@@ -98,7 +99,7 @@ impl<'p> Machine<'p> {
     {
         take_turn(&mut self.turns)?;
         self.frames.push(Frame::Body(self.line, inner))?;
-        Ok(Focus::Runs(&inner.body))
+        self.body(&inner.body)
     }
 
     /// A loop from its test.

@@ -39,7 +39,7 @@ impl<'p> Machine<'p> {
         match statement {
             Statement::OnLine(line, inner) => {
                 self.line = *line;
-                self.at_once(inner.get())
+                self.on_line(inner.get())
             }
             Statement::Nothing => Ok(Focus::Leads(Flow::On)),
             Statement::Evaluate(expression) => self.effect(expression),
@@ -62,6 +62,37 @@ impl<'p> Machine<'p> {
     }
 
     /// A statement on a line is begun. One that needs no frame is done here.
+    fn on_line(&mut self, statement: &'p Statement) -> Result<Focus<'p>, Stop>
+        ensures goes { (functions : List FunctionData) → Goes functions self.old (env_of self.old)
+            (λ knowing w t. run knowing w (here (env_of self.old) self.old.line)
+            (statement_view statement.now) t) result self.new }
+        ensures turns { self.new.turns ≤ self.old.turns }
+        ensures nears { remaining self.old.turns result self.new ≤
+            1 + frames_weight self.old.frames + statement_weight statement.now }
+    {
+        match statement {
+            Statement::Loop(inner) => self.run_loop(inner.get()),
+            _ => self.at_once(statement),
+        }
+    }
+
+    /// The body of a loop is begun.
+    pub(crate) fn body(&mut self, statement: &'p Statement) -> Result<Focus<'p>, Stop>
+        ensures goes { (functions : List FunctionData) → Goes functions self.old (env_of self.old)
+            (λ knowing w t. run knowing w (here (env_of self.old) self.old.line)
+            (statement_view statement.now) t) result self.new }
+        ensures turns { self.new.turns ≤ self.old.turns }
+    {
+        match statement {
+            Statement::OnLine(line, inner) => {
+                self.line = *line;
+                self.at_once(inner.get())
+            }
+            _ => Ok(Focus::Runs(statement)),
+        }
+    }
+
+    /// A statement other than a loop is begun. One that needs no frame is done here.
     fn at_once(&mut self, statement: &'p Statement) -> Result<Focus<'p>, Stop>
         ensures goes { (functions : List FunctionData) → Goes functions self.old (env_of self.old)
             (λ knowing w t. run knowing w (here (env_of self.old) self.old.line)
@@ -72,6 +103,10 @@ impl<'p> Machine<'p> {
     {
         match statement {
             Statement::Evaluate(expression) => self.effect(expression),
+            Statement::Choose(test, first, second) => {
+                self.branch(test, first.get(), second.get())
+            }
+            Statement::Return(value) => self.run_return(value),
             _ => Ok(Focus::Runs(statement)),
         }
     }

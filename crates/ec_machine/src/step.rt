@@ -34,7 +34,7 @@ impl<'p> Machine<'p> {
             Focus::Value(value) => self.hand_value(functions, value),
             Focus::Leads(flow) => self.hand_flow(flow),
             Focus::Puts(_, _) => Ok(focus),
-            Focus::Calls(_) => Ok(focus),
+            Focus::Calls(_, _) => Ok(focus),
         }
     }
 

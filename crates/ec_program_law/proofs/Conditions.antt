@@ -158,7 +158,7 @@ unused_silent (both a b) h = h
 unused_silent (either a b) h = h
 unused_silent (call_exp f used es) h = h
 unused_silent (known f es) h = h
-unused_silent (library_call n) h = h
+unused_silent (library_call n es) h = h
 unused_silent faulty h = h
 
 done_silent : (w : World) (e : ExprData) (f : Found) → FoundCallsNone f → CallsNone (done_alone w e f)

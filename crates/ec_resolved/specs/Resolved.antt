@@ -46,8 +46,8 @@ mutual
     -- of the function of this number, and whether its value is used
     call : ℕ → Bool → Exps → Exp
     known : Known → Exps → Exp
-    -- of the library, which only a step knows, by its number among such calls. It has no value
-    library_call : ℕ → Exp
+    -- of the library, which only a step knows, by its number among such calls. These of its pointers are evaluated before it, in their order. It has no value
+    library_call : ℕ → Exps → Exp
     -- what stands for an expression with a fault
     faulty : Exp
 
@@ -55,10 +55,10 @@ mutual
     no_exps : Exps
     exps : Exp → Exps → Exps
 
--- what only a step knows, by its number among its kind: an embedded statement, or a call of the library
+-- what only a step knows, by its number among its kind: an embedded statement, or a call of the library, whose first pointers have these values
 pub data Atom : Type 0 where
   embedded : ℕ → Atom
-  library : ℕ → Atom
+  library : ℕ → List ValueData → Atom
 
 mutual
   pub data Stm : Type 0 where

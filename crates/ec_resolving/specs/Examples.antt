@@ -242,6 +242,15 @@ called_by (Err stop) = ([], [])
 abbrev pub called_in : String → List LibraryCall × List (List ℕ)
 called_in text = called_by (read_text true (codes text))
 
+-- the statements of main in written C
+abbrev pub written_by : Result UnitData Stop → List Stm
+written_by (Ok unit) =
+    body_of (slice_get (resolve true unit).functions (resolve true unit).main)
+written_by (Err stop) = []
+
+abbrev pub written_main : String → List Stm
+written_main text = written_by (read_text true (codes text))
+
 -- ---- runs
 
 abbrev pub run_of : ℕ → String → Observed

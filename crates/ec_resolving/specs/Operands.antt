@@ -24,6 +24,7 @@ use Rattle.ec_evaluation.specs.ec_functions.Formats.{Part, format_parts}
 use Rattle.ec_evaluation.specs.ec_functions.Functions.{Channel, standard_output, standard_error, Known, print, puts, putchar, strlen, strcmp, strncmp, memcmp, strcpy, strncpy, strcat, memcpy, memset, exit, sqlprint}
 use Rattle.ec_evaluation.specs.ec_objects.Memory.{number, address}
 use Rattle.ec_evaluation.specs.ec_resolved.Resolved.{Exp, member, constant, whole, call, known, library_call, faulty, Exps, no_exps, exps}
+use Rattle.ec_resolving.specs.Calling.{any_calls_function}
 use Rattle.ec_resolving.specs.Conversions as form
 use Rattle.ec_resolving.specs.Conversions.{size_in, as_known_type, promoted_value, read_at}
 use Rattle.ec_resolving.specs.Storage.{Site, Resolving, ◌>>=◌, ◌>>◌, pure, checks, ask, stored, arrange, site_exp, sqlca, literal_object, with_literal, with_call}
@@ -308,12 +309,33 @@ arguments_of_call no_exprs fs = []
 arguments_of_call (exprs e es) [] = []
 arguments_of_call (exprs e es) (f ∷ fs) = argument_of e f ∷ arguments_of_call es fs
 
+-- Where functions are called for its arguments, the pointers of a call of the library are evaluated before it, as the arguments of other calls are: a step that knows calls of the library can't evaluate what calls functions. Else it evaluates them itself.
+
+-- the pointers among arguments, in their order
+abbrev pub pointers_of : List (Arg Exp) → Exps
+pointers_of [] = no_exps
+pointers_of (pointer_arg e ∷ args) = exps e (pointers_of args)
+pointers_of (_ ∷ args) = pointers_of args
+
+abbrev pub evaluated_before : Bool → List (Arg Exp) → Exps
+evaluated_before true args = pointers_of args
+evaluated_before false args = no_exps
+
+-- what is left of arguments whose pointers are evaluated before
+abbrev pub without_pointer : Arg Exp → Arg Exp
+without_pointer (pointer_arg e) = pointer_arg faulty
+without_pointer arg = arg
+
+abbrev pub left_of : Bool → List (Arg Exp) → List (Arg Exp)
+left_of true args = map without_pointer args
+left_of false args = args
+
 -- a call of the library, by its number among these
 abbrev pub library_exp : LibName → ExprList → List Found → Resolving Exp
 library_exp name es fs = do
   n ← stored (λ s. length s.calls)
-  arrange (with_call (name, arguments_of_call es fs))
-  pure (library_call n)
+  arrange (with_call (name, left_of (any_calls_function es) (arguments_of_call es fs)))
+  pure (library_call n (evaluated_before (any_calls_function es) (arguments_of_call es fs)))
 
 -- a call of a function of the program, or of a known one
 abbrev pub function_called : Text → ExprList → List Found → Resolving Exp

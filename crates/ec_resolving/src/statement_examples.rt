@@ -9,14 +9,14 @@ ghost use Rattle.ec_typing.specs.ec_arguments.Arguments.{symbol, literal as lite
 ghost use Rattle.ec_evaluation.specs.ec_functions.Functions.{puts};
 ghost use Rattle.ec_evaluation.specs.ec_objects.Memory.{number, pointer_to, little_endian_bytes};
 ghost use Rattle.ec_evaluation.specs.ec_resolved.Operations.{plus, integers, pointer_plus};
-ghost use Rattle.ec_evaluation.specs.ec_resolved.Resolved.{object, slot, member, load, whole, store, copy, put, convert, operate, call, known, on_line, nothing, evaluate, declare, initialize, block, choose, loop, leave, next, return, goto, label, embedded_statement};
+ghost use Rattle.ec_evaluation.specs.ec_resolved.Resolved.{object, slot, member, load, whole, store, copy, put, convert, operate, call, known, on_line, nothing, evaluate, declare, initialize, block, choose, loop, leave, next, return, goto, label, embedded_statement, library_call, faulty};
 ghost use Rattle.ec_evaluation.specs.State.{stuck};
 ghost use Rattle.ec_evaluation.specs.Examples.{int, char, short, bool, lit, get, set, is_less, bump, read_as, args, all, at, does};
 ghost use Rattle.ec_typing.specs.ec_ctypes.trees.Types.{arithmetic};
 ghost use Rattle.ec_resolving.specs.Storage.{jumps, stops, calls_function, no_actions};
 ghost use Rattle.ec_resolving.specs.Statements.{together};
 ghost use Rattle.ec_resolving.specs.Programs.{stuck_program};
-ghost use Rattle.ec_resolving.specs.Examples.{statements_of, body_in, sizes_in, parameters_in, at_end, globals_in_text, literals_in_text, shape_of, called_in, statements_with, embedded, last_form, handled, resolved, shows, cl, literal, i, c, l, h, p, x, r, long, ulong, pointer, as_read};
+ghost use Rattle.ec_resolving.specs.Examples.{statements_of, body_in, sizes_in, parameters_in, at_end, globals_in_text, literals_in_text, shape_of, called_in, written_main, statements_with, embedded, last_form, handled, resolved, shows, cl, literal, i, c, l, h, p, x, r, long, ulong, pointer, as_read};
 
 /// Statements (6.8), each on its line.
 pub fn statement_forms()
@@ -298,5 +298,17 @@ pub fn program_forms()
                 ∷ long_constant 0 ∷ long_constant 0 ∷ symbol sym.EndOfOutputs ∷ [],
           ) ∷ [],
           (97 ∷ []) ∷ [],
+        ) }
+    ensures pointers_before_a_call { written_main
+        "char *f(void) { return 0; } int main(void) { ECPGtrans(3, f(), \"commit\"); }"
+        ≡ at 1 (library_call 0 (args (call 0 true (args []) ∷ []))) ∷ [] }
+    ensures left_of_such_a_call { called_in
+        "char *f(void) { return 0; } int main(void) { ECPGtrans(3, f(), \"commit\"); }"
+        ≡ (
+          (
+            name.Trans,
+            int_constant 3 ∷ pointer_arg faulty ∷ literal_arg (codes "commit") ∷ [],
+          ) ∷ [],
+          [],
         ) }
 {}

@@ -323,22 +323,25 @@ module _ (knowing : Knowing) (adds : Adds knowing) (w : World) (related : Tasks 
   led_grows (flow.Went l) s = grows_itself s
   led_grows (flow.Back v) s = grows_itself s
 
+  library_grows : (c : Context) (n : ℕ) (vs : List ValueData) (s : State) → Grows s (state_of (without_answer (knowing w c (library n vs) s)))
+  library_grows c n vs s =
+      behind s (knowing w c (library n vs) s) (without_answer (knowing w c (library n vs) s)) ((adds.libraries w w related c n vs).later s) (unanswered_grows (knowing w c (library n vs) s))
+
   pub denote_grows : (e : Env) (line : Line) (text : List ℕ) (f : Focus) (s : State) → Grows s (state_of (denote knowing w e line text f s))
   denote_grows e line text (focus.Runs x) s = run_grows (here e line) (statement_view x.now) s
   denote_grows e line text (focus.Looks l x) s = look_grows l (here e line) (statement_view x.now) s
   denote_grows e line text (focus.Evaluates x) s = eval_grows (here e line) (expression_view x.now) s
   denote_grows e line text (focus.Value v) s = grows_itself s
   denote_grows e line text (focus.Puts channel v) s = effect_grows line.0 (puts_bytes (channel_view channel) (option_map word_view v) s.memory text) s
-  denote_grows e line text (focus.Calls n) s =
-      behind s (knowing w (here e line) (library n) s) (without_answer (knowing w (here e line) (library n) s))
-      ((adds.libraries w w related (here e line) n).later s) (unanswered_grows (knowing w (here e line) (library n) s))
+  denote_grows e line text (focus.Calls n k) s = library_grows (here e line) n (waiting k e) s
   denote_grows e line text (focus.Leads f) s = led_grows f s
 
-  received_grows : (line : Line) (x : Callee) (vs : List ValueData) (s : State) → Grows s (state_of (received w line x vs s))
-  received_grows line (callee.Function f used) vs s =
-      behind s (w (calls line.0 f vs) s) (answered line.0 used (w (calls line.0 f vs) s)) (related.later (calls line.0 f vs) s) (answered_grows line.0 used (w (calls line.0 f vs) s))
-  received_grows line (callee.Known f) vs s = effect_grows line.0 (effect_of (known_view f.now) s.memory vs) s
-  received_grows line callee.Object vs s = grows_itself s
+  received_grows : (c : Context) (x : Callee) (vs : List ValueData) (s : State) → Grows s (state_of (received knowing w c x vs s))
+  received_grows c (callee.Function f used) vs s =
+      behind s (w (calls c.line f vs) s) (answered c.line used (w (calls c.line f vs) s)) (related.later (calls c.line f vs) s) (answered_grows c.line used (w (calls c.line f vs) s))
+  received_grows c (callee.Known f) vs s = effect_grows c.line (effect_of (known_view f.now) s.memory vs) s
+  received_grows c (callee.Library n) vs s = library_grows c n vs s
+  received_grows c callee.Object vs s = grows_itself s
 
   plug_grows : (e : Env) (f : Frame) (o : Res) → Grows (state_of o) (state_of (plug knowing w e f o))
   plug_grows e (frame.Steps line xs) o = followed_grows (here e line) (map full_step_view xs.now) o
@@ -347,9 +350,9 @@ module _ (knowing : Knowing) (adds : Adds knowing) (w : World) (related : Tasks 
       behind (state_of o) (on_value o k) (followed knowing w (here e line) (map full_step_view xs.now) (on_value o k))
       (value_grows o k (both_grows line.0 b (word_view v) (word_view old))) (followed_grows (here e line) (map full_step_view xs.now) (on_value o k))
   plug_grows e (frame.Arguments line x n es xs) o =
-      let k : ValueData → State → Res = λ v t. collect knowing w (here e line) (waiting n e ++ v ∷ []) (expressions_view es.now) t (received w line x) in
+      let k : ValueData → State → Res = λ v t. collect knowing w (here e line) (waiting n e ++ v ∷ []) (expressions_view es.now) t (received knowing w (here e line) x) in
       behind (state_of o) (on_value o k) (followed knowing w (here e line) (map full_step_view xs.now) (on_value o k))
-      (value_grows o k (λ v t. collect_grows (here e line) (waiting n e ++ v ∷ []) (expressions_view es.now) t (received w line x) (received_grows line x)))
+      (value_grows o k (λ v t. collect_grows (here e line) (waiting n e ++ v ∷ []) (expressions_view es.now) t (received knowing w (here e line) x) (received_grows (here e line) x)))
       (followed_grows (here e line) (map full_step_view xs.now) (on_value o k))
   plug_grows e (frame.Call line used otherwise xs first) o =
       let d = here (record e { first = first }) line in
@@ -357,6 +360,7 @@ module _ (knowing : Knowing) (adds : Adds knowing) (w : World) (related : Tasks 
       behind (state_of o) (answered line.0 used p) (followed knowing w d (map full_step_view xs.now) (answered line.0 used p))
       (behind (state_of o) p (answered line.0 used p) (function_grows (option_map word_view otherwise) o) (answered_grows line.0 used p))
       (followed_grows d (map full_step_view xs.now) (answered line.0 used p))
+  plug_grows e (frame.Called line n xs) o = followed_grows (here e line) (map full_step_view xs.now) o
   plug_grows e frame.Do o = value_grows o (λ v t. on t) (λ v t. grows_itself t)
   plug_grows e frame.Give o = value_grows o (λ v t. returned e.first (Some v) t) (λ v t. returned_grows e.first (Some v) t)
   plug_grows e (frame.Choose line a b) o =
@@ -419,5 +423,5 @@ module _ (knowing : Knowing) (adds : Adds knowing) where
   mains_grow fs k f s = main_grows knowing adds (tasks knowing fs k) (related_tasks (map function_view fs) k) f s
 
   -- a call only adds
-  pub calls_grow : (fs : List Function) (k : ℕ) (c : Context) (n : ℕ) (s : State) → Grows s (state_of (knowing (tasks knowing fs k) c (library n) s))
-  calls_grow fs k c n s = (adds.libraries (tasks knowing fs k) (tasks knowing fs k) (related_tasks (map function_view fs) k) c n).later s
+  pub calls_grow : (fs : List Function) (k : ℕ) (c : Context) (n : ℕ) (vs : List ValueData) (s : State) → Grows s (state_of (knowing (tasks knowing fs k) c (library n vs) s))
+  calls_grow fs k c n vs s = (adds.libraries (tasks knowing fs k) (tasks knowing fs k) (related_tasks (map function_view fs) k) c n vs).later s

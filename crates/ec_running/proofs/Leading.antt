@@ -1,5 +1,5 @@
 -- Runs that go on from where others came to.
-use Rattle.std.proofs.Common.{◌≡◌, ◌∙◌, refl, sym, ap, subst, arith, ℕ, ◌<◌, ◌≤◌, List, [], ◌∷◌, ◌++◌, append_assoc, append-nil, Option, Some, None, Result, Ok, Err, inl, inr}
+use Rattle.std.proofs.Common.{◌≡◌, ◌∙◌, refl, sym, ap, subst, arith, ℕ, ◌<◌, ◌≤◌, List, [], ◌∷◌, ◌++◌, append_assoc, append-nil, Option, Some, None, Result, Ok, Err, inl, inr, map}
 use Rattle.std.specs.Prelude.{◌⊎◌, reverse, OnOk, OnErr}
 use Rattle.std.specs.Option.{option_map}
 use Rattle.ec_base.specs.Causes.{Rose}
@@ -17,6 +17,7 @@ use Rattle.ec_evaluation.specs.State.{Answer, State, stuck}
 use Rattle.ec_evaluation.specs.Whole.{main_run}
 use Rattle.ec_formats.specs.declared.known.Channel.{Channel}
 use Rattle.ec_formats.specs.declared.known.Channel.TheVariants as channels
+use Rattle.ec_bytes.specs.declared.scalar.address.Ptr.{Ptr}
 use Rattle.ec_objects.specs.Memory.{Memory}
 use Rattle.ec_plain.specs.Answered.{context}
 use Rattle.ec_machine.specs.declared.frame.Focus.{Focus}
@@ -25,7 +26,7 @@ use Rattle.ec_machine.specs.declared.machine.Machine.{Machine}
 use Rattle.ec_machine.specs.declared.stop.End.{End}
 use Rattle.ec_machine.specs.declared.stop.Stop.{Stop}
 use Rattle.ec_machine.specs.declared.stop.Stop.TheVariants as stop
-use Rattle.ec_machine.specs.Frames.{objects_of, resume}
+use Rattle.ec_machine.specs.Frames.{objects_of, resume, waiting}
 use Rattle.ec_machine.specs.Goes.{Stands, at, ending_view, env_of, tasks}
 use Rattle.ec_machine.specs.Weights.{IsOutside}
 use Rattle.ec_machine.proofs.Moves.{resume_over}
@@ -184,38 +185,44 @@ module _ (knowing : Knowing) (adds : Adds knowing) (fs : List Function) (x y : O
 
 -- ---- calls of the library
 
-module _ (knowing : Knowing) (fs : List Function) (x y : Option Session) (m : Machine) (n : ℕ) (store : Memory) (turns : ℕ) where
+-- what is equal is put in place
+pub called_with : {knowing : Knowing} {n line turns turns' : ℕ} {given given' : List Word} {scope scope' : List Ptr} {m m' : Memory} {x y : Option Session} {r : Result (Unit {0}) Stop} → scope ≡ scope' → given ≡ given'
+    → Called knowing n (map word_view given) line scope m turns x m' turns' y r → Called knowing n (map word_view given') line scope' m turns x m' turns' y r
+called_with {knowing} {n} {line} {turns} {turns'} {given} {given'} {scope} {scope'} {m} {m'} {x} {y} {r} p q h =
+    subst (λ sc. Called knowing n (map word_view given') line sc m turns x m' turns' y r) p (subst (λ ws. Called knowing n (map word_view ws) line scope m turns x m' turns' y r) q h)
+
+module _ (knowing : Knowing) (fs : List Function) (x y : Option Session) (m : Machine) (n count : ℕ) (store : Memory) (turns : ℕ) where
   abbrev behind_call : Machine
   behind_call = record m { store = store; turns = turns }
 
   -- what a call of this answer leads to
-  module _ (r r' : Result (Unit {0}) Stop) (e : r ≡ r') (called : Called knowing n m.line.0 (objects_of m.scope) m.store m.turns x store turns y r) where
+  module _ (r r' : Result (Unit {0}) Stop) (e : r ≡ r') (called : Called knowing n (waiting count (env_of m)) m.line.0 (objects_of m.scope) m.store m.turns x store turns y r) where
     call_does : (k : ℕ) (s : State) (rest : List Answer)
-        → Answers r' (knowing (tasks knowing fs k) (context m.line.0 (objects_of m.scope) m.first) (library n) (holding m.store m.turns (placed x (answers_in called.growth ++ rest) s))) (holding store turns (placed y rest (saying called.growth s)))
+        → Answers r' (knowing (tasks knowing fs k) (context m.line.0 (objects_of m.scope) m.first) (library n (waiting count (env_of m))) (holding m.store m.turns (placed x (answers_in called.growth ++ rest) s))) (holding store turns (placed y rest (saying called.growth s)))
     call_does k s rest =
-        subst (λ r. Answers r (knowing (tasks knowing fs k) (context m.line.0 (objects_of m.scope) m.first) (library n) (holding m.store m.turns (placed x (answers_in called.growth ++ rest) s))) (holding store turns (placed y rest (saying called.growth s)))) e
+        subst (λ r. Answers r (knowing (tasks knowing fs k) (context m.line.0 (objects_of m.scope) m.first) (library n (waiting count (env_of m))) (holding m.store m.turns (placed x (answers_in called.growth ++ rest) s))) (holding store turns (placed y rest (saying called.growth s)))) e
         (called.does (tasks knowing fs k) m.first s rest)
 
-  call_leads : (r : Result (Unit {0}) Stop) (u : Unit {0}) (e : r ≡ Ok u) (called : Called knowing n m.line.0 (objects_of m.scope) m.store m.turns x store turns y r) (v : Word) → word_view v ≡ no_value
-      → LeadsWith m.turns (λ k s. answer_with knowing fs k m (focus.Calls n) s) x y [] [] called.growth knowing fs behind_call (focus.Value v)
+  call_leads : (r : Result (Unit {0}) Stop) (u : Unit {0}) (e : r ≡ Ok u) (called : Called knowing n (waiting count (env_of m)) m.line.0 (objects_of m.scope) m.store m.turns x store turns y r) (v : Word) → word_view v ≡ no_value
+      → LeadsWith m.turns (λ k s. answer_with knowing fs k m (focus.Calls n count) s) x y [] [] called.growth knowing fs behind_call (focus.Value v)
   call_leads r u e called v i = λ k s rest l.
       ap (λ o. resume knowing (tasks knowing fs k) (env_of m) (reverse m.frames) (without_answer o)) (call_does r (Ok u) e called k s rest)
       ∙ (λ j. resume knowing (tasks knowing fs k) (env_of m) (reverse m.frames) (value (sym i j) (holding store turns (placed y rest (sym (saying_grown called.growth s) j)))))
 
-  call_ends : (r : Result (Unit {0}) Stop) (z : End) (e : r ≡ Err (stop.Over z)) (called : Called knowing n m.line.0 (objects_of m.scope) m.store m.turns x store turns y r)
-      → EndsWith m.turns (λ k s. answer_with knowing fs k m (focus.Calls n) s) x y [] [] called.growth behind_call z
+  call_ends : (r : Result (Unit {0}) Stop) (z : End) (e : r ≡ Err (stop.Over z)) (called : Called knowing n (waiting count (env_of m)) m.line.0 (objects_of m.scope) m.store m.turns x store turns y r)
+      → EndsWith m.turns (λ k s. answer_with knowing fs k m (focus.Calls n count) s) x y [] [] called.growth behind_call z
   call_ends r z e called = λ k s rest l.
       ap (λ o. resume knowing (tasks knowing fs k) (env_of m) (reverse m.frames) (without_answer o)) (call_does r (Err (stop.Over z)) e called k s rest)
       ∙ resume_over knowing (tasks knowing fs k) (env_of m) (reverse m.frames) (ending_view z) (holding store turns (placed y rest (saying called.growth s)))
       ∙ ap (λ t. over (ending_view z) (holding store turns (placed y rest t))) (sym (saying_grown called.growth s))
 
-  call_begins : Adds knowing → (r : Result (Unit {0}) Stop) (e : r ≡ Err stop.OutOfMemory) (called : Called knowing n m.line.0 (objects_of m.scope) m.store m.turns x store turns y r)
-      → BeginsWith m.turns (λ k s. answer_with knowing fs k m (focus.Calls n) s) x y [] [] called.growth
+  call_begins : Adds knowing → (r : Result (Unit {0}) Stop) (e : r ≡ Err stop.OutOfMemory) (called : Called knowing n (waiting count (env_of m)) m.line.0 (objects_of m.scope) m.store m.turns x store turns y r)
+      → BeginsWith m.turns (λ k s. answer_with knowing fs k m (focus.Calls n count) s) x y [] [] called.growth
   call_begins adds r e called = λ k s rest l.
       let w = tasks knowing fs k in
-      let o = knowing w (context m.line.0 (objects_of m.scope) m.first) (library n) (holding m.store m.turns (placed x (answers_in called.growth ++ rest) s)) in
+      let o = knowing w (context m.line.0 (objects_of m.scope) m.first) (library n (waiting count (env_of m))) (holding m.store m.turns (placed x (answers_in called.growth ++ rest) s)) in
       let p = without_answer o in
-      let b = grows_at x (answers_in called.growth ++ rest) s m (state_of o) (calls_grow knowing adds fs k (context m.line.0 (objects_of m.scope) m.first) n (holding m.store m.turns (placed x (answers_in called.growth ++ rest) s))) in
+      let b = grows_at x (answers_in called.growth ++ rest) s m (state_of o) (calls_grow knowing adds fs k (context m.line.0 (objects_of m.scope) m.first) n (waiting count (env_of m)) (holding m.store m.turns (placed x (answers_in called.growth ++ rest) s))) in
       let a : Grows (saying called.growth s) (state_of o) = record {
         printed = b.printed;
         complained = b.complained;
@@ -276,37 +283,37 @@ module _ {O E : Type 0} (held : O → Option (List ℕ)) (faults : O → ℕ) (h
   }
 
   -- a call of the library was made
-  pub comes_called : (knowing : Knowing) (fs : List Function) (x y : Option Session) (m : Machine) (n : ℕ) (store : Memory) (turns : ℕ) (r : Result (Unit {0}) Stop) (u : Unit {0}) → r ≡ Ok u
-      → Called knowing n m.line.0 (objects_of m.scope) m.store m.turns x store turns y r → turns ≤ m.turns → (v : Word) → word_view v ≡ no_value
-      → ComesWith held faults held' faults' m.turns (λ k s. answer_with knowing fs k m (focus.Calls n) s) x y out out err err (record m { store = store; turns = turns }) knowing fs (focus.Value v)
-  comes_called knowing fs x y m n store turns r u e called h v i = record {
+  pub comes_called : (knowing : Knowing) (fs : List Function) (x y : Option Session) (m : Machine) (n count : ℕ) (store : Memory) (turns : ℕ) (r : Result (Unit {0}) Stop) (u : Unit {0}) → r ≡ Ok u
+      → Called knowing n (waiting count (env_of m)) m.line.0 (objects_of m.scope) m.store m.turns x store turns y r → turns ≤ m.turns → (v : Word) → word_view v ≡ no_value
+      → ComesWith held faults held' faults' m.turns (λ k s. answer_with knowing fs k m (focus.Calls n count) s) x y out out err err (record m { store = store; turns = turns }) knowing fs (focus.Value v)
+  comes_called knowing fs x y m n count store turns r u e called h v i = record {
     printed = [];
     complained = [];
     growth = called.growth;
     said = called.said;
     prints = prints_none;
-    leads = call_leads knowing fs x y m n store turns r u e called v i;
+    leads = call_leads knowing fs x y m n count store turns r u e called v i;
     fewer = h;
   }
 
-  pub halts_called : (knowing : Knowing) → Adds knowing → (fs : List Function) (x y : Option Session) (m : Machine) (n : ℕ) (store : Memory) (turns : ℕ) (r : Result (Unit {0}) Stop) (z : Stop) → r ≡ Err z
-      → Called knowing n m.line.0 (objects_of m.scope) m.store m.turns x store turns y r
-      → HaltsWith held faults held' faults' m.turns (λ k s. answer_with knowing fs k m (focus.Calls n) s) x y out out err err (record m { store = store; turns = turns }) (halt_of z)
-  halts_called knowing adds fs x y m n store turns r (stop.Over z) e called = record {
+  pub halts_called : (knowing : Knowing) → Adds knowing → (fs : List Function) (x y : Option Session) (m : Machine) (n count : ℕ) (store : Memory) (turns : ℕ) (r : Result (Unit {0}) Stop) (z : Stop) → r ≡ Err z
+      → Called knowing n (waiting count (env_of m)) m.line.0 (objects_of m.scope) m.store m.turns x store turns y r
+      → HaltsWith held faults held' faults' m.turns (λ k s. answer_with knowing fs k m (focus.Calls n count) s) x y out out err err (record m { store = store; turns = turns }) (halt_of z)
+  halts_called knowing adds fs x y m n count store turns r (stop.Over z) e called = record {
     printed = [];
     complained = [];
     growth = called.growth;
     said = called.said;
     prints = prints_none;
-    ends = call_ends knowing fs x y m n store turns r z e called;
+    ends = call_ends knowing fs x y m n count store turns r z e called;
   }
-  halts_called knowing adds fs x y m n store turns r stop.OutOfMemory e called = record {
+  halts_called knowing adds fs x y m n count store turns r stop.OutOfMemory e called = record {
     printed = [];
     complained = [];
     growth = called.growth;
     said = called.said;
     prints = prints_none;
-    begins = call_begins knowing fs x y m n store turns adds r e called;
+    begins = call_begins knowing fs x y m n count store turns adds r e called;
   }
 
   module _ (knowing : Knowing) (fs : List Function) (turns : ℕ) (run : Run) where
@@ -416,9 +423,9 @@ module _ {O E : Type 0} (held : O → Option (List ℕ)) (faults : O → ℕ) (h
   }
 
 -- what isn't outside of the machine is stepped
-pub not_outside : (f : Focus) → ((x : Channel) (v : Option Word) → f ≡ focus.Puts x v → ⊥) → ((n : ℕ) → f ≡ focus.Calls n → ⊥) → IsOutside f → ⊥
+pub not_outside : (f : Focus) → ((x : Channel) (v : Option Word) → f ≡ focus.Puts x v → ⊥) → ((n count : ℕ) → f ≡ focus.Calls n count → ⊥) → IsOutside f → ⊥
 not_outside (focus.Puts x v) h j i = h x v refl
-not_outside (focus.Calls n) h j i = j n refl
+not_outside (focus.Calls n count) h j i = j n count refl
 not_outside (focus.Runs x) h j i = i
 not_outside (focus.Looks l x) h j i = i
 not_outside (focus.Evaluates x) h j i = i

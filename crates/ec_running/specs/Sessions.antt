@@ -2,7 +2,7 @@
 use Rattle.std.specs.Prelude.{◌≡◌, ℕ, Bool, List, [], ◌++◌, Option, Some, None, Result, Ok, Err}
 use Rattle.ec_bytes.specs.declared.scalar.address.Ptr.{Ptr}
 use Rattle.ec_link.specs.declared.logged.Logged.{Logged}
-use Rattle.ec_objects.specs.Memory.{Memory}
+use Rattle.ec_objects.specs.Memory.{Memory, ValueData}
 use Rattle.ec_observed.specs.Observed.{answers_in}
 use Rattle.ec_resolved.specs.Resolved.{library}
 use Rattle.ec_evaluation.specs.Agree.{Agree, Always, Grows, WhenAnswered, state_of}
@@ -70,14 +70,14 @@ Answers (Err (stop.Over e)) o s = o ≡ over (ending_view e) s
 Answers (Err stop.OutOfMemory) o s = (more : List Logged)
     × ((state_of o).conversation ≡ s.conversation ++ more)
 
--- a call was made: over the answers that came, and then any others, it leads where it says, and leaves exactly the others
-pub record Called (knowing : Knowing) (number line : ℕ) (scope : List Ptr)
-    (m : Memory) (turns : ℕ) (x : Option Session) (m' : Memory) (turns' : ℕ) (y : Option Session)
+-- a call was made, whose first pointers have these values: over the answers that came, and then any others, it leads where it says, and leaves exactly the others
+pub record Called (knowing : Knowing) (number : ℕ) (given : List ValueData) (line : ℕ)
+    (scope : List Ptr) (m : Memory) (turns : ℕ) (x : Option Session) (m' : Memory) (turns' : ℕ) (y : Option Session)
     (result : Result (Unit {0}) Stop) : Type 0 where
   pub growth : List Logged
   pub said : Said x y growth
   pub does : (w : World) (first : Bool) (s : State) (rest : List Answer)
       → Answers result
-      (knowing w (context line scope first) (library number)
+      (knowing w (context line scope first) (library number given)
       (holding m turns (placed x (answers_in growth ++ rest) s)))
       (holding m' turns' (placed y rest (saying growth s)))

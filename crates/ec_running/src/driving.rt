@@ -18,7 +18,7 @@ use crate::printing::{put_text, value_of};
 use ec_base::Sink;
 use ec_code::Function;
 use ec_formats::Channel;
-use ec_machine::{Focus, Machine};
+use ec_machine::{Focus, Machine, last};
 use ec_values::Word;
 
 /// Runs a machine from a focus to the end of the run, where no call of a library is made.
@@ -174,12 +174,13 @@ fn advance<'p, L: Library, O: Sink, E: Sink>(
 {
     match focus {
         Focus::Puts(channel, value) => print(machine, channel, value, out, err),
-        Focus::Calls(number) => match library.call(
+        Focus::Calls(number, count) => match library.call(
             &mut machine.store,
             &mut machine.turns,
             machine.line,
             machine.scope.objects(),
             number,
+            last(&machine.values, count),
         ) {
             Ok(()) => Ok(Focus::Value(value_of(None))),
             Err(stop) => Err(halt_for(stop)),

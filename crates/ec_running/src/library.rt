@@ -1,12 +1,14 @@
 //! Calls of a library.
 
-ghost use Rattle.std.specs.Prelude.{◌≡◌, ◌≤◌};
+ghost use Rattle.std.specs.Prelude.{◌≡◌, ◌≤◌, map};
 ghost use Rattle.ec_running.specs.Sessions.{Called};
+ghost use Rattle.ec_values.specs.Words.{word_view};
 
 use ec_base::Line;
 use ec_bytes::Ptr;
 use ec_machine::{End, Stop};
 use ec_memory::Store;
+use ec_values::Word;
 
 /// What makes the calls of the library in a program.
 pub trait Library {
@@ -23,7 +25,8 @@ pub trait Library {
     /// What calls leave: how a library may stand behind some of them, by how it stood before.
     ghost leads: { Self → Self → Type 0 };
 
-    /// Makes a call, with the objects in scope by their pointers. Its traps are at this line.
+    /// Makes a call whose first pointers have these values, with the objects in scope by their pointers. Its traps are at
+    /// this line.
     ///
     /// After want of memory a front of what the call says was said.
     fn call(
@@ -33,10 +36,11 @@ pub trait Library {
         line: Line,
         scope: &[Ptr],
         number: u32,
+        given: &[Word],
     ) -> Result<(), Stop>
         ensures same { knowing self.new ≡ knowing self.old }
-        ensures called { Called (knowing self.old) number line.0 scope.now store.old turns.old
-            (session self.old) store.new turns.new (session self.new) result }
+        ensures called { Called (knowing self.old) number (map word_view given.now) line.0
+            scope.now store.old turns.old (session self.old) store.new turns.new (session self.new) result }
         ensures led { leads self.old self.new }
         ensures fewer { turns.new ≤ turns.old };
 
@@ -78,6 +82,7 @@ impl Library for NoLibrary {
         _line: Line,
         _scope: &[Ptr],
         _number: u32,
+        _given: &[Word],
     ) -> Result<(), Stop> {
         Err(Stop::Over(End::Stuck))
     }

@@ -134,7 +134,7 @@ module _ (step : Step) (w : World) (c : Context) where
         test_plain (is_true x) _ _ tt (behind_value (eval step w c b t) _ (eval_plain b t) (λ y u. tt)))
     eval_plain (call f used es) s = collect_plain [] es s _ (λ vs t. answered_plain c.line used (w (calls c.line f vs) t))
     eval_plain (known f es) s = collect_plain [] es s _ (λ vs t. effect_plain c.line (effect_of f t.memory vs) t)
-    eval_plain (library_call n) s = silent_plain (step w c (library n) s)
+    eval_plain (library_call n es) s = collect_plain [] es s _ (λ vs t. silent_plain (step w c (library n vs) t))
     eval_plain faulty s = tt
 
     collect_plain : (vs : List ValueData) (es : Exps) (s : State) (k : List ValueData → State → Res)
@@ -170,7 +170,7 @@ right_false false b e = e
 -- Functions do the same, and where `atoms` is true so do calls of the library
 module _ (step step' : Step) (w w' : World) (c : Context)
     (functions : (line f : ℕ) (vs : List ValueData) (s : State) → w (calls line f vs) s ≡ w' (calls line f vs) s)
-    (atoms : Bool) (libraries : atoms ≡ true → (n : ℕ) (s : State) → step w c (library n) s ≡ step' w' c (library n) s) where
+    (atoms : Bool) (libraries : atoms ≡ true → (n : ℕ) (vs : List ValueData) (s : State) → step w c (library n vs) s ≡ step' w' c (library n vs) s) where
   -- an expression has no call of the library, or these do the same
   abbrev pub Fine : Bool → Type 0
   Fine b = (b ≡ false) ⊎ (atoms ≡ true)
@@ -235,8 +235,8 @@ module _ (step step' : Step) (w w' : World) (c : Context)
     eval_alike (call f used es) h s =
         collect_alike [] es h s _ _ (λ vs t. λ j. answered c.line used (functions c.line f vs t j))
     eval_alike (known f es) h s = collect_alike [] es h s _ _ (λ vs t. refl)
-    eval_alike (library_call n) (inl h) s = clash h
-    eval_alike (library_call n) (inr h) s = λ j. without_answer (libraries h n s j)
+    eval_alike (library_call n es) (inl h) s = clash h
+    eval_alike (library_call n es) (inr h) s = collect_alike [] es (inr h) s _ _ (λ vs t. λ j. without_answer (libraries h n vs t j))
     eval_alike faulty h s = refl
 
     pub collect_alike : (vs : List ValueData) (es : Exps) → Fine (have_call es) → (s : State) (k k' : List ValueData → State → Res)

@@ -382,7 +382,7 @@ module _ (step : Step) (tidy_step : TidyStep step) (w : World) (tidy : TidyWorld
           test_gives t.memory (is_true x) _ _ (tidy_same t.memory) (value_gives t.memory (eval step w c b t) _ (eval_gives b t) (λ y u. tidy_same u.memory)))
       eval_gives (call f used es) s = collect_gives [] es s _ (λ vs t. answered_gives t.memory c.line used (w (calls c.line f vs) t) (tidy (calls c.line f vs) t))
       eval_gives (known f es) s = collect_gives [] es s _ (λ vs t. effect_gives c.line (effect_of f t.memory vs) t (effect_tidy f t.memory vs))
-      eval_gives (library_call n) s = silent_gives s.memory (step w c (library n) s) (tidy_step w tidy c (library n) s)
+      eval_gives (library_call n es) s = collect_gives [] es s _ (λ vs t. silent_gives t.memory (step w c (library n vs) t) (tidy_step w tidy c (library n vs) t))
       eval_gives faulty s = tt
 
       pub collect_gives : (vs : List ValueData) (es : Exps) (s : State) (k : List ValueData → State → Res)

@@ -97,13 +97,13 @@ module _ (w : World) (tidy : TidyWorld w) (c : Context) where
 
 direct_tidy : (t : TypedData) (forms : List StatementForm) → TidyStep (direct_step t forms)
 direct_tidy t forms w tidy c (embedded n) s = stepped_leaves w tidy c t forms n (slice_get t.unit.embs n) (form_of n forms) s
-direct_tidy t forms w tidy c (library n) s = tt
+direct_tidy t forms w tidy c (library n vs) s = tt
 
 -- ---- what a statement does where functions do the same
 
 module _ (w w' : World) (c : Context) (functions : (line f : ℕ) (vs : List ValueData) (s : State) → w (calls_task line f vs) s ≡ w' (calls_task line f vs) s) where
   without_alike : (e : Exp) (s : State) → eval without_atoms w c e s ≡ eval without_atoms w' c e s
-  without_alike e s = eval_alike without_atoms without_atoms w w' c functions true (λ h n r. refl) e (inr refl) s
+  without_alike e s = eval_alike without_atoms without_atoms w w' c functions true (λ h n vs r. refl) e (inr refl) s
 
   executed_alike : (t : TypedData) (forms : List StatementForm) (line : ℕ) (f : StatementForm) (x : Statement Exp) (s : State)
       → executed_at t forms w c line f (Some x) s ≡ executed_at t forms w' c line f (Some x) s
@@ -111,7 +111,7 @@ module _ (w w' : World) (c : Context) (functions : (line f : ℕ) (vs : List Val
       placed_by without_atoms without_atoms w w' c (λ s a b. a ≡ b)
       (λ e s f g h. λ j. on_value (without_alike e s j) (λ v r. at_address v r (λ p. h p r j)))
       x s _ _ (λ y same r. λ j. turn r (λ u. on_done (settled c.line (statement_done t.structs line y u)) (λ v.
-      handled_alike without_atoms without_atoms w w' c functions true (λ h n q. refl) f.actions (inr refl) v j)))
+      handled_alike without_atoms without_atoms w w' c functions true (λ h n vs q. refl) f.actions (inr refl) v j)))
 
 -- ---- programs
 

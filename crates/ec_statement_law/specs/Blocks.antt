@@ -6,7 +6,7 @@ use Rattle.ec_statement_law.specs.Tests.{tests_stms}
 
 -- the call of this number among those of the library
 abbrev pub call_stm : ℕ → ℕ → Stm
-call_stm line k = on_line line (evaluate (library_call k))
+call_stm line k = on_line line (evaluate (library_call k no_exps))
 
 abbrev pub block_stm : ℕ → ℕ → ActionForms → Stm
 block_stm line k actions = block [] (stms (call_stm line k) (tests_stms line actions))
@@ -34,7 +34,7 @@ abbrev mutual
   has_call (either a b) = has_call a || has_call b
   has_call (call f used es) = have_call es
   has_call (known f es) = have_call es
-  has_call (library_call n) = true
+  has_call (library_call n es) = true
   has_call faulty = false
 
   pub have_call : Exps → Bool

@@ -4,7 +4,7 @@ use Rattle.ec_arguments.specs.Arguments as arg
 use Rattle.ec_arguments.specs.Arguments.{Arg}
 use Rattle.ec_code.specs.Views.{expression_view, function_view, size_view}
 use Rattle.ec_ctypes.specs.views.Types.{ty_view}
-use Rattle.ec_resolving.specs.ec_resolved.Resolved.{Exp}
+use Rattle.ec_resolving.specs.ec_resolved.Resolved.{Exp, faulty}
 use Rattle.ec_resolving.specs.Storage as of
 use Rattle.ec_scopes.specs.ec_typing.Tables.{Named}
 use Rattle.ec_storage.specs.declared.block.BlockObjects.{BlockObjects}
@@ -32,6 +32,7 @@ argument_view argument.Null = arg.null
 argument_view (argument.Int n) = arg.int_constant n
 argument_view (argument.Long n) = arg.long_constant n
 argument_view (argument.Pointer e) = arg.pointer (expression_view e)
+argument_view argument.Before = arg.pointer faulty
 argument_view argument.Stray = arg.stray
 
 abbrev pub call_view : LibraryCall → of.LibraryCall

@@ -17,6 +17,8 @@ pub enum Argument {
     /// A constant of type `long`.
     Long(u64),
     Pointer(Expression),
+    /// A pointer that is evaluated before the call.
+    Before,
     /// Anything else, which no call takes.
     Stray,
 }

@@ -6,7 +6,7 @@ use Rattle.ec_machine.proofs.Weighing.{nearer}
 use Rattle.ec_running.specs.LibraryRuns.{ComesWith, HaltsWith}
 use Rattle.ec_running.specs.Runs.{answer_with}
 use Rattle.ec_running.specs.Sessions.{Called}
-use Rattle.ec_running.proofs.Leading.{begins_none, comes_called, comes_step, halts_called, halts_step, not_outside}
+use Rattle.ec_running.proofs.Leading.{begins_none, called_with, comes_called, comes_step, halts_called, halts_step, not_outside}
 use Rattle.ec_running.proofs.driving.advance.Goals as goal
 
 pub returns-in-Puts-clause-goes : goal.returns-in-Puts-clause-goes
@@ -63,8 +63,8 @@ returns-in-Ok-clause-goes g c =
     let x = g.L.Library.session c.args.library.now in
     let y = g.L.Library.session c.call.new.self in
     subst (λ f. ComesWith g.O.Sink.held g.O.Sink.faults g.E.Sink.held g.E.Sink.faults m.turns (λ k s. answer_with knowing fs k m f s) x y c.args.out.now c.args.out.now c.args.err.now c.args.err.now (record m { store = c.call.new.store; turns = c.call.new.turns }) knowing fs (focus.Value c.value_of.result)) (sym c.in-Calls.is)
-    (comes_called g.O.Sink.held g.O.Sink.faults g.E.Sink.held g.E.Sink.faults c.args.out.now c.args.err.now knowing fs x y m c.in-Calls.number c.call.new.store c.call.new.turns c.call.result tt c.in-Ok.is
-    (subst (λ sc. Called knowing c.in-Calls.number m.line.0 sc m.store m.turns x c.call.new.store c.call.new.turns y c.call.result) c.objects.ensures c.call.ensures.called)
+    (comes_called g.O.Sink.held g.O.Sink.faults g.E.Sink.held g.E.Sink.faults c.args.out.now c.args.err.now knowing fs x y m c.in-Calls.number c.in-Calls.count c.call.new.store c.call.new.turns c.call.result tt c.in-Ok.is
+    (called_with c.objects.ensures c.last.ensures c.call.ensures.called)
     c.call.ensures.fewer c.value_of.result c.value_of.ensures)
 
 pub returns-in-Ok-clause-nears : goal.returns-in-Ok-clause-nears
@@ -81,6 +81,6 @@ returns-in-Err-clause-halts g c =
     let y = g.L.Library.session c.call.new.self in
     let suits = g.met.L.Library.suits c.args.library.now in
     subst (λ f. HaltsWith g.O.Sink.held g.O.Sink.faults g.E.Sink.held g.E.Sink.faults m.turns (λ k s. answer_with knowing fs k m f s) x y c.args.out.now c.args.out.now c.args.err.now c.args.err.now (record m { store = c.call.new.store; turns = c.call.new.turns }) c.halt_for.result) (sym c.in-Calls.is)
-    (subst (λ h. HaltsWith g.O.Sink.held g.O.Sink.faults g.E.Sink.held g.E.Sink.faults m.turns (λ k s. answer_with knowing fs k m (focus.Calls c.in-Calls.number) s) x y c.args.out.now c.args.out.now c.args.err.now c.args.err.now (record m { store = c.call.new.store; turns = c.call.new.turns }) h) (sym c.halt_for.ensures)
-    (halts_called g.O.Sink.held g.O.Sink.faults g.E.Sink.held g.E.Sink.faults c.args.out.now c.args.err.now knowing suits.adds fs x y m c.in-Calls.number c.call.new.store c.call.new.turns c.call.result c.in-Err.stop c.in-Err.is
-    (subst (λ sc. Called knowing c.in-Calls.number m.line.0 sc m.store m.turns x c.call.new.store c.call.new.turns y c.call.result) c.objects.ensures c.call.ensures.called)))
+    (subst (λ h. HaltsWith g.O.Sink.held g.O.Sink.faults g.E.Sink.held g.E.Sink.faults m.turns (λ k s. answer_with knowing fs k m (focus.Calls c.in-Calls.number c.in-Calls.count) s) x y c.args.out.now c.args.out.now c.args.err.now c.args.err.now (record m { store = c.call.new.store; turns = c.call.new.turns }) h) (sym c.halt_for.ensures)
+    (halts_called g.O.Sink.held g.O.Sink.faults g.E.Sink.held g.E.Sink.faults c.args.out.now c.args.err.now knowing suits.adds fs x y m c.in-Calls.number c.in-Calls.count c.call.new.store c.call.new.turns c.call.result c.in-Err.stop c.in-Err.is
+    (called_with c.objects.ensures c.last.ensures c.call.ensures.called)))

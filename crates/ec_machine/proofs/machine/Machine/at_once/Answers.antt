@@ -1,14 +1,16 @@
-use Rattle.std.proofs.Common.{ap, arith}
-use Rattle.ec_code.specs.Views.{expression_view}
+use Rattle.std.proofs.Common.{◌∙◌, ap, arith, true, false}
+use Rattle.std.specs.Option.{option_map}
+use Rattle.ec_code.specs.Views.{expression_view, statement_view}
 use Rattle.ec_evaluation.specs.Evaluate.{eval}
+use Rattle.ec_evaluation.specs.Execute.{returning, run}
 use Rattle.ec_evaluation.specs.Results.{on, on_value}
+use Rattle.ec_resolved.specs.Operations.{is_true}
 use Rattle.ec_machine.specs.Frames.{here}
 use Rattle.ec_machine.specs.Goes.{env_of}
 use Rattle.ec_machine.specs.Weights.{statement_weight}
 use Rattle.ec_machine.proofs.Moves.{goes_as}
-use Rattle.ec_machine.proofs.Running.{to_Evaluate}
-use Rattle.ec_machine.proofs.Weighing.{nearer, weight-Evaluate}
-use Rattle.std.proofs.Common.{◌∙◌}
+use Rattle.ec_machine.proofs.Running.{to_Choose, to_Evaluate, to_Return}
+use Rattle.ec_machine.proofs.Weighing.{nearer, weight-Choose, weight-Evaluate, weight-Return}
 use Rattle.ec_machine.proofs.machine.Machine.at_once.Goals as goal
 
 pub returns-in-Evaluate-clause-goes : goal.returns-in-Evaluate-clause-goes
@@ -20,8 +22,31 @@ returns-in-Evaluate-clause-goes c = λ fs.
     (λ knowing w t. to_Evaluate knowing w (env_of m) t m.line c.args.statement.now c.in-Evaluate.expression c.in-Evaluate.is)
     (c.effect.ensures.goes fs)
 
+pub returns-in-Choose-clause-goes : goal.returns-in-Choose-clause-goes
+returns-in-Choose-clause-goes c = λ fs.
+    let m = c.args.self.now in
+    let d = here (env_of m) m.line in
+    goes_as fs m c.branch-self.new.self (env_of m) c.branch-self.result _
+    (λ knowing w t. on_value (eval knowing w d (expression_view c.in-Choose.test) t) (λ v u. elim (is_true v) [ true ↦ run knowing w d (statement_view c.get.result.now) u | false ↦ run knowing w d (statement_view c.get-in-Choose.result.now) u ]))
+    (λ knowing w t. to_Choose knowing w (env_of m) t m.line c.args.statement.now c.in-Choose.test c.in-Choose.first c.in-Choose.second c.get.result c.get-in-Choose.result c.in-Choose.is c.get.ensures c.get-in-Choose.ensures)
+    (c.branch-self.ensures.goes fs)
+
+pub returns-in-Return-clause-goes : goal.returns-in-Return-clause-goes
+returns-in-Return-clause-goes c = λ fs.
+    let m = c.args.self.now in
+    let d = here (env_of m) m.line in
+    goes_as fs m c.run_return.new.self (env_of m) c.run_return.result _ (λ knowing w t. returning knowing w d (option_map expression_view c.in-Return.value) t)
+    (λ knowing w t. to_Return knowing w (env_of m) t m.line c.args.statement.now c.in-Return.value c.in-Return.is)
+    (c.run_return.ensures.goes fs)
+
 pub returns-in-Evaluate-clause-nears : goal.returns-in-Evaluate-clause-nears
 returns-in-Evaluate-clause-nears c = omega (arith, c.effect.ensures.nears, ap statement_weight c.in-Evaluate.is ∙ weight-Evaluate _)
+
+pub returns-in-Choose-clause-nears : goal.returns-in-Choose-clause-nears
+returns-in-Choose-clause-nears c = omega (arith, c.branch-self.ensures.nears, ap statement_weight c.in-Choose.is ∙ weight-Choose _ _ _, ap statement_weight c.get.ensures, ap statement_weight c.get-in-Choose.ensures)
+
+pub returns-in-Return-clause-nears : goal.returns-in-Return-clause-nears
+returns-in-Return-clause-nears c = omega (arith, c.run_return.ensures.nears, ap statement_weight c.in-Return.is ∙ weight-Return _)
 
 pub returns-in_default-clause-nears : goal.returns-in_default-clause-nears
 returns-in_default-clause-nears c = nearer _ _ _ _ (omega arith)

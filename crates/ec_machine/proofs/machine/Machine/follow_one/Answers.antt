@@ -1,27 +1,26 @@
 use Rattle.std.proofs.Common.{◌∙◌, ap, sym, map, arith}
 use Rattle.std.specs.Prelude.{reverse}
 use Rattle.ec_code.specs.Views.{full_step_view}
-use Rattle.ec_evaluation.specs.Results.{value}
 use Rattle.ec_plain.specs.Answered.{answered, ending_of}
 use Rattle.ec_plain.specs.Steps.{followed, one_on}
 use Rattle.ec_plain.proofs.Walks.{followed_over}
 use Rattle.ec_values.specs.Words.{word_view}
-use Rattle.ec_machine.specs.declared.frame.Frame.TheVariants as frame
 use Rattle.ec_machine.specs.Frames.{here, resume}
 use Rattle.ec_machine.specs.Goes.{at, env_of, tasks}
-use Rattle.ec_machine.proofs.Moves.{pushed, over_stops}
-use Rattle.ec_machine.proofs.Weighing.{err_exit, err_near, pushes}
+use Rattle.ec_machine.proofs.Moves.{over_stops, stands_by}
+use Rattle.ec_machine.proofs.Weighing.{err_near}
 use Rattle.ec_machine.proofs.machine.Machine.follow_one.Goals as goal
 
-pub returns-in_ok-push-in-Ok-clause-goes : goal.returns-in_ok-push-in-Ok-clause-goes
-returns-in_ok-push-in-Ok-clause-goes c = λ fs knowing fits k s l.
+pub returns-in-Ok-clause-goes : goal.returns-in-Ok-clause-goes
+returns-in-Ok-clause-goes c = λ fs knowing fits k s l.
     let w = tasks knowing fs k in
     let m = c.args.self.now in
     let d = here (env_of m) m.line in
     let t = at s (record m { store = c.unary.new.store }) in
-    ap (λ o. resume knowing w (env_of m) (reverse m.frames) (followed knowing w d (map full_step_view c.args.rest.now) o))
-    (c.unary.ensures m.line.0 (at s m) ∙ ap (λ r. answered m.line.0 r t) (sym c.get.ensures ∙ c.in-Ok.is))
-    ∙ pushed knowing w (env_of m) m.frames c.push.new.self (frame.Steps m.line c.args.rest) (value (word_view c.in-Ok.next) t) c.in_ok-push-in-Ok.ensures.ok
+    stands_by knowing w s c.wait.new.self c.wait.result _ _
+    (ap (λ o. resume knowing w (env_of m) (reverse m.frames) (followed knowing w d (map full_step_view c.args.rest.now) o))
+    (c.unary.ensures m.line.0 (at s m) ∙ ap (λ r. answered m.line.0 r t) (sym c.get.ensures ∙ c.in-Ok.is)))
+    (c.wait.ensures.goes fs knowing fits k s l)
 
 pub returns-in-Err-clause-goes : goal.returns-in-Err-clause-goes
 returns-in-Err-clause-goes c = λ fs knowing fits k s l.
@@ -33,11 +32,8 @@ returns-in-Err-clause-goes c = λ fs knowing fits k s l.
     (ap (followed knowing w d (map full_step_view c.args.rest.now)) (c.unary.ensures m.line.0 (at s m) ∙ ap (λ r. answered m.line.0 r t) (sym c.get.ensures ∙ c.in-Err.is))
     ∙ followed_over knowing w d (map full_step_view c.args.rest.now) (ending_of m.line.0 c.in-Err.why) t)
 
-pub returns-in_ok-push-in-Ok-clause-nears : goal.returns-in_ok-push-in-Ok-clause-nears
-returns-in_ok-push-in-Ok-clause-nears c = pushes _ _ _ _ _ _ c.in_ok-push-in-Ok.ensures.ok (omega arith)
-
-pub returns-in_err-push-in-Ok-clause-nears : goal.returns-in_err-push-in-Ok-clause-nears
-returns-in_err-push-in-Ok-clause-nears c = err_exit _ _ _ _ _ c.from_residual.ensures.1
+pub returns-in-Ok-clause-nears : goal.returns-in-Ok-clause-nears
+returns-in-Ok-clause-nears c = omega (arith, c.wait.ensures.nears)
 
 pub returns-in-Err-clause-nears : goal.returns-in-Err-clause-nears
 returns-in-Err-clause-nears c = err_near _ _ _ _

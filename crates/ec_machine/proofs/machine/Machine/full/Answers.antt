@@ -1,9 +1,7 @@
 use Rattle.std.proofs.Common.{◌∙◌, ap, map, [], arith}
 use Rattle.ec_code.specs.Views.{expressions_view, full_step_view, plain_view}
 use Rattle.ec_evaluation.specs.Evaluate.{collect, eval}
-use Rattle.ec_evaluation.specs.Results.{without_answer}
 use Rattle.ec_plain.specs.Steps.{followed}
-use Rattle.ec_resolved.specs.Resolved.{library}
 use Rattle.ec_machine.specs.declared.frame.Callee.TheVariants as callee
 use Rattle.ec_machine.specs.Frames.{here, received}
 use Rattle.ec_machine.specs.Goes.{env_of}
@@ -32,7 +30,7 @@ returns-in-Call-clause-goes c =
     let xs = c.as_slice-steps.result.now in
     let es = c.as_slice.result.now in
     goes_as fs m c.pass_all.new.self (env_of m) c.pass_all.result _
-    (λ knowing w t. followed knowing w d (map full_step_view xs) (collect knowing w d [] (expressions_view es) t (received w m.line (callee.Function c.in-Call.function c.in-Call.used))))
+    (λ knowing w t. followed knowing w d (map full_step_view xs) (collect knowing w d [] (expressions_view es) t (received knowing w d (callee.Function c.in-Call.function c.in-Call.used))))
     (λ knowing w t. to_Call knowing w d t c.args.full.now c.in-Call.function c.in-Call.used c.in-Call.arguments es xs c.in-Call.is c.as_slice.ensures c.as_slice-steps.ensures)
     c.pass_all.ensures.goes
 
@@ -53,10 +51,10 @@ returns-in-LibraryCall-clause-goes c =
     let m = c.args.self.now in
     let d = here (env_of m) m.line in
     let xs = c.as_slice-steps.result.now in
-    goes_as fs m c.library_call.new.self (env_of m) c.library_call.result _
-    (λ knowing w t. followed knowing w d (map full_step_view xs) (without_answer (knowing w d (library c.in-LibraryCall.number) t)))
-    (λ knowing w t. to_LibraryCall knowing w d t c.args.full.now c.in-LibraryCall.number xs c.in-LibraryCall.is c.as_slice-steps.ensures)
-    (c.library_call.ensures.goes fs)
+    let es = c.as_slice-in-LibraryCall.result.now in
+    goes_as fs m c.pass_all-in-LibraryCall.new.self (env_of m) c.pass_all-in-LibraryCall.result _ _
+    (λ knowing w t. to_LibraryCall knowing w d t c.args.full.now c.in-LibraryCall.number c.in-LibraryCall.pointers es xs c.in-LibraryCall.is c.as_slice-in-LibraryCall.ensures c.as_slice-steps.ensures)
+    c.pass_all-in-LibraryCall.ensures.goes
 
 pub returns-in-Begun-clause-nears : goal.returns-in-Begun-clause-nears
 returns-in-Begun-clause-nears c = omega (arith, c.begun.ensures.nears, weight-full c.args.full.now, ap head_weight c.in-Begun.is ∙ weight-Begun _, ap steps_weight c.as_slice-steps.ensures)
@@ -68,4 +66,4 @@ pub returns-in-Known-clause-nears : goal.returns-in-Known-clause-nears
 returns-in-Known-clause-nears c = omega (arith, c.pass_all-in-Known.ensures.nears, weight-full c.args.full.now, ap head_weight c.in-Known.is ∙ weight-Known _ _, ap steps_weight c.as_slice-steps.ensures, ap expressions_weight c.as_slice-in-Known.ensures)
 
 pub returns-in-LibraryCall-clause-nears : goal.returns-in-LibraryCall-clause-nears
-returns-in-LibraryCall-clause-nears c = omega (arith, c.library_call.ensures.nears, weight-full c.args.full.now, ap head_weight c.in-LibraryCall.is ∙ weight-LibraryCall _, ap steps_weight c.as_slice-steps.ensures)
+returns-in-LibraryCall-clause-nears c = omega (arith, c.pass_all-in-LibraryCall.ensures.nears, weight-full c.args.full.now, ap head_weight c.in-LibraryCall.is ∙ weight-LibraryCall _ _, ap steps_weight c.as_slice-steps.ensures, ap expressions_weight c.as_slice-in-LibraryCall.ensures)

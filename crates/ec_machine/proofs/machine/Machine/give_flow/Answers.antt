@@ -12,7 +12,7 @@ use Rattle.ec_machine.specs.declared.frame.Frame.TheVariants as frame
 use Rattle.ec_machine.specs.Frames.{below, cut, here, led, plug, received, resume, waiting, without_last}
 use Rattle.ec_machine.specs.Goes.{at, env_of, tasks}
 use Rattle.ec_machine.proofs.Moves.{closing_led, followed_led, led_passes, pushed, resume_over, returns_stand, right_led, stands_by}
-use Rattle.ec_machine.proofs.Parts.{given_as}
+use Rattle.ec_machine.proofs.Parts.{given_as, none_left}
 use Rattle.ec_machine.specs.Weights.{frames_weight, frames_answer}
 use Rattle.ec_machine.proofs.Weighing.{flow_given, passes_on, pushed_weight, err_exit, flow_more}
 use Rattle.ec_machine.proofs.machine.Machine.give_flow.Goals as goal
@@ -22,19 +22,39 @@ returns-in-Arguments-clause-goes c = λ fs knowing fits k s l.
     let w = tasks knowing fs k in
     let m = c.args.self.now in
     ap (λ f. resume knowing w (below (env_of m) f) (reverse m.frames) (plug knowing w (env_of m) f (led c.args.flow (at s m)))) c.in-Arguments.is
-    ∙ ap (resume knowing w (record (env_of m) { values = without_last c.in-Arguments.count m.values }) (reverse m.frames)) (right_led knowing w (here (env_of m) c.in-Arguments.field-0) (map full_step_view c.in-Arguments.field-4.now) (λ v t. collect knowing w (here (env_of m) c.in-Arguments.field-0) (waiting c.in-Arguments.count (env_of m) ++ v ∷ []) (expressions_view c.in-Arguments.field-3.now) t (received w c.in-Arguments.field-0 c.in-Arguments.field-1)) c.args.flow (at s m))
+    ∙ ap (resume knowing w (record (env_of m) { values = without_last c.in-Arguments.count m.values }) (reverse m.frames)) (right_led knowing w (here (env_of m) c.in-Arguments.field-0) (map full_step_view c.in-Arguments.field-4.now) (λ v t. collect knowing w (here (env_of m) c.in-Arguments.field-0) (waiting c.in-Arguments.count (env_of m) ++ v ∷ []) (expressions_view c.in-Arguments.field-3.now) t (received knowing w (here (env_of m) c.in-Arguments.field-0) c.in-Arguments.field-1)) c.args.flow (at s m))
     ∙ ap (λ v. resume knowing w (record (env_of m) { values = v }) (reverse m.frames) (led c.args.flow (at s m))) (sym c.drop_last.ensures)
 
-pub returns-in_ok-push-in-Call-clause-goes : goal.returns-in_ok-push-in-Call-clause-goes
-returns-in_ok-push-in-Call-clause-goes c = λ fs knowing fits k s l.
+pub returns-in-Called-clause-goes : goal.returns-in-Called-clause-goes
+returns-in-Called-clause-goes c = λ fs knowing fits k s l.
+    let w = tasks knowing fs k in
+    let m = c.args.self.now in
+    ap (λ f. resume knowing w (below (env_of m) f) (reverse m.frames) (plug knowing w (env_of m) f (led c.args.flow (at s m)))) c.in-Called.is
+    ∙ ap (resume knowing w (record (env_of m) { values = without_last c.in-Called.count m.values }) (reverse m.frames)) (followed_led knowing w (here (env_of m) c.in-Called.field-0) (map full_step_view c.in-Called.field-2.now) c.args.flow (at s m))
+    ∙ ap (λ v. resume knowing w (record (env_of m) { values = v }) (reverse m.frames) (led c.args.flow (at s m))) (sym c.drop_last-in-Called.ensures)
+
+pub returns-in-empty-clause-goes : goal.returns-in-empty-clause-goes
+returns-in-empty-clause-goes c = λ fs knowing fits k s l.
+    let w = tasks knowing fs k in
+    let m = c.args.self.now in
+    let e = record (env_of m) { first = c.in-Call.first } in
+    let n = record m { line = c.in-Call.line; first = c.in-Call.first } in
+    let o = answered c.in-Call.line.0 c.in-Call.used (function_end (option_map word_view c.in-Call.otherwise) (led c.args.flow (at s m))) in
+    stands_by knowing w s n c.returned.result _ _
+    (ap (λ f. resume knowing w (below (env_of m) f) (reverse m.frames) (plug knowing w (env_of m) f (led c.args.flow (at s m)))) c.in-Call.is
+    ∙ ap (λ xs. resume knowing w e (reverse m.frames) (followed knowing w (here e c.in-Call.line) (map full_step_view xs) o)) (none_left c.in-Call.steps.now c.in-empty.len_below))
+    (returns_stand knowing w s n c.returned.result (λ t. answered c.in-Call.line.0 c.in-Call.used (function_end (option_map word_view c.in-Call.otherwise) (led c.args.flow t))) c.returned.ensures.gives)
+
+pub returns-in_ok-push-in_default-clause-goes : goal.returns-in_ok-push-in_default-clause-goes
+returns-in_ok-push-in_default-clause-goes c = λ fs knowing fits k s l.
     let w = tasks knowing fs k in
     let m = c.args.self.now in
     let e = record (env_of m) { first = c.in-Call.first } in
     let n = record m { line = c.in-Call.line; first = c.in-Call.first; frames = c.push.new.self } in
-    stands_by knowing w s n c.returned.result _ _
+    stands_by knowing w s n c.returned-in_default.result _ _
     (ap (λ f. resume knowing w (below (env_of m) f) (reverse m.frames) (plug knowing w (env_of m) f (led c.args.flow (at s m)))) c.in-Call.is
-    ∙ pushed knowing w e m.frames c.push.new.self (frame.Steps c.in-Call.line c.in-Call.steps) (answered c.in-Call.line.0 c.in-Call.used (function_end (option_map word_view c.in-Call.otherwise) (led c.args.flow (at s m)))) c.in_ok-push-in-Call.ensures.ok)
-    (returns_stand knowing w s n c.returned.result (λ t. answered c.in-Call.line.0 c.in-Call.used (function_end (option_map word_view c.in-Call.otherwise) (led c.args.flow t))) c.returned.ensures.gives)
+    ∙ pushed knowing w e m.frames c.push.new.self (frame.Steps c.in-Call.line c.in-Call.steps) (answered c.in-Call.line.0 c.in-Call.used (function_end (option_map word_view c.in-Call.otherwise) (led c.args.flow (at s m)))) c.in_ok-push-in_default.ensures.ok)
+    (returns_stand knowing w s n c.returned-in_default.result (λ t. answered c.in-Call.line.0 c.in-Call.used (function_end (option_map word_view c.in-Call.otherwise) (led c.args.flow t))) c.returned-in_default.ensures.gives)
 
 pub returns-in-Body-clause-goes : goal.returns-in-Body-clause-goes
 returns-in-Body-clause-goes c = λ fs.
@@ -114,8 +134,14 @@ returns-in-Behind-clause-goes c = λ fs knowing fits k s l.
 pub returns-in-Arguments-clause-nears : goal.returns-in-Arguments-clause-nears
 returns-in-Arguments-clause-nears c = passes_on _ _ _ _
 
-pub returns-in_ok-push-in-Call-clause-nears : goal.returns-in_ok-push-in-Call-clause-nears
-returns-in_ok-push-in-Call-clause-nears c = flow_given c.args.self.now.frames c.args.flow c.args.frame _ _ c.in-Call.is (omega (arith, c.returned.ensures.nears c.args.self.now.turns (record c.args.self.now { line = c.in-Call.line; first = c.in-Call.first; frames = c.push.new.self }), ap frames_weight c.in_ok-push-in-Call.ensures.ok, pushed_weight c.args.self.now.frames (frame.Steps c.in-Call.line c.in-Call.steps)))
+pub returns-in-Called-clause-nears : goal.returns-in-Called-clause-nears
+returns-in-Called-clause-nears c = passes_on _ _ _ _
+
+pub returns-in_ok-push-in_default-clause-nears : goal.returns-in_ok-push-in_default-clause-nears
+returns-in_ok-push-in_default-clause-nears c = flow_given c.args.self.now.frames c.args.flow c.args.frame _ _ c.in-Call.is (omega (arith, c.returned-in_default.ensures.nears c.args.self.now.turns (record c.args.self.now { line = c.in-Call.line; first = c.in-Call.first; frames = c.push.new.self }), ap frames_weight c.in_ok-push-in_default.ensures.ok, pushed_weight c.args.self.now.frames (frame.Steps c.in-Call.line c.in-Call.steps)))
+
+pub returns-in-empty-clause-nears : goal.returns-in-empty-clause-nears
+returns-in-empty-clause-nears c = flow_given c.args.self.now.frames c.args.flow c.args.frame _ _ c.in-Call.is (omega (arith, c.returned.ensures.nears c.args.self.now.turns (record c.args.self.now { line = c.in-Call.line; first = c.in-Call.first })))
 
 pub returns-in-Body-clause-nears : goal.returns-in-Body-clause-nears
 returns-in-Body-clause-nears c = flow_given c.args.self.now.frames c.args.flow c.args.frame _ _ c.in-Body.is (omega (arith, c.after_body.ensures.nears, flow_more c.args.flow (frames_answer c.args.self.now.frames) (0 + frames_answer c.args.self.now.frames) (omega arith)))
@@ -150,5 +176,5 @@ returns-in-Test-clause-nears c = passes_on _ _ _ _
 pub returns-in-Behind-clause-nears : goal.returns-in-Behind-clause-nears
 returns-in-Behind-clause-nears c = passes_on _ _ _ _
 
-pub returns-in_err-push-in-Call-clause-nears : goal.returns-in_err-push-in-Call-clause-nears
-returns-in_err-push-in-Call-clause-nears c = err_exit _ _ _ _ _ c.from_residual.ensures.1
+pub returns-in_err-push-in_default-clause-nears : goal.returns-in_err-push-in_default-clause-nears
+returns-in_err-push-in_default-clause-nears c = err_exit _ _ _ _ _ c.from_residual.ensures.1

@@ -1,4 +1,4 @@
-use Rattle.std.proofs.Common.{◌≡◌, ◌∙◌, ap, sym, map, Some, arith}
+use Rattle.std.proofs.Common.{◌≡◌, ◌∙◌, ap, sym, subst, map, Some, arith}
 use Rattle.std.specs.Prelude.{reverse}
 use Rattle.std.specs.Option.{option_map}
 use Rattle.ec_code.specs.Views.{full_step_view, statements_view}
@@ -10,7 +10,7 @@ use Rattle.ec_plain.proofs.Walks.{followed_over}
 use Rattle.ec_values.specs.Words.{word_view}
 use Rattle.ec_machine.specs.declared.frame.Frame.TheVariants as frame
 use Rattle.ec_machine.specs.Frames.{below, here, led, plug, resume}
-use Rattle.ec_machine.specs.Goes.{at, env_of, tasks}
+use Rattle.ec_machine.specs.Goes.{Goes, at, env_of, tasks}
 use Rattle.ec_machine.proofs.Moves.{closing_led, followed_led, led_passes, pushed, resume_over, returns_stand, right_led, stands_by}
 use Rattle.ec_machine.proofs.Parts.{given_as}
 use Rattle.ec_machine.proofs.Weighing.{err_near, nearer, value_given}
@@ -45,6 +45,15 @@ returns-in-Call-clause-goes c = λ knowing fits k s l.
     ap (λ f. resume knowing w (below (env_of m) f) (reverse m.frames) (plug knowing w (env_of m) f (value (word_view c.args.value) (at s m)))) c.in-Call.is
     ∙ ap (resume knowing w e (reverse m.frames)) (followed_over knowing w (here e c.in-Call.field-0) (map full_step_view c.in-Call.field-3.now) stuck (at s m))
     ∙ resume_over knowing w e (reverse m.frames) stuck (at s m)
+
+pub returns-in-Called-clause-goes : goal.returns-in-Called-clause-goes
+returns-in-Called-clause-goes c =
+    let fs = c.args.functions.now in
+    let m = c.args.self.now in
+    let l = c.in-Called.line in
+    given_as fs m c.follow-in-Called.new.self (env_of m) c.args.frame (frame.Called l c.in-Called.count c.in-Called.steps) c.follow-in-Called.result (λ t. value (word_view c.args.value) t) c.in-Called.is
+    (subst (λ vs. Goes fs m (record (env_of m) { values = vs }) (λ knowing w t. followed knowing w (here (env_of m) l) (map full_step_view c.in-Called.steps.now) (value (word_view c.args.value) t)) c.follow-in-Called.result c.follow-in-Called.new.self)
+    c.drop_last.ensures (c.follow-in-Called.ensures.goes fs))
 
 pub returns-in-Do-clause-goes : goal.returns-in-Do-clause-goes
 returns-in-Do-clause-goes c = λ knowing fits k s l.
@@ -117,6 +126,9 @@ returns-in-Arguments-clause-nears c = value_given c.args.self.now.frames c.args.
 
 pub returns-in-Call-clause-nears : goal.returns-in-Call-clause-nears
 returns-in-Call-clause-nears c = err_near _ _ _ _
+
+pub returns-in-Called-clause-nears : goal.returns-in-Called-clause-nears
+returns-in-Called-clause-nears c = value_given c.args.self.now.frames c.args.frame _ _ c.in-Called.is (omega (arith, c.follow-in-Called.ensures.nears))
 
 pub returns-in-Do-clause-nears : goal.returns-in-Do-clause-nears
 returns-in-Do-clause-nears c = value_given c.args.self.now.frames c.args.frame _ _ c.in-Do.is (nearer _ _ _ _ (omega arith))

@@ -17,9 +17,9 @@ returns-in-empty-clause-goes c =
     let xs = map full_step_view c.args.steps.now in
     let vs = waiting c.args.count (env_of m) in
     goes_as fs m c.receive.new.self (taken c.args.count (env_of m)) c.receive.result
-    (λ knowing w t. followed knowing w d xs (collect knowing w d vs (expressions_view c.args.arguments.now) t (received w m.line c.args.callee)))
-    (λ knowing w t. followed knowing w d xs (received w m.line c.args.callee vs t))
-    (λ knowing w t. ap (λ es. followed knowing w d xs (collect knowing w d vs (expressions_view es) t (received w m.line c.args.callee))) (none_left c.args.arguments.now c.in-empty.len_below))
+    (λ knowing w t. followed knowing w d xs (collect knowing w d vs (expressions_view c.args.arguments.now) t (received knowing w d c.args.callee)))
+    (λ knowing w t. followed knowing w d xs (received knowing w d c.args.callee vs t))
+    (λ knowing w t. ap (λ es. followed knowing w d xs (collect knowing w d vs (expressions_view es) t (received knowing w d c.args.callee))) (none_left c.args.arguments.now c.in-empty.len_below))
     c.receive.ensures.goes
 
 pub returns-in_ok-push-in-len1-up-clause-nears : goal.returns-in_ok-push-in-len1-up-clause-nears

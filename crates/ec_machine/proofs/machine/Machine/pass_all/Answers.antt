@@ -12,7 +12,7 @@ returns-clause-goes c =
     let m = c.args.self.now in
     let d = here (env_of m) m.line in
     no_values c.args.functions.now m c.pass.new.self c.pass.result
-    (λ xs knowing w t. followed knowing w d (map full_step_view c.args.steps.now) (collect knowing w d xs (expressions_view c.args.arguments.now) t (received w m.line c.args.callee)))
+    (λ xs knowing w t. followed knowing w d (map full_step_view c.args.steps.now) (collect knowing w d xs (expressions_view c.args.arguments.now) t (received knowing w d c.args.callee)))
     c.pass.ensures.goes
 
 pub returns-clause-nears : goal.returns-clause-nears

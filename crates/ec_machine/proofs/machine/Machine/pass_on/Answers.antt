@@ -13,7 +13,7 @@ returns-clause-goes c =
     let m = c.args.self.now in
     let d = here (env_of m) m.line in
     values_pushed c.args.functions.now m c.pass.new.self c.pass.result c.args.count c.in-Some.more c.args.value c.push.new.self
-    (λ xs knowing w t. followed knowing w d (map full_step_view c.args.steps.now) (collect knowing w d xs (expressions_view c.args.arguments.now) t (received w m.line c.args.callee)))
+    (λ xs knowing w t. followed knowing w d (map full_step_view c.args.steps.now) (collect knowing w d xs (expressions_view c.args.arguments.now) t (received knowing w d c.args.callee)))
     c.in_ok-push.ensures.ok c.in-Some.ensures.1 c.pass.ensures.goes
 
 pub returns-in_err-push-clause-nears : goal.returns-in_err-push-clause-nears

@@ -19,9 +19,9 @@ pub returns-in-OnLine-clause-goes : goal.returns-in-OnLine-clause-goes
 returns-in-OnLine-clause-goes c =
     let fs = c.args.functions.now in
     let m = c.args.self.now in
-    goes_as fs m c.at_once.new.self (env_of m) c.at_once.result _ (λ knowing w t. run knowing w (here (env_of m) c.in-OnLine.line) (statement_view c.get.result.now) t)
+    goes_as fs m c.on_line.new.self (env_of m) c.on_line.result _ (λ knowing w t. run knowing w (here (env_of m) c.in-OnLine.line) (statement_view c.get.result.now) t)
     (λ knowing w t. to_OnLine knowing w (env_of m) t m.line c.args.statement.now c.in-OnLine.line c.in-OnLine.inner c.get.result.now c.in-OnLine.is c.get.ensures)
-    (c.at_once.ensures.goes fs)
+    (c.on_line.ensures.goes fs)
 
 pub returns-in-Nothing-clause-goes : goal.returns-in-Nothing-clause-goes
 returns-in-Nothing-clause-goes c = λ knowing fits k s l.
@@ -128,7 +128,7 @@ returns-in-Embedded-clause-goes c = λ knowing fits k s l.
     ∙ resume_over knowing w (env_of m) (reverse m.frames) stuck (at s m)
 
 pub returns-in-OnLine-clause-nears : goal.returns-in-OnLine-clause-nears
-returns-in-OnLine-clause-nears c = omega (arith, c.at_once.ensures.nears, ap statement_weight c.in-OnLine.is ∙ weight-OnLine _ _, ap statement_weight c.get.ensures)
+returns-in-OnLine-clause-nears c = omega (arith, c.on_line.ensures.nears, ap statement_weight c.in-OnLine.is ∙ weight-OnLine _ _, ap statement_weight c.get.ensures)
 
 pub returns-in-Nothing-clause-nears : goal.returns-in-Nothing-clause-nears
 returns-in-Nothing-clause-nears c = nearer _ _ _ _ (omega (arith, ap statement_weight c.in-Nothing.is ∙ weight-Nothing))

@@ -2,17 +2,18 @@ use Rattle.std.proofs.Common.{map, arith}
 use Rattle.ec_evaluation.specs.Results.{without_answer}
 use Rattle.ec_resolved.specs.Resolved.{library}
 use Rattle.ec_machine.specs.declared.frame.Frame.TheVariants as frame
-use Rattle.ec_machine.specs.Frames.{here}
+use Rattle.ec_machine.specs.Frames.{here, waiting}
 use Rattle.ec_machine.specs.Goes.{at, env_of, tasks}
 use Rattle.ec_machine.proofs.Moves.{pushed}
 use Rattle.ec_machine.proofs.Weighing.{err_exit, pushes}
-use Rattle.ec_machine.proofs.machine.Machine.library_call.Goals as goal
+use Rattle.ec_machine.proofs.machine.Machine.call_library.Goals as goal
 
 pub returns-clause-goes : goal.returns-clause-goes
 returns-clause-goes c = λ fs knowing fits k s l.
     let w = tasks knowing fs k in
     let m = c.args.self.now in
-    pushed knowing w (env_of m) m.frames c.push.new.self (frame.Steps m.line c.args.steps) (without_answer (knowing w (here (env_of m) m.line) (library c.args.number) (at s m))) c.in_ok-push.ensures.ok
+    pushed knowing w (env_of m) m.frames c.push.new.self (frame.Called m.line c.args.count c.args.steps)
+    (without_answer (knowing w (here (env_of m) m.line) (library c.args.number (waiting c.args.count (env_of m))) (at s m))) c.in_ok-push.ensures.ok
 
 pub returns-clause-nears : goal.returns-clause-nears
 returns-clause-nears c = pushes _ _ _ _ _ _ c.in_ok-push.ensures.ok (omega arith)
