@@ -1,5 +1,5 @@
 -- A call, from its parts.
-use Rattle.std.proofs.Common.{◌≡◌, ◌∙◌, ℕ, Bool, true, false, List, [], ◌++◌, map, Option, Some, None, Result, Ok, Err, refl, sym, subst, ap, append-nil}
+use Rattle.std.proofs.Common.{◌≡◌, ◌∙◌, ℕ, Bool, true, false, List, [], ◌∷◌, ◌++◌, map, Option, Some, None, Result, Ok, Err, refl, sym, subst, ap, append-nil}
 use Rattle.std.specs.Prelude.{slice_get}
 use Rattle.std.specs.declared.alloc.Global.{Global}
 use Rattle.std.specs.declared.dyn_box.DynBox.{DynBox}
@@ -10,7 +10,7 @@ use Rattle.ec_bytes.specs.declared.scalar.address.Ptr.{Ptr}
 use Rattle.ec_calls.specs.Growth.{state_of as outcome_state}
 use Rattle.ec_calls.specs.Library.{cut_done, if_cut, leads, library_call}
 use Rattle.ec_calls.specs.Outcomes.{Outcome, gives, finished, over as halted}
-use Rattle.ec_calls.specs.Steps.{called, called_of, library_step, no_step, settled}
+use Rattle.ec_calls.specs.Steps.{call_given, called, called_of, given_first, library_step, no_step, settled}
 use Rattle.ec_ctypes.specs.declared.checked.library.LibName.{LibName}
 use Rattle.ec_evaluation.specs.Agree.{Grows, state_of}
 use Rattle.ec_evaluation.specs.Evaluate.{World}
@@ -26,7 +26,7 @@ use Rattle.ec_machine.specs.declared.stop.End.TheVariants as ends
 use Rattle.ec_machine.specs.declared.stop.Stop.{Stop}
 use Rattle.ec_machine.specs.declared.stop.Stop.TheVariants as stop
 use Rattle.ec_machine.specs.Goes.{IsOver}
-use Rattle.ec_objects.specs.Memory.{Memory}
+use Rattle.ec_objects.specs.Memory.{Memory, ValueData}
 use Rattle.ec_observed.specs.Observed.{answers_in}
 use Rattle.ec_plain.specs.Answered.{at, context, ending_of}
 use Rattle.ec_resolved.specs.Resolved.{Exp}
@@ -37,7 +37,6 @@ use Rattle.ec_runtime.specs.declared.stop.CallStop.TheVariants as calls
 use Rattle.ec_runtime.specs.Calling.{Called as Served, MayAsk, conn_of, seen_by, Answers as Says, Stopped}
 use Rattle.ec_runtime.specs.Does.{placed as placed_there, saying as saying_there}
 use Rattle.ec_values.specs.declared.word.Stop.{Stop as NoValue}
-use Rattle.ec_calling.specs.declared.call.Argument.{Argument}
 use Rattle.ec_calling.specs.declared.call.Call.{Call}
 use Rattle.ec_calling.specs.Giving.{Evaluated, Halted}
 use Rattle.ec_calling.specs.Making.{Made, Part, known_of, position, running, turned}
@@ -142,9 +141,9 @@ ended : (e : Stop) (ending : Ending) (o : Res) (u : State) → IsOver e ending �
 ended (stop.Over x) ending o u is h = h ∙ ap (λ y. over y u) is
 ended stop.OutOfMemory ending o u is h = absurd is
 
-module _ (scope : List Ptr) (arguments : List Argument) (name : LibName) (line : ℕ) (m m1 : Memory) where
+module _ (scope : List Ptr) (arguments : List (Arg Exp)) (name : LibName) (line : ℕ) (m m1 : Memory) where
   abbrev pub InProgram : Part
-  InProgram w first s = called no_step w (context line scope first) name (map argument_view arguments) s
+  InProgram w first s = called no_step w (context line scope first) name arguments s
 
   abbrev Turning : List (Arg ℕ) → State → Res
   Turning given t = turn t (λ u. settled line (library_call name given u))
@@ -183,21 +182,33 @@ module _ (scope : List Ptr) (arguments : List Argument) (name : LibName) (line :
 
 -- ---- the call of a number
 
-module _ (all : List (LibName × List (Arg Exp))) (number line : ℕ) (scope : List Ptr) (m m' : Memory) (turns turns' : ℕ) where
-  pub numbered : (x y : Option Session) (call : Call) (result : Result (Unit {0}) Stop) → Some (call_view call) ≡ slice_get all number
-      → Made (InProgram scope call.arguments call.name line m m) (position m turns x) (position m' turns' y) result
-      → Called (library_step all) number line scope m turns x m' turns' y result
-  numbered x y call result e p = record {
-    growth = p.growth;
-    said = p.said;
-    does = λ w first s rest.
-        subst (λ o. Answers result (called_of no_step w (context line scope first) o (running (position m turns x) (answers_in p.growth ++ rest) s)) (running (position m' turns' y) rest (saying p.growth s))) e
-        (p.does w first s rest);
-  }
+-- a call that is there, with values of its first pointers
+given_there : (vs : List ValueData) (call : Call) → call_given vs (Some (call_view call)) ≡ Some (call.name, given_first vs (map argument_view call.arguments))
+given_there [] call = refl
+given_there (v ∷ vs) call = refl
 
-pub unnumbered : (all : List (LibName × List (Arg Exp))) (number line : ℕ) (scope : List Ptr) (m : Memory) (turns : ℕ) (x : Session) → None ≡ slice_get all number
-    → Called (library_step all) number line scope m turns (Some x) m turns (Some x) (Err (stop.Over ends.Stuck))
-unnumbered all number line scope m turns x e =
-    let p : Made (λ w first s. called_of no_step w (context line scope first) (slice_get all number) s) (position m turns (Some x)) (position m turns (Some x)) (Err (stop.Over ends.Stuck)) =
-    quiet _ m m turns turns x (Err (stop.Over ends.Stuck)) (λ w first u j. called_of no_step w (context line scope first) (sym e j) (holding m turns u)) in
+none_there : (vs : List ValueData) → call_given vs None ≡ None
+none_there [] = refl
+none_there (v ∷ vs) = refl
+
+module _ (all : List (LibName × List (Arg Exp))) (number : ℕ) (vs : List ValueData) (line : ℕ) (scope : List Ptr) (m m' : Memory) (turns turns' : ℕ) where
+  pub numbered : (x y : Option Session) (call : Call) (result : Result (Unit {0}) Stop) → Some (call_view call) ≡ slice_get all number
+      → Made (InProgram scope (given_first vs (map argument_view call.arguments)) call.name line m m) (position m turns x) (position m' turns' y) result
+      → Called (library_step all) number vs line scope m turns x m' turns' y result
+  numbered x y call result e p =
+      let is : Some (call.name, given_first vs (map argument_view call.arguments)) ≡ call_given vs (slice_get all number) = sym (given_there vs call) ∙ ap (call_given vs) e in
+      record {
+        growth = p.growth;
+        said = p.said;
+        does = λ w first s rest.
+            subst (λ o. Answers result (called_of no_step w (context line scope first) o (running (position m turns x) (answers_in p.growth ++ rest) s)) (running (position m' turns' y) rest (saying p.growth s))) is
+            (p.does w first s rest);
+      }
+
+pub unnumbered : (all : List (LibName × List (Arg Exp))) (number : ℕ) (vs : List ValueData) (line : ℕ) (scope : List Ptr) (m : Memory) (turns : ℕ) (x : Session) → None ≡ slice_get all number
+    → Called (library_step all) number vs line scope m turns (Some x) m turns (Some x) (Err (stop.Over ends.Stuck))
+unnumbered all number vs line scope m turns x e =
+    let is : None ≡ call_given vs (slice_get all number) = sym (none_there vs) ∙ ap (call_given vs) e in
+    let p : Made (λ w first s. called_of no_step w (context line scope first) (call_given vs (slice_get all number)) s) (position m turns (Some x)) (position m turns (Some x)) (Err (stop.Over ends.Stuck)) =
+    quiet _ m m turns turns x (Err (stop.Over ends.Stuck)) (λ w first u j. called_of no_step w (context line scope first) (sym is j) (holding m turns u)) in
     record { growth = p.growth; said = p.said; does = p.does }

@@ -1,21 +1,21 @@
 -- The arguments of a call, evaluated.
-use Rattle.std.specs.Prelude.{◌≡◌, ℕ, Bool, List, ◌∷◌, map, Option, Some, None, Result, Ok, Err}
+use Rattle.std.specs.Prelude.{◌≡◌, ℕ, Bool, List, ◌∷◌, map, Option, Some, None, option_map, Result, Ok, Err}
 use Rattle.std.proofs.Common.{Bor}
-use Rattle.ec_arguments.specs.Arguments.{Arg}
+use Rattle.ec_arguments.specs.Arguments.{Arg, pointer}
 use Rattle.ec_bytes.specs.declared.scalar.address.Ptr.{Ptr}
-use Rattle.ec_calls.specs.Steps.{arguments_given, no_step}
+use Rattle.ec_calls.specs.Steps.{arguments_given, given_first, no_step}
 use Rattle.ec_cut.specs.Views as cut
 use Rattle.ec_cut.specs.declared.arguments.Argument.{Argument as Given}
 use Rattle.ec_evaluation.specs.Evaluate.{World}
 use Rattle.ec_evaluation.specs.Results.{Res, over}
 use Rattle.ec_evaluation.specs.State.{State}
-use Rattle.ec_objects.specs.Memory.{Memory}
+use Rattle.ec_objects.specs.Memory.{Memory, ValueData}
 use Rattle.ec_plain.specs.Answered.{at, context, ending_of}
-use Rattle.ec_resolved.specs.Resolved.{Exp}
+use Rattle.ec_resolved.specs.Resolved.{Exp, constant}
+use Rattle.ec_values.specs.Words.{word_view}
 use Rattle.ec_values.specs.declared.word.Stop.{Stop}
+use Rattle.ec_values.specs.declared.word.Word.{Word}
 use Rattle.ec_calling.specs.declared.address.Address.{Address}
-use Rattle.ec_calling.specs.declared.call.Argument.{Argument}
-use Rattle.ec_calling.specs.Views.{argument_view}
 
 -- ---- what is given
 
@@ -60,21 +60,34 @@ GivesOne scope argument old new result =
     ≡ one_given line result (at s new)
     (λ x t. evaluated scope rest w line first t (λ given u. go (x ∷ given) u))
 
+-- ---- values that are there before
+
+-- an argument, whose pointer may have a value
+abbrev pub with_value : Option ValueData → Arg Exp → Arg Exp
+with_value (Some v) (pointer e) = pointer (constant v)
+with_value _ argument = argument
+
+-- where an argument is the first, it has this value, if any, and the others have these
+abbrev pub TakesValue : List Word → Arg Exp → Option Word → List Word → Type 0
+TakesValue given argument value left =
+    (rest : List (Arg Exp)) → given_first (map word_view given) (argument ∷ rest)
+    ≡ with_value (option_map word_view value) argument ∷ given_first (map word_view left) rest
+
 -- ---- all of them
 
-module _ (scope : List Ptr) (arguments : List Argument) (old new : Memory) where
+module _ (scope : List Ptr) (arguments : List (Arg Exp)) (old new : Memory) where
   -- whatever goes on with them, and whatever the tasks are: these are given, with the second memory
   abbrev pub Evaluated : List (Arg ℕ) → Type 0
   Evaluated given =
       (w : World) (line : ℕ) (first : Bool) (s : State) (go : Next)
-      → evaluated scope (map argument_view arguments) w line first (at s old) go
+      → evaluated scope arguments w line first (at s old) go
       ≡ go given (at s new)
 
   -- they stop the run
   abbrev pub Halted : Stop → Type 0
   Halted why =
       (w : World) (line : ℕ) (first : Bool) (s : State) (go : Next)
-      → evaluated scope (map argument_view arguments) w line first (at s old) go
+      → evaluated scope arguments w line first (at s old) go
       ≡ over (ending_of line why) (at s new)
 
   -- without memory for them they are evaluated all the same

@@ -50,3 +50,8 @@ run_seen line connection statement ins outs =
 abbrev pub call_seen : ℕ → GivenText → Kind → spec.Cut ℕ
 call_seen line connection kind =
     record { line = line; call = kind_view (text_seen connection) kind }
+
+-- PREPARE on a line: over which connection, under which name, which text
+abbrev pub prepare_seen : ℕ → GivenText → List ℕ → GivenText → spec.Cut ℕ
+prepare_seen line connection name text =
+    record { line = line; call = spec.prepare (text_seen connection) name (text_seen text) }

@@ -4,7 +4,7 @@ use Rattle.ec_arguments.specs.Arguments as arg
 use Rattle.ec_arguments.specs.Arguments.{Arg}
 use Rattle.ec_code.specs.Views.{plain_view}
 use Rattle.ec_ctypes.specs.declared.checked.library.LibName.{LibName}
-use Rattle.ec_resolved.specs.Resolved.{Exp}
+use Rattle.ec_resolved.specs.Resolved.{Exp, faulty}
 use Rattle.ec_calling.specs.declared.call.Argument.{Argument}
 use Rattle.ec_calling.specs.declared.call.Argument.TheVariants as argument
 use Rattle.ec_calling.specs.declared.call.Call.{Call}
@@ -16,6 +16,7 @@ argument_view argument.Null = arg.null
 argument_view (argument.Int n) = arg.int_constant n
 argument_view (argument.Long n) = arg.long_constant n
 argument_view (argument.Pointer e) = arg.pointer (plain_view e)
+argument_view argument.Before = arg.pointer faulty
 argument_view argument.Stray = arg.stray
 
 abbrev pub call_view : Call → LibName × List (Arg Exp)

@@ -18,6 +18,8 @@ pub enum Argument {
     Long(u64),
     /// A pointer, by an expression without calls.
     Pointer(Plain),
+    /// A pointer that is evaluated before the call.
+    Before,
     /// Anything else, which no call takes.
     Stray,
 }

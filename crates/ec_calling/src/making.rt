@@ -2,7 +2,7 @@
 
 ghost use Rattle.std.specs.Prelude.{◌≡◌, ◌≤◌, ℕ, map};
 ghost use Rattle.ec_calls.specs.Library.{library_call};
-ghost use Rattle.ec_calls.specs.Steps.{called, no_step, settled};
+ghost use Rattle.ec_calls.specs.Steps.{called, given_first, no_step, settled};
 ghost use Rattle.ec_evaluation.specs.Results.{Res, turn};
 ghost use Rattle.ec_evaluation.specs.State.{State};
 ghost use Rattle.ec_link.specs.Links.{faults_by, talk_by};
@@ -14,6 +14,7 @@ ghost use Rattle.ec_calling.specs.Giving.{all_seen};
 ghost use Rattle.ec_calling.specs.Leading.{Moved};
 ghost use Rattle.ec_calling.specs.Making.{Made, position_of, turned};
 ghost use Rattle.ec_calling.specs.Views.{argument_view};
+ghost use Rattle.ec_values.specs.Words.{word_view};
 
 use crate::address::Address;
 use crate::area::has_area;
@@ -28,7 +29,7 @@ use ec_link::{Link, Rack};
 use ec_machine::{End, Stop};
 use ec_memory::Store;
 use ec_runtime::{Call as Served, CallStop, Library};
-use ec_values::Stop as NoValue;
+use ec_values::{Stop as NoValue, Word};
 use std::alloc::Global;
 
 // Takes a turn, if one is left.
@@ -110,8 +111,8 @@ fn carry(
     }
 }
 
-/// A call: its arguments are evaluated, it takes its turn, and it is carried out. Its traps are at
-/// this line.
+/// A call whose first pointers have these values: its other arguments are evaluated, it takes its
+/// turn, and it is carried out. Its traps are at this line.
 ///
 /// A call that the library doesn't make is left as if there were no memory for it, and so is one
 /// without a communication area.
@@ -124,10 +125,12 @@ pub(crate) fn make(
     rack: &mut Rack,
     library: &mut Library,
     call: &Call,
+    values: &[Word],
 ) -> Result<(), Stop>
     requires { Holds library.old rack.old }
     ensures made { Made (λ w first s. called no_step w (context line.0 scope.now first)
-        call.now.name (map argument_view call.now.arguments) s)
+        call.now.name (given_first (map word_view values.now)
+        (map argument_view call.now.arguments)) s)
         (position_of store.old turns.old rack.old library.old)
         (position_of store.new turns.new rack.new library.new) result }
     ensures moved { Moved (talk_by ⟦<dyn Link as Link>⟧) (faults_by ⟦<dyn Link as Link>⟧)
@@ -136,7 +139,7 @@ pub(crate) fn make(
     ensures fewer { turns.new ≤ turns.old }
 {
     let arguments = call.arguments.as_slice();
-    match give(alloc, store, scope, arguments) {
+    match give(alloc, store, scope, arguments, values) {
         Err(why) => Err(stopped(line, why)),
         Ok(None) => Err(Stop::OutOfMemory),
         Ok(Some(given)) => {

@@ -1,18 +1,19 @@
-//! Calls that are cut, as the library is given them: transaction control, autocommit, and ECPGdo
-//! with a text that is sent, over hosts and constants.
+//! Calls that are cut, as the library is given them: transaction control, autocommit, PREPARE,
+//! DEALLOCATE, and ECPGdo over hosts and constants.
 
 ghost use Rattle.std.specs.Prelude.{◌≡◌, IfSome, map, option_map};
 ghost use Rattle.ec_cut.specs.Views.{indicators_view, place_view};
 ghost use Rattle.ec_runtime.specs.declared.call.Kind.TheVariants as kinds;
+ghost use Rattle.ec_runtime.specs.declared.call.Wanted.TheVariants as wants;
 ghost use Rattle.ec_runtime.specs.Places as places;
 ghost use Rattle.ec_runtime.specs.Reading.{given_view, input_view, text_view};
 ghost use Rattle.ec_runtime.specs.Statements.{cut_view, target_view, wanted_view};
 ghost use Rattle.ec_runtime.specs.Views.{host_view};
 ghost use Rattle.ec_calling.specs.Giving.{number_of};
-ghost use Rattle.ec_calling.specs.Serving.{call_seen, cut_seen, member_seen, members_seen, run_seen, statement_seen, text_seen};
+ghost use Rattle.ec_calling.specs.Serving.{call_seen, cut_seen, member_seen, members_seen, prepare_seen, run_seen, statement_seen, text_seen};
 
 use crate::address::Address;
-use ec_base::{Bytes, Line, List};
+use ec_base::{Bytes, Line, List, Name};
 use ec_bytes::Ptr;
 use ec_convert::HostPlace;
 use ec_ctypes::Sym;
@@ -184,7 +185,20 @@ fn given_of(alloc: Global, text: Text<&[u8], Address>) -> Option<GivenText>
     }
 }
 
-// The text of a statement.
+// A cursor for a prepared statement.
+fn opening_of(alloc: Global, head: &[u8], name: &[u8]) -> Option<Wanted>
+    ensures { IfSome result (λ made. made ≡ wants.Opening head.now name.now) }
+{
+    let Ok(head) = Bytes::from_slice(alloc, head) else {
+        return None;
+    };
+    match Name::from_slice(alloc, name) {
+        Ok(name) => Some(Wanted::Opening { head, name }),
+        Err(_) => None,
+    }
+}
+
+// The text of a statement, or the name of a prepared one.
 fn wanted_of(alloc: Global, statement: Asked<&[u8], Address>) -> Option<Wanted>
     ensures { IfSome result (λ made. wanted_view made ≡ statement_seen statement.entry) }
 {
@@ -193,12 +207,15 @@ fn wanted_of(alloc: Global, statement: Asked<&[u8], Address>) -> Option<Wanted>
             Ok(copy) => Some(Wanted::Normal(copy)),
             Err(_) => None,
         },
-        Asked::Prepared(_) => None,
+        Asked::Prepared(name) => match Name::from_slice(alloc, name) {
+            Ok(copy) => Some(Wanted::Prepared(copy)),
+            Err(_) => None,
+        },
         Asked::Immediate(text) => match given_of(alloc, text) {
             Some(given) => Some(Wanted::Immediate(given)),
             None => None,
         },
-        Asked::Opening(_, _) => None,
+        Asked::Opening(head, name) => opening_of(alloc, head, name),
     }
 }
 
@@ -247,6 +264,36 @@ fn control_of(alloc: Global, text: &[u8]) -> Option<Kind>
     }
 }
 
+// PREPARE.
+fn prepare_of(
+    alloc: Global,
+    line: u64,
+    connection: Text<&[u8], Address>,
+    name: &[u8],
+    text: Text<&[u8], Address>,
+) -> Option<Call>
+    ensures { IfSome result (λ made. cut_view made
+        ≡ prepare_seen line connection.entry name.now text.entry) }
+{
+    let Ok(name) = Name::from_slice(alloc, name) else {
+        return None;
+    };
+    let Some(text) = given_of(alloc, text) else {
+        return None;
+    };
+    call_of(alloc, line, connection, Kind::Prepare { name, text })
+}
+
+// DEALLOCATE.
+fn deallocate_of(alloc: Global, name: &[u8]) -> Option<Kind>
+    ensures { IfSome result (λ made. made ≡ kinds.Deallocate name.now) }
+{
+    match Name::from_slice(alloc, name) {
+        Ok(copy) => Some(Kind::Deallocate(copy)),
+        Err(_) => None,
+    }
+}
+
 /// A call as the library is given it. There is none of another kind than those that the library
 /// makes, and none without memory.
 pub(crate) fn served(alloc: Global, cut: &Cut<&[u8], Address>) -> Option<Call>
@@ -265,6 +312,13 @@ pub(crate) fn served(alloc: Global, cut: &Cut<&[u8], Address>) -> Option<Call>
             call_of(alloc, cut.line, *connection, Kind::Autocommit(*on))
         }
         CutCall::Control(connection, text) => match control_of(alloc, text) {
+            Some(kind) => call_of(alloc, cut.line, *connection, kind),
+            None => None,
+        },
+        CutCall::Prepare(connection, name, text) => {
+            prepare_of(alloc, cut.line, *connection, name, *text)
+        }
+        CutCall::Deallocate(connection, name) => match deallocate_of(alloc, name) {
             Some(kind) => call_of(alloc, cut.line, *connection, kind),
             None => None,
         },

@@ -14,6 +14,7 @@ use ec_machine::{End, Stop};
 use ec_memory::Store;
 use ec_running::Library;
 use ec_runtime::Library as Runtime;
+use ec_values::Word;
 use std::alloc::Global;
 use std::marker::PhantomData;
 
@@ -68,6 +69,7 @@ impl Library for Session<'_, '_> {
         line: Line,
         scope: &[Ptr],
         number: u32,
+        given: &[Word],
     ) -> Result<(), Stop> {
         match call_at(self.calls, number) {
             Some(call) => make(
@@ -79,6 +81,7 @@ impl Library for Session<'_, '_> {
                 self.rack,
                 &mut self.library,
                 call,
+                given,
             ),
             None => Err(Stop::Over(End::Stuck)),
         }

@@ -12,49 +12,23 @@ use Rattle.ec_ctypes.specs.trees.Units.{TopData, decl_top, func_top, UnitData}
 use Rattle.ec_language.specs.Letters.{Text, same_text}
 use Rattle.ec_known.specs.ec_typing.Library.{library_call}
 
--- whether a function is called in an expression, evaluated or not
-abbrev pub calls_function : ExprData → Bool
-calls_function (unary op a) = calls_function a
-calls_function (binary op a b) = calls_function a || calls_function b
-calls_function (assign op a b) = calls_function a || calls_function b
-calls_function (bump before up a) = calls_function a
-calls_function (call f es) = true
-calls_function (call_other f es) = true
-calls_function (index a b) = calls_function a || calls_function b
-calls_function (member a m) = calls_function a
-calls_function (arrow a m) = calls_function a
-calls_function (cast b stars a) = calls_function a
-calls_function (size_expr a) = calls_function a
-calls_function _ = false
-
-abbrev pub any_calls_function : ExprList → Bool
-any_calls_function no_exprs = false
-any_calls_function (exprs e es) = calls_function e || any_calls_function es
-
 -- whether an expression is this symbol of the library
 abbrev pub is_symbol : Sym → ExprData → Bool
 is_symbol s (identifier x) = same_text (symbol_text s) x
 is_symbol s _ = false
 
--- whether a statement is a text that is sent: one that is written there, or one that is known when it runs
-abbrev pub is_text : ExprData → Bool
-is_text kind = is_symbol symbol.StatementNormal kind || is_symbol symbol.StatementExecImmediate kind
-
--- by the third argument, behind the line and the connection
-abbrev pub sends_text : ExprList → Bool
-sends_text (exprs line (exprs connection (exprs kind rest))) = is_text kind
-sends_text _ = false
-
 abbrev pub has_descriptor : ExprList → Bool
 has_descriptor no_exprs = false
 has_descriptor (exprs e es) = is_symbol symbol.Descriptor e || has_descriptor es
 
--- The calls that the library makes: transaction control; autocommit; a text that is sent, over hosts
--- and constants. No function is called for an argument.
+-- The calls that the library makes: transaction control; autocommit; PREPARE and DEALLOCATE; a
+-- statement over hosts and constants.
 abbrev pub is_made : LibName → ExprList → Bool
-is_made library.Do es = sends_text es && not (has_descriptor es) && not (any_calls_function es)
-is_made library.Trans es = not (any_calls_function es)
-is_made library.SetCommit es = not (any_calls_function es)
+is_made library.Do es = not (has_descriptor es)
+is_made library.Trans es = true
+is_made library.SetCommit es = true
+is_made library.Prepare es = true
+is_made library.Deallocate es = true
 is_made _ es = false
 
 abbrev pub unmade : Option LibName → ExprList → Bool

@@ -4,8 +4,8 @@
 ghost use Rattle.std.specs.Prelude.{◌≡◌};
 ghost use Rattle.ec_library_calls.specs.Examples.{unmade_in, nowhere, on_line};
 
-/// A call over hosts and constants is made, and so are transaction control and autocommit; one over a descriptor, of a
-/// prepared statement, with a function called for an argument, or of another function of the library isn't yet. The first
+/// A call over hosts and constants is made, whatever is called for its arguments, and so are transaction control,
+/// autocommit, PREPARE and DEALLOCATE; one over a descriptor, or of another function of the library isn't yet. The first
 /// such call in the text counts.
 pub fn worked_examples()
     ensures no_call { unmade_in "f();"
@@ -21,9 +21,15 @@ pub fn worked_examples()
         ≡ on_line 2 }
     ensures function_called { unmade_in
         "ECPGdo(2, NULL, ECPGst_normal, \"s\", ECPGt_EOIT, ECPGt_int, &a[f()], 0L, 1L, 4L, ECPGt_NO_INDICATOR, NULL, 0L, 0L, 0L, ECPGt_EORT);"
-        ≡ on_line 2 }
+        ≡ nowhere }
     ensures prepared { unmade_in
         "ECPGdo(2, NULL, ECPGst_execute, \"s\", ECPGt_EOIT, ECPGt_EORT);"
+        ≡ nowhere }
+    ensures opened { unmade_in
+        "ECPGdo(2, NULL, ECPGst_open, \"declare c cursor for \", \"s\", ECPGt_EOIT, ECPGt_EORT);"
+        ≡ nowhere }
+    ensures executed_with_a_descriptor { unmade_in
+        "ECPGdo(2, NULL, ECPGst_execute, \"s\", ECPGt_EOIT, ECPGt_descriptor, \"d\", 1L, 1L, 1L, ECPGt_NO_INDICATOR, NULL, 0L, 0L, 0L, ECPGt_EORT);"
         ≡ on_line 2 }
     ensures immediate { unmade_in
         "ECPGdo(2, NULL, ECPGst_exec_immediate, \"s\", ECPGt_EOIT, ECPGt_EORT);"
@@ -34,9 +40,18 @@ pub fn worked_examples()
     ensures autocommit { unmade_in
         "ECPGsetcommit(2, \"off\", NULL);"
         ≡ nowhere }
+    ensures prepare { unmade_in
+        "ECPGprepare(2, NULL, \"s\", \"delete from t\");"
+        ≡ nowhere }
+    ensures deallocate { unmade_in
+        "ECPGdeallocate(2, NULL, \"s\");"
+        ≡ nowhere }
+    ensures function_called_for_text { unmade_in
+        "ECPGprepare(2, NULL, \"s\", &a[f()]);"
+        ≡ nowhere }
     ensures function_called_for_connection { unmade_in
         "ECPGtrans(2, &a[f()], \"commit\");"
-        ≡ on_line 2 }
+        ≡ nowhere }
     ensures other_function { unmade_in
         "ECPGdisconnect(2, \"CURRENT\");"
         ≡ on_line 2 }

@@ -7,7 +7,7 @@ use Rattle.ec_link.specs.declared.rack.Rack.{Rack}
 use Rattle.ec_link.specs.Logged.{Talk}
 use Rattle.ec_objects.specs.Memory.{Memory}
 use Rattle.ec_observed.specs.Observed.{answers_in}
-use Rattle.ec_evaluation.specs.State.{Answer, Connection, State}
+use Rattle.ec_evaluation.specs.State.{Connection, State}
 use Rattle.ec_calls.specs.Autocommit.{autocommit_set}
 use Rattle.ec_calls.specs.Connections.{control_sent}
 use Rattle.ec_calls.specs.Outcomes.{Text, Outcome}
@@ -23,10 +23,12 @@ use Rattle.ec_runtime.specs.declared.stop.CallStop.{CallStop}
 use Rattle.ec_runtime.specs.Calling.{called_by, Answers, Stopped, Carries, bare, Closed, Called}
 use Rattle.ec_runtime.specs.Does.{Seen, placed, saying, Left, Does, Over}
 use Rattle.ec_runtime.specs.Says.{Says}
-use Rattle.ec_runtime.specs.Statements.{reached, ran, kind_done}
+use Rattle.ec_runtime.specs.declared.inputs.GivenText.{GivenText}
+use Rattle.ec_runtime.specs.Statements.{reached, deallocated, preparing, ran, kind_done}
 use Rattle.ec_runtime.proofs.Grows.{control_grows}
 use Rattle.ec_runtime.proofs.Joining.{and_stop}
 use Rattle.ec_runtime.proofs.Switching.{set_grows}
+use Rattle.ec_runtime.proofs.Takes.{deallocated_grows}
 
 -- what a call answers, by how its parts end
 answers_as : (r : Result (Unit {0}) Stop) (o : Outcome (Unit {0})) (s : State) → Says r o s → Answers (called_by r) o s
@@ -89,3 +91,11 @@ module _ (line : ℕ) (kind : Kind) (name : Option Text) (m : Memory) where
   autocommit_closed on m' stop e p =
       subst (λ k. Ends k m' stop) (sym e)
       (and_stop (reached line name) (λ c t. autocommit_set line on c t) (bare m) (bare m') [] stop (λ c. set_grows line on c) p)
+
+  pub prepare_closed : (own : Text) (given : GivenText) (m' : Memory) (r : Result (Unit {0}) Stop) → kind ≡ kinds.Prepare own given → Closed (preparing line own given name) m m' r → Closed (kind_done line kind name) m m' r
+  prepare_closed own given m' r e p = subst (λ k. Closed (kind_done line k name) m m' r) (sym e) p
+
+  pub deallocate_closed : (own : Text) (m' : Memory) (stop : Stop) → kind ≡ kinds.Deallocate own → Does {A = Connection} (reached line name) (bare m) (bare m') [] (Err stop) → Ends kind m' stop
+  deallocate_closed own m' stop e p =
+      subst (λ k. Ends k m' stop) (sym e)
+      (and_stop (reached line name) (λ c t. deallocated line own c t) (bare m) (bare m') [] stop (λ c. deallocated_grows line own c) p)

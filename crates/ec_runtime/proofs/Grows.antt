@@ -19,8 +19,8 @@ use Rattle.ec_calls.specs.Outcomes.{Text, Field, Outcome, gives, finished, over,
 use Rattle.ec_calls.specs.Connections.{wanted_name, found_connection, connection_of, connection_for, connection_named, answered, asked, controlled, control_sent, begins, begin_text, begun}
 use Rattle.ec_calls.specs.Inputs.{host_data, text_read, value_read, member_read}
 use Rattle.ec_calls.specs.Storing.{stored_by, field_kept, in_column, column_kept, targets_kept, any_fewer, measured, counted_rows}
-use Rattle.ec_calls.specs.Answers.{count_of, done, replied}
-use Rattle.ec_calls.specs.Running.{Outputs, nowhere, hosts, area, row_into, rows_stored, table_kept}
+use Rattle.ec_calls.specs.Answers.{count_of, done, replied, taken}
+use Rattle.ec_calls.specs.Running.{Outputs, nowhere, hosts, area, row_into, rows_stored, table_kept, found_text}
 
 nil_right : (xs : List Logged) → xs ≡ xs ++ []
 nil_right [] = refl
@@ -153,6 +153,18 @@ replied_grows line wanted store h (Refused state message tx) s = same_front s.co
 replied_grows line wanted store h Connected s = same_front s.conversation
 replied_grows line wanted store h NoTarget s = same_front s.conversation
 replied_grows line wanted store h Broken s = same_front s.conversation
+
+pub taken_grows : (line : ℕ) (r : Reply) → Grows (taken line r)
+taken_grows line (Rows table tx) s = same_front s.conversation
+taken_grows line (Done count tx) s = same_front s.conversation
+taken_grows line (Refused state message tx) s = same_front s.conversation
+taken_grows line Connected s = same_front s.conversation
+taken_grows line NoTarget s = same_front s.conversation
+taken_grows line Broken s = same_front s.conversation
+
+pub found_text_grows : (A : Type 0) (line : ℕ) (o : Option Text) (made : Text → A) → Grows (found_text line o made)
+found_text_grows A line None made s = same_front s.conversation
+found_text_grows A line (Some bytes) made s = same_front s.conversation
 
 -- ---- what is read
 

@@ -4,9 +4,12 @@ pub mod Fits
 pub mod Grows
 pub mod Joining
 pub mod Kept
+pub mod Orders
+pub mod Placing
 pub mod Sending
 pub mod Starting
 pub mod Stored
 pub mod Switching
+pub mod Takes
 pub mod Targets
 pub mod Texts

@@ -4,7 +4,7 @@ use Rattle.std.specs.Cmp.Lexicographic.{nat_list_eq_equiv}
 use Rattle.std.specs.declared.alloc.Global.{Global}
 use Rattle.std.specs.declared.dyn_box.DynBox.{DynBox}
 use Rattle.ec_base.specs.declared.stop.Trap.{Trap}
-use Rattle.ec_arguments.specs.Arguments.{TextArg as TextData, Member, normal}
+use Rattle.ec_arguments.specs.Arguments.{TextArg as TextData, Member}
 use Rattle.ec_link.specs.declared.logged.Logged.{Logged}
 use Rattle.ec_link.specs.declared.rack.Rack.{Rack}
 use Rattle.ec_link.specs.declared.request.Request.{Request}
@@ -17,10 +17,13 @@ use Rattle.ec_transfer.specs.Codes.{code_of, state_of, text_of_finding}
 use Rattle.ec_evaluation.specs.State.{Answer, Connection, State}
 use Rattle.ec_calls.specs.Growth.{Grows}
 use Rattle.ec_calls.specs.Outcomes.{Text, Field, trapped, Outcome, gives, finished, over, next, with_memory, fresh_area, told_area, begun_area, raised}
-use Rattle.ec_calls.specs.Connections.{same_name, found_connection, connection_for}
+use Rattle.ec_calls.specs.Answers.{taken}
+use Rattle.ec_calls.specs.Connections.{same_name, found_connection, connection_for, asked}
 use Rattle.ec_calls.specs.Inputs.{text_read, given_read, Inputs, with_param, inputs_read, value_read, member_read}
 use Rattle.ec_calls.specs.Library.{call_done}
-use Rattle.ec_calls.specs.Running.{places_of, into_places, outputs_read, outputs_found, carried_out, statement_read as statement_said, text}
+use Rattle.ec_calls.specs.Marks.{with_marks}
+use Rattle.ec_calls.specs.Preparing.{with_text, without_text, prepared_anew, prepare_call, deallocate_call}
+use Rattle.ec_calls.specs.Running.{text, places_of, into_places, outputs_read, outputs_found, carried_out, request_of, prepared_text, found_text, statement_read as statement_said}
 use Rattle.ec_runtime.specs.declared.call.Call.{Call}
 use Rattle.ec_runtime.specs.declared.call.Kind.{Kind}
 use Rattle.ec_runtime.specs.declared.call.Kind.TheVariants as kinds
@@ -33,6 +36,9 @@ use Rattle.ec_runtime.specs.declared.inputs.GivenText.TheVariants as givens
 use Rattle.ec_runtime.specs.declared.inputs.Input.{Input}
 use Rattle.ec_runtime.specs.declared.inputs.Input.TheVariants as inputs
 use Rattle.ec_runtime.specs.declared.open.Open.{Open}
+use Rattle.ec_runtime.specs.declared.order.Order.{Order}
+use Rattle.ec_runtime.specs.declared.order.What.{What}
+use Rattle.ec_runtime.specs.declared.order.What.TheVariants as whats
 use Rattle.ec_runtime.specs.declared.stop.Stop.{Stop}
 use Rattle.ec_runtime.specs.declared.stop.Stop.TheVariants as stops
 use Rattle.ec_runtime.specs.Calling.{bare}
@@ -40,11 +46,11 @@ use Rattle.ec_runtime.specs.Does.{Seen, placed, seen, Does, Over}
 use Rattle.ec_runtime.specs.Opening.{open_view}
 use Rattle.ec_runtime.specs.Reading.{text_view, given_view, input_view, values_read, is_named, TextIs}
 use Rattle.ec_runtime.specs.Says.{Says, Quiet}
-use Rattle.ec_runtime.specs.Statements.{reached, carried, started, wanted_read, wanted_view, statement_read, ran, controlling, kind_done, target_view, kind_view, call_action}
+use Rattle.ec_runtime.specs.Statements.{reached, carried, what_view, ordered, started, wanted_read, wanted_view, statement_read, ran, controlling, request_taken, deallocate_sent, text_prepared, preparing, deallocating, kind_done, target_view, kind_view, call_action}
 use Rattle.ec_runtime.specs.Views.{host_view, hosts_view, outputs_of}
 use Rattle.ec_runtime.proofs.Grows.{same_front, next_grows, trying_grows, begun_area_grows, connection_grows, member_grows}
-use Rattle.ec_runtime.proofs.Joining.{quiet, same_action, and_next, and_stop, no_memory, over_quiet, over_next, over_stop}
-use Rattle.ec_runtime.proofs.Sending.{carried_grows}
+use Rattle.ec_runtime.proofs.Joining.{quiet, same_action, and_next, and_stop, over_quiet, over_next, over_stop}
+use Rattle.ec_runtime.proofs.Orders.{ordered_grows}
 use Rattle.ec_runtime.proofs.Targets.{stopped_next}
 
 -- ---- what only adds
@@ -52,29 +58,31 @@ use Rattle.ec_runtime.proofs.Targets.{stopped_next}
 pub reached_grows : (line : ℕ) (name : Option Text) → Grows (reached line name)
 reached_grows line name = next_grows begun_area (λ _ t. connection_for line name t) begun_area_grows (λ _. connection_grows line name)
 
-pub started_grows : (line : ℕ) (request : Request) (hs : List Host) (name : Option Text) → Grows (started line request hs name)
-started_grows line request hs name = next_grows (reached line name) (λ c t. carried line request hs c t) (reached_grows line name) (λ c. carried_grows line request hs c)
+pub started_grows : (line : ℕ) (order : Order) (hs : List Host) (name : Option Text) → Grows (started line order hs name)
+started_grows line order hs name = next_grows (reached line name) (λ c t. ordered line order hs c t) (reached_grows line name) (λ c. ordered_grows line order hs c)
 
 pub values_grow : (ms : List (Member ℕ)) → Grows (values_read ms)
 values_grow [] = λ s. same_front s.conversation
 values_grow (m ∷ ms) = next_grows (member_read m) (λ field t. next (values_read ms t) (λ fields u. gives (field ∷ fields) u)) (member_grows m) (λ field.
     next_grows (values_read ms) (λ fields u. gives (field ∷ fields) u) (values_grow ms) (λ fields u. same_front u.conversation))
 
-given_grows : (text : GivenText) → Grows (given_read (given_view text))
+pub given_grows : (given : GivenText) → Grows (given_read (given_view given))
 given_grows (givens.Word bytes) s = same_front s.conversation
 given_grows (givens.Held at) s = trying_grows (text_at s.memory at.0) s
 
 wanted_grows : (it : Wanted) → Grows (wanted_read it)
 wanted_grows (wants.Normal bytes) s = same_front s.conversation
-wanted_grows (wants.Immediate given) s = given_grows given s
+wanted_grows (wants.Prepared name) s = same_front s.conversation
+wanted_grows (wants.Immediate given) s = next_grows (given_read (given_view given)) (λ bytes t. gives (whats.Text bytes) t) (given_grows given) (λ bytes t. same_front t.conversation) s
+wanted_grows (wants.Opening head name) s = same_front s.conversation
 
--- the request with this text
-abbrev with_values : Statement → Text → State → Outcome Request
-with_values it bytes t = next (values_read (map input_view it.ins) t) (λ params u. gives (request.Text bytes params) u)
+-- what is asked for with the values
+abbrev with_values : Statement → What → State → Outcome Order
+with_values it what t = next (values_read (map input_view it.ins) t) (λ params u. gives (record { what = what; params = params }) u)
 
 pub statement_grows : (it : Statement) → Grows (statement_read it)
-statement_grows it = next_grows (wanted_read it.wanted) (λ bytes t. with_values it bytes t) (wanted_grows it.wanted) (λ bytes.
-    next_grows (values_read (map input_view it.ins)) (λ params u. gives (request.Text bytes params) u) (values_grow (map input_view it.ins)) (λ params u. same_front u.conversation))
+statement_grows it = next_grows (wanted_read it.wanted) (λ what t. with_values it what t) (wanted_grows it.wanted) (λ what.
+    next_grows (values_read (map input_view it.ins)) (λ params u. gives (record { what = what; params = params }) u) (values_grow (map input_view it.ins)) (λ params u. same_front u.conversation))
 
 -- ---- inputs and outputs
 
@@ -112,41 +120,59 @@ outputs_there : (line : ℕ) (hs : List Host) (s : State) → outputs_found line
 outputs_there line [] s = refl
 outputs_there line (h ∷ hs) s = refl
 
--- with what was read, the call is what follows
-carried_there : (line : ℕ) (bytes : Text) (hs : List Host) (name : Option Text) (fields : List Field) (s : State)
-    → carried_out line name (text bytes) (only_params fields) (outputs_of hs) s ≡ started line (request.Text bytes fields) hs name s
-carried_there line bytes hs name fields s = λ j.
-    next (connection_for line name (with_memory (fresh_area s.memory) s)) (λ c t. next (outputs_there line hs t j) (λ _ u. carried line (request.Text bytes fields) hs c u))
+-- two parts that follow one are what follows it
+next_next : {A B C : Type 0} (o : Outcome A) (go : A → State → Outcome B) (more : B → State → Outcome C) → next (next o go) more ≡ next o (λ a s. next (go a s) more)
+next_next (gives a s) go more = refl
+next_next (finished s) go more = refl
+next_next (over halt s) go more = refl
 
-behind_values : (line : ℕ) (bytes : Text) (hs : List Host) (name : Option Text) (o : Outcome (List Field))
-    → next (next o (λ fields t. gives (only_params fields) t)) (λ given t. next (outputs_read (map target_view hs) t) (λ outputs u. carried_out line name (text bytes) given outputs u))
-    ≡ next (next o (λ fields t. gives (request.Text bytes fields) t)) (λ asks t. started line asks hs name t)
-behind_values line bytes hs name (gives fields t) = (λ j. next (outputs_known hs t j) (λ outputs u. carried_out line name (text bytes) (only_params fields) outputs u)) ∙ carried_there line bytes hs name fields t
-behind_values line bytes hs name (finished t) = refl
-behind_values line bytes hs name (over halt t) = refl
+-- with what was read, the call is what follows
+module _ (line : ℕ) (what : What) (hs : List Host) (name : Option Text) (fields : List Field) where
+  abbrev order_of : Order
+  order_of = record { what = what; params = fields }
+
+  -- once the request is known
+  behind_request : (c : Connection) (o : Outcome (List Field → Request))
+      → next o (λ made t. next (outputs_found line (outputs_of hs) t) (λ _ u. carried line (made fields) hs c u)) ≡ next (next o (λ made t. gives (made fields) t)) (λ asks t. carried line asks hs c t)
+  behind_request c (gives made t) = λ j. next (outputs_there line hs t j) (λ _ u. carried line (made fields) hs c u)
+  behind_request c (finished t) = refl
+  behind_request c (over halt t) = refl
+
+  carried_there : (s : State) → carried_out line name (what_view what) (only_params fields) (outputs_of hs) s ≡ started line order_of hs name s
+  carried_there s = λ j.
+      next (connection_for line name (with_memory (fresh_area s.memory) s)) (λ c t. behind_request c (request_of line (what_view what) c t) j)
+
+behind_values : (line : ℕ) (what : What) (hs : List Host) (name : Option Text) (o : Outcome (List Field))
+    → next (next o (λ fields t. gives (only_params fields) t)) (λ given t. next (outputs_read (map target_view hs) t) (λ outputs u. carried_out line name (what_view what) given outputs u))
+    ≡ next (next o (λ fields t. gives (order_of line what hs name fields) t)) (λ order t. started line order hs name t)
+behind_values line what hs name (gives fields t) = (λ j. next (outputs_known hs t j) (λ outputs u. carried_out line name (what_view what) (only_params fields) outputs u)) ∙ carried_there line what hs name fields t
+behind_values line what hs name (finished t) = refl
+behind_values line what hs name (over halt t) = refl
 
 -- ---- a call is what follows behind the name of its connection
 
--- once its text is read
-with_text : (line : ℕ) (it : Statement) (name : Option Text) (bytes : Text) (s : State)
-    → next (inputs_read (map input_view it.ins) s) (λ given t. next (outputs_read (map target_view it.outs) t) (λ outputs u. carried_out line name (text bytes) given outputs u))
-    ≡ next (with_values it bytes s) (λ asks t. started line asks it.outs name t)
-with_text line it name bytes s =
-    (λ j. next (inputs_split it.ins s j) (λ given t. next (outputs_read (map target_view it.outs) t) (λ outputs u. carried_out line name (text bytes) given outputs u)))
-    ∙ behind_values line bytes it.outs name (values_read (map input_view it.ins) s)
+-- once it is read what is asked for
+with_what : (line : ℕ) (it : Statement) (name : Option Text) (what : What) (s : State)
+    → next (inputs_read (map input_view it.ins) s) (λ given t. next (outputs_read (map target_view it.outs) t) (λ outputs u. carried_out line name (what_view what) given outputs u))
+    ≡ next (with_values it what s) (λ order t. started line order it.outs name t)
+with_what line it name what s =
+    (λ j. next (inputs_split it.ins s j) (λ given t. next (outputs_read (map target_view it.outs) t) (λ outputs u. carried_out line name (what_view what) given outputs u)))
+    ∙ behind_values line what it.outs name (values_read (map input_view it.ins) s)
 
 behind_text : (line : ℕ) (it : Statement) (name : Option Text) (o : Outcome Text)
     → next (next o (λ bytes t. gives (text bytes) t)) (λ wanted t. next (inputs_read (map input_view it.ins) t) (λ given u. next (outputs_read (map target_view it.outs) u) (λ outputs v. carried_out line name wanted given outputs v)))
-    ≡ next (next o (λ bytes t. with_values it bytes t)) (λ asks t. started line asks it.outs name t)
-behind_text line it name (gives bytes t) = with_text line it name bytes t
+    ≡ next (next (next o (λ bytes t. gives (whats.Text bytes) t)) (λ what t. with_values it what t)) (λ order t. started line order it.outs name t)
+behind_text line it name (gives bytes t) = with_what line it name (whats.Text bytes) t
 behind_text line it name (finished t) = refl
 behind_text line it name (over halt t) = refl
 
 behind_wanted : (line : ℕ) (it : Statement) (name : Option Text) (w : Wanted) (s : State)
     → next (statement_said (wanted_view w) s) (λ wanted t. next (inputs_read (map input_view it.ins) t) (λ given u. next (outputs_read (map target_view it.outs) u) (λ outputs v. carried_out line name wanted given outputs v)))
-    ≡ next (next (wanted_read w s) (λ bytes t. with_values it bytes t)) (λ asks t. started line asks it.outs name t)
-behind_wanted line it name (wants.Normal bytes) s = with_text line it name bytes s
+    ≡ next (next (wanted_read w s) (λ what t. with_values it what t)) (λ order t. started line order it.outs name t)
+behind_wanted line it name (wants.Normal bytes) s = with_what line it name (whats.Text bytes) s
+behind_wanted line it name (wants.Prepared own) s = with_what line it name (whats.Execution own) s
 behind_wanted line it name (wants.Immediate given) s = behind_text line it name (given_read (given_view given) s)
+behind_wanted line it name (wants.Opening head own) s = with_what line it name (whats.Cursor head own) s
 
 behind_name : (line : ℕ) (it : Statement) (o : Outcome (Option Text))
     → next o (λ name t. next (statement_said (wanted_view it.wanted) t) (λ wanted u. next (inputs_read (map input_view it.ins) u) (λ given v. next (outputs_read (map target_view it.outs) v) (λ outputs w. carried_out line name wanted given outputs w))))
@@ -155,10 +181,33 @@ behind_name line it (gives name t) = behind_wanted line it name it.wanted t
 behind_name line it (finished t) = refl
 behind_name line it (over halt t) = refl
 
+module _ (line : ℕ) (named : TextData ℕ) (own : Text) (s : State) where
+  -- once the server took a request
+  taken_is : (slot : ℕ) (asks : Request) (change : List (Text × Text) → List (Text × Text)) (t : State)
+      → next (asked slot asks t) (λ reply u. next (taken line reply u) (λ _ v. gives (tt {0}) (prepared_anew slot change v)))
+      ≡ next (request_taken line asks slot t) (λ _ v. gives tt (prepared_anew slot change v))
+  taken_is slot asks change t = sym (next_next (asked slot asks t) (λ reply u. taken line reply u) (λ _ v. gives tt (prepared_anew slot change v)))
+
+  prepare_is : (given : GivenText) → prepare_call line named own (given_view given) s ≡ next (text_read named s) (λ called t. preparing line own given called t)
+  prepare_is given =
+      (λ j. next (text_read named s) (λ called t. next (given_read (given_view given) t) (λ bytes u.
+      next (connection_for line called (with_memory (fresh_area u.memory) u)) (λ c v. taken_is c.slot (request.Prepare own (with_marks bytes)) (with_text own (with_marks bytes)) v j))))
+      ∙ (λ j. next (text_read named s) (λ called t.
+      sym (next_next (given_read (given_view given) t) (λ bytes u. gives (with_marks bytes) u) (λ bytes u. text_prepared line own bytes called u)) j))
+
+  deallocate_is : deallocate_call line named own s ≡ next (text_read named s) (λ called t. deallocating line own called t)
+  deallocate_is =
+      (λ j. next (text_read named s) (λ called t. next (connection_for line called (with_memory (fresh_area t.memory) t)) (λ c u.
+      next (found_text line (prepared_text own c.prepared) (λ bytes. bytes) u) (λ _ v. taken_is c.slot (request.Deallocate own) (without_text own) v j))))
+      ∙ (λ j. next (text_read named s) (λ called t. next (connection_for line called (with_memory (fresh_area t.memory) t)) (λ c u.
+      sym (next_next (found_text line (prepared_text own c.prepared) (λ bytes. bytes) u) (λ _ v. gives (tt {0}) v) (λ _ v. deallocate_sent line own c v)) j)))
+
 kind_is : (line : ℕ) (named : TextData ℕ) (kind : Kind) (s : State) → call_done line (kind_view named kind) s ≡ next (text_read named s) (λ name t. kind_done line kind name t)
 kind_is line named (kinds.Run it) s = behind_name line it (text_read named s)
 kind_is line named (kinds.Control bytes) s = refl
 kind_is line named (kinds.Autocommit on) s = refl
+kind_is line named (kinds.Prepare own given) s = prepare_is line named own s given
+kind_is line named (kinds.Deallocate own) s = deallocate_is line named own s
 
 module _ (it : Call) where
   abbrev behind : Option Text → State → Outcome (Unit {0})
@@ -232,21 +281,22 @@ reached_closed line name m m1 m' stop area told is =
 
 -- ---- what a statement reads
 
-pub text_stops : (it : Statement) (m : Memory) (stop : Stop) → Quiet {A = Text} (Err stop) (wanted_read it.wanted) m m → Quiet {A = Request} (Err stop) (statement_read it) m m
-text_stops it m stop q s = stopped_next stop (wanted_read it.wanted (with_memory m s)) (with_memory m s) (λ bytes t. with_values it bytes t) (q s)
+pub wanted_stops : (it : Statement) (m : Memory) (stop : Stop) → Quiet {A = What} (Err stop) (wanted_read it.wanted) m m → Quiet {A = Order} (Err stop) (statement_read it) m m
+wanted_stops it m stop q s = stopped_next stop (wanted_read it.wanted (with_memory m s)) (with_memory m s) (λ what t. with_values it what t) (q s)
 
-module _ (it : Statement) (lent : List Input) (m : Memory) (bytes : Text) (e : lent ≡ it.ins) (read : Quiet (Ok bytes) (wanted_read it.wanted) m m) where
-  read_first : (s : State) → statement_read it (with_memory m s) ≡ with_values it bytes (with_memory m s)
+module _ (it : Statement) (lent : List Input) (m : Memory) (what : What) (e : lent ≡ it.ins) (read : Quiet (Ok what) (wanted_read it.wanted) m m) where
+  read_first : (s : State) → statement_read it (with_memory m s) ≡ with_values it what (with_memory m s)
   read_first s = λ j. next (read s j) (λ x t. with_values it x t)
 
-  pub reading_stops : (stop : Stop) → Quiet {A = List Field} (Err stop) (values_read (map input_view lent)) m m → Quiet {A = Request} (Err stop) (statement_read it) m m
+  pub reading_stops : (stop : Stop) → Quiet {A = List Field} (Err stop) (values_read (map input_view lent)) m m → Quiet {A = Order} (Err stop) (statement_read it) m m
   reading_stops stop q s =
-      subst (λ o. Says {A = Request} (Err stop) o (with_memory m s)) (sym (read_first s))
-      (stopped_next stop (values_read (map input_view it.ins) (with_memory m s)) (with_memory m s) (λ params t. gives (request.Text bytes params) t)
+      subst (λ o. Says {A = Order} (Err stop) o (with_memory m s)) (sym (read_first s))
+      (stopped_next stop (values_read (map input_view it.ins) (with_memory m s)) (with_memory m s) (λ params t. gives (record { what = what; params = params }) t)
       (subst (λ x. Quiet {A = List Field} (Err stop) (values_read (map input_view x)) m m) e q s))
 
-  pub reading_gives : (params : List Field) → Quiet (Ok params) (values_read (map input_view lent)) m m → Quiet (Ok (request.Text bytes params)) (statement_read it) m m
-  reading_gives params q s = read_first s ∙ (λ j. next (subst (λ x. Quiet (Ok params) (values_read (map input_view x)) m m) e q s j) (λ given t. gives (request.Text bytes given) t))
+  pub reading_gives : (params : List Field) → Quiet (Ok params) (values_read (map input_view lent)) m m → Quiet (Ok (record { what = what; params = params })) (statement_read it) m m
+  reading_gives params q s =
+      read_first s ∙ (λ j. next (subst (λ x. Quiet (Ok params) (values_read (map input_view x)) m m) e q s j) (λ given t. gives (record { what = what; params = given }) t))
 
 module _ {X : Type 0} {F : X → Type 0} (talk : DynBox X Global F → Option Talk) (faults : DynBox X Global F → ℕ) where
   -- the action is another one in the states that are met
@@ -289,31 +339,31 @@ module _ {X : Type 0} {F : X → Type 0} (talk : DynBox X Global F → Option Ta
   -- ---- a statement over it
 
   module _ (line : ℕ) (it : Statement) (name : Option Text) (m : Memory) (rack : Rack X F) (was : Open X F) where
-    abbrev With : Request → State → Outcome (Unit {0})
-    With asks t = started line asks it.outs name t
+    abbrev With : Order → State → Outcome (Unit {0})
+    With order t = started line order it.outs name t
 
-    pub run_stopped : (stop : Stop) → Quiet {A = Request} (Err stop) (statement_read it) m m → Over {X = X} {F = F} talk faults {A = Unit {0}} (ran line it name) m rack was m rack was (Err stop)
+    pub run_stopped : (stop : Stop) → Quiet {A = Order} (Err stop) (statement_read it) m m → Over {X = X} {F = F} talk faults {A = Unit {0}} (ran line it name) m rack was m rack was (Err stop)
     run_stopped stop q =
-        over_stop talk faults (statement_read it) With m m rack was rack was stop (λ asks. started_grows line asks it.outs name)
+        over_stop talk faults (statement_read it) With m m rack was rack was stop (λ order. started_grows line order it.outs name)
         (over_quiet talk faults (statement_read it) m m rack was (Err stop) (statement_grows it) q)
 
-    pub run_started : (asks : Request) (lent : List Host) (m' : Memory) (new : Rack X F) (now : Open X F) (r : Result (Unit {0}) Stop) → Quiet (Ok asks) (statement_read it) m m → lent ≡ it.outs
-        → Over talk faults (started line asks lent name) m rack was m' new now r → Over talk faults (ran line it name) m rack was m' new now r
-    run_started asks lent m' new now r q e p =
-        over_next talk faults (statement_read it) With m m m' rack was rack was new now asks r
-        (over_quiet talk faults (statement_read it) m m rack was (Ok asks) (statement_grows it) q)
-        (subst (λ x. Over talk faults (started line asks x name) m rack was m' new now r) e p)
+    pub run_started : (order : Order) (lent : List Host) (m' : Memory) (new : Rack X F) (now : Open X F) (r : Result (Unit {0}) Stop) → Quiet (Ok order) (statement_read it) m m → lent ≡ it.outs
+        → Over talk faults (started line order lent name) m rack was m' new now r → Over talk faults (ran line it name) m rack was m' new now r
+    run_started order lent m' new now r q e p =
+        over_next talk faults (statement_read it) With m m m' rack was rack was new now order r
+        (over_quiet talk faults (statement_read it) m m rack was (Ok order) (statement_grows it) q)
+        (subst (λ x. Over talk faults (started line order x name) m rack was m' new now r) e p)
 
 -- ---- a statement where no connection is open
 
-pub run_ended : (line : ℕ) (it : Statement) (name : Option Text) (m m' : Memory) (asks : Request) (stop : Stop) → Quiet (Ok asks) (statement_read it) m m
+pub run_ended : (line : ℕ) (it : Statement) (name : Option Text) (m m' : Memory) (order : Order) (stop : Stop) → Quiet (Ok order) (statement_read it) m m
     → Does {A = Connection} (reached line name) (bare m) (bare m') [] (Err stop) → Does {A = Unit {0}} (ran line it name) (bare m) (bare m') [] (Err stop)
-run_ended line it name m m' asks stop q p =
-    and_next (statement_read it) (λ x t. started line x it.outs name t) (bare m) (bare m) (bare m') asks [] [] (Err stop)
-    (quiet (statement_read it) (bare m) m (Ok asks) (statement_grows it) q)
-    (and_stop (reached line name) (λ c t. carried line asks it.outs c t) (bare m) (bare m') [] stop (λ c. carried_grows line asks it.outs c) p)
+run_ended line it name m m' order stop q p =
+    and_next (statement_read it) (λ x t. started line x it.outs name t) (bare m) (bare m) (bare m') order [] [] (Err stop)
+    (quiet (statement_read it) (bare m) m (Ok order) (statement_grows it) q)
+    (and_stop (reached line name) (λ c t. ordered line order it.outs c t) (bare m) (bare m') [] stop (λ c. ordered_grows line order it.outs c) p)
 
-pub run_unread : (line : ℕ) (it : Statement) (name : Option Text) (m : Memory) (stop : Stop) → Quiet {A = Request} (Err stop) (statement_read it) m m → Does {A = Unit {0}} (ran line it name) (bare m) (bare m) [] (Err stop)
+pub run_unread : (line : ℕ) (it : Statement) (name : Option Text) (m : Memory) (stop : Stop) → Quiet {A = Order} (Err stop) (statement_read it) m m → Does {A = Unit {0}} (ran line it name) (bare m) (bare m) [] (Err stop)
 run_unread line it name m stop q =
-    and_stop (statement_read it) (λ x t. started line x it.outs name t) (bare m) (bare m) [] stop (λ asks. started_grows line asks it.outs name)
+    and_stop (statement_read it) (λ x t. started line x it.outs name t) (bare m) (bare m) [] stop (λ order. started_grows line order it.outs name)
     (quiet (statement_read it) (bare m) m (Err stop) (statement_grows it) q)

@@ -3,6 +3,7 @@ pub mod Does
 pub mod Fitting
 pub mod Opening
 pub mod Places
+pub mod Prepared
 pub mod Reading
 pub mod Says
 pub mod Statements

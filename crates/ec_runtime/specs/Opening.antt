@@ -14,6 +14,7 @@ use Rattle.ec_link.specs.Rack.{log_of}
 use Rattle.ec_evaluation.specs.State.{Connection}
 use Rattle.ec_calls.specs.Connections.{told_by, with_told, exchange}
 use Rattle.ec_runtime.specs.declared.open.Open.{Open}
+use Rattle.ec_runtime.specs.Prepared.{prepared_views}
 
 -- what was told last, behind a reply
 abbrev pub told_or : Option Tx → Tx → Tx
@@ -29,14 +30,14 @@ abbrev pub told_after : List Logged → Tx → Tx
 told_after log told = told_behind (last_reply_of log) told
 
 module _ {X : Type 0} {F : X → Type 0} where
-  -- a connection, on which nothing can be prepared yet
+  -- a connection
   abbrev pub open_view : Open X F → Connection
   open_view o = record {
     name = o.name;
     slot = slot_of o.conn;
     autocommit = o.autocommit;
     told = o.told;
-    prepared = [];
+    prepared = prepared_views o.prepared;
   }
 
   module _ (talk : DynBox X Global F → Option Talk) (faults : DynBox X Global F → ℕ) where

@@ -33,7 +33,7 @@ fn server_code(state: &SqlState) -> i64
 }
 
 /// The server's refusal ends the call.
-fn refused(store: &mut Store, line: Line, state: &SqlState, message: &[u8]) -> Stop
+pub(crate) fn refused(store: &mut Store, line: Line, state: &SqlState, message: &[u8]) -> Stop
     requires { IsArea store.old }
     ensures quiet { Quiet {A = Unit {0}} (Err result)
         (refused line.0 (server_code state.now.0) state.now.0 message.now) store.old store.new }

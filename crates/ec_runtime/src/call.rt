@@ -2,7 +2,7 @@
 
 use crate::host::Host;
 use crate::inputs::{GivenText, Input, TextArg};
-use ec_base::{Bytes, Line, List};
+use ec_base::{Bytes, Line, List, Name};
 
 /// A call over a connection.
 #[derive(Debug, Drop)]
@@ -23,6 +23,10 @@ pub enum Kind {
     Control(Bytes),
     /// ECPGsetcommit: whether each statement is a transaction by itself.
     Autocommit(bool),
+    /// ECPGprepare, with the name and the text, whose marks `?` become parameters (section "Dynamic SQL", PREPARE).
+    Prepare { name: Name, text: GivenText },
+    /// ECPGdeallocate, with the name (section "Dynamic SQL", DEALLOCATE).
+    Deallocate(Name),
 }
 
 /// The text of a statement.
@@ -30,8 +34,13 @@ pub enum Kind {
 pub enum Wanted {
     /// A text that is sent as it stands.
     Normal(Bytes),
+    /// The statement that is prepared under a name (section "Dynamic SQL", EXECUTE).
+    Prepared(Name),
     /// The text of EXECUTE IMMEDIATE, which is known when it runs.
     Immediate(GivenText),
+    /// A cursor for the statement that is prepared under a name (section "Dynamic SQL", OPEN): what stands before the
+    /// text of that statement.
+    Opening { head: Bytes, name: Name },
 }
 
 /// A statement, with the values that it is given and the hosts that its rows go into.

@@ -85,7 +85,7 @@ pub(crate) fn values(
 }
 
 /// Keeps the bytes of a text.
-fn kept(alloc: Global, bytes: &[u8]) -> Result<Bytes, Stop>
+pub(crate) fn kept(alloc: Global, bytes: &[u8]) -> Result<Bytes, Stop>
     ensures ok { IfOk result (λ copy. copy ≡ bytes.now) }
     ensures err { IfErr result (λ stop. stop ≡ stops.OutOfMemory) }
 {

@@ -10,18 +10,20 @@ ghost use Rattle.ec_transfer.specs.Area.{IsArea};
 ghost use Rattle.ec_calls.specs.Outcomes.{Text};
 ghost use Rattle.ec_runtime.specs.Calling.{connection_of, conn_of, called_by, Called, Holds, Opens, Closes, Closed};
 ghost use Rattle.ec_runtime.specs.Does.{Over};
-ghost use Rattle.ec_runtime.specs.Statements.{call_action, kind_done, ran};
+ghost use Rattle.ec_runtime.specs.Statements.{call_action, kind_done, preparing, ran};
 ghost use Rattle.std.specs.declared.option.Option.{Option};
 
 use crate::autocommit::set_autocommit;
 use crate::call::{Call, Kind, Statement};
 use crate::control::control;
-use crate::inputs::{finds, pass_text};
+use crate::inputs::{GivenText, finds, pass_text};
 use crate::open::Open;
+use crate::order::read;
+use crate::preparing::{deallocate, marked_text, prepare};
 use crate::reaching::miss;
-use crate::running::{read, run};
+use crate::running::run;
 use crate::stop::{CallStop, Stop};
-use ec_base::{Line, Name, OutOfMemory};
+use ec_base::{Line, List, Name, OutOfMemory};
 use ec_link::{Link, Rack, Slot, Tx};
 use ec_memory::Store;
 use std::alloc::Global;
@@ -75,6 +77,10 @@ fn run_open(
             Kind::Autocommit(on) => {
                 set_autocommit(alloc, store, rack, session, line, found, *on)
             }
+            Kind::Prepare { name, text } => {
+                prepare(alloc, store, rack, session, line, found, name, text)
+            }
+            Kind::Deallocate(name) => deallocate(store, rack, session, line, found, name),
         },
     }
 }
@@ -93,6 +99,26 @@ fn run_nowhere(alloc: Global, store: &mut Store, line: Line, it: &Statement) -> 
     Err(miss(store, line))
 }
 
+/// ECPGprepare where no connection is open: the text is read, and a code ends it.
+fn prepare_nowhere(
+    alloc: Global,
+    store: &mut Store,
+    line: Line,
+    name: &Name,
+    given: &GivenText,
+) -> Result<(), Stop>
+    requires { IsArea store.old }
+    ensures does { (called : Option Text) →
+        Closed (preparing line.0 name.now given.now called) store.old store.new result }
+    ensures kept { IsArea store.new }
+{
+    match marked_text(alloc, store, given) {
+        Err(stop) => return Err(stop),
+        Ok(_) => {}
+    }
+    Err(miss(store, line))
+}
+
 /// What is called behind the name of a connection, where none is open.
 fn end_closed(alloc: Global, store: &mut Store, line: Line, kind: &Kind) -> Result<(), Stop>
     requires { IsArea store.old }
@@ -104,6 +130,8 @@ fn end_closed(alloc: Global, store: &mut Store, line: Line, kind: &Kind) -> Resu
         Kind::Run(statement) => run_nowhere(alloc, store, line, statement),
         Kind::Control(_) => Err(miss(store, line)),
         Kind::Autocommit(_) => Err(miss(store, line)),
+        Kind::Prepare { name, text } => prepare_nowhere(alloc, store, line, name, text),
+        Kind::Deallocate(_) => Err(miss(store, line)),
     }
 }
 
@@ -138,6 +166,7 @@ impl Library {
         ensures log { log_of rack.new ≡ log_of rack.old }
         ensures holds { Holds self.new rack.new }
     {
+        let alloc = rack.slots().allocator();
         match ready_name(rack.slots().as_slice()) {
             Err(refused) => Err(refused),
             Ok(None) => Ok(()),
@@ -148,6 +177,7 @@ impl Library {
                         conn,
                         autocommit: true,
                         told: Tx::Idle,
+                        prepared: List::new(alloc),
                     });
                     match std::mem::replace(&mut self.session, session) {
                         None => Ok(()),
@@ -195,6 +225,7 @@ impl Library {
                     conn,
                     autocommit: _,
                     told: _,
+                    prepared: _,
                 } = session;
                 rack.give_back(conn);
             }

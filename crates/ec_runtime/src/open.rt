@@ -11,7 +11,8 @@ ghost use Rattle.ec_link.specs.SlotState.{TakenAt};
 ghost use Rattle.ec_calls.specs.Connections.{told_by, begins};
 ghost use Rattle.ec_runtime.specs.Opening.{open_view, told_after, Asked};
 
-use ec_base::{Name, OutOfMemory};
+use crate::prepared::Prepared;
+use ec_base::{List, Name, OutOfMemory};
 use ec_link::{Conn, Link, Rack, Reply, Request, Tx};
 
 /// An open connection.
@@ -23,6 +24,8 @@ pub(crate) struct Open {
     pub(crate) autocommit: bool,
     /// What the server told last of its transaction.
     pub(crate) told: Tx,
+    /// Its prepared statements, in the order in which their names were new.
+    pub(crate) prepared: List<Prepared>,
 }
 
 /// What a reply tells of its transaction.

@@ -1,6 +1,6 @@
 //! A statement over the open connection.
 
-ghost use Rattle.std.specs.Prelude.{◌≡◌, IfOk};
+ghost use Rattle.std.specs.Prelude.{◌≡◌};
 ghost use Rattle.ec_link.specs.Conn.{slot_of};
 ghost use Rattle.ec_link.specs.Links.{talk_by, faults_by};
 ghost use Rattle.ec_link.specs.Logged.{IsAsk};
@@ -12,20 +12,20 @@ ghost use Rattle.ec_calls.specs.Connections.{begun};
 ghost use Rattle.ec_runtime.specs.Does.{Over};
 ghost use Rattle.ec_runtime.specs.Opening.{open_view};
 ghost use Rattle.ec_runtime.specs.Reading.{is_named};
-ghost use Rattle.ec_runtime.specs.Says.{Quiet};
-ghost use Rattle.ec_runtime.specs.Statements.{sent, carried, started, ran, statement_read, wanted_read};
+ghost use Rattle.ec_runtime.specs.Statements.{sent, carried, ordered, started, ran};
 ghost use Rattle.ec_calls.specs.Outcomes.{Text};
 ghost use Rattle.std.specs.declared.option.Option.{Option};
 
 use crate::answering::answered;
-use crate::call::{Statement, Wanted};
+use crate::call::Statement;
 use crate::control::send_control;
 use crate::host::Host;
-use crate::inputs::{given_text, values};
 use crate::open::{Open, ask, is_due};
+use crate::order::{Order, read};
 use crate::reaching::reach;
+use crate::requests::make_request;
 use crate::stop::Stop;
-use ec_base::{Bytes, Line};
+use ec_base::Line;
 use ec_link::{Link, Rack, Request};
 use ec_memory::Store;
 use std::alloc::Global;
@@ -87,7 +87,7 @@ fn send(
 }
 
 /// A transaction is begun where it is due, and the text is sent.
-pub(crate) fn carry_out(
+fn carry_out(
     alloc: Global,
     store: &mut Store,
     rack: &mut Rack,
@@ -111,34 +111,32 @@ pub(crate) fn carry_out(
     }
 }
 
-/// Reads the text that is sent.
-fn wanted(alloc: Global, store: &Store, it: &Wanted) -> Result<Bytes, Stop>
-    ensures { Quiet result (wanted_read it.now) store.now store.now }
+/// The request is made of what is asked for, and carried out. A prepared statement is looked up before a transaction is
+/// begun.
+fn carry_order(
+    alloc: Global,
+    store: &mut Store,
+    rack: &mut Rack,
+    session: &mut Open,
+    line: Line,
+    order: Order,
+    hosts: &[Host],
+) -> Result<(), Stop>
+    requires area { IsArea store.old }
+    requires taken { TakenAt (states (slots_of rack.old)) (slot_of session.old.conn) }
+    ensures over { Over (talk_by ⟦<dyn Link as Link>⟧) (faults_by ⟦<dyn Link as Link>⟧)
+        (ordered line.0 order hosts.now (open_view session.old))
+        store.old rack.old session.old store.new rack.new session.new result }
+    ensures kept { IsArea store.new }
+    ensures still_taken { TakenAt (states (slots_of rack.new)) (slot_of session.new.conn) }
 {
-    match it {
-        Wanted::Normal(text) => match Bytes::from_slice(alloc, text.as_slice()) {
-            Ok(text) => Ok(text),
-            Err(_) => Err(Stop::OutOfMemory),
-        },
-        Wanted::Immediate(text) => given_text(alloc, store, text),
-    }
-}
-
-/// The request that a statement asks for, with what it reads behind the name of its connection: the text, and the values.
-pub(crate) fn read(alloc: Global, store: &Store, it: &Statement) -> Result<Request, Stop>
-    ensures quiet { Quiet result (statement_read it.now) store.now store.now }
-    ensures asks { IfOk result (λ request. IsAsk request) }
-{
-    match wanted(alloc, store, &it.wanted) {
+    match make_request(store, line, session, order) {
         Err(stop) => Err(stop),
-        Ok(text) => match values(alloc, store, it.ins.as_slice()) {
-            Err(stop) => Err(stop),
-            Ok(params) => Ok(Request::Text { text, params }),
-        },
+        Ok(request) => carry_out(alloc, store, rack, session, line, request, hosts),
     }
 }
 
-/// With a request: the connection is found, and the request is carried out over it.
+/// With what is asked for: the connection is found, and it is carried out over that.
 fn start(
     alloc: Global,
     store: &mut Store,
@@ -146,22 +144,21 @@ fn start(
     session: &mut Open,
     line: Line,
     found: bool,
-    request: Request,
+    order: Order,
     hosts: &[Host],
 ) -> Result<(), Stop>
     requires area { IsArea store.old }
     requires taken { TakenAt (states (slots_of rack.old)) (slot_of session.old.conn) }
-    requires asks { IsAsk request }
     ensures over { (name : Option Text) → found ≡ is_named session.old.name name
         → Over (talk_by ⟦<dyn Link as Link>⟧) (faults_by ⟦<dyn Link as Link>⟧)
-        (started line.0 request hosts.now name)
+        (started line.0 order hosts.now name)
         store.old rack.old session.old store.new rack.new session.new result }
     ensures kept { IsArea store.new }
     ensures still_taken { TakenAt (states (slots_of rack.new)) (slot_of session.new.conn) }
 {
     match reach(store, session, line, found) {
         Err(stop) => Err(stop),
-        Ok(()) => carry_out(alloc, store, rack, session, line, request, hosts),
+        Ok(()) => carry_order(alloc, store, rack, session, line, order, hosts),
     }
 }
 
@@ -186,9 +183,9 @@ pub(crate) fn run(
 {
     match read(alloc, store, it) {
         Err(stop) => Err(stop),
-        Ok(request) => {
+        Ok(order) => {
             let hosts = it.outs.as_slice();
-            start(alloc, store, rack, session, line, found, request, hosts)
+            start(alloc, store, rack, session, line, found, order, hosts)
         }
     }
 }

@@ -1,4 +1,4 @@
-use Rattle.std.proofs.Common.{Err, ◌∙◌}
+use Rattle.std.proofs.Common.{Err}
 use Rattle.ec_calls.specs.Connections.{control_sent, controlled}
 use Rattle.ec_link.specs.declared.request.Request.TheVariants as request
 use Rattle.ec_runtime.specs.declared.stop.Stop.TheVariants as stops

@@ -26,3 +26,15 @@ returns-in-Autocommit-clause-over g c =
     over_named (λ z. (goal.Link-dyn g (z.vtable, z.value)).talk z.value) (λ z. (goal.Link-dyn g (z.vtable, z.value)).faults z.value)
     c.args.it.now c.args.store.now c.args.rack.now c.args.session.now c.in-Ok.ensures.0 (kinds.Autocommit c.in-Autocommit.on) c.set_autocommit.new.store c.set_autocommit.new.rack c.set_autocommit.new.session c.set_autocommit.result
     c.in-Ok.ensures.1 c.in-Autocommit.is (c.set_autocommit.ensures.over c.in-Ok.ensures.0 (c.in-Ok.ensures.2 ∙ (λ j. is_named (c.as_slice.ensures j) c.in-Ok.ensures.0)))
+
+pub returns-in-Prepare-clause-over : goal.returns-in-Prepare-clause-over
+returns-in-Prepare-clause-over g c =
+    over_named (λ z. (goal.Link-dyn g (z.vtable, z.value)).talk z.value) (λ z. (goal.Link-dyn g (z.vtable, z.value)).faults z.value)
+    c.args.it.now c.args.store.now c.args.rack.now c.args.session.now c.in-Ok.ensures.0 (kinds.Prepare c.in-Prepare.name c.in-Prepare.text) c.prepare.new.store c.prepare.new.rack c.prepare.new.session c.prepare.result
+    c.in-Ok.ensures.1 c.in-Prepare.is (c.prepare.ensures.over c.in-Ok.ensures.0 (c.in-Ok.ensures.2 ∙ (λ j. is_named (c.as_slice.ensures j) c.in-Ok.ensures.0)))
+
+pub returns-in-Deallocate-clause-over : goal.returns-in-Deallocate-clause-over
+returns-in-Deallocate-clause-over g c =
+    over_named (λ z. (goal.Link-dyn g (z.vtable, z.value)).talk z.value) (λ z. (goal.Link-dyn g (z.vtable, z.value)).faults z.value)
+    c.args.it.now c.args.store.now c.args.rack.now c.args.session.now c.in-Ok.ensures.0 (kinds.Deallocate c.in-Deallocate.name) c.deallocate.new.store c.deallocate.new.rack c.deallocate.new.session c.deallocate.result
+    c.in-Ok.ensures.1 c.in-Deallocate.is (c.deallocate.ensures.over c.in-Ok.ensures.0 (c.in-Ok.ensures.2 ∙ (λ j. is_named (c.as_slice.ensures j) c.in-Ok.ensures.0)))

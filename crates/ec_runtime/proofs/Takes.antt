@@ -1,0 +1,201 @@
+-- PREPARE and DEALLOCATE over the open connection.
+use Rattle.std.proofs.Common.{◌≡◌, ℕ, List, [], ◌∷◌, Option, Result, Ok, Err, refl, sym, subst, ap, ◌∙◌, arith}
+use Rattle.std.specs.declared.alloc.Global.{Global}
+use Rattle.std.specs.declared.dyn_box.DynBox.{DynBox}
+use Rattle.ec_link.specs.declared.rack.Rack.{Rack}
+use Rattle.ec_link.specs.declared.request.Request.{Request}
+use Rattle.ec_link.specs.declared.request.Request.TheVariants as request
+use Rattle.ec_link.specs.Conn.{slot_of}
+use Rattle.ec_link.specs.Logged.{Talk}
+use Rattle.ec_link.proofs.Runs.{Asks-nil}
+use Rattle.ec_objects.specs.Memory.{Memory}
+use Rattle.ec_evaluation.specs.State.{Connection, State}
+use Rattle.ec_calls.specs.Answers.{taken}
+use Rattle.ec_calls.specs.Connections.{asked, changed_at}
+use Rattle.ec_calls.specs.Growth.{Grows}
+use Rattle.ec_calls.specs.Inputs.{given_read}
+use Rattle.ec_calls.specs.Marks.{with_marks}
+use Rattle.ec_calls.specs.Outcomes.{Text, Outcome, gives, next, with_memory}
+use Rattle.ec_calls.specs.Preparing.{with_text, without_text, prepared_anew}
+use Rattle.ec_calls.specs.Running.{prepared_text, found_text}
+use Rattle.ec_runtime.specs.declared.inputs.GivenText.{GivenText}
+use Rattle.ec_runtime.specs.declared.open.Open.{Open}
+use Rattle.ec_runtime.specs.declared.prepared.Prepared.{Prepared}
+use Rattle.ec_runtime.specs.declared.stop.Stop.{Stop}
+use Rattle.ec_runtime.specs.declared.stop.Stop.TheVariants as stops
+use Rattle.ec_runtime.specs.Calling.{bare}
+use Rattle.ec_runtime.specs.Does.{placed, seen, Does, Over}
+use Rattle.ec_runtime.specs.Opening.{open_view}
+use Rattle.ec_runtime.specs.Prepared.{prepared_views}
+use Rattle.ec_runtime.specs.Reading.{given_view}
+use Rattle.ec_runtime.specs.Says.{Quiet}
+use Rattle.ec_runtime.specs.Statements.{reached, request_taken, changed_behind, prepare_sent, deallocate_sent, name_there, deallocated, marks_read, text_prepared, preparing}
+use Rattle.ec_runtime.proofs.Grows.{same_front, next_grows, asked_grows, taken_grows, found_text_grows}
+use Rattle.ec_runtime.proofs.Joining.{quiet, same_action, changed_only, and_next, and_stop, no_memory, over_quiet, over_next, over_stop}
+use Rattle.ec_runtime.proofs.Starting.{given_grows, reached_grows}
+use Rattle.ec_runtime.proofs.Targets.{stopped_next}
+
+-- ---- what only adds
+
+pub taken_request_grows : (line : ℕ) (asks : Request) (slot : ℕ) → Grows (request_taken line asks slot)
+taken_request_grows line asks slot = next_grows (asked slot asks) (λ reply t. taken line reply t) (asked_grows slot asks) (λ reply. taken_grows line reply)
+
+abbrev Change : Type 0
+Change = List (Text × Text) → List (Text × Text)
+
+-- the prepared statements of a slot are changed
+abbrev pub changing : ℕ → Change → State → Outcome (Unit {0})
+changing slot change s = gives tt (prepared_anew slot change s)
+
+changing_grows : (slot : ℕ) (change : Change) → Grows (changing slot change)
+changing_grows slot change s = same_front s.conversation
+
+pub changed_grows : (line : ℕ) (asks : Request) (change : Change) (c : Connection) → Grows (changed_behind line asks change c)
+changed_grows line asks change c =
+    next_grows (request_taken line asks c.slot) (λ _ t. changing c.slot change t) (taken_request_grows line asks c.slot) (λ _. changing_grows c.slot change)
+
+pub prepare_grows : (line : ℕ) (name bytes : Text) (c : Connection) → Grows (prepare_sent line name bytes c)
+prepare_grows line name bytes c = changed_grows line (request.Prepare name bytes) (with_text name bytes) c
+
+there_grows : (line : ℕ) (name : Text) (c : Connection) → Grows (name_there line name c)
+there_grows line name c =
+    next_grows (found_text line (prepared_text name c.prepared) (λ bytes. bytes)) (λ _ t. gives tt t) (found_text_grows Text line (prepared_text name c.prepared) (λ bytes. bytes)) (λ _ t. same_front t.conversation)
+
+pub deallocate_grows : (line : ℕ) (name : Text) (c : Connection) → Grows (deallocate_sent line name c)
+deallocate_grows line name c = changed_grows line (request.Deallocate name) (without_text name) c
+
+pub deallocated_grows : (line : ℕ) (name : Text) (c : Connection) → Grows (deallocated line name c)
+deallocated_grows line name c = next_grows (name_there line name c) (λ _ t. deallocate_sent line name c t) (there_grows line name c) (λ _. deallocate_grows line name c)
+
+marks_grow : (given : GivenText) → Grows (marks_read given)
+marks_grow given = next_grows (given_read (given_view given)) (λ bytes t. gives (with_marks bytes) t) (given_grows given) (λ bytes t. same_front t.conversation)
+
+text_prepared_grows : (line : ℕ) (name bytes : Text) (called : Option Text) → Grows (text_prepared line name bytes called)
+text_prepared_grows line name bytes called =
+    next_grows (reached line called) (λ c t. prepare_sent line name bytes c t) (reached_grows line called) (λ c. prepare_grows line name bytes c)
+
+-- ---- what is sent for the text of PREPARE
+
+module _ (given : GivenText) (m : Memory) where
+  pub marks_stop : (stop : Stop) → Quiet {A = Text} (Err stop) (given_read (given_view given)) m m → Quiet {A = Text} (Err stop) (marks_read given) m m
+  marks_stop stop q s = stopped_next stop (given_read (given_view given) (with_memory m s)) (with_memory m s) (λ bytes t. gives (with_marks bytes) t) (q s)
+
+  pub marks_given : (bytes lent made : Text) → lent ≡ bytes → made ≡ with_marks lent → Quiet (Ok bytes) (given_read (given_view given)) m m → Quiet (Ok made) (marks_read given) m m
+  marks_given bytes lent made e is q s = (λ j. next (q s j) (λ b t. gives (with_marks b) t)) ∙ (λ j. gives ((ap with_marks (sym e) ∙ sym is) j) (with_memory m s))
+
+-- ---- over the open connection
+
+module _ {X : Type 0} {F : X → Type 0} (talk : DynBox X Global F → Option Talk) (faults : DynBox X Global F → ℕ) where
+  -- the connection of this slot has other prepared statements
+  changed_over : (change : Change) (slot : ℕ) (m : Memory) (rack : Rack X F) (o : Open X F) (ps : List Prepared) → slot ≡ slot_of o.conn → prepared_views ps ≡ change (prepared_views o.prepared)
+      → Over talk faults (changing slot change) m rack o m rack (record o { prepared = ps }) (Ok (tt {0}))
+  changed_over change slot m rack o ps e is = record {
+    growth = [];
+    asks = Asks-nil talk faults rack rack o.conn o.conn refl refl refl refl (omega arith);
+    does = same_action (changing slot change) (λ s. gives tt s) (seen m o) (seen m (record o { prepared = ps })) (seen m (record o { prepared = ps })) [] (Ok tt)
+        (λ s answers j. gives tt (record (placed (seen m o) answers s) {
+          connections = (ap (λ n. changed_at n anew (open_view o ∷ [])) e ∙ changed_only anew (open_view o) ∙ (λ k. record (open_view o) { prepared = sym is k } ∷ [])) j;
+        }))
+        (quiet (λ s. gives tt s) (seen m (record o { prepared = ps })) m (Ok tt) (λ s. same_front s.conversation) (λ s. refl));
+  }
+    where
+      anew : Connection → Connection
+      anew c = record c { prepared = change c.prepared }
+
+  -- there was no memory to change them
+  unchanged_over : (change : Change) (slot : ℕ) (m : Memory) (rack : Rack X F) (o : Open X F) (ps : List Prepared)
+      → Over {X = X} {F = F} talk faults {A = Unit {0}} (changing slot change) m rack o m rack (record o { prepared = ps }) (Err stops.OutOfMemory)
+  unchanged_over change slot m rack o ps = record {
+    growth = [];
+    asks = Asks-nil talk faults rack rack o.conn o.conn refl refl refl refl (omega arith);
+    does = no_memory (changing slot change) (seen m o) (seen m (record o { prepared = ps })) (changing_grows slot change);
+  }
+
+  module _ (line : ℕ) (asks : Request) (change : Change) (m m' : Memory) (old new : Rack X F) (was now : Open X F) where
+    abbrev Taken : Result (Unit {0}) Stop → Type 0
+    Taken r = Over talk faults (request_taken line asks (slot_of was.conn)) m old was m' new now r
+
+    pub change_stops : (stop : Stop) → Taken (Err stop) → Over {X = X} {F = F} talk faults {A = Unit {0}} (changed_behind line asks change (open_view was)) m old was m' new now (Err stop)
+    change_stops stop p =
+        over_stop talk faults (request_taken line asks (slot_of was.conn)) (λ _ t. changing (slot_of was.conn) change t) m m' old was new now stop (λ _. changing_grows (slot_of was.conn) change) p
+
+    pub change_kept : (ps : List Prepared) → prepared_views ps ≡ change (prepared_views now.prepared) → Taken (Ok tt)
+        → Over talk faults (changed_behind line asks change (open_view was)) m old was m' new (record now { prepared = ps }) (Ok (tt {0}))
+    change_kept ps is p =
+        over_next talk faults (request_taken line asks (slot_of was.conn)) (λ _ t. changing (slot_of was.conn) change t) m m' m' old was new now new (record now { prepared = ps }) tt (Ok tt) p
+        (changed_over change (slot_of was.conn) m' new now ps (sym p.asks.slot) is)
+
+    pub change_unkept : (ps : List Prepared) → Taken (Ok tt)
+        → Over {X = X} {F = F} talk faults {A = Unit {0}} (changed_behind line asks change (open_view was)) m old was m' new (record now { prepared = ps }) (Err stops.OutOfMemory)
+    change_unkept ps p =
+        over_next talk faults (request_taken line asks (slot_of was.conn)) (λ _ t. changing (slot_of was.conn) change t) m m' m' old was new now new (record now { prepared = ps }) tt (Err stops.OutOfMemory) p
+        (unchanged_over change (slot_of was.conn) m' new now ps)
+
+  -- ---- PREPARE
+
+  module _ (line : ℕ) (name : Text) (m : Memory) (old : Rack X F) (was : Open X F) where
+    pub prepare_unasked : (bytes : Text) → Over {X = X} {F = F} talk faults {A = Unit {0}} (prepare_sent line name bytes (open_view was)) m old was m old was (Err stops.OutOfMemory)
+    prepare_unasked bytes = over_quiet talk faults (prepare_sent line name bytes (open_view was)) m m old was (Err stops.OutOfMemory) (prepare_grows line name bytes (open_view was)) (λ s. tt)
+
+    pub prepare_asked : (bytes own : Text) (asks : Request) (m' : Memory) (new : Rack X F) (now : Open X F) (r : Result (Unit {0}) Stop) → asks ≡ request.Prepare name bytes → own ≡ name
+        → Over talk faults (changed_behind line asks (with_text own bytes) (open_view was)) m old was m' new now r → Over talk faults (prepare_sent line name bytes (open_view was)) m old was m' new now r
+    prepare_asked bytes own asks m' new now r is same p =
+        subst (λ n. Over talk faults (changed_behind line (request.Prepare name bytes) (with_text n bytes) (open_view was)) m old was m' new now r) same
+        (subst (λ q. Over talk faults (changed_behind line q (with_text own bytes) (open_view was)) m old was m' new now r) is p)
+
+    module _ (given : GivenText) (called : Option Text) where
+      abbrev With : Text → State → Outcome (Unit {0})
+      With bytes t = text_prepared line name bytes called t
+
+      pub prepare_unread : (stop : Stop) → Quiet {A = Text} (Err stop) (marks_read given) m m → Over {X = X} {F = F} talk faults {A = Unit {0}} (preparing line name given called) m old was m old was (Err stop)
+      prepare_unread stop q =
+          over_stop talk faults (marks_read given) With m m old was old was stop (λ bytes. text_prepared_grows line name bytes called)
+          (over_quiet talk faults (marks_read given) m m old was (Err stop) (marks_grow given) q)
+
+      pub prepare_read : (bytes : Text) (m' : Memory) (new : Rack X F) (now : Open X F) (r : Result (Unit {0}) Stop) → Quiet (Ok bytes) (marks_read given) m m
+          → Over talk faults (With bytes) m old was m' new now r → Over talk faults (preparing line name given called) m old was m' new now r
+      prepare_read bytes m' new now r q p =
+          over_next talk faults (marks_read given) With m m m' old was old was new now bytes r
+          (over_quiet talk faults (marks_read given) m m old was (Ok bytes) (marks_grow given) q) p
+
+  -- ---- DEALLOCATE
+
+  module _ (line : ℕ) (name : Text) (m : Memory) (old : Rack X F) (was : Open X F) where
+    pub deallocate_unasked : Over {X = X} {F = F} talk faults {A = Unit {0}} (deallocate_sent line name (open_view was)) m old was m old was (Err stops.OutOfMemory)
+    deallocate_unasked = over_quiet talk faults (deallocate_sent line name (open_view was)) m m old was (Err stops.OutOfMemory) (deallocate_grows line name (open_view was)) (λ s. tt)
+
+    pub deallocate_asked : (copy lent : Text) (m' : Memory) (new : Rack X F) (now : Open X F) (r : Result (Unit {0}) Stop) → copy ≡ name → lent ≡ name
+        → Over talk faults (changed_behind line (request.Deallocate copy) (without_text lent) (open_view was)) m old was m' new now r → Over talk faults (deallocate_sent line name (open_view was)) m old was m' new now r
+    deallocate_asked copy lent m' new now r is same p =
+        subst (λ n. Over talk faults (changed_behind line (request.Deallocate name) (without_text n) (open_view was)) m old was m' new now r) same
+        (subst (λ n. Over talk faults (changed_behind line (request.Deallocate n) (without_text lent) (open_view was)) m old was m' new now r) is p)
+
+    abbrev Sent : Unit {0} → State → Outcome (Unit {0})
+    Sent x t = deallocate_sent line name (open_view was) t
+
+    pub deallocate_missing : (m' : Memory) (stop : Stop) → Quiet {A = Unit {0}} (Err stop) (name_there line name (open_view was)) m m'
+        → Over {X = X} {F = F} talk faults {A = Unit {0}} (deallocated line name (open_view was)) m old was m' old was (Err stop)
+    deallocate_missing m' stop q =
+        over_stop talk faults (name_there line name (open_view was)) Sent m m' old was old was stop (λ _. deallocate_grows line name (open_view was))
+        (over_quiet talk faults (name_there line name (open_view was)) m m' old was (Err stop) (there_grows line name (open_view was)) q)
+
+    pub deallocate_there : (m1 m' : Memory) (new : Rack X F) (now : Open X F) (r : Result (Unit {0}) Stop) → Quiet (Ok (tt {0})) (name_there line name (open_view was)) m m1
+        → Over talk faults (deallocate_sent line name (open_view was)) m1 old was m' new now r → Over talk faults (deallocated line name (open_view was)) m old was m' new now r
+    deallocate_there m1 m' new now r q p =
+        over_next talk faults (name_there line name (open_view was)) Sent m m1 m' old was old was new now tt r
+        (over_quiet talk faults (name_there line name (open_view was)) m m1 old was (Ok tt) (there_grows line name (open_view was)) q) p
+
+-- ---- where no connection is open
+
+module _ (line : ℕ) (name : Text) (given : GivenText) (called : Option Text) (m : Memory) where
+  pub prepare_ended : (m' : Memory) (bytes : Text) (stop : Stop) → Quiet (Ok bytes) (marks_read given) m m → Does {A = Connection} (reached line called) (bare m) (bare m') [] (Err stop)
+      → Does {A = Unit {0}} (preparing line name given called) (bare m) (bare m') [] (Err stop)
+  prepare_ended m' bytes stop q p =
+      and_next (marks_read given) (λ b t. text_prepared line name b called t) (bare m) (bare m) (bare m') bytes [] [] (Err stop)
+      (quiet (marks_read given) (bare m) m (Ok bytes) (marks_grow given) q)
+      (and_stop (reached line called) (λ c t. prepare_sent line name bytes c t) (bare m) (bare m') [] stop (λ c. prepare_grows line name bytes c) p)
+
+  pub prepare_trapped : (stop : Stop) → Quiet {A = Text} (Err stop) (marks_read given) m m → Does {A = Unit {0}} (preparing line name given called) (bare m) (bare m) [] (Err stop)
+  prepare_trapped stop q =
+      and_stop (marks_read given) (λ b t. text_prepared line name b called t) (bare m) (bare m) [] stop (λ bytes. text_prepared_grows line name bytes called)
+      (quiet (marks_read given) (bare m) m (Err stop) (marks_grow given) q)

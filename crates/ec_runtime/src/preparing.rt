@@ -1,0 +1,318 @@
+//! PREPARE and DEALLOCATE (PostgreSQL manual, chapter ECPG, section "Dynamic SQL"). No transaction is begun before them.
+
+ghost use Rattle.std.specs.Prelude.{◌≡◌, IfOk};
+ghost use Rattle.ec_calls.specs.Answers.{taken};
+ghost use Rattle.ec_calls.specs.Outcomes.{Text};
+ghost use Rattle.ec_calls.specs.Preparing.{with_text, without_text};
+ghost use Rattle.ec_link.specs.Conn.{slot_of};
+ghost use Rattle.ec_link.specs.Links.{talk_by, faults_by};
+ghost use Rattle.ec_link.specs.Logged.{IsAsk};
+ghost use Rattle.ec_link.specs.Rack.{slots_of};
+ghost use Rattle.ec_link.specs.Slot.{states};
+ghost use Rattle.ec_link.specs.declared.request.Request.TheVariants as Asks;
+ghost use Rattle.ec_link.specs.SlotState.{TakenAt};
+ghost use Rattle.ec_transfer.specs.Area.{IsArea};
+ghost use Rattle.ec_runtime.specs.Does.{Over};
+ghost use Rattle.ec_runtime.specs.Opening.{open_view};
+ghost use Rattle.ec_runtime.specs.Reading.{is_named};
+ghost use Rattle.ec_runtime.specs.Says.{Quiet};
+ghost use Rattle.ec_runtime.specs.Statements.{changed_behind, deallocate_sent, deallocated, deallocating, marks_read, name_there, prepare_sent, preparing, request_taken, text_prepared};
+ghost use Rattle.std.specs.declared.option.Option.{Option};
+
+use crate::answering::refused;
+use crate::area::refuse;
+use crate::inputs::{GivenText, given_text};
+use crate::open::{Open, ask};
+use crate::order::kept_name;
+use crate::prepared::{forget, keep, text_under};
+use crate::reaching::reach;
+use crate::stop::Stop;
+use ec_base::{Bytes, Line, Name, OutOfMemory};
+use ec_link::{Link, Rack, Reply, Request};
+use ec_marks::with_marks;
+use ec_memory::Store;
+use ec_transfer::Finding;
+use std::alloc::Global;
+
+/// A reply to PREPARE or DEALLOCATE, which have no rows and no count.
+fn taken(store: &mut Store, line: Line, reply: &Reply) -> Result<(), Stop>
+    requires { IsArea store.old }
+    ensures quiet { Quiet result (taken line.0 reply.now) store.old store.new }
+    ensures kept { IsArea store.new }
+{
+    match reply {
+        Reply::Rows { .. } => Ok(()),
+        Reply::Done { .. } => Ok(()),
+        Reply::Refused { state, message, .. } => {
+            Err(refused(store, line, state, message.as_slice()))
+        }
+        Reply::Connected => Err(refuse(store, line, Finding::ReplyOutOfPlace)),
+        Reply::NoTarget => Err(refuse(store, line, Finding::ReplyOutOfPlace)),
+        Reply::Broken => Err(refuse(store, line, Finding::ConnectionBroken)),
+    }
+}
+
+/// A request is sent, and the server takes it or the call ends.
+fn send_taken(
+    store: &mut Store,
+    rack: &mut Rack,
+    session: &mut Open,
+    line: Line,
+    request: Request,
+) -> Result<(), Stop>
+    requires area { IsArea store.old }
+    requires taken { TakenAt (states (slots_of rack.old)) (slot_of session.old.conn) }
+    requires asks { IsAsk request }
+    ensures over { Over (talk_by ⟦<dyn Link as Link>⟧) (faults_by ⟦<dyn Link as Link>⟧)
+        (request_taken line.0 request (slot_of session.old.conn))
+        store.old rack.old session.old store.new rack.new session.new result }
+    ensures kept { IsArea store.new }
+    ensures still_taken { TakenAt (states (slots_of rack.new)) (slot_of session.new.conn) }
+{
+    match ask(rack, session, request) {
+        Err(_) => Err(Stop::OutOfMemory),
+        Ok(()) => match rack.last_reply() {
+            Some(reply) => taken(store, line, reply),
+            None => unreachable!(),
+        },
+    }
+}
+
+/// A request is sent, and a text is kept under its name once the server took it.
+fn keep_behind(
+    store: &mut Store,
+    rack: &mut Rack,
+    session: &mut Open,
+    line: Line,
+    request: Request,
+    name: Name,
+    text: Bytes,
+) -> Result<(), Stop>
+    requires area { IsArea store.old }
+    requires taken { TakenAt (states (slots_of rack.old)) (slot_of session.old.conn) }
+    requires asks { IsAsk request }
+    ensures over { Over (talk_by ⟦<dyn Link as Link>⟧) (faults_by ⟦<dyn Link as Link>⟧)
+        (changed_behind line.0 request (with_text name text) (open_view session.old))
+        store.old rack.old session.old store.new rack.new session.new result }
+    ensures kept { IsArea store.new }
+    ensures still_taken { TakenAt (states (slots_of rack.new)) (slot_of session.new.conn) }
+{
+    match send_taken(store, rack, session, line, request) {
+        Err(stop) => Err(stop),
+        Ok(()) => match keep(&mut session.prepared, name, text) {
+            Err(_) => Err(Stop::OutOfMemory),
+            Ok(()) => Ok(()),
+        },
+    }
+}
+
+/// The request to prepare a text under a name, and the name again.
+fn prepare_request(alloc: Global, name: &Name, text: &Bytes) -> Result<(Request, Name), OutOfMemory>
+    ensures { IfOk result (λ made. (made.0 ≡ Asks.Prepare name.now text.now)
+        × (made.1 ≡ name.now)) }
+{
+    let asked = name.clone()?;
+    let kept = name.clone()?;
+    let text = Bytes::from_slice(alloc, text.as_slice())?;
+    Ok((Request::Prepare { name: asked, text }, kept))
+}
+
+/// A text is sent, and kept under its name once the server took it.
+fn send_prepare(
+    alloc: Global,
+    store: &mut Store,
+    rack: &mut Rack,
+    session: &mut Open,
+    line: Line,
+    name: &Name,
+    text: Bytes,
+) -> Result<(), Stop>
+    requires area { IsArea store.old }
+    requires taken { TakenAt (states (slots_of rack.old)) (slot_of session.old.conn) }
+    ensures over { Over (talk_by ⟦<dyn Link as Link>⟧) (faults_by ⟦<dyn Link as Link>⟧)
+        (prepare_sent line.0 name.now text (open_view session.old))
+        store.old rack.old session.old store.new rack.new session.new result }
+    ensures kept { IsArea store.new }
+    ensures still_taken { TakenAt (states (slots_of rack.new)) (slot_of session.new.conn) }
+{
+    match prepare_request(alloc, name, &text) {
+        Err(_) => Err(Stop::OutOfMemory),
+        Ok((request, name)) => keep_behind(store, rack, session, line, request, name, text),
+    }
+}
+
+/// The text that is sent for the one that PREPARE is given.
+pub(crate) fn marked_text(alloc: Global, store: &Store, given: &GivenText) -> Result<Bytes, Stop>
+    ensures { Quiet result (marks_read given.now) store.now store.now }
+{
+    match given_text(alloc, store, given) {
+        Err(stop) => Err(stop),
+        Ok(text) => match with_marks(alloc, text.as_slice()) {
+            Ok(text) => Ok(text),
+            Err(_) => Err(Stop::OutOfMemory),
+        },
+    }
+}
+
+/// With the text that is sent: the connection is found, and it is sent over that.
+fn prepare_text(
+    alloc: Global,
+    store: &mut Store,
+    rack: &mut Rack,
+    session: &mut Open,
+    line: Line,
+    found: bool,
+    name: &Name,
+    text: Bytes,
+) -> Result<(), Stop>
+    requires area { IsArea store.old }
+    requires taken { TakenAt (states (slots_of rack.old)) (slot_of session.old.conn) }
+    ensures over { (called : Option Text) → found ≡ is_named session.old.name called
+        → Over (talk_by ⟦<dyn Link as Link>⟧) (faults_by ⟦<dyn Link as Link>⟧)
+        (text_prepared line.0 name.now text called)
+        store.old rack.old session.old store.new rack.new session.new result }
+    ensures kept { IsArea store.new }
+    ensures still_taken { TakenAt (states (slots_of rack.new)) (slot_of session.new.conn) }
+{
+    match reach(store, session, line, found) {
+        Err(stop) => Err(stop),
+        Ok(()) => send_prepare(alloc, store, rack, session, line, name, text),
+    }
+}
+
+/// ECPGprepare, where the open connection was found by its name or not.
+pub(crate) fn prepare(
+    alloc: Global,
+    store: &mut Store,
+    rack: &mut Rack,
+    session: &mut Open,
+    line: Line,
+    found: bool,
+    name: &Name,
+    given: &GivenText,
+) -> Result<(), Stop>
+    requires area { IsArea store.old }
+    requires taken { TakenAt (states (slots_of rack.old)) (slot_of session.old.conn) }
+    ensures over { (called : Option Text) → found ≡ is_named session.old.name called
+        → Over (talk_by ⟦<dyn Link as Link>⟧) (faults_by ⟦<dyn Link as Link>⟧)
+        (preparing line.0 name.now given.now called)
+        store.old rack.old session.old store.new rack.new session.new result }
+    ensures kept { IsArea store.new }
+    ensures still_taken { TakenAt (states (slots_of rack.new)) (slot_of session.new.conn) }
+{
+    match marked_text(alloc, store, given) {
+        Err(stop) => Err(stop),
+        Ok(text) => prepare_text(alloc, store, rack, session, line, found, name, text),
+    }
+}
+
+/// The name has to be there.
+fn find(store: &mut Store, session: &Open, line: Line, name: &Name) -> Result<(), Stop>
+    requires { IsArea store.old }
+    ensures quiet { Quiet result (name_there line.0 name.now (open_view session.now))
+        store.old store.new }
+    ensures kept { IsArea store.new }
+{
+    match text_under(session.prepared.as_slice(), name.as_slice()) {
+        None => Err(refuse(store, line, Finding::NoStatement)),
+        Some(_) => Ok(()),
+    }
+}
+
+/// A request is sent, and the text under a name is forgotten once the server took it.
+fn forget_behind(
+    store: &mut Store,
+    rack: &mut Rack,
+    session: &mut Open,
+    line: Line,
+    request: Request,
+    name: &[u8],
+) -> Result<(), Stop>
+    requires area { IsArea store.old }
+    requires taken { TakenAt (states (slots_of rack.old)) (slot_of session.old.conn) }
+    requires asks { IsAsk request }
+    ensures over { Over (talk_by ⟦<dyn Link as Link>⟧) (faults_by ⟦<dyn Link as Link>⟧)
+        (changed_behind line.0 request (without_text name.now) (open_view session.old))
+        store.old rack.old session.old store.new rack.new session.new result }
+    ensures kept { IsArea store.new }
+    ensures still_taken { TakenAt (states (slots_of rack.new)) (slot_of session.new.conn) }
+{
+    match send_taken(store, rack, session, line, request) {
+        Err(stop) => Err(stop),
+        Ok(()) => {
+            forget(&mut session.prepared, name);
+            Ok(())
+        }
+    }
+}
+
+/// The name is sent, and its text is forgotten once the server took it.
+fn send_deallocate(
+    store: &mut Store,
+    rack: &mut Rack,
+    session: &mut Open,
+    line: Line,
+    name: &Name,
+) -> Result<(), Stop>
+    requires area { IsArea store.old }
+    requires taken { TakenAt (states (slots_of rack.old)) (slot_of session.old.conn) }
+    ensures over { Over (talk_by ⟦<dyn Link as Link>⟧) (faults_by ⟦<dyn Link as Link>⟧)
+        (deallocate_sent line.0 name.now (open_view session.old))
+        store.old rack.old session.old store.new rack.new session.new result }
+    ensures kept { IsArea store.new }
+    ensures still_taken { TakenAt (states (slots_of rack.new)) (slot_of session.new.conn) }
+{
+    match kept_name(name) {
+        Err(_) => Err(Stop::OutOfMemory),
+        Ok(copy) => {
+            let request = Request::Deallocate { name: copy };
+            forget_behind(store, rack, session, line, request, name.as_slice())
+        }
+    }
+}
+
+/// Where the name is there, it is sent.
+fn deallocate_named(
+    store: &mut Store,
+    rack: &mut Rack,
+    session: &mut Open,
+    line: Line,
+    name: &Name,
+) -> Result<(), Stop>
+    requires area { IsArea store.old }
+    requires taken { TakenAt (states (slots_of rack.old)) (slot_of session.old.conn) }
+    ensures over { Over (talk_by ⟦<dyn Link as Link>⟧) (faults_by ⟦<dyn Link as Link>⟧)
+        (deallocated line.0 name.now (open_view session.old))
+        store.old rack.old session.old store.new rack.new session.new result }
+    ensures kept { IsArea store.new }
+    ensures still_taken { TakenAt (states (slots_of rack.new)) (slot_of session.new.conn) }
+{
+    match find(store, session, line, name) {
+        Err(stop) => Err(stop),
+        Ok(()) => send_deallocate(store, rack, session, line, name),
+    }
+}
+
+/// ECPGdeallocate, where the open connection was found by its name or not.
+pub(crate) fn deallocate(
+    store: &mut Store,
+    rack: &mut Rack,
+    session: &mut Open,
+    line: Line,
+    found: bool,
+    name: &Name,
+) -> Result<(), Stop>
+    requires area { IsArea store.old }
+    requires taken { TakenAt (states (slots_of rack.old)) (slot_of session.old.conn) }
+    ensures over { (called : Option Text) → found ≡ is_named session.old.name called
+        → Over (talk_by ⟦<dyn Link as Link>⟧) (faults_by ⟦<dyn Link as Link>⟧)
+        (deallocating line.0 name.now called)
+        store.old rack.old session.old store.new rack.new session.new result }
+    ensures kept { IsArea store.new }
+    ensures still_taken { TakenAt (states (slots_of rack.new)) (slot_of session.new.conn) }
+{
+    match reach(store, session, line, found) {
+        Err(stop) => Err(stop),
+        Ok(()) => deallocate_named(store, rack, session, line, name),
+    }
+}
