@@ -30,6 +30,10 @@ STATEMENTS = [
     '"select a,b from \\042T x\\042 where c=$1::int and s=\'a  b\'"', '"SELECT \\"q\\"" " AND 2"', '"a\\\\b\\n\\tc"',
     '"\\303\\251 \\x41\\377?"', '"UPDATE t SET a=$1 -- no\\n"', '"E\'\\\\\'\'"', '"z\\000behind"',
 ]
+MARKED = ['"a ? b ?"', '"\'?\' ? \\"?\\" ?"', '"E\'\\\\\'?\' ? -- ?\\n?"', '"/* ? /* */ ? */ ? x?1?"', '"e\'\'?\'?\'"', '"insert into t values (?, ?)"']
+BYTES_OF_SQL = ["?", "?", "'", "'", '\\"', "\\\\", "-", "-", "/", "*", "E", "e", "x", "1", ".", "$", " ", "\\n", "\\377", "_"]
+NAMES = ['"s"', '"s"', '"s"', '"p q"', '"S"', '"\\163"', '""', '"p" " q"', '"a name of more than 22 bytes"']
+HEADS = ['"declare c cursor for "', '"DECLARE \\"c\\" CURSOR FOR "', '""', '"?"']
 CONTROLS = ['"COMMIT"', '"ROLLBACK"', '"BEGIN WORK"', '"SAVEPOINT " "s"', '""']
 SWITCHES = ['"off"', '"off"', '"off"', '"on"', '"o\\156"']
 MOST_PRINTED = 48  # cells of a variable
@@ -143,12 +147,14 @@ class Answers(Link):
 class Programs:
     def __init__(self, rng):
         self.rng, self.count = rng, 0
-        self.lines, self.hosts, self.indicators, self.texts = [], [], [], []
+        self.lines, self.hosts, self.indicators, self.texts, self.prepared = [], [], [], [], []
         self.unset = []  # members of structs that have no value yet
         self.is_lined, self.number = self.chance(0.6), 1
         self.name_held = self.pick(["db", "db", "no"])
         # how often something in a list leads nowhere, or is an odd one
         self.wild = self.pick([0, 0, 0, 0.02, 0.05, 0.12])
+        # how often a pointer is what a function gives
+        self.calling = self.pick([0, 0, 0.05, 0.2])
 
     def chance(self, p):
         return self.rng.random() < p
@@ -353,6 +359,10 @@ class Programs:
         pointer = self.odd_pointer() if self.chance(self.wild) else host.pointer
         return Host(kind, host.value, pointer, host.count, max(host.distance, kind.size))
 
+    def given(self, pointer, function="counted"):
+        """A pointer, now and then as what a function gives."""
+        return f"{function}({pointer})" if self.chance(self.calling) else pointer
+
     def indicator(self, count):
         """An indicator for so many elements, or none."""
         if self.chance(0.5) or not self.indicators:
@@ -360,7 +370,7 @@ class Programs:
         host = self.any_host(count, INDICATORS)
         told = max(host.count, count) + self.pick([0, 0, 0, 1])
         distance = host.distance if host.count > 1 and count > 1 else host.distance + self.pick([0, 0, 1, 8])
-        return f"ECPGt_{host.kind.symbol}, {host.pointer}, 0L, {self.long(told)}, {self.long(distance)}"
+        return f"ECPGt_{host.kind.symbol}, {self.given(host.pointer)}, 0L, {self.long(told)}, {self.long(distance)}"
 
     def member(self, is_input, most):
         host = self.any_host(most)
@@ -373,19 +383,41 @@ class Programs:
         numbers = ", ".join(map(self.long, [size, count, distance]))
         if is_input and self.chance(0.05):
             return f"ECPGt_{kind.symbol}, {self.pick(['ip', '(int *)0', host.pointer])}, {numbers}, ECPGt_short, &null, 0L, 1L, 2L"
-        return f"ECPGt_{kind.symbol}, {host.pointer}, {numbers}, {self.indicator(count)}"
+        return f"ECPGt_{kind.symbol}, {self.given(host.pointer)}, {numbers}, {self.indicator(count)}"
 
     def constant(self):
         return f"ECPGt_const, {self.pick(LITERALS)}, 0L, 1L, 0L, ECPGt_NO_INDICATOR, NULL, 0L, 0L, 0L"
 
     def connection(self):
-        return self.pick(["NULL"] * 22 + ['"db"', '"d" "b"', '"d\\142"', '"no"', '""', "connection", "(unsigned char *)connection"])
+        return self.pick(["NULL"] * 22 + ['"db"', '"d" "b"', '"d\\142"', '"no"', '""', "connection", "(unsigned char *)connection", self.given("connection", "named")])
+
+    def text_given(self):
+        """A text that is known when it runs."""
+        return self.pick(STATEMENTS + ["room", "connection", self.text_pointer()] + self.texts)
 
     def text_sent(self):
-        """The symbol of a statement, and its text."""
+        """The symbol of a statement, and its text or its name."""
+        if self.chance(0.5 if self.prepared else 0.15):
+            name = self.pick(self.prepared if self.prepared and self.chance(0.9) else NAMES)
+            return self.pick([["ECPGst_execute", name], ["ECPGst_execute", name], ["ECPGst_open", self.pick(HEADS), name]])
         if self.chance(0.85):
             return ["ECPGst_normal", self.pick(STATEMENTS)]
-        return ["ECPGst_exec_immediate", self.pick(STATEMENTS + ["room", "connection", self.text_pointer()] + self.texts)]
+        return ["ECPGst_exec_immediate", self.text_given()]
+
+    def text_with_marks(self):
+        """A text with marks, in and outside of quotes and comments."""
+        text = "".join(self.pick(BYTES_OF_SQL) for _ in range(self.rng.randrange(15)))
+        return '"' + text.replace("??", "? ?").replace("??", "? ?") + '"'
+
+    def preparing(self):
+        """The text of ECPGprepare, or of ECPGdeallocate."""
+        if self.prepared and self.chance(0.2):
+            return f"ECPGdeallocate({self.line_told()}, {self.connection()}, {self.pick(self.prepared + NAMES)})"
+        name = self.pick(NAMES)
+        self.prepared.append(name)
+        front = f"{self.line_told()}, {self.connection()}, {name}"
+        text = self.text_given() if self.chance(0.3) else self.pick(MARKED) if self.chance(0.3) else self.text_with_marks()
+        return f"ECPGprepare({front}, {text})"
 
     def line_told(self):
         return self.number if self.is_lined and self.chance(0.8) else self.pick([1, 7, 42, 1000, 2147483647, "0x1f", 0])
@@ -396,6 +428,8 @@ class Programs:
             return f"ECPGtrans({self.line_told()}, {self.connection()}, {self.pick(CONTROLS)})"
         if self.chance(0.18):
             return f"ECPGsetcommit({self.line_told()}, {self.pick(SWITCHES)}, {self.connection()})"
+        if self.chance(0.25):
+            return self.preparing()
         inputs = [self.constant() if self.chance(0.12) else self.member(True, 1) for _ in range(self.pick([0, 0, 0, 1, 1, 2, 3, 6]))]
         most = self.pick([1, 1, 2, 3, 4])
         outputs = [self.member(False, most) for _ in range(self.pick([0, 1, 1, 1, 2, 2, 3, 4, 6]))]
@@ -504,6 +538,8 @@ class Programs:
         for _ in range(self.rng.randrange(0, 3)):
             self.declare_indicator(True)
         self.function("void failed(void)", lambda: self.say('printf("failed ");'), "")
+        self.function("void *counted(void *p)", lambda: self.say('printf("%d ", ++n);'), "return p;")
+        self.function("char *named(char *p)", self.asking, "return p;")
         self.function("int asks(int a)", self.asking, "return a + 1;")
         self.lines += ["int main(void)", "{"]
         self.say("unsigned char *q;")
@@ -512,6 +548,8 @@ class Programs:
         for _ in range(self.rng.randrange(0, 2)):
             self.declare_indicator(False)
         self.settle()
+        for _ in range(self.pick([0, 0, 1, 2])):
+            self.say(self.preparing() + ";")
         for _ in range(self.rng.randrange(2, 7)):
             self.statement()
         self.say("done: ;")

@@ -48,6 +48,15 @@ def field_text(value):
     return "-" if value is None else quoted(value)
 
 
+def request_text(kind, first, second=None):
+    """A request of a kind: what it names, and the text or the parameters behind that."""
+    if second is None:
+        return f"{kind} {quoted(first)}"
+    if kind == "prepare":
+        return f"{kind} {quoted(first)} {quoted(second)}"
+    return f"{kind} {quoted(first)} {len(second)}" + "".join(" " + field_text(value) for value in second)
+
+
 def fields(text):
     return [None if word == "-" else unquoted(word[1:-1]) for word in re.findall(r'-|"[^"]*"', text)]
 
@@ -163,9 +172,8 @@ def left(row, run):
     status, last = ended(run.ending)
     lines = [f"row {row.title}", NAMES.get(kind, kind), f"status {status}", f"out {quoted(run.output)}",
              f"err {quoted(run.errors + last)}", "left 0"]
-    for slot, text, parameters, reply in run.exchanges:
-        values = "".join(" " + field_text(p) for p in parameters)
-        lines += [f"@ {slot}", f"> text {quoted(text)} {len(parameters)}{values}", *reply_lines(reply)]
+    for slot, request, reply in run.exchanges:
+        lines += [f"@ {slot}", "> " + request_text(*request), *reply_lines(reply)]
     for place in row.places:
         state = "ready" if place.is_ready and kind == "refused" else "free"
         lines.append(f"slot {state} {quoted(place.name)}")

@@ -22,7 +22,7 @@ FINDINGS = {
     -203: ("21000", "too many rows"), -204: ("42804", "not a number of type int"),
     -205: ("42804", "not a number of an unsigned type"), -211: ("42804", "not a bool"),
     -213: ("22002", "null value without indicator"), -220: ("08003", "no such connection"),
-    -401: ("08007", "transaction control refused"),
+    -230: ("26000", "no such statement"), -401: ("08007", "transaction control refused"),
 }
 BROKEN, OUT_OF_PLACE = (-400, b"08006", b"connection broken"), (-400, b"08P01", b"reply out of place")
 SERVER_CODES = {b"23505": -403, b"21000": -404}
@@ -62,7 +62,6 @@ class Argument:
         self.word = what if self.is_alone and kind == "word" else None
         if self.is_alone and kind == "string":
             self.literal = bytes(what)
-        self.calls = any(calls_function(a, b) for a, b in zip(tokens, tokens[1:]))
 
     def pair(self):
         """The expression and its type, as library.py has them."""
@@ -74,11 +73,6 @@ class Argument:
 
     def constant(self):
         return self.node.parts[0]
-
-
-def calls_function(token, following):
-    not_called = evaluator.TYPE_WORDS | {"sizeof", "struct", "const"}
-    return token[0] == "word" and token[1] not in not_called and following[:2] == ("mark", "(")
 
 
 def seen_type(t):
@@ -114,30 +108,73 @@ def members(arguments, end):
     return found, arguments[1:]
 
 
+# ---- marks, by the parts of SQL: a word, with what a word E begins; a number; quotes; comments; a mark
+
+PARTS = re.compile(
+    rb"(?P<escaped>[Ee]'(?:[^'\\]|\\.|'')*(?:'|\\?\Z))|[A-Za-z_\x80-\xff][A-Za-z0-9_$\x80-\xff]*"
+    rb"|(?:[0-9]|\.[0-9])[A-Za-z0-9_.]*|'[^']*(?:'|\Z)|\"[^\"]*(?:\"|\Z)|--[^\n]*(?:\n|\Z)|(?P<comment>/\*)"
+    rb"|(?P<mark>\?)|.", re.S)
+COMMENT = re.compile(rb"/\*|\*/", re.S)
+
+
+def comment_end(text, at):
+    """Where a comment ends that begins there: comments nest."""
+    depth = 0
+    while found := COMMENT.search(text, at):
+        depth, at = depth + (1 if found[0] == b"/*" else -1), found.end()
+        if depth == 0:
+            return at
+    return len(text)
+
+
+def marked(text):
+    """The text that is prepared: its marks as parameters."""
+    found, at, marks = b"", 0, 0
+    while at < len(text):
+        part = PARTS.match(text, at)
+        end = comment_end(text, at) if part["comment"] else part.end()
+        if part["mark"]:
+            marks += 1
+            found += b"$%d" % marks
+        else:
+            found += text[at:end]
+        at = end
+    return found
+
+
 class Call:
-    """A call that is made: the text that it sends, and what it is given and gives. ECPGsetcommit has none of these."""
+    """A call that is made: the text or the name that it sends, and what it is given and gives. ECPGsetcommit has none of
+    these."""
 
     def __init__(self, name, arguments):
         self.name, self.arguments, self.line = name, arguments, arguments[0].constant()
-        self.text, self.inputs, self.outputs = None, [], []
+        self.text, self.own, self.head, self.inputs, self.outputs = None, None, b"", [], []
         if name == "ECPGsetcommit":
             self.is_on, self.connection = arguments[1].literal == b"on", arguments[2]
         elif name == "ECPGtrans":
             self.connection, self.text = arguments[1:3]
+        elif name == "ECPGprepare":
+            self.connection, self.own, self.text = arguments[1], arguments[2].literal, arguments[3]
+        elif name == "ECPGdeallocate":
+            self.connection, self.own = arguments[1], arguments[2].literal
         else:
-            self.connection, self.text = arguments[1], arguments[3]
-            self.inputs, rest = members(arguments[4:], "ECPGt_EOIT")
+            self.connection, self.kind, rest = arguments[1], arguments[2].word, arguments[3:]
+            if self.kind == "ECPGst_open":
+                self.head, rest = rest[0].literal, rest[1:]
+            if self.kind in ("ECPGst_open", "ECPGst_execute"):
+                self.own = rest[0].literal
+            else:
+                self.text = rest[0]
+            self.inputs, rest = members(rest[1:], "ECPGt_EOIT")
             self.outputs, _ = members(rest, "ECPGt_EORT")
 
 
-SENT = ("ECPGst_normal", "ECPGst_exec_immediate")
+MADE = ("ECPGdo", "ECPGtrans", "ECPGsetcommit", "ECPGprepare", "ECPGdeallocate")
 
 
 def is_made(name, arguments):
     """Whether the library makes this call already."""
-    if any(a.word == "ECPGt_descriptor" or a.calls for a in arguments):
-        return False
-    return name in ("ECPGtrans", "ECPGsetcommit") or name == "ECPGdo" and arguments[2].word in SENT
+    return name in MADE and not any(a.word == "ECPGt_descriptor" for a in arguments)
 
 
 def lines_told(text):
@@ -260,7 +297,7 @@ class CallingMachine(evaluator.Machine):
         super().__init__(program, turns)
         self.exchanges = []
         self.connection = next(((n, slot) for n, slot in enumerate(slots) if slot.is_ready), None)
-        self.autocommit, self.told = True, "I"
+        self.autocommit, self.told, self.prepared = True, "I", {}
 
     def opened(self):
         super().opened()
@@ -306,14 +343,45 @@ class CallingMachine(evaluator.Machine):
             if call.is_on and not self.autocommit and self.told != "I":
                 self.control(b"commit")
             self.autocommit = call.is_on
+        elif call.name == "ECPGprepare":
+            self.prepare(call.own, marked(text))
+        elif call.name == "ECPGdeallocate":
+            self.deallocate(call.own)
         else:
+            request = self.request(call, text, parameters)
             if not self.autocommit and self.told == "I":
                 self.control(b"begin transaction")
-            self.settled(call, self.asked(text, parameters, call.outputs))
+            self.settled(call, self.asked(request, call.outputs))
 
     def control(self, text):
-        if self.asked(text, [], [])[0] not in ("rows", "done"):
+        if self.asked(("text", text, []), [])[0] not in ("rows", "done"):
             raise finding(-401)
+
+    def prepared_text(self, name):
+        if name not in self.prepared:
+            raise finding(-230)
+        return self.prepared[name]
+
+    def request(self, call, text, parameters):
+        """What ECPGdo asks: of a prepared statement by its name, of a cursor for one by its text."""
+        if call.own is None:
+            return "text", text, parameters
+        prepared = self.prepared_text(call.own)
+        return ("exec", call.own, parameters) if call.kind == "ECPGst_execute" else ("text", call.head + prepared, parameters)
+
+    def prepare(self, name, text):
+        self.taken(self.asked(("prepare", name, text), []))
+        self.prepared[name] = text
+
+    def deallocate(self, name):
+        self.prepared_text(name)
+        self.taken(self.asked(("deallocate", name), []))
+        del self.prepared[name]
+
+    def taken(self, reply):
+        """PREPARE and DEALLOCATE count nothing, and rows are as good as done."""
+        if reply[0] not in ("rows", "done"):
+            self.failed(reply)
 
     def text_of(self, argument):
         """A text, or None where it isn't given."""
@@ -324,13 +392,13 @@ class CallingMachine(evaluator.Machine):
     def parameter(self, member):
         return member.at.literal if member.symbol == "const" else storing.to_text(self.objects, member.host())
 
-    def asked(self, text, parameters, outputs):
-        """The reply to a text, and what it tells of the transaction."""
+    def asked(self, request, outputs):
+        """The reply to a request, and what it tells of the transaction."""
         number, slot = self.connection
         reply = slot.link.answer(outputs)
         if reply[0] in ("rows", "done", "refused"):
             self.told = reply[1]
-        self.exchanges.append((number, text, parameters, reply))
+        self.exchanges.append((number, request, reply))
         return reply
 
     def settled(self, call, reply):
@@ -340,10 +408,14 @@ class CallingMachine(evaluator.Machine):
             self.rows_settled(call, rest[1], rest[2])
         elif kind == "done":
             self.done_settled(call, rest[1])
-        elif kind == "refused":
-            raise Told(SERVER_CODES.get(rest[1], -400), rest[1], rest[2])
         else:
-            raise Told(*(BROKEN if kind == "broken" else OUT_OF_PLACE))
+            self.failed(reply)
+
+    def failed(self, reply):
+        kind, *rest = reply
+        if kind == "refused":
+            raise Told(SERVER_CODES.get(rest[1], -400), rest[1], rest[2])
+        raise Told(*(BROKEN if kind == "broken" else OUT_OF_PLACE))
 
     def done_settled(self, call, count):
         storing.rows(self.objects[1], count or 0)
@@ -369,7 +441,7 @@ class CallingMachine(evaluator.Machine):
 
 
 class Run:
-    """What is seen of a run: its outputs, its ending, its exchanges (slot, text, parameters, reply), and each object's cells.
+    """What is seen of a run: its outputs, its ending, its exchanges (slot, request, reply), and each object's cells.
 
     `used` is the number of turns that it took. A program that is refused has the ending ("refused", LINE), for F16.
     """

@@ -434,7 +434,7 @@ class DirectMachine(evaluator.Machine):
             raise code(-220)
         number, slot = self.connection
         reply = slot.link.answer(step.outputs)
-        self.exchanges.append((number, step.text, parameters, reply))
+        self.exchanges.append((number, ("text", step.text, parameters), reply))
         return reply
 
     def settled(self, reply, outputs):
@@ -485,7 +485,7 @@ class DirectMachine(evaluator.Machine):
 
 
 class Run:
-    """What is seen of a run: its outputs, its ending, its exchanges (slot, text, parameters, reply), and each object's cells.
+    """What is seen of a run: its outputs, its ending, its exchanges (slot, request, reply), and each object's cells.
 
     `used` is the number of turns that it took.
     """
