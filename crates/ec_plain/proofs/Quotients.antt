@@ -1,7 +1,6 @@
 -- Quotients by numbers above 0.
-use Rattle.std.proofs.Common.{◌≡◌, ◌≢◌, ◌∙◌, refl, sym, arith, ℤ, pos, ◌<ℤ◌, Option, Some, None, Result, Ok, Err}
+use Rattle.std.proofs.Common.{◌≡◌, ◌≢◌, ◌∙◌, refl, sym, ℤ, pos, Option, Some, None, Ok}
 use Rattle.std.specs.Prelude.{IfSome, int_div}
-use Rattle.std.proofs.lemmas.Int.{ints}
 use Rattle.ec_ctypes.specs.declared.types.arith.Arith.{Arith}
 use Rattle.ec_resolved.specs.Operations.{quotient, result_of}
 use Rattle.ec_values.proofs.Numbers.{quotient_is}

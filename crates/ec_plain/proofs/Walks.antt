@@ -8,7 +8,7 @@ use Rattle.ec_code.specs.declared.step.Unary.{Unary}
 use Rattle.ec_code.specs.declared.step.Unary.TheVariants as unary
 use Rattle.ec_code.specs.declared.step.Update.{Update}
 use Rattle.ec_evaluation.specs.Evaluate.{Context, World, Step as Knowing, eval}
-use Rattle.ec_evaluation.specs.Results.{Res, value, on, broke, continued, went, back, over, on_value, at_address, tried}
+use Rattle.ec_evaluation.specs.Results.{value, over, on_value, at_address, tried}
 use Rattle.ec_evaluation.specs.State.{State, Ending}
 use Rattle.ec_objects.specs.Memory.{ValueData, number, address, load}
 use Rattle.ec_objects.specs.Kinds.{kind_type}
@@ -16,7 +16,7 @@ use Rattle.ec_resolved.specs.Resolved.{Exp}
 use Rattle.ec_values.specs.declared.word.Stop.{Stop}
 use Rattle.ec_values.specs.declared.word.Word.{Word}
 use Rattle.ec_plain.specs.Answered.{answered}
-use Rattle.ec_plain.specs.Steps.{one_on, two_on, step_on, followed, old_on, both_on}
+use Rattle.ec_plain.specs.Steps.{one_on, two_on, step_on, followed, both_on}
 
 module _ (step : Knowing) (w : World) (c : Context) where
   one_leads : (u : Unary) (e : Exp) (s : State) → eval step w c (one_made u e) s ≡ on_value (eval step w c e s) (one_on c.line u)

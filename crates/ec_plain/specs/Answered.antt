@@ -1,6 +1,5 @@
 -- What an evaluation answers, as the definition says it.
 use Rattle.std.specs.Prelude.{ℕ, Bool, List, map, Result, Ok, Err}
-use Rattle.ec_base.specs.declared.stop.Trap.{Trap}
 use Rattle.ec_bytes.specs.declared.scalar.address.Ptr.{Ptr}
 use Rattle.ec_evaluation.specs.Evaluate.{Context}
 use Rattle.ec_evaluation.specs.Results.{Res, value, over}

@@ -1,4 +1,5 @@
 pub mod Answered
+pub mod Numbers
 pub mod Outcomes
 pub mod Ready
 pub mod Steps

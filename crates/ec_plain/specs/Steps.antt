@@ -1,5 +1,5 @@
 -- What a step makes of what an expression leads to.
-use Rattle.std.specs.Prelude.{ℕ, pos, Bool, true, false, not as negation, List, [], ◌∷◌}
+use Rattle.std.specs.Prelude.{ℕ, pos, true, false, not as negation, List, [], ◌∷◌}
 use Rattle.ec_code.specs.Trees.{Step, one, two, update_view}
 use Rattle.ec_code.specs.declared.step.Binary.{Binary}
 use Rattle.ec_code.specs.declared.step.Binary.TheVariants as binary

@@ -2,6 +2,8 @@
 #![tactic(auto)]
 
 mod both;
+mod effect;
+mod number;
 mod one;
 mod outcome;
 mod quick;

@@ -62,7 +62,7 @@ fn moved(store: &Store, ptr: Ptr, by: i64, size: u64) -> Outcome
 
 /// The number of a value, where `long` has it.
 #[inline(always)]
-fn small(word: Word) -> Option<i64>
+pub(crate) fn small(word: Word) -> Option<i64>
     ensures { IfSome result (λ z. word_view word ≡ number z) }
 {
     match word {
@@ -75,6 +75,30 @@ fn small(word: Word) -> Option<i64>
             }
         }
         Word::Address(_) => None,
+    }
+}
+
+/// What an operation gives for two numbers, where it is a number that `long` has.
+#[inline(always)]
+pub(crate) fn combined(operation: Operation, store: &Store, x: i64, y: i64) -> Option<i64>
+    ensures { IfSome result (λ z.
+        worked (operation_view operation) store.now (number x) (number y) ≡ gives (number z)) }
+{
+    match quick(operation, x, y) {
+        Some(made) => Some(made),
+        None => combined_slowly(operation, store, x, y),
+    }
+}
+
+/// The same, for any operation.
+#[inline(never)]
+fn combined_slowly(operation: Operation, store: &Store, x: i64, y: i64) -> Option<i64>
+    ensures { IfSome result (λ z.
+        worked (operation_view operation) store.now (number x) (number y) ≡ gives (number z)) }
+{
+    match slow(operation, store, Word::Signed(x), Word::Signed(y)).get() {
+        Ok(word) => small(word),
+        Err(_) => None,
     }
 }
 
@@ -144,17 +168,19 @@ fn rest(x: i64, y: i64) -> i64
 fn fitting(ty: Arith, number: i64) -> Option<i64>
     ensures { IfSome result (λ z. result_of ty number ≡ Ok z) }
 {
-    match ty {
-        Arith::Int => {
-            if i32::MIN as i64 <= number && number <= i32::MAX as i64 {
-                Some(number)
-            } else {
-                None
-            }
+    if i32::MIN as i64 <= number && number <= i32::MAX as i64 {
+        match ty {
+            Arith::Int => Some(number),
+            Arith::Long => Some(number),
+            Arith::LLong => Some(number),
+            _ => None,
         }
-        Arith::Long => Some(number),
-        Arith::LLong => Some(number),
-        _ => None,
+    } else {
+        match ty {
+            Arith::Long => Some(number),
+            Arith::LLong => Some(number),
+            _ => None,
+        }
     }
 }
 
@@ -192,5 +218,33 @@ pub fn converted(to: Kind, word: Word) -> Word
             _ => convert(to, word),
         },
         _ => convert(to, word),
+    }
+}
+
+/// A number as one of another type, where that has it.
+#[inline(always)]
+pub(crate) fn fitted(to: Kind, amount: i64) -> Option<i64>
+    ensures { IfSome result (λ z. value_as (kind_type to) (number amount) ≡ number z) }
+{
+    if i32::MIN as i64 <= amount && amount <= i32::MAX as i64 {
+        match to {
+            Kind::Int => Some(amount),
+            Kind::Long => Some(amount),
+            Kind::LLong => Some(amount),
+            Kind::Char => {
+                if -128 <= amount && amount <= 127 {
+                    Some(amount)
+                } else {
+                    None
+                }
+            }
+            _ => None,
+        }
+    } else {
+        match to {
+            Kind::Long => Some(amount),
+            Kind::LLong => Some(amount),
+            _ => None,
+        }
     }
 }

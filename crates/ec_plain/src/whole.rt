@@ -11,6 +11,7 @@ ghost use Rattle.ec_plain.specs.Outcomes.{outcome_view};
 ghost use Rattle.ec_plain.specs.Steps.{step_on};
 
 use crate::both::{Ready, finish, prepare};
+use crate::effect::at_once;
 use crate::one::{load, unary};
 use crate::outcome::Outcome;
 use ec_bytes::Ptr;
@@ -20,8 +21,21 @@ use ec_values::{Stop, Word};
 
 /// The value of an expression without calls, with the objects in scope by their pointers (ISO/IEC 9899:1999, 6.5). What
 /// stops it is a trap, whose line is that of the statement.
-#[cycle(evaluation)]
+#[inline(always)]
 pub fn evaluate(store: &mut Store, scope: &[Ptr], expression: &Plain) -> Outcome
+    ensures { (knowing : Knowing) (w : World) (line : ℕ) (first : Bool) (s : State)
+        → eval knowing w (context line scope.now first) (plain_view expression.now) (at s store.old)
+        ≡ answered line (outcome_view result) (at s store.new) }
+{
+    match at_once(store, scope, expression) {
+        Some(number) => Outcome::Signed(number),
+        None => walk(store, scope, expression),
+    }
+}
+
+/// The same, step by step.
+#[cycle(evaluation)]
+fn walk(store: &mut Store, scope: &[Ptr], expression: &Plain) -> Outcome
     ensures { (knowing : Knowing) (w : World) (line : ℕ) (first : Bool) (s : State)
         → eval knowing w (context line scope.now first) (plain_view expression.now) (at s store.old)
         ≡ answered line (outcome_view result) (at s store.new) }
@@ -54,7 +68,7 @@ fn operand(store: &mut Store, scope: &[Ptr], expression: &Plain) -> Outcome
             Ok(place) => load(store, *kind, place),
             Err(stop) => Outcome::stopped(stop),
         },
-        _ => evaluate(store, scope, expression),
+        _ => walk(store, scope, expression),
     }
 }
 

@@ -1,29 +1,27 @@
 -- Step by step.
-use Rattle.std.proofs.Common.{◌≡◌, ◌∙◌, refl, ap, sym, rules, arith, ℕ, ◌+◌, List, [], ◌∷◌, drop, Ok, Err}
+use Rattle.std.proofs.Common.{◌≡◌, ◌∙◌, ap, sym, rules, ◌+◌, drop}
 use Rattle.std.specs.Prelude.{map}
-use Rattle.std.proofs.lemmas.List.{drop_all}
 use Rattle.ec_code.specs.declared.expression.Plain.{out-Plain, the_lemmas}
-use Rattle.ec_code.specs.declared.expression.PlainStep.{the_lemmas as step_lemmas}
-use Rattle.ec_code.specs.Trees.{one, two, leaf_view, walked}
+use Rattle.ec_code.specs.Trees.{leaf_view, walked}
 use Rattle.ec_code.specs.Views.{plain_step_view, plain_view}
 use Rattle.ec_evaluation.specs.Evaluate.{eval}
-use Rattle.ec_evaluation.specs.Results.{value, on_value}
+use Rattle.ec_evaluation.specs.Results.{value}
 use Rattle.ec_values.specs.Words.{word_view}
-use Rattle.ec_plain.specs.Answered.{at, context, answered, ending_of}
-use Rattle.ec_plain.specs.Steps.{both_on, followed, step_on}
+use Rattle.ec_plain.specs.Answered.{at, context}
+use Rattle.ec_plain.specs.Steps.{followed}
 use Rattle.ec_plain.proofs.Walks.{answered_as, drop_item, followed_over, walk_leads}
 use Rattle.ec_plain.proofs.whole.+evaluation.Goals as goal
 
-pub evaluate-loop-step-init : goal.evaluate-loop-step-init
-evaluate-loop-step-init t c = λ knowing w line first s.
+pub walk-loop-step-init : goal.walk-loop-step-init
+walk-loop-step-init t c = λ knowing w line first s.
     let e : plain_view c.args.expression.now ≡ walked (leaf_view (out-Plain c.args.expression.now).leaf) (map plain_step_view (out-Plain c.args.expression.now).steps) = search (rules, the_lemmas) in
     ap (λ x. eval knowing w (context line c.args.scope.now first) x (at s c.args.store.now)) e
     ∙ walk_leads knowing w (context line c.args.scope.now first) (leaf_view (out-Plain c.args.expression.now).leaf) (map plain_step_view (out-Plain c.args.expression.now).steps) (at s c.args.store.now)
     ∙ ap (λ xs. followed knowing w (context line c.args.scope.now first) (map plain_step_view xs) (eval knowing w (context line c.args.scope.now first) (leaf_view (out-Plain c.args.expression.now).leaf) (at s c.args.store.now))) (sym c.as_slice-steps.ensures)
     ∙ ap (followed knowing w (context line c.args.scope.now first) (map plain_step_view c.as_slice-steps.result.now)) (c.in-Ok.ensures knowing w line first (at s c.args.store.now))
 
-pub evaluate-returns-in-Err : goal.evaluate-returns-in-Err
-evaluate-returns-in-Err t c = λ knowing w line first s.
+pub walk-returns-in-Err : goal.walk-returns-in-Err
+walk-returns-in-Err t c = λ knowing w line first s.
     let e : plain_view c.args.expression.now ≡ walked (leaf_view (out-Plain c.args.expression.now).leaf) (map plain_step_view (out-Plain c.args.expression.now).steps) = search (rules, the_lemmas) in
     ap (λ x. eval knowing w (context line c.args.scope.now first) x (at s c.args.store.now)) e
     ∙ walk_leads knowing w (context line c.args.scope.now first) (leaf_view (out-Plain c.args.expression.now).leaf) (map plain_step_view (out-Plain c.args.expression.now).steps) (at s c.args.store.now)
@@ -31,8 +29,8 @@ evaluate-returns-in-Err t c = λ knowing w line first s.
     ∙ followed_over knowing w (context line c.args.scope.now first) (map plain_step_view (out-Plain c.args.expression.now).steps) _ _
     ∙ answered_as line _ _ _ (sym c.stopped.ensures)
 
-pub evaluate-returns-in-Err-get : goal.evaluate-returns-in-Err-get
-evaluate-returns-in-Err-get t c = λ knowing w line first s.
+pub walk-returns-in-Err-get : goal.walk-returns-in-Err-get
+walk-returns-in-Err-get t c = λ knowing w line first s.
     c.loop-step.invariant knowing w line first s
     ∙ ap (λ xs. followed knowing w (context line c.args.scope.now first) (map plain_step_view xs) (value (word_view c.loop-step.value) (at s c.loop-step.store))) (drop_item c.as_slice-steps.result.now c.loop-step.step-index c.step-item.result c.loop-step-test.true c.step-item.is)
     ∙ ap (followed knowing w (context line c.args.scope.now first) (map plain_step_view (drop (c.loop-step.step-index + 1) c.as_slice-steps.result.now))) (c.take_step.ensures knowing w line first s ∙ answered_as line _ _ _ (sym c.get.ensures ∙ c.in-Err-get.is))

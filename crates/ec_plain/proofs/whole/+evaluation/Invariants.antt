@@ -9,8 +9,8 @@ use Rattle.ec_plain.specs.Answered.{at, context}
 use Rattle.ec_plain.specs.Steps.{followed}
 use Rattle.ec_plain.proofs.whole.+evaluation.Given as goal
 
-abbrev pub invariant-evaluate-loop-step : goal.invariant-evaluate-loop-step
-invariant-evaluate-loop-step l =
+abbrev pub invariant-walk-loop-step : goal.invariant-walk-loop-step
+invariant-walk-loop-step l =
     (knowing : Knowing) (w : World) (line : ℕ) (first : Bool) (s : State) →
     eval knowing w (context line l.scope first) (plain_view l.expression) (at s l.initial.store)
     ≡ followed knowing w (context line l.scope first) (map plain_step_view (drop l.step-index l.steps)) (value (word_view l.value) (at s l.store))
