@@ -1,5 +1,5 @@
 -- What expressions that hold calls do, one form at a time.
-use Rattle.std.proofs.Common.{◌≡◌, ◌∙◌, refl, sym, ap, ℕ, List, [], ◌∷◌, map, Bool}
+use Rattle.std.proofs.Common.{◌≡◌, ◌∙◌, sym, ap, ℕ, List, [], ◌∷◌, map, Bool}
 use Rattle.ec_code.specs.declared.expression.Expression.{Expression}
 use Rattle.ec_code.specs.declared.expression.Expression.TheVariants as expression
 use Rattle.ec_code.specs.declared.expression.Full.{Full, out-Full}

@@ -5,6 +5,7 @@ pub mod Moves
 pub mod Objects
 pub mod Parts
 pub mod Plainly
+pub mod Quickly
 pub mod Running
 pub mod Turns
 pub mod Views

@@ -34,7 +34,7 @@ use Rattle.ec_machine.specs.declared.scope.Scope.{Scope}
 use Rattle.ec_machine.specs.declared.stop.Stop.{Stop}
 use Rattle.ec_machine.specs.declared.stop.Stop.TheVariants as stop
 use Rattle.ec_machine.specs.Frames.{Env, Grown, cut, last_of, without_last, objects_of, here, below, plug, resume, led}
-use Rattle.ec_machine.specs.Goes.{Fits, Goes, Returns, Stands, Stops, IsOver, at, ending_view, env_of, tasks}
+use Rattle.ec_machine.specs.Goes.{Goes, Returns, Stands, Stops, IsOver, at, ending_view, env_of, tasks}
 
 pub pushed : (knowing : Knowing) (w : World) (e : Env) (fs fs' : List Frame) (f : Frame) (o : Res) → fs' ≡ fs ++ f ∷ [] → resume knowing w (below e f) (reverse fs) (plug knowing w e f o) ≡ resume knowing w e (reverse fs') o
 pushed knowing w e fs fs' f o p = sym (ap (λ xs. resume knowing w e xs o) (ap reverse p ∙ reverse-append fs (f ∷ [])))
@@ -145,7 +145,7 @@ stops_stand knowing w e fs s m (Err y) x o i h = subst (λ y. Stops y (at s m) (
 
 -- ---- blocks and calls
 
-back_again : (e : Env) (sc : Scope) → Grown e.scope.pointers sc.pointers → cut (length e.scope.pointers) e.scope.count sc ≡ e.scope
+pub back_again : (e : Env) (sc : Scope) → Grown e.scope.pointers sc.pointers → cut (length e.scope.pointers) e.scope.count sc ≡ e.scope
 back_again e sc g = λ i. record { pointers = take_front e.scope.pointers sc.pointers g i; count = e.scope.count }
 
 pub entered : (knowing : Knowing) (w : World) (e : Env) (sc : Scope) (fs fs₁ fs₂ : List Frame) (mark : ℕ) (line : Line) (b : Bor (List Statement)) (o : Res) → Grown e.scope.pointers sc.pointers

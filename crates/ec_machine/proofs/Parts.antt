@@ -1,21 +1,16 @@
 -- What parts of a step do, over plain variables.
-use Rattle.std.proofs.Common.{◌≡◌, ◌∙◌, refl, sym, ap, subst, arith, ℕ, ◌+◌, ◌-◌, ◌<◌, ◌≤◌, List, [], ◌∷◌, ◌++◌, length, get_or, map, take, drop, Option, Some, None, Bool, true, false, Result, Ok, Err}
-use Rattle.std.specs.Prelude.{reverse}
-use Rattle.std.specs.Borrow.{Bor}
-use Rattle.std.specs.Option.{option_map}
+use Rattle.std.proofs.Common.{◌≡◌, ◌∙◌, refl, sym, ap, subst, arith, ℕ, ◌+◌, ◌-◌, ◌<◌, ◌≤◌, List, [], ◌∷◌, ◌++◌, length, get_or, map, take, drop, Option, Result}
 use Rattle.std.proofs.lemmas.List.{map-append, take_all}
-use Rattle.ec_base.specs.declared.line.Line.{Line}
 use Rattle.ec_code.specs.declared.expression.FullStep.{FullStep}
 use Rattle.ec_code.specs.declared.expression.FullStep.TheVariants as step
 use Rattle.ec_code.specs.declared.expression.Expression.{Expression}
 use Rattle.ec_code.specs.declared.program.Function.{Function}
-use Rattle.ec_code.specs.declared.statement.Statement.{Statement}
 use Rattle.ec_code.specs.declared.step.Binary.{Binary}
 use Rattle.ec_code.specs.declared.step.Unary.{Unary}
 use Rattle.ec_code.specs.Trees.{Step}
 use Rattle.ec_code.specs.Views.{expression_view, full_step_view}
 use Rattle.ec_evaluation.specs.Evaluate.{Context, World, Step as Knowing}
-use Rattle.ec_evaluation.specs.Results.{Res, value, on, over, done_there}
+use Rattle.ec_evaluation.specs.Results.{Res, value, over, done_there}
 use Rattle.ec_evaluation.specs.State.{Ending, State}
 use Rattle.ec_functions.specs.Functions.{Channel, standard_output, standard_error, puts_bytes}
 use Rattle.ec_objects.specs.Memory.{Memory, ValueData}
@@ -27,8 +22,8 @@ use Rattle.ec_machine.specs.declared.frame.Frame.{Frame}
 use Rattle.ec_machine.specs.declared.machine.Machine.{Machine}
 use Rattle.ec_machine.specs.declared.stop.Stop.{Stop}
 use Rattle.ec_machine.specs.declared.stop.Stop.TheVariants as stop
-use Rattle.ec_machine.specs.Frames.{Env, below, denote, here, last_of, plug, without_last, waiting, resume}
-use Rattle.ec_machine.specs.Goes.{Goes, Stands, Stops, at, ending_view, env_of, taken, tasks}
+use Rattle.ec_machine.specs.Frames.{Env, below, denote, last_of, plug, without_last, waiting}
+use Rattle.ec_machine.specs.Goes.{Goes, Stops, ending_view, env_of, taken}
 use Rattle.ec_machine.proofs.Moves.{last_push, rest_push, none_waits, all_rest}
 use Rattle.ec_machine.proofs.Views.{view-One, view-Two}
 

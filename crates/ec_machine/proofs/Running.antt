@@ -1,5 +1,5 @@
 -- What statements do, one form at a time.
-use Rattle.std.proofs.Common.{◌≡◌, ◌∙◌, refl, sym, ap, subst, arith, ℕ, List, [], ◌∷◌, map, Option, Some, None, Bool, true, false}
+use Rattle.std.proofs.Common.{◌≡◌, ◌∙◌, refl, sym, ap, arith, ℕ, List, [], ◌∷◌, map, Option, true, false}
 use Rattle.std.specs.Option.{option_map}
 use Rattle.std.specs.Prelude.{nat_eq}
 use Rattle.std.specs.Borrow.{Bor}
@@ -11,13 +11,12 @@ use Rattle.ec_code.specs.declared.statement.Statement.{Statement}
 use Rattle.ec_code.specs.declared.statement.Statement.TheVariants as statement
 use Rattle.ec_code.specs.Views.{expression_view, expressions_view, size_view, loop_view, statement_view, statements_view}
 use Rattle.ec_evaluation.specs.Evaluate.{Context, World, Step as Knowing, turn_of, eval}
-use Rattle.ec_evaluation.specs.Execute.{run, run_all, look, look_all, tested, again, declared, initialized, enter, returning}
-use Rattle.ec_evaluation.specs.Results.{Res, value, on, broke, continued, went, back, over, turn, after_body, on_done}
+use Rattle.ec_evaluation.specs.Execute.{run, run_all, look, look_all, tested, declared, initialized, enter, returning}
+use Rattle.ec_evaluation.specs.Results.{Res, value, on, broke, continued, went, back, over, turn, on_done}
 use Rattle.ec_evaluation.specs.State.{State, stuck}
 use Rattle.ec_resolved.specs.Labels.{holds}
 use Rattle.ec_resolved.specs.Resolved.{Stm}
 use Rattle.ec_resolved.specs.Resolved as of
-use Rattle.ec_machine.specs.declared.frame.Frame.{Frame}
 use Rattle.ec_machine.specs.declared.frame.Frame.TheVariants as frame
 use Rattle.ec_machine.specs.Frames.{Env, here, plug, test_of, behind_of, body_of}
 use Rattle.ec_machine.specs.Goes.{Fits}
@@ -57,6 +56,9 @@ module _ (knowing : Knowing) (w : World) (e : Env) (s : State) (line : Line) (x 
 
   pub to_Choose : (y : Expression) (a b : Statement) (a' b' : Bor Statement) → x ≡ statement.Choose y a b → a'.now ≡ a → b'.now ≡ b → run knowing w (here e line) (statement_view x) s ≡ plug knowing w e (frame.Choose line a' b') (eval knowing w (here e line) (expression_view y) s)
   to_Choose y a b a' b' p j m = to (of.choose (expression_view y) (statement_view a) (statement_view b)) (ap statement_view p ∙ view-Choose y a b) ∙ choice knowing w e s line y a b a' b' j m
+
+  pub run_choice : (y : Expression) (a b : Statement) → x ≡ statement.Choose y a b → run knowing w (here e line) (statement_view x) s ≡ run knowing w (here e line) (of.choose (expression_view y) (statement_view a) (statement_view b)) s
+  run_choice y a b p = to (of.choose (expression_view y) (statement_view a) (statement_view b)) (ap statement_view p ∙ view-Choose y a b)
 
   view-of-loop : (y y' : Loop) → x ≡ statement.Loop y → y' ≡ y → statement_view x ≡ of.loop (out-Loop y').tested (test_of y') (behind_of y') (body_of y')
   view-of-loop y y' p q = ap statement_view p ∙ view-Loop y ∙ view-loop y ∙ ap (λ z. of.loop (out-Loop z).tested (test_of z) (behind_of z) (body_of z)) (sym q)
@@ -170,7 +172,7 @@ module _ (knowing : Knowing) (w : World) (e : Env) (s : State) (line : Line) (x 
 
 -- ---- the last statement
 
-done_on : (r : Res) → on_done r on ≡ r
+pub done_on : (r : Res) → on_done r on ≡ r
 done_on (value v s) = refl
 done_on (on s) = refl
 done_on (broke s) = refl

@@ -1,5 +1,6 @@
 pub use Rattle.ec_plain.specs as ec_plain
 pub mod Frames
 pub mod Goes
+pub mod Quick
 pub mod Standing
 pub mod Weights

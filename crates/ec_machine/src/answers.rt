@@ -251,6 +251,7 @@ impl<'p> Machine<'p> {
     }
 
     /// A block that holds a label answers a `goto`.
+    #[inline(never)]
     fn answer(&mut self, label: u32, statements: &'p [Statement]) -> Result<Focus<'p>, Stop>
         ensures goes { (functions : List FunctionData) → Goes functions self.old (env_of self.old)
             (λ knowing w t. settle w (here (env_of self.old) self.old.line) (statements_view

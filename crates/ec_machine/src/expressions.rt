@@ -4,16 +4,18 @@ ghost use Rattle.std.specs.Prelude.{◌≡◌, ◌≤◌, ◌+◌, ◌∷◌, �
 ghost use Rattle.ec_code.specs.declared.program.Function.{Function as FunctionData};
 ghost use Rattle.ec_code.specs.Views.{expression_view, expressions_view, full_step_view, full_view, plain_view};
 ghost use Rattle.ec_evaluation.specs.Evaluate.{collect, eval};
-ghost use Rattle.ec_evaluation.specs.Results.{value as valued};
+ghost use Rattle.ec_evaluation.specs.Results.{on_value, value as valued};
 ghost use Rattle.ec_plain.specs.Steps.{both_on, followed, one_on, two_on};
 ghost use Rattle.ec_values.specs.Words.{word_view};
 ghost use Rattle.ec_machine.specs.Frames.{here, received, waiting};
 ghost use Rattle.ec_machine.specs.Goes.{Goes, env_of, taken};
+ghost use Rattle.ec_machine.specs.Quick.{Keeps};
 ghost use Rattle.ec_machine.specs.Weights.{expression_weight, expressions_weight, frames_weight, full_step_weight, full_weight, remaining, steps_weight};
 
 use crate::frame::{Callee, Focus, Frame};
 use crate::machine::Machine;
 use crate::making::stopped;
+use crate::quick::compute;
 use crate::stop::Stop;
 use ec_code::{Binary, Expression, Full, FullStep, Function, Head, Plain, Unary};
 use ec_plain::{Ready, evaluate, finish, prepare, unary};
@@ -139,13 +141,68 @@ impl<'p> Machine<'p> {
             2 + frames_weight self.old.frames + expressions_weight arguments.now + steps_weight
             steps.now }
     {
-        match arguments {
-            [] => self.receive(functions, callee, count, steps),
-            [first, rest @ ..] => {
-                self.frames
-                    .push(Frame::Arguments(self.line, callee, count, rest, steps))?;
-                Ok(Focus::Evaluates(first))
+        let mut count = count;
+        let mut left = arguments;
+        while let [first, rest @ ..] = left {
+            match first {
+                Expression::Plain(plain) => match self.keep(count, plain) {
+                    Ok(more) => {
+                        count = more;
+                        left = rest;
+                    }
+                    Err(stop) => return Err(stop),
+                },
+                Expression::Full(_) => return self.call_for(callee, count, first, rest, steps),
             }
+        }
+        self.receive(functions, callee, count, steps)
+    }
+
+    /// An argument is evaluated, and these further ones wait for it.
+    fn call_for(
+        &mut self,
+        callee: Callee<'p>,
+        count: usize,
+        first: &'p Expression,
+        rest: &'p [Expression],
+        steps: &'p [FullStep],
+    ) -> Result<Focus<'p>, Stop>
+        ensures goes { (functions : List FunctionData) → Goes functions self.old (taken count
+            (env_of self.old))
+            (λ knowing w t. followed knowing w (here (env_of self.old) self.old.line) (map
+            full_step_view steps.now)
+            (on_value (eval knowing w (here (env_of self.old) self.old.line) (expression_view
+            first.now) t) (λ v u. collect knowing w (here (env_of self.old) self.old.line) (waiting
+            count (env_of self.old) ++ v ∷ []) (expressions_view rest.now) u
+            (received knowing w (here (env_of self.old) self.old.line) callee.entry)))) result
+            self.new }
+        ensures turns { self.new.turns ≤ self.old.turns }
+        ensures nears { remaining self.old.turns result self.new ≤
+            3 + frames_weight self.old.frames + expression_weight first.now + expressions_weight
+            rest.now + steps_weight steps.now }
+    {
+        self.frames
+            .push(Frame::Arguments(self.line, callee, count, rest, steps))?;
+        Ok(Focus::Evaluates(first))
+    }
+
+    /// The value of an argument without calls waits with the others, which are then so many.
+    #[inline(always)]
+    fn keep(&mut self, count: usize, argument: &Plain) -> Result<usize, Stop>
+        ensures keeps { Keeps argument.now count self.old result self.new }
+        ensures turns { self.new.turns ≡ self.old.turns }
+        ensures frames { self.new.frames ≡ self.old.frames }
+        ensures line { self.new.line ≡ self.old.line }
+    {
+        let Some(more) = count.checked_add(1) else {
+            return Err(Stop::OutOfMemory);
+        };
+        match compute(&mut self.store, &self.scope, self.line, argument) {
+            Ok(value) => {
+                self.values.push(value)?;
+                Ok(more)
+            }
+            Err(stop) => Err(stop),
         }
     }
 

@@ -10,6 +10,7 @@ mod labels;
 mod loops;
 mod machine;
 mod making;
+mod quick;
 mod scope;
 mod start;
 mod statements;

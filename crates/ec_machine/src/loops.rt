@@ -1,24 +1,26 @@
 //! Lists of statements, blocks and loops.
 
-ghost use Rattle.std.specs.Prelude.{◌≡◌, ◌≤◌, ◌+◌, ℕ, List, map, OnOk};
+ghost use Rattle.std.specs.Prelude.{◌≡◌, ◌≤◌, ◌<◌, ◌+◌, ℕ, List, map, OnOk};
 ghost use Rattle.ec_code.specs.declared.program.Function.{Function as FunctionData};
-ghost use Rattle.ec_code.specs.Views.{expression_view, plain_view, size_view, statements_view};
+ghost use Rattle.ec_code.specs.Views.{expression_view, size_view, statement_view, statements_view};
 ghost use Rattle.ec_evaluation.specs.Evaluate.{Context, World, Step as Knowing, turn_of};
-ghost use Rattle.ec_evaluation.specs.Execute.{again, enter, look_all, run_all, tested};
-ghost use Rattle.ec_evaluation.specs.Results.{Res};
+ghost use Rattle.ec_evaluation.specs.Execute.{again, enter, look_all, run, run_all, tested};
+ghost use Rattle.ec_evaluation.specs.Results.{Res, on_done};
 ghost use Rattle.ec_evaluation.specs.State.{State};
 ghost use Rattle.ec_machine.specs.Frames.{behind_of, body_of, evaluated_for, here, test_of};
 ghost use Rattle.ec_machine.specs.Goes.{Enters, Goes, at, env_of};
 ghost use Rattle.ec_machine.specs.declared.frame.Frame.TheVariants as frame;
-ghost use Rattle.ec_machine.specs.Weights.{again_weight, expression_weight, frames_weight, remaining, statements_weight, test_weight};
+ghost use Rattle.ec_machine.specs.Quick.{IsNear, Onward, behind_body, bodily, testing, turning};
+ghost use Rattle.ec_machine.specs.Weights.{again_weight, expression_weight, frames_weight, remaining, statement_weight, statements_weight, test_weight};
 
 use crate::frame::{Flow, Focus, Frame};
 use crate::labels::first_holding;
 use crate::machine::Machine;
-use crate::making::{make_objects, no_room, stopped, take_turn};
+use crate::making::{make_objects, no_room, take_turn};
+use crate::quick::{Asked, Done, ask, pass_over, quick, quick_list};
 use crate::stop::Stop;
-use ec_code::{Expression, Loop, ObjectSize, Plain, Statement};
-use ec_plain::evaluate;
+use ec_base::Line;
+use ec_code::{Expression, Loop, ObjectSize, Statement};
 
 impl<'p> Machine<'p> {
     /// Statements are run, one after the other.
@@ -30,12 +32,35 @@ impl<'p> Machine<'p> {
         ensures nears { remaining self.old.turns result self.new ≤
             1 + frames_weight self.old.frames + statements_weight statements.now }
     {
-        match statements {
-            [] => Ok(Focus::Leads(Flow::On)),
-            [only] => Ok(Focus::Runs(only)),
-            [first, rest @ ..] => {
-                self.frames.push(Frame::Rest(self.line, rest))?;
-                Ok(Focus::Runs(first))
+        let line = self.line;
+        match quick_list(&mut self.store, &self.scope, &mut self.line, statements) {
+            Ok(None) => Ok(Focus::Leads(Flow::On)),
+            Ok(Some(found)) => self.left_in(line, found.first, found.rest),
+            Err(stop) => Err(stop),
+        }
+    }
+
+    /// What is left of a statement is begun. These stand behind it, on this line.
+    pub(crate) fn left_in(
+        &mut self,
+        line: Line,
+        first: &'p Statement,
+        rest: &'p [Statement],
+    ) -> Result<Focus<'p>, Stop>
+        ensures goes { (functions : List FunctionData) → Goes functions self.old (env_of self.old)
+            (λ knowing w t. on_done (run knowing w (here (env_of self.old) self.old.line)
+            (statement_view first.now) t) (λ u. run_all knowing w (here (env_of self.old) line)
+            (statements_view rest.now) u)) result self.new }
+        ensures turns { self.new.turns ≤ self.old.turns }
+        ensures nears { remaining self.old.turns result self.new ≤
+            2 + frames_weight self.old.frames + statement_weight first.now + statements_weight
+            rest.now }
+    {
+        match rest {
+            [] => self.left(first),
+            _ => {
+                self.frames.push(Frame::Rest(line, rest))?;
+                self.left(first)
             }
         }
     }
@@ -97,12 +122,14 @@ impl<'p> Machine<'p> {
         ensures turns { self.new.turns ≤ self.old.turns }
         ensures nears { remaining self.old.turns result self.new ≡ 0 }
     {
-        take_turn(&mut self.turns)?;
-        self.frames.push(Frame::Body(self.line, inner))?;
-        self.body(&inner.body)
+        match self.round(inner) {
+            Ok(None) => self.test(inner),
+            Ok(Some(focus)) => Ok(focus),
+            Err(stop) => Err(stop),
+        }
     }
 
-    /// A loop from its test.
+    /// A loop from its test. Turns that need no frame are taken here.
     pub(crate) fn test(&mut self, inner: &'p Loop) -> Result<Focus<'p>, Stop>
         ensures goes { (functions : List FunctionData) → Goes functions self.old (env_of self.old)
             (λ knowing w t. tested knowing w (here (env_of self.old) self.old.line) (test_of
@@ -111,76 +138,17 @@ impl<'p> Machine<'p> {
         ensures nears { remaining self.old.turns result self.new ≤
             1 + frames_weight self.old.frames + test_weight inner.now }
     {
-        match &inner.test {
-            None => self.turn(inner),
-            Some(test) => self.ask(inner, test),
-        }
-    }
-
-    /// A loop from this test.
-    fn ask(&mut self, inner: &'p Loop, test: &'p Expression) -> Result<Focus<'p>, Stop>
-        ensures goes { (functions : List FunctionData) → Goes functions self.old (env_of self.old)
-            (evaluated_for (env_of self.old) self.old.line (expression_view test.now)
-            (frame.Test self.old.line inner.entry)) result self.new }
-        ensures turns { self.new.turns ≤ self.old.turns }
-        ensures nears { remaining self.old.turns result self.new ≤
-            2 + frames_weight self.old.frames + expression_weight test.now }
-    {
-        match test {
-            Expression::Plain(plain) => self.ask_at_once(inner, plain),
-            Expression::Full(_) => {
-                self.frames.push(Frame::Test(self.line, inner))?;
-                Ok(Focus::Evaluates(test))
+        loop {
+            match self.ask(inner) {
+                Ok(None) => (),
+                Ok(Some(focus)) => return Ok(focus),
+                Err(stop) => return Err(stop),
             }
-        }
-    }
-
-    /// A loop from its test, which holds no call.
-    fn ask_at_once(&mut self, inner: &'p Loop, test: &Plain) -> Result<Focus<'p>, Stop>
-        ensures goes { (functions : List FunctionData) → Goes functions self.old (env_of self.old)
-            (evaluated_for (env_of self.old) self.old.line (plain_view test.now)
-            (frame.Test self.old.line inner.entry)) result self.new }
-        ensures turns { self.new.turns ≤ self.old.turns }
-        ensures nears { remaining self.old.turns result self.new ≤
-            1 + frames_weight self.old.frames }
-    {
-        match evaluate(&mut self.store, self.scope.objects(), test).get() {
-            Ok(value) => self.tested(inner, value),
-            Err(why) => Err(stopped(self.line, why)),
-        }
-    }
-
-    /// A loop behind its body, where this is evaluated.
-    fn go_behind(&mut self, inner: &'p Loop, behind: &'p Expression) -> Result<Focus<'p>, Stop>
-        ensures goes { (functions : List FunctionData) → Goes functions self.old (env_of self.old)
-            (evaluated_for (env_of self.old) self.old.line (expression_view behind.now)
-            (frame.Behind self.old.line inner.entry)) result self.new }
-        ensures turns { self.new.turns ≤ self.old.turns }
-        ensures nears { remaining self.old.turns result self.new ≤
-            2 + frames_weight self.old.frames + expression_weight behind.now +
-            test_weight inner.now }
-    {
-        match behind {
-            Expression::Plain(plain) => self.go_behind_at_once(inner, plain),
-            Expression::Full(_) => {
-                self.frames.push(Frame::Behind(self.line, inner))?;
-                Ok(Focus::Evaluates(behind))
+            match self.round(inner) {
+                Ok(None) => (),
+                Ok(Some(focus)) => return Ok(focus),
+                Err(stop) => return Err(stop),
             }
-        }
-    }
-
-    /// A loop behind its body, where what is evaluated there holds no call.
-    fn go_behind_at_once(&mut self, inner: &'p Loop, behind: &Plain) -> Result<Focus<'p>, Stop>
-        ensures goes { (functions : List FunctionData) → Goes functions self.old (env_of self.old)
-            (evaluated_for (env_of self.old) self.old.line (plain_view behind.now)
-            (frame.Behind self.old.line inner.entry)) result self.new }
-        ensures turns { self.new.turns ≤ self.old.turns }
-        ensures nears { remaining self.old.turns result self.new ≤
-            1 + frames_weight self.old.frames + test_weight inner.now }
-    {
-        match evaluate(&mut self.store, self.scope.objects(), behind).get() {
-            Ok(_) => self.test(inner),
-            Err(why) => Err(stopped(self.line, why)),
         }
     }
 
@@ -193,9 +161,120 @@ impl<'p> Machine<'p> {
         ensures nears { remaining self.old.turns result self.new ≤
             1 + frames_weight self.old.frames + again_weight inner.now }
     {
+        match self.behind(inner) {
+            Ok(None) => self.test(inner),
+            Ok(Some(focus)) => Ok(focus),
+            Err(stop) => Err(stop),
+        }
+    }
+
+    /// The test of a loop. Where it holds the loop stands at a turn.
+    #[inline(always)]
+    fn ask(&mut self, inner: &'p Loop) -> Result<Option<Focus<'p>>, Stop>
+        ensures goes { (functions : List FunctionData) → Onward functions self.old (testing
+            inner.now) result self.new (turning inner.now) }
+        ensures turns { self.new.turns ≡ self.old.turns }
+        ensures nears { IsNear self.old.turns result self.new (1 + frames_weight self.old.frames +
+            test_weight inner.now) }
+    {
+        match &inner.test {
+            None => Ok(None),
+            Some(test) => self.ask_for(inner, test),
+        }
+    }
+
+    /// This test of a loop.
+    #[inline(always)]
+    fn ask_for(&mut self, inner: &'p Loop, test: &'p Expression) -> Result<Option<Focus<'p>>, Stop>
+        ensures goes { (functions : List FunctionData) → Onward functions self.old
+            (λ m. evaluated_for (env_of m) m.line (expression_view test.now)
+            (frame.Test m.line inner.entry)) result self.new (turning inner.now) }
+        ensures turns { self.new.turns ≡ self.old.turns }
+        ensures nears { IsNear self.old.turns result self.new (2 + frames_weight self.old.frames +
+            expression_weight test.now) }
+    {
+        match ask(&mut self.store, &self.scope, self.line, test) {
+            Ok(Asked::Holds) => Ok(None),
+            Ok(Asked::Fails) => Ok(Some(Focus::Leads(Flow::On))),
+            Ok(Asked::Waits) => {
+                self.frames.push(Frame::Test(self.line, inner))?;
+                Ok(Some(Focus::Evaluates(test)))
+            }
+            Err(stop) => Err(stop),
+        }
+    }
+
+    /// A turn of a loop. Where it needs no frame the loop stands at its test again.
+    #[inline(always)]
+    fn round(&mut self, inner: &'p Loop) -> Result<Option<Focus<'p>>, Stop>
+        ensures goes { (functions : List FunctionData) → Onward functions self.old (turning
+            inner.now) result self.new (testing inner.now) }
+        ensures fewer { OnOk result (self.new.turns < self.old.turns) }
+        ensures turns { self.new.turns ≤ self.old.turns }
+    {
+        match take_turn(&mut self.turns) {
+            Ok(()) => self.body(inner),
+            Err(stop) => Err(stop),
+        }
+    }
+
+    /// The body of a loop, and what is evaluated behind it. Where this needs no frame the loop stands at its test.
+    #[inline(always)]
+    fn body(&mut self, inner: &'p Loop) -> Result<Option<Focus<'p>>, Stop>
+        ensures goes { (functions : List FunctionData) → Onward functions self.old (bodily
+            inner.now) result self.new (testing inner.now) }
+        ensures turns { self.new.turns ≡ self.old.turns }
+    {
+        let line = self.line;
+        match quick(&mut self.store, &self.scope, &mut self.line, &inner.body) {
+            Ok(None) => {
+                self.line = line;
+                self.behind(inner)
+            }
+            Ok(Some(left)) => {
+                self.frames.push(Frame::Body(line, inner))?;
+                Ok(Some(Focus::Runs(left)))
+            }
+            Err(stop) => Err(stop),
+        }
+    }
+
+    /// What a loop evaluates behind its body. Where this needs no frame the loop stands at its test.
+    #[inline(always)]
+    fn behind(&mut self, inner: &'p Loop) -> Result<Option<Focus<'p>>, Stop>
+        ensures goes { (functions : List FunctionData) → Onward functions self.old (behind_body
+            inner.now) result self.new (testing inner.now) }
+        ensures turns { self.new.turns ≡ self.old.turns }
+        ensures nears { IsNear self.old.turns result self.new (1 + frames_weight self.old.frames +
+            again_weight inner.now) }
+    {
         match &inner.behind {
-            None => self.test(inner),
+            None => Ok(None),
             Some(behind) => self.go_behind(inner, behind),
+        }
+    }
+
+    /// This is evaluated behind the body of a loop.
+    #[inline(always)]
+    fn go_behind(
+        &mut self,
+        inner: &'p Loop,
+        behind: &'p Expression,
+    ) -> Result<Option<Focus<'p>>, Stop>
+        ensures goes { (functions : List FunctionData) → Onward functions self.old
+            (λ m. evaluated_for (env_of m) m.line (expression_view behind.now)
+            (frame.Behind m.line inner.entry)) result self.new (testing inner.now) }
+        ensures turns { self.new.turns ≡ self.old.turns }
+        ensures nears { IsNear self.old.turns result self.new (2 + frames_weight self.old.frames +
+            expression_weight behind.now + test_weight inner.now) }
+    {
+        match pass_over(&mut self.store, &self.scope, self.line, behind) {
+            Ok(Done::All) => Ok(None),
+            Ok(Done::Nothing) => {
+                self.frames.push(Frame::Behind(self.line, inner))?;
+                Ok(Some(Focus::Evaluates(behind)))
+            }
+            Err(stop) => Err(stop),
         }
     }
 }

@@ -17,6 +17,7 @@ use crate::frame::{Callee, Flow, Focus, Frame};
 use crate::labels::holds;
 use crate::machine::Machine;
 use crate::making::{place, stopped, take_turn};
+use crate::quick::quick;
 use crate::stop::{End, Stop};
 use ec_code::{Expression, Function, Loop, ObjectSize, Plain, Statement};
 use ec_plain::evaluate;
@@ -61,7 +62,7 @@ impl<'p> Machine<'p> {
         }
     }
 
-    /// A statement on a line is begun. One that needs no frame is done here.
+    /// A statement on a line is begun. What of it needs no frame is done here.
     fn on_line(&mut self, statement: &'p Statement) -> Result<Focus<'p>, Stop>
         ensures goes { (functions : List FunctionData) → Goes functions self.old (env_of self.old)
             (λ knowing w t. run knowing w (here (env_of self.old) self.old.line)
@@ -70,30 +71,15 @@ impl<'p> Machine<'p> {
         ensures nears { remaining self.old.turns result self.new ≤
             1 + frames_weight self.old.frames + statement_weight statement.now }
     {
-        match statement {
-            Statement::Loop(inner) => self.run_loop(inner.get()),
-            _ => self.at_once(statement),
+        match quick(&mut self.store, &self.scope, &mut self.line, statement) {
+            Ok(None) => Ok(Focus::Leads(Flow::On)),
+            Ok(Some(left)) => self.left(left),
+            Err(stop) => Err(stop),
         }
     }
 
-    /// The body of a loop is begun.
-    pub(crate) fn body(&mut self, statement: &'p Statement) -> Result<Focus<'p>, Stop>
-        ensures goes { (functions : List FunctionData) → Goes functions self.old (env_of self.old)
-            (λ knowing w t. run knowing w (here (env_of self.old) self.old.line)
-            (statement_view statement.now) t) result self.new }
-        ensures turns { self.new.turns ≤ self.old.turns }
-    {
-        match statement {
-            Statement::OnLine(line, inner) => {
-                self.line = *line;
-                self.at_once(inner.get())
-            }
-            _ => Ok(Focus::Runs(statement)),
-        }
-    }
-
-    /// A statement other than a loop is begun. One that needs no frame is done here.
-    fn at_once(&mut self, statement: &'p Statement) -> Result<Focus<'p>, Stop>
+    /// What is left of a statement is begun.
+    pub(crate) fn left(&mut self, statement: &'p Statement) -> Result<Focus<'p>, Stop>
         ensures goes { (functions : List FunctionData) → Goes functions self.old (env_of self.old)
             (λ knowing w t. run knowing w (here (env_of self.old) self.old.line)
             (statement_view statement.now) t) result self.new }
@@ -103,9 +89,7 @@ impl<'p> Machine<'p> {
     {
         match statement {
             Statement::Evaluate(expression) => self.effect(expression),
-            Statement::Choose(test, first, second) => {
-                self.branch(test, first.get(), second.get())
-            }
+            Statement::Loop(inner) => self.run_loop(inner.get()),
             Statement::Return(value) => self.run_return(value),
             _ => Ok(Focus::Runs(statement)),
         }

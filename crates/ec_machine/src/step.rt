@@ -8,6 +8,7 @@ ghost use Rattle.ec_evaluation.specs.State.{State};
 ghost use Rattle.ec_values.specs.Words.{word_view};
 ghost use Rattle.ec_machine.specs.Frames.{denote, led};
 ghost use Rattle.ec_machine.specs.Goes.{Ends, Goes, env_of};
+ghost use Rattle.ec_machine.specs.Quick.{TellsOutside};
 ghost use Rattle.ec_machine.specs.Weights.{IsOutside, flow_weight, frames_answer, frames_weight, remaining, weight};
 
 use crate::frame::{Flow, Focus};
@@ -18,8 +19,39 @@ use ec_code::Function;
 use ec_values::Word;
 
 impl<'p> Machine<'p> {
-    /// One step of a run. Where bytes are to be put or the library is called, nothing is done.
+    /// A part of a run, up to a turn at most. Where bytes are to be put or the library is called, nothing is done.
     pub fn step(&mut self, functions: &'p [Function], focus: Focus<'p>) -> Result<Focus<'p>, Stop>
+        ensures goes { Goes functions.now self.old (env_of self.old)
+            (λ knowing w t. denote knowing w (env_of self.old) self.old.line self.old.text
+            focus.entry t) result self.new }
+        ensures turns { self.new.turns ≤ self.old.turns }
+        ensures nears { (IsOutside focus.entry → ⊥) → remaining self.old.turns result self.new ≤
+            weight self.old.frames focus.entry }
+    {
+        if is_outside(focus) {
+            return Ok(focus);
+        }
+        let turns = self.turns;
+        let mut focus = focus;
+        loop {
+            match self.advance(functions, focus) {
+                Ok(next) => {
+                    if self.turns != turns {
+                        return Ok(next);
+                    }
+                    if is_outside(next) {
+                        return Ok(next);
+                    }
+                    focus = next;
+                }
+                Err(stop) => return Err(stop),
+            }
+        }
+    }
+
+    /// As much of a run as is done without a way back.
+    #[inline(always)]
+    fn advance(&mut self, functions: &'p [Function], focus: Focus<'p>) -> Result<Focus<'p>, Stop>
         ensures goes { Goes functions.now self.old (env_of self.old)
             (λ knowing w t. denote knowing w (env_of self.old) self.old.line self.old.text
             focus.entry t) result self.new }
@@ -63,6 +95,22 @@ impl<'p> Machine<'p> {
             Some(frame) => self.give_flow(frame, flow),
             None => Err(Stop::Over(finish(self.otherwise, flow))),
         }
+    }
+}
+
+/// Whether this is done outside of the machine.
+#[inline(always)]
+fn is_outside(focus: Focus) -> bool
+    ensures { TellsOutside result focus.entry }
+{
+    match focus {
+        Focus::Puts(_, _) => true,
+        Focus::Calls(_, _) => true,
+        Focus::Runs(_) => false,
+        Focus::Looks(_, _) => false,
+        Focus::Evaluates(_) => false,
+        Focus::Value(_) => false,
+        Focus::Leads(_) => false,
     }
 }
 

@@ -1,4 +1,4 @@
-use Rattle.std.proofs.Common.{◌≡◌, subst, sym, ℕ, List, [], ◌∷◌, ◌++◌, append-nil, Some, None}
+use Rattle.std.proofs.Common.{◌≡◌, subst, sym, [], ◌∷◌, ◌++◌, append-nil}
 use Rattle.ec_evaluation.specs.Results.{tried}
 use Rattle.ec_objects.specs.Kinds.{kind_type}
 use Rattle.ec_objects.specs.Memory.{make, scalar_size}

@@ -1,4 +1,4 @@
-use Rattle.std.proofs.Common.{◌≡◌, ◌∙◌, ap, sym, map, ℕ, List}
+use Rattle.std.proofs.Common.{◌∙◌, ap, sym, map, ℕ, List}
 use Rattle.ec_code.specs.Views.{size_view}
 use Rattle.ec_evaluation.specs.Results.{Res, given, made}
 use Rattle.ec_evaluation.specs.State.{State}
@@ -7,7 +7,7 @@ use Rattle.ec_objects.specs.Memory.{scalar_size}
 use Rattle.ec_plain.specs.Answered.{at, scope_view}
 use Rattle.ec_values.specs.Words.{word_view}
 use Rattle.ec_machine.specs.Frames.{objects_of}
-use Rattle.ec_machine.proofs.Objects.{makes_err, no_room_stops}
+use Rattle.ec_machine.proofs.Objects.{no_room_stops}
 use Rattle.ec_machine.proofs.Turns.{stops_by}
 use Rattle.ec_machine.proofs.making.make_locals.Goals as goal
 

@@ -1,4 +1,4 @@
-use Rattle.std.proofs.Common.{subst, ℕ, List, [], ◌∷◌, ◌++◌}
+use Rattle.std.proofs.Common.{subst, [], ◌∷◌, ◌++◌}
 use Rattle.ec_evaluation.specs.Results.{tried}
 use Rattle.ec_objects.specs.Memory.{make}
 use Rattle.ec_plain.specs.Answered.{at, scope_view}

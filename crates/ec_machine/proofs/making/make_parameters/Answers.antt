@@ -1,4 +1,4 @@
-use Rattle.std.proofs.Common.{◌≡◌, ◌∙◌, ap, map, ℕ, ◌-◌, List, [], ◌∷◌, length, get_or, take, drop, Some}
+use Rattle.std.proofs.Common.{◌≡◌, ◌∙◌, ap, map, ℕ, ◌-◌, List, ◌∷◌, length, get_or, take, drop, Some}
 use Rattle.std.specs.Prelude.{slice_get}
 use Rattle.std.proofs.lemmas.Option.{slice_get-get_or}
 use Rattle.ec_evaluation.specs.Results.{Res, made}

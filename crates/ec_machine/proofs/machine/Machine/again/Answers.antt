@@ -1,40 +1,41 @@
-use Rattle.std.proofs.Common.{◌∙◌, ap, sym, arith}
-use Rattle.std.specs.Prelude.{reverse}
-use Rattle.std.specs.Option.{option_map}
-use Rattle.ec_code.specs.Views.{expression_view}
-use Rattle.ec_machine.specs.Frames.{resume, behind_of, body_of, here, test_of}
-use Rattle.ec_machine.specs.Goes.{at, env_of, tasks}
-use Rattle.ec_evaluation.specs.Evaluate.{eval}
-use Rattle.ec_evaluation.specs.Results.{on_value}
-use Rattle.ec_evaluation.specs.Execute.{again, tested}
-use Rattle.ec_machine.proofs.Moves.{behind_there, goes_as, stands_by}
-use Rattle.ec_machine.specs.Weights.{optional_weight}
+use Rattle.std.proofs.Common.{ap, arith, []}
+use Rattle.ec_machine.specs.Quick.{behind_body, testing}
+use Rattle.ec_machine.specs.Weights.{frames_weight, remaining}
+use Rattle.ec_machine.proofs.Quickly.{near_some, onward_frames, onward_none, onward_some, onward_stops}
+use Rattle.ec_machine.proofs.Weighing.{err_near}
 use Rattle.ec_machine.proofs.machine.Machine.again.Goals as goal
 
-pub returns-in-None-clause-goes : goal.returns-in-None-clause-goes
-returns-in-None-clause-goes c = λ fs knowing fits k s l.
-    let e = env_of c.args.self.now in
-    let d = here e c.args.self.now.line in
-    let i = c.args.inner.now in
-    stands_by knowing (tasks knowing fs k) s c.test.new.self c.test.result
-    (resume knowing (tasks knowing fs k) e (reverse c.args.self.now.frames) (again knowing (tasks knowing fs k) d (test_of i) (behind_of i) (body_of i) (at s c.args.self.now)))
-    (resume knowing (tasks knowing fs k) e (reverse c.args.self.now.frames) (tested knowing (tasks knowing fs k) d (test_of i) (behind_of i) (body_of i) (at s c.args.self.now)))
-    (ap (λ z. resume knowing (tasks knowing fs k) e (reverse c.args.self.now.frames) (again knowing (tasks knowing fs k) d (test_of i) z (body_of i) (at s c.args.self.now))) (ap (option_map expression_view) c.in-None.is)
-    ∙ ap (λ z. resume knowing (tasks knowing fs k) e (reverse c.args.self.now.frames) (tested knowing (tasks knowing fs k) d (test_of i) z (body_of i) (at s c.args.self.now))) (sym (ap (option_map expression_view) c.in-None.is)))
-    (c.test.ensures.goes fs knowing fits k s l)
-
-pub returns-in-None-clause-nears : goal.returns-in-None-clause-nears
-returns-in-None-clause-nears c = omega (arith, c.test.ensures.nears)
-
-pub returns-in-Some-clause-goes : goal.returns-in-Some-clause-goes
-returns-in-Some-clause-goes c = λ fs.
+pub returns-in-Ok-None-clause-goes : goal.returns-in-Ok-None-clause-goes
+returns-in-Ok-None-clause-goes c = λ fs.
     let m = c.args.self.now in
-    let d = here (env_of m) m.line in
     let i = c.args.inner.now in
-    goes_as fs m c.go_behind.new.self (env_of m) c.go_behind.result _
-    (λ knowing w t. on_value (eval knowing w d (expression_view c.in-Some.behind) t) (λ v u. tested knowing w d (test_of i) (behind_of i) (body_of i) u))
-    (λ knowing w t. behind_there knowing w d (test_of i) (behind_of i) (body_of i) (expression_view c.in-Some.behind) t (ap (option_map expression_view) c.in-Some.is))
-    (c.go_behind.ensures.goes fs)
+    onward_none fs m (behind_body i) (testing i) c.behind.result c.behind.new.self (c.behind.ensures.goes fs) (cc (c.in-Ok-None.is, c.in-Ok-None.field-0-is)) c.test.result c.test.new.self (c.test.ensures.goes fs)
 
-pub returns-in-Some-clause-nears : goal.returns-in-Some-clause-nears
-returns-in-Some-clause-nears c = omega (arith, c.go_behind.ensures.nears, ap optional_weight c.in-Some.is)
+pub returns-in-Ok-Some-clause-goes : goal.returns-in-Ok-Some-clause-goes
+returns-in-Ok-Some-clause-goes c = λ fs.
+    let m = c.args.self.now in
+    let i = c.args.inner.now in
+    onward_some fs m (behind_body i) (testing i) c.behind.result c.behind.new.self (c.behind.ensures.goes fs) c.in-Ok-Some.focus (cc (c.in-Ok-Some.is, c.in-Ok-Some.field-0-is))
+
+pub returns-in-Err-clause-goes : goal.returns-in-Err-clause-goes
+returns-in-Err-clause-goes c = λ fs.
+    let m = c.args.self.now in
+    let i = c.args.inner.now in
+    onward_stops fs m (behind_body i) (testing i) c.behind.result c.behind.new.self (c.behind.ensures.goes fs) c.in-Err.stop c.in-Err.is
+
+pub returns-in-Ok-None-clause-nears : goal.returns-in-Ok-None-clause-nears
+returns-in-Ok-None-clause-nears c =
+    let m = c.args.self.now in
+    let i = c.args.inner.now in
+    omega (
+      arith,
+      c.test.ensures.nears,
+      ap (λ t. remaining t c.test.result c.test.new.self) c.behind.ensures.turns,
+      ap frames_weight (onward_frames [] m (behind_body i) (testing i) c.behind.result c.behind.new.self (c.behind.ensures.goes []) (cc (c.in-Ok-None.is, c.in-Ok-None.field-0-is))),
+    )
+
+pub returns-in-Ok-Some-clause-nears : goal.returns-in-Ok-Some-clause-nears
+returns-in-Ok-Some-clause-nears c = near_some _ _ c.behind.result c.behind.new.self c.in-Ok-Some.focus (cc (c.in-Ok-Some.is, c.in-Ok-Some.field-0-is)) c.behind.ensures.nears
+
+pub returns-in-Err-clause-nears : goal.returns-in-Err-clause-nears
+returns-in-Err-clause-nears c = err_near _ _ _ _

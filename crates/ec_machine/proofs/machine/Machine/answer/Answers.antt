@@ -1,4 +1,3 @@
-use Rattle.std.specs.Prelude.{reverse}
 use Rattle.ec_code.specs.Views.{statements_view}
 use Rattle.ec_evaluation.specs.Execute.{look_all}
 use Rattle.ec_machine.specs.declared.frame.Frame.TheVariants as frame

@@ -1,37 +1,31 @@
-use Rattle.std.proofs.Common.{◌∙◌, ap, arith, true, false}
-use Rattle.ec_code.specs.Views.{expression_view, plain_view}
-use Rattle.ec_evaluation.specs.Evaluate.{eval}
-use Rattle.ec_evaluation.specs.Evaluate.{turn_of}
-use Rattle.ec_evaluation.specs.Results.{on, on_value}
-use Rattle.ec_resolved.specs.Operations.{is_true}
-use Rattle.ec_machine.specs.Frames.{behind_of, body_of, here, test_of}
-use Rattle.ec_machine.specs.Goes.{at, env_of, tasks}
+use Rattle.std.proofs.Common.{ap, arith, refl}
+use Rattle.std.specs.Option.{option_map}
+use Rattle.ec_code.specs.Views.{expression_view}
 use Rattle.ec_machine.specs.declared.frame.Frame.TheVariants as frame
-use Rattle.ec_machine.specs.Weights.{expression_weight}
-use Rattle.ec_machine.proofs.Evaluating.{to_Plain}
-use Rattle.ec_machine.proofs.Moves.{goes_as, pushed}
-use Rattle.ec_machine.proofs.Weighing.{err_exit, pushes, weight-Plain}
+use Rattle.ec_machine.specs.Frames.{behind_of, body_of, evaluated_for, here, test_of}
+use Rattle.ec_machine.specs.Goes.{at, env_of, tasks}
+use Rattle.ec_machine.specs.Quick.{testing, turning}
+use Rattle.ec_machine.specs.Weights.{optional_weight}
+use Rattle.ec_machine.proofs.Moves.{test_there}
+use Rattle.ec_machine.proofs.Quickly.{came, near_as, onward_came, test_none}
 use Rattle.ec_machine.proofs.machine.Machine.ask.Goals as goal
 
-pub returns-in-Plain-clause-goes : goal.returns-in-Plain-clause-goes
-returns-in-Plain-clause-goes c = λ fs.
+pub returns-in-None-clause-goes : goal.returns-in-None-clause-goes
+returns-in-None-clause-goes c = λ fs.
     let m = c.args.self.now in
-    let d = here (env_of m) m.line in
-    goes_as fs m c.ask_at_once.new.self (env_of m) c.ask_at_once.result _
-    (λ knowing w t. on_value (eval knowing w d (plain_view c.in-Plain.plain) t) (λ v u. elim (is_true v) [ true ↦ w (turn_of d (test_of c.args.inner.now) (behind_of c.args.inner.now) (body_of c.args.inner.now)) u | false ↦ on u ]))
-    (λ knowing w t. ap (λ o. on_value o (λ v u. elim (is_true v) [ true ↦ w (turn_of d (test_of c.args.inner.now) (behind_of c.args.inner.now) (body_of c.args.inner.now)) u | false ↦ on u ])) (to_Plain knowing w d t c.args.test.now c.in-Plain.plain c.in-Plain.is))
-    (c.ask_at_once.ensures.goes fs)
+    let i = c.args.inner.now in (
+      came fs m (env_of m) (testing i m) m (turning i m) refl (omega arith)
+          (λ knowing fits k s l. test_none knowing (tasks knowing fs k) (here (env_of m) m.line) (test_of i) (behind_of i) (body_of i) (at s m) (ap (option_map expression_view) c.in-None.is)),
+      refl,
+    )
 
-pub returns-in_ok-push-in-Full-clause-goes : goal.returns-in_ok-push-in-Full-clause-goes
-returns-in_ok-push-in-Full-clause-goes c = λ fs knowing fits k s l.
+pub returns-in-Some-clause-goes : goal.returns-in-Some-clause-goes
+returns-in-Some-clause-goes c = λ fs.
     let m = c.args.self.now in
-    pushed knowing (tasks knowing fs k) (env_of m) m.frames c.push.new.self (frame.Test m.line c.args.inner) (eval knowing (tasks knowing fs k) (here (env_of m) m.line) (expression_view c.args.test.now) (at s m)) c.in_ok-push-in-Full.ensures.ok
+    let i = c.args.inner.now in
+    onward_came fs m m (testing i) (λ m. evaluated_for (env_of m) m.line (expression_view c.in-Some.test) (frame.Test m.line c.args.inner)) (turning i) refl refl (omega arith)
+    (λ knowing fits k s l. test_there knowing (tasks knowing fs k) (here (env_of m) m.line) (test_of i) (behind_of i) (body_of i) (expression_view c.in-Some.test) (at s m) (ap (option_map expression_view) c.in-Some.is))
+    c.ask_for.result c.ask_for.new.self (c.ask_for.ensures.goes fs)
 
-pub returns-in-Plain-clause-nears : goal.returns-in-Plain-clause-nears
-returns-in-Plain-clause-nears c = omega (arith, c.ask_at_once.ensures.nears, ap expression_weight c.in-Plain.is ∙ weight-Plain _)
-
-pub returns-in_ok-push-in-Full-clause-nears : goal.returns-in_ok-push-in-Full-clause-nears
-returns-in_ok-push-in-Full-clause-nears c = pushes _ _ _ _ _ _ c.in_ok-push-in-Full.ensures.ok (omega arith)
-
-pub returns-in_err-push-in-Full-clause-nears : goal.returns-in_err-push-in-Full-clause-nears
-returns-in_err-push-in-Full-clause-nears c = err_exit _ _ _ _ _ c.from_residual.ensures.1
+pub returns-in-Some-clause-nears : goal.returns-in-Some-clause-nears
+returns-in-Some-clause-nears c = near_as _ _ _ c.ask_for.result c.ask_for.new.self (omega (arith, ap optional_weight c.in-Some.is)) c.ask_for.ensures.nears

@@ -1,4 +1,4 @@
-use Rattle.std.proofs.Common.{◌∙◌, refl, sym, ap, arith, map}
+use Rattle.std.proofs.Common.{◌∙◌, sym, arith, map}
 use Rattle.ec_code.specs.Views.{full_step_view}
 use Rattle.ec_plain.specs.Steps.{followed}
 use Rattle.ec_plain.proofs.Walks.{followed_over}

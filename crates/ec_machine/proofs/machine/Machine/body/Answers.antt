@@ -1,14 +1,46 @@
+use Rattle.std.proofs.Common.{ap, arith, refl}
 use Rattle.ec_code.specs.Views.{statement_view}
-use Rattle.ec_evaluation.specs.Execute.{run}
-use Rattle.ec_machine.specs.Frames.{here}
-use Rattle.ec_machine.specs.Goes.{env_of}
-use Rattle.ec_machine.proofs.Moves.{goes_as}
-use Rattle.ec_machine.proofs.Running.{to_OnLine}
+use Rattle.ec_evaluation.specs.Execute.{again, run}
+use Rattle.ec_evaluation.specs.Results.{after_body}
+use Rattle.ec_machine.specs.declared.frame.Focus.TheVariants as focus
+use Rattle.ec_machine.specs.declared.frame.Frame.TheVariants as frame
+use Rattle.ec_machine.specs.Frames.{behind_of, body_of, here, test_of}
+use Rattle.ec_machine.specs.Goes.{at, env_of, tasks}
+use Rattle.ec_machine.specs.Quick.{behind_body, bodily, testing}
+use Rattle.ec_machine.proofs.Parts.{stops_through}
+use Rattle.ec_machine.proofs.Quickly.{halted, leaves_none, leaves_some, leaves_stops, onward_came, waits}
 use Rattle.ec_machine.proofs.machine.Machine.body.Goals as goal
 
-pub returns-in-OnLine-clause-goes : goal.returns-in-OnLine-clause-goes
-returns-in-OnLine-clause-goes c = λ fs.
+pub returns-in-Ok-None-clause-goes : goal.returns-in-Ok-None-clause-goes
+returns-in-Ok-None-clause-goes c = λ fs.
     let m = c.args.self.now in
-    goes_as fs m c.at_once.new.self (env_of m) c.at_once.result _ (λ knowing w t. run knowing w (here (env_of m) c.in-OnLine.line) (statement_view c.get.result.now) t)
-    (λ knowing w t. to_OnLine knowing w (env_of m) t m.line c.args.statement.now c.in-OnLine.line c.in-OnLine.inner c.get.result.now c.in-OnLine.is c.get.ensures)
-    (c.at_once.ensures.goes fs)
+    let i = c.args.inner.now in
+    let d = here (env_of m) m.line in
+    let n = record m { store = c.quick.new.store; line = c.quick.new.line } in
+    onward_came fs m (record m { store = c.quick.new.store }) (bodily i) (behind_body i) (testing i) refl refl (omega arith)
+    (λ knowing fits k s l. let w = tasks knowing fs k in
+    ap (λ o. after_body o (λ u. again knowing w d (test_of i) (behind_of i) (body_of i) u))
+    (leaves_none c.quick.result (run knowing w d (body_of i) (at s m)) (λ x. run knowing w (here (env_of m) n.line) (statement_view x) (at s n)) (at s n) (c.quick.ensures.leaves knowing w m.first (at s m)) (cc (c.in-Ok-None.is, c.in-Ok-None.field-0-is))))
+    c.behind.result c.behind.new.self (c.behind.ensures.goes fs)
+
+pub returns-in_ok-push-in-Ok-Some-clause-goes : goal.returns-in_ok-push-in-Ok-Some-clause-goes
+returns-in_ok-push-in-Ok-Some-clause-goes c = λ fs.
+    let m = c.args.self.now in
+    let i = c.args.inner.now in
+    let d = here (env_of m) m.line in
+    let n = record m { store = c.quick.new.store; line = c.quick.new.line } in
+    waits fs m (record n { frames = c.push.new.self }) (bodily i m) (frame.Body m.line c.args.inner) (focus.Runs c.in-Ok-Some.left) c.in_ok-push-in-Ok-Some.ensures.ok
+    (λ knowing fits k s l. let w = tasks knowing fs k in
+    ap (λ o. after_body o (λ u. again knowing w d (test_of i) (behind_of i) (body_of i) u))
+    (leaves_some c.quick.result (run knowing w d (body_of i) (at s m)) (λ x. run knowing w (here (env_of m) n.line) (statement_view x) (at s n)) (at s n) (c.quick.ensures.leaves knowing w m.first (at s m)) c.in-Ok-Some.left (cc (c.in-Ok-Some.is, c.in-Ok-Some.field-0-is))))
+
+pub returns-in-Err-clause-goes : goal.returns-in-Err-clause-goes
+returns-in-Err-clause-goes c = λ fs.
+    let m = c.args.self.now in
+    let i = c.args.inner.now in
+    let d = here (env_of m) m.line in
+    let n = record m { store = c.quick.new.store; line = c.quick.new.line } in
+    halted fs m (env_of m) (bodily i m) n c.in-Err.stop
+    (λ knowing fits k s l. let w = tasks knowing fs k in
+    stops_through (λ o. after_body o (λ u. again knowing w d (test_of i) (behind_of i) (body_of i) u)) (λ e u. refl) c.in-Err.stop (at s n) (run knowing w d (body_of i) (at s m))
+    (leaves_stops c.quick.result (run knowing w d (body_of i) (at s m)) (λ x. run knowing w (here (env_of m) n.line) (statement_view x) (at s n)) (at s n) (c.quick.ensures.leaves knowing w m.first (at s m)) c.in-Err.stop c.in-Err.is))

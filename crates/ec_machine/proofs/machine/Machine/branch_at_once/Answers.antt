@@ -1,4 +1,4 @@
-use Rattle.std.proofs.Common.{◌∙◌, refl, sym, ap, arith, true, false}
+use Rattle.std.proofs.Common.{◌∙◌, refl, sym, arith, true, false}
 use Rattle.ec_code.specs.Views.{statement_view}
 use Rattle.ec_evaluation.specs.Execute.{run}
 use Rattle.ec_evaluation.specs.Results.{on_value}

@@ -1,4 +1,4 @@
-use Rattle.std.proofs.Common.{map, arith}
+use Rattle.std.proofs.Common.{arith}
 use Rattle.ec_evaluation.specs.Results.{without_answer}
 use Rattle.ec_resolved.specs.Resolved.{library}
 use Rattle.ec_machine.specs.declared.frame.Frame.TheVariants as frame

@@ -1,4 +1,4 @@
-use Rattle.std.proofs.Common.{◌∙◌, refl, sym, ap, arith, Ok}
+use Rattle.std.proofs.Common.{◌∙◌, refl, sym, arith, Ok}
 use Rattle.ec_evaluation.specs.Results.{on, on_value}
 use Rattle.ec_machine.proofs.Weighing.{err_near, nearer}
 use Rattle.ec_plain.specs.Outcomes.{outcome_view}

@@ -1,4 +1,4 @@
-use Rattle.std.proofs.Common.{◌∙◌, refl, sym, ap, arith, Some}
+use Rattle.std.proofs.Common.{◌∙◌, refl, sym, arith, Some}
 use Rattle.ec_evaluation.specs.Results.{on_value, returned}
 use Rattle.ec_values.specs.Words.{word_view}
 use Rattle.ec_machine.specs.Goes.{tasks}

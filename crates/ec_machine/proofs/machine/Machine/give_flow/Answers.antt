@@ -1,17 +1,15 @@
-use Rattle.std.proofs.Common.{◌≡◌, ◌∙◌, ap, sym, map, [], ◌∷◌, ◌++◌, Some, arith, ◌+◌}
+use Rattle.std.proofs.Common.{◌∙◌, ap, sym, map, [], ◌∷◌, ◌++◌, arith, ◌+◌}
 use Rattle.std.specs.Prelude.{reverse}
 use Rattle.std.specs.Option.{option_map}
-use Rattle.ec_code.specs.Views.{expressions_view, full_step_view, statements_view}
+use Rattle.ec_code.specs.Views.{expressions_view, full_step_view}
 use Rattle.ec_evaluation.specs.Evaluate.{collect}
-use Rattle.ec_evaluation.specs.Results.{answered, ended_to, function_end, over, returned, value}
-use Rattle.ec_evaluation.specs.State.{stuck}
+use Rattle.ec_evaluation.specs.Results.{answered, function_end}
 use Rattle.ec_plain.specs.Steps.{followed, both_on}
-use Rattle.ec_plain.proofs.Walks.{followed_over}
 use Rattle.ec_values.specs.Words.{word_view}
 use Rattle.ec_machine.specs.declared.frame.Frame.TheVariants as frame
 use Rattle.ec_machine.specs.Frames.{below, cut, here, led, plug, received, resume, waiting, without_last}
 use Rattle.ec_machine.specs.Goes.{at, env_of, tasks}
-use Rattle.ec_machine.proofs.Moves.{closing_led, followed_led, led_passes, pushed, resume_over, returns_stand, right_led, stands_by}
+use Rattle.ec_machine.proofs.Moves.{closing_led, followed_led, led_passes, pushed, returns_stand, right_led, stands_by}
 use Rattle.ec_machine.proofs.Parts.{given_as, none_left}
 use Rattle.ec_machine.specs.Weights.{frames_weight, frames_answer}
 use Rattle.ec_machine.proofs.Weighing.{flow_given, passes_on, pushed_weight, err_exit, flow_more}

@@ -1,17 +1,15 @@
-use Rattle.std.proofs.Common.{◌≡◌, ◌∙◌, ap, sym, subst, map, Some, arith}
+use Rattle.std.proofs.Common.{◌∙◌, ap, sym, subst, map, Some, arith}
 use Rattle.std.specs.Prelude.{reverse}
-use Rattle.std.specs.Option.{option_map}
-use Rattle.ec_code.specs.Views.{full_step_view, statements_view}
-use Rattle.ec_evaluation.specs.Evaluate.{collect}
-use Rattle.ec_evaluation.specs.Results.{answered, ended_to, function_end, over, returned, value}
+use Rattle.ec_code.specs.Views.{full_step_view}
+use Rattle.ec_evaluation.specs.Results.{returned, value}
 use Rattle.ec_evaluation.specs.State.{stuck}
-use Rattle.ec_plain.specs.Steps.{followed, both_on}
+use Rattle.ec_plain.specs.Steps.{followed}
 use Rattle.ec_plain.proofs.Walks.{followed_over}
 use Rattle.ec_values.specs.Words.{word_view}
 use Rattle.ec_machine.specs.declared.frame.Frame.TheVariants as frame
-use Rattle.ec_machine.specs.Frames.{below, here, led, plug, resume}
+use Rattle.ec_machine.specs.Frames.{below, here, plug, resume}
 use Rattle.ec_machine.specs.Goes.{Goes, at, env_of, tasks}
-use Rattle.ec_machine.proofs.Moves.{closing_led, followed_led, led_passes, pushed, resume_over, returns_stand, right_led, stands_by}
+use Rattle.ec_machine.proofs.Moves.{resume_over, returns_stand, stands_by}
 use Rattle.ec_machine.proofs.Parts.{given_as}
 use Rattle.ec_machine.proofs.Weighing.{err_near, nearer, value_given}
 use Rattle.ec_machine.proofs.machine.Machine.give_value.Goals as goal

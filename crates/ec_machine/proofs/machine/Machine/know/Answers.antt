@@ -1,10 +1,9 @@
 use Rattle.std.proofs.Common.{◌≡◌, ◌∙◌, ap, subst, sym, map, Err, arith}
 use Rattle.std.specs.Prelude.{reverse}
 use Rattle.std.specs.Option.{option_map}
-use Rattle.ec_base.specs.declared.stop.Trap.{Trap}
 use Rattle.ec_code.specs.Views.{full_step_view}
 use Rattle.ec_evaluation.specs.Results.{done_there, over}
-use Rattle.ec_evaluation.specs.State.{Ending, exited, stuck, trapped}
+use Rattle.ec_evaluation.specs.State.{exited, stuck, trapped}
 use Rattle.ec_formats.specs.Known.{channel_view, known_view}
 use Rattle.ec_functions.specs.Functions.{Effect, effect_of, puts_bytes, traps, ends, misfit}
 use Rattle.ec_plain.specs.Steps.{followed}
@@ -12,7 +11,7 @@ use Rattle.ec_plain.proofs.Walks.{followed_over}
 use Rattle.ec_stdlib.specs.Does.{Does}
 use Rattle.ec_values.specs.Words.{word_view}
 use Rattle.ec_machine.specs.declared.frame.Frame.TheVariants as frame
-use Rattle.ec_machine.specs.Frames.{here, last_of, resume}
+use Rattle.ec_machine.specs.Frames.{here, resume}
 use Rattle.ec_machine.specs.Goes.{at, env_of, taken, tasks}
 use Rattle.ec_machine.proofs.Moves.{pushed, resume_over}
 use Rattle.ec_machine.proofs.Parts.{puts_there}

@@ -1,27 +1,46 @@
-use Rattle.std.proofs.Common.{ap, arith}
+use Rattle.std.proofs.Common.{◌≤◌, ◌+◌, ap, arith, refl}
 use Rattle.std.specs.Prelude.{reverse}
+use Rattle.ec_code.specs.Views.{statement_view, statements_view}
+use Rattle.ec_evaluation.specs.Execute.{run, run_all}
+use Rattle.ec_evaluation.specs.Results.{on_done}
 use Rattle.ec_machine.specs.Frames.{here, resume}
 use Rattle.ec_machine.specs.Goes.{at, env_of, tasks}
-use Rattle.ec_machine.specs.Weights.{statements_weight}
-use Rattle.ec_machine.proofs.Parts.{only_is}
-use Rattle.ec_machine.proofs.Running.{only_run}
-use Rattle.ec_machine.proofs.Weighing.{front_weight, pushes, err_exit, nearer}
+use Rattle.ec_machine.specs.Weights.{statement_weight, statements_weight}
+use Rattle.ec_machine.proofs.Quickly.{came, halted, if_some, list_none, list_some, list_stops}
+use Rattle.ec_machine.proofs.Weighing.{err_near, nearer}
 use Rattle.ec_machine.proofs.machine.Machine.list.Goals as goal
 
-pub returns-in_ok-push-in-len1-up-clause-nears : goal.returns-in_ok-push-in-len1-up-clause-nears
-returns-in_ok-push-in-len1-up-clause-nears c = pushes _ _ _ _ _ _ c.in_ok-push-in-len1-up.ensures.ok (omega (arith, front_weight c.args.statements.now c.first-item.result (omega (arith, c.in-len1-up.len_at_least)) c.first-item.is))
-
-pub returns-in-empty-clause-nears : goal.returns-in-empty-clause-nears
-returns-in-empty-clause-nears c = nearer _ _ _ _ (omega arith)
-
-pub returns-in_err-push-in-len1-up-clause-nears : goal.returns-in_err-push-in-len1-up-clause-nears
-returns-in_err-push-in-len1-up-clause-nears c = err_exit _ _ _ _ _ c.from_residual.ensures.1
-
-pub returns-in-len1-clause-goes : goal.returns-in-len1-clause-goes
-returns-in-len1-clause-goes c = λ fs knowing fits k s l.
+pub returns-in-Ok-None-clause-goes : goal.returns-in-Ok-None-clause-goes
+returns-in-Ok-None-clause-goes c = λ fs knowing fits k s l.
     let w = tasks knowing fs k in
     let m = c.args.self.now in
-    ap (resume knowing w (env_of m) (reverse m.frames)) (only_run knowing w (here (env_of m) m.line) c.args.statements.now c.only-item.result (at s m) (only_is c.args.statements.now c.only-item.result (omega (arith, c.in-len1.len_below, c.in-len1.len_at_least)) c.only-item.is))
+    let n = record m { store = c.quick_list.new.store; line = c.quick_list.new.line } in
+    ap (resume knowing w (env_of m) (reverse m.frames))
+    (list_none c.quick_list.result (run_all knowing w (here (env_of m) m.line) (statements_view c.args.statements.now) (at s m)) (λ x. run knowing w (here (env_of m) n.line) (statement_view x) (at s n)) (λ xs u. run_all knowing w (here (env_of m) m.line) (statements_view xs) u) (at s n) (c.quick_list.ensures.leaves knowing w m.first (at s m)) (cc (c.in-Ok-None.is, c.in-Ok-None.field-0-is)))
 
-pub returns-in-len1-clause-nears : goal.returns-in-len1-clause-nears
-returns-in-len1-clause-nears c = nearer _ _ _ _ (omega (arith, ap statements_weight (only_is c.args.statements.now c.only-item.result (omega (arith, c.in-len1.len_below, c.in-len1.len_at_least)) c.only-item.is)))
+pub returns-in-Ok-Some-clause-goes : goal.returns-in-Ok-Some-clause-goes
+returns-in-Ok-Some-clause-goes c = λ fs.
+    let m = c.args.self.now in
+    let n = record m { store = c.quick_list.new.store; line = c.quick_list.new.line } in
+    let x = c.in-Ok-Some.found in
+    came fs m (env_of m) (λ knowing w t. run_all knowing w (here (env_of m) m.line) (statements_view c.args.statements.now) t) n
+    (λ knowing w t. on_done (run knowing w (here (env_of m) n.line) (statement_view x.first.now) t) (λ u. run_all knowing w (here (env_of m) m.line) (statements_view x.rest.now) u)) refl (omega arith)
+    (λ knowing fits k s l. let w = tasks knowing fs k in list_some c.quick_list.result (run_all knowing w (here (env_of m) m.line) (statements_view c.args.statements.now) (at s m)) (λ x. run knowing w (here (env_of m) n.line) (statement_view x) (at s n)) (λ xs u. run_all knowing w (here (env_of m) m.line) (statements_view xs) u) (at s n) (c.quick_list.ensures.leaves knowing w m.first (at s m)) x (cc (c.in-Ok-Some.is, c.in-Ok-Some.field-0-is)))
+    c.left_in.result c.left_in.new.self (c.left_in.ensures.goes fs)
+
+pub returns-in-Err-clause-goes : goal.returns-in-Err-clause-goes
+returns-in-Err-clause-goes c = λ fs.
+    let m = c.args.self.now in
+    let n = record m { store = c.quick_list.new.store; line = c.quick_list.new.line } in
+    halted fs m (env_of m) (λ knowing w t. run_all knowing w (here (env_of m) m.line) (statements_view c.args.statements.now) t) n c.in-Err.stop
+    (λ knowing fits k s l. let w = tasks knowing fs k in list_stops c.quick_list.result (run_all knowing w (here (env_of m) m.line) (statements_view c.args.statements.now) (at s m)) (λ x. run knowing w (here (env_of m) n.line) (statement_view x) (at s n)) (λ xs u. run_all knowing w (here (env_of m) m.line) (statements_view xs) u) (at s n) (c.quick_list.ensures.leaves knowing w m.first (at s m)) c.in-Err.stop c.in-Err.is)
+
+pub returns-in-Ok-None-clause-nears : goal.returns-in-Ok-None-clause-nears
+returns-in-Ok-None-clause-nears c = nearer _ _ _ _ (omega arith)
+
+pub returns-in-Ok-Some-clause-nears : goal.returns-in-Ok-Some-clause-nears
+returns-in-Ok-Some-clause-nears c =
+    omega (arith, c.left_in.ensures.nears, if_some c.quick_list.result c.in-Ok-Some.found (λ x. 1 + statement_weight x.first.now + statements_weight x.rest.now ≤ statements_weight c.args.statements.now) (cc (c.in-Ok-Some.is, c.in-Ok-Some.field-0-is)) c.quick_list.ensures.lighter)
+
+pub returns-in-Err-clause-nears : goal.returns-in-Err-clause-nears
+returns-in-Err-clause-nears c = err_near _ _ _ _

@@ -1,6 +1,5 @@
-use Rattle.std.proofs.Common.{◌∙◌, ap, sym, map, Some, None}
+use Rattle.std.proofs.Common.{◌∙◌, ap, sym, map, Some}
 use Rattle.std.specs.Prelude.{reverse}
-use Rattle.std.specs.Option.{option_map}
 use Rattle.ec_code.specs.Views.{full_step_view, function_view}
 use Rattle.ec_evaluation.specs.Execute.{called}
 use Rattle.ec_evaluation.specs.Results.{answered}

@@ -1,17 +1,16 @@
-use Rattle.std.proofs.Common.{◌∙◌, ap, arith, true, false}
+use Rattle.std.proofs.Common.{◌∙◌, ap, arith}
 use Rattle.std.specs.Option.{option_map}
-use Rattle.ec_code.specs.Views.{expression_view, statement_view}
+use Rattle.ec_code.specs.Views.{expression_view, loop_view}
 use Rattle.ec_evaluation.specs.Evaluate.{eval}
 use Rattle.ec_evaluation.specs.Execute.{returning, run}
 use Rattle.ec_evaluation.specs.Results.{on, on_value}
-use Rattle.ec_resolved.specs.Operations.{is_true}
 use Rattle.ec_machine.specs.Frames.{here}
 use Rattle.ec_machine.specs.Goes.{env_of}
-use Rattle.ec_machine.specs.Weights.{statement_weight}
+use Rattle.ec_machine.specs.Weights.{statement_weight, test_weight}
 use Rattle.ec_machine.proofs.Moves.{goes_as}
-use Rattle.ec_machine.proofs.Running.{to_Choose, to_Evaluate, to_Return}
-use Rattle.ec_machine.proofs.Weighing.{nearer, weight-Choose, weight-Evaluate, weight-Return}
-use Rattle.ec_machine.proofs.machine.Machine.at_once.Goals as goal
+use Rattle.ec_machine.proofs.Running.{to_Evaluate, to_Loop, to_Return}
+use Rattle.ec_machine.proofs.Weighing.{nearer, weight-Evaluate, weight-Loop, weight-Return}
+use Rattle.ec_machine.proofs.machine.Machine.left.Goals as goal
 
 pub returns-in-Evaluate-clause-goes : goal.returns-in-Evaluate-clause-goes
 returns-in-Evaluate-clause-goes c = λ fs.
@@ -22,14 +21,13 @@ returns-in-Evaluate-clause-goes c = λ fs.
     (λ knowing w t. to_Evaluate knowing w (env_of m) t m.line c.args.statement.now c.in-Evaluate.expression c.in-Evaluate.is)
     (c.effect.ensures.goes fs)
 
-pub returns-in-Choose-clause-goes : goal.returns-in-Choose-clause-goes
-returns-in-Choose-clause-goes c = λ fs.
+pub returns-in-Loop-clause-goes : goal.returns-in-Loop-clause-goes
+returns-in-Loop-clause-goes c = λ fs.
     let m = c.args.self.now in
     let d = here (env_of m) m.line in
-    goes_as fs m c.branch-self.new.self (env_of m) c.branch-self.result _
-    (λ knowing w t. on_value (eval knowing w d (expression_view c.in-Choose.test) t) (λ v u. elim (is_true v) [ true ↦ run knowing w d (statement_view c.get.result.now) u | false ↦ run knowing w d (statement_view c.get-in-Choose.result.now) u ]))
-    (λ knowing w t. to_Choose knowing w (env_of m) t m.line c.args.statement.now c.in-Choose.test c.in-Choose.first c.in-Choose.second c.get.result c.get-in-Choose.result c.in-Choose.is c.get.ensures c.get-in-Choose.ensures)
-    (c.branch-self.ensures.goes fs)
+    goes_as fs m c.run_loop.new.self (env_of m) c.run_loop.result _ (λ knowing w t. run knowing w d (loop_view c.get.result.now) t)
+    (λ knowing w t. to_Loop knowing w (env_of m) t m.line c.args.statement.now c.in-Loop.inner c.get.result.now c.in-Loop.is c.get.ensures)
+    (c.run_loop.ensures.goes fs)
 
 pub returns-in-Return-clause-goes : goal.returns-in-Return-clause-goes
 returns-in-Return-clause-goes c = λ fs.
@@ -42,8 +40,8 @@ returns-in-Return-clause-goes c = λ fs.
 pub returns-in-Evaluate-clause-nears : goal.returns-in-Evaluate-clause-nears
 returns-in-Evaluate-clause-nears c = omega (arith, c.effect.ensures.nears, ap statement_weight c.in-Evaluate.is ∙ weight-Evaluate _)
 
-pub returns-in-Choose-clause-nears : goal.returns-in-Choose-clause-nears
-returns-in-Choose-clause-nears c = omega (arith, c.branch-self.ensures.nears, ap statement_weight c.in-Choose.is ∙ weight-Choose _ _ _, ap statement_weight c.get.ensures, ap statement_weight c.get-in-Choose.ensures)
+pub returns-in-Loop-clause-nears : goal.returns-in-Loop-clause-nears
+returns-in-Loop-clause-nears c = omega (arith, c.run_loop.ensures.nears, ap statement_weight c.in-Loop.is ∙ weight-Loop _, ap test_weight c.get.ensures)
 
 pub returns-in-Return-clause-nears : goal.returns-in-Return-clause-nears
 returns-in-Return-clause-nears c = omega (arith, c.run_return.ensures.nears, ap statement_weight c.in-Return.is ∙ weight-Return _)

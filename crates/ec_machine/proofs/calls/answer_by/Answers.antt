@@ -1,0 +1,18 @@
+use Rattle.std.proofs.Common.{◌∙◌, ap, Some, false}
+use Rattle.ec_evaluation.specs.Results.{on_value, returned}
+use Rattle.ec_plain.specs.Answered.{at, context}
+use Rattle.ec_machine.specs.Frames.{objects_of}
+use Rattle.ec_machine.proofs.Evaluating.{to_Plain}
+use Rattle.ec_machine.proofs.Quickly.{stops_as, stops_value}
+use Rattle.ec_machine.proofs.calls.answer_by.Goals as goal
+
+pub returns-in-Ok : goal.returns-in-Ok
+returns-in-Ok c = λ knowing w s.
+    let d = context c.args.line.0 (objects_of c.args.scope.now) false in
+    ap (λ o. on_value o (λ v t. returned false (Some v) t)) (to_Plain knowing w d (at s c.args.store.now) c.args.value.now c.in-Plain.plain c.in-Plain.is ∙ c.in-Ok.ensures knowing w false s)
+
+pub returns-in-Err : goal.returns-in-Err
+returns-in-Err c = λ knowing w s.
+    let d = context c.args.line.0 (objects_of c.args.scope.now) false in
+    stops_value c.in-Err.stop (at s c.compute.new.store) _ (λ v t. returned false (Some v) t)
+    (stops_as c.in-Err.stop (at s c.compute.new.store) _ _ (to_Plain knowing w d (at s c.args.store.now) c.args.value.now c.in-Plain.plain c.in-Plain.is) (c.in-Err.ensures knowing w false s))

@@ -1,0 +1,29 @@
+use Rattle.std.proofs.Common.{◌∙◌, arith, map, refl}
+use Rattle.ec_code.specs.Views.{function_view}
+use Rattle.ec_evaluation.specs.Evaluate.{Task, turn_of}
+use Rattle.ec_evaluation.specs.Execute.{act}
+use Rattle.ec_machine.specs.Frames.{behind_of, body_of, here, test_of}
+use Rattle.ec_machine.specs.Goes.{at, env_of, tasks}
+use Rattle.ec_machine.specs.Quick.{bodily, testing, turning}
+use Rattle.ec_machine.proofs.Quickly.{halted, onward_came}
+use Rattle.ec_machine.proofs.Turns.{begins, stops_by}
+use Rattle.ec_machine.proofs.machine.Machine.round.Goals as goal
+
+pub returns-in-Ok-clause-goes : goal.returns-in-Ok-clause-goes
+returns-in-Ok-clause-goes c = λ fs.
+    let m = c.args.self.now in
+    let n = record m { turns = c.take_turn.new.turns } in
+    let i = c.args.inner.now in
+    let t : Task = turn_of (here (env_of m) m.line) (test_of i) (behind_of i) (body_of i) in
+    onward_came fs m n (turning i) (bodily i) (testing i) refl refl (omega (arith, c.in-Ok.ensures.fewer))
+    (λ knowing fits k s l. begins knowing fits fs k s m t l ∙ c.in-Ok.ensures.turn (at s m) (λ u. act knowing (map function_view fs) (tasks knowing fs k) t u))
+    c.body.result c.body.new.self (c.body.ensures.goes fs)
+
+pub returns-in-Err-clause-goes : goal.returns-in-Err-clause-goes
+returns-in-Err-clause-goes c = λ fs.
+    let m = c.args.self.now in
+    let n = record m { turns = c.take_turn.new.turns } in
+    let i = c.args.inner.now in
+    let t : Task = turn_of (here (env_of m) m.line) (test_of i) (behind_of i) (body_of i) in
+    halted fs m (env_of m) (turning i m) n c.in-Err.stop
+    (λ knowing fits k s l. stops_by c.in-Err.stop (at s n) _ _ (begins knowing fits fs k s m t l) (c.in-Err.ensures.turn (at s m) (λ u. act knowing (map function_view fs) (tasks knowing fs k) t u)))
