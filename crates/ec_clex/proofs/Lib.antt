@@ -1,4 +1,5 @@
 pub mod Digits
+pub mod FlatTokens
 pub mod FreshLines
 pub mod HashLines
 pub mod ItemSteps

@@ -1,16 +1,14 @@
 -- The tokens of a statement, one unit after the other.
 use Rattle.std.proofs.Common.{◌≡◌, inl, inr, ℕ, zero, suc, ◌+◌, ◌-◌, ◌≤◌, Bool, true, false, List, [], ◌∷◌, ◌++◌, length, take, drop, refl, sym, ap, ◌∙◌, subst, arith, append_assoc, append-nil, eqb-true}
-use Rattle.std.specs.Prelude.{codes, ◌==◌, ◌&&◌, ◌||◌, if◌then◌else◌, Option, Some, None, Result, Ok, Err}
+use Rattle.std.specs.Prelude.{codes, ◌==◌, ◌&&◌, ◌||◌, if◌then◌else◌, Result}
 use Rattle.std.specs.List.{concat}
-use Rattle.ec_base.specs.declared.fault.FaultKind.TheVariants.{F4}
 use Rattle.ec_base.specs.declared.stop.Stop.{Stop}
-use Rattle.ec_base.specs.declared.stop.Stop.TheVariants.{Refused}
 use Rattle.ec_language.specs.Letters.{Text, dot, is_digit, is_sql_word_start, is_sql_word_byte, is_number_byte, is_quote, begins, begins_with, each, same_text, same_word}
 use Rattle.ec_language.specs.Line.{newlines}
 use Rattle.ec_language.specs.SqlText.{SqlUnit, begins_number, is_escaped, closes_escaped, is_sql_gap, is_sql_comment, is_dash_comment, closes_sql_quote, closes_nested, is_sql_single}
 use Rattle.ec_language.specs.SqlText as unit
 use Rattle.ec_language.specs.SqlTokens as sql
-use Rattle.ec_language.specs.Tokens.{lines_before, refused_at, SqlTokensOrStop}
+use Rattle.ec_language.specs.Tokens.{lines_before, sql_answer, SqlTokensOrStop}
 use Rattle.ec_language.specs.SqlTokens.{StatementUnits, SqlToken, sql_class, are_one_mark, sql_tokens_from, first_bad_line}
 use Rattle.ec_language.specs.ReadPieces.{Behind, passed, cut, endless, sql_end, front, begins_semicolon, begins_gap, begins_escaped}
 use Rattle.ec_language.specs.ReadTokens.{sql_units, units_within, text_behind_start, statement_units}
@@ -24,6 +22,7 @@ use Rattle.ec_language.proofs.LongestMatch.{begins_split, begins_front}
 use Rattle.ec_language.proofs.Marks.{same_text_is}
 use Rattle.ec_language.proofs.SqlUnits.{sql_sound}
 use Rattle.ec_language.proofs.ReadSteps.{sql_units_here, sql_units_on}
+use Rattle.ec_clex.specs.Items.{Told}
 use Rattle.ec_clex.specs.Sql.{first_class, begins_pair, sql_views}
 use Rattle.ec_clex.proofs.Units.{UnitAt, unit_on, gap_slice}
 use Rattle.ec_split.proofs.Steps.{later}
@@ -223,7 +222,7 @@ sql_escaped_on t at end g l u e f =
 
 -- ---- marks of two bytes
 
-pair_is : (x y : ℕ) (r : Text) (g : Bool) (l : ℕ) → sql_end (x ∷ y ∷ r) ≡ passed (y ∷ r) → sql_end (y ∷ r) ≡ passed r → begins_semicolon (x ∷ y ∷ r) ≡ false → begins_semicolon (y ∷ r) ≡ false
+pub pair_is : (x y : ℕ) (r : Text) (g : Bool) (l : ℕ) → sql_end (x ∷ y ∷ r) ≡ passed (y ∷ r) → sql_end (y ∷ r) ≡ passed r → begins_semicolon (x ∷ y ∷ r) ≡ false → begins_semicolon (y ∷ r) ≡ false
     → sql_units (x ∷ y ∷ r) ≡ (x ∷ []) ∷ (y ∷ []) ∷ sql_units r
 pair_is x y r g l a b c d =
     sql_units_on (x ∷ y ∷ r) (y ∷ r) c a ∙ ap (λ (w : Text). w ∷ sql_units (y ∷ r)) (front_is (x ∷ []) (y ∷ r))
@@ -340,6 +339,17 @@ first_lines : (s : Text) → newlines s ≡ newlines (take 1 s) + newlines (drop
 first_lines [] = refl
 first_lines (b ∷ s) = omega arith
 
+-- the newlines of the two slices that an escaped quote is
+pub two_slices : (t : Text) (at end : ℕ) → at + 1 ≤ end
+    → newlines (take (at + 1 - at) (drop at t)) + newlines (take (end - (at + 1)) (drop (at + 1) t)) ≡ newlines (slice t at end)
+two_slices t at end e =
+    let k : ℕ = end - (at + 1) in
+    let one : at + 1 - at ≡ 1 = omega arith in
+    let m : end - at ≡ suc k = omega arith in
+    let first : take (at + 1 - at) (drop at t) ≡ take 1 (slice t at end) = ap (λ j. take j (drop at t)) one ∙ sym (ap (λ j. take 1 (take j (drop at t))) m ∙ take_first (drop at t) k) in
+    let second : take k (drop (at + 1) t) ≡ drop 1 (slice t at end) = ap (take k) (sym (later 1 at t)) ∙ sym (ap (λ j. drop 1 (take j (drop at t))) m ∙ drop_first (drop at t) k) in
+    (λ i. newlines (first i) + newlines (second i)) ∙ sym (first_lines (slice t at end))
+
 -- an escaped quote, as two slices
 pub escaped_slices : (t : Text) (at end : ℕ) (g : Bool) (l : ℕ) → UnitAt t at end → at + 1 ≤ end → begins_gap (drop at t) ≡ false → begins_escaped (drop at t) ≡ true
     → token_of sql.word (take (at + 1 - at) (drop at t)) g l ∷ token_of sql.quoted (take (end - (at + 1)) (drop (at + 1) t)) false (l + newlines (take (at + 1 - at) (drop at t)))
@@ -378,20 +388,8 @@ statement_at find text bytes from line n units same behind lines are =
 abbrev Answer : Type 0
 Answer = Result (List SqlToken) Stop
 
-pub statement_refused : (text bytes : Text) (from line n : ℕ) (bad : ℕ) (answer : Answer) → text ≡ bytes → drop from text ≡ text_behind_start text → n ≡ newlines (take from text)
-    → Some bad ≡ first_bad_line (line + n) (sql_units (drop from text)) → SqlTokensOrStop line bytes answer → Err (Refused F4 (record { 0 = bad })) ≡ answer
-statement_refused text bytes from line n bad answer same behind lines found is =
-    let units = is.0 in
-    let at = line + lines_before bytes (concat units) in
-    let first : Some bad ≡ first_bad_line at units = found ∙ statement_at first_bad_line text bytes from line n units same behind lines is.1 in
-    ap (λ (o : Option ℕ). refused_at o (sql_tokens_from false at units)) first ∙ sym is.2
-
-pub statement_told : (text bytes : Text) (from line n : ℕ) (tokens : List Token) (answer : Answer) → text ≡ bytes → drop from text ≡ text_behind_start text → n ≡ newlines (take from text)
-    → None ≡ first_bad_line (line + n) (sql_units (drop from text)) → sql_views tokens ≡ sql_tokens_from false (line + n) (sql_units (drop from text))
-    → SqlTokensOrStop line bytes answer → ◌≡◌ {A = Answer} (Ok (sql_views tokens)) answer
-statement_told text bytes from line n tokens answer same behind lines none told is =
-    let units = is.0 in
-    let at = line + lines_before bytes (concat units) in
-    let first : None ≡ first_bad_line at units = none ∙ statement_at first_bad_line text bytes from line n units same behind lines is.1 in
-    let all : sql_views tokens ≡ sql_tokens_from false at units = told ∙ statement_at (sql_tokens_from false) text bytes from line n units same behind lines is.1 in
-    ap (λ (ts : List SqlToken). let r : Answer = Ok ts in r) all ∙ ap (λ (o : Option ℕ). refused_at o (sql_tokens_from false at units)) first ∙ sym is.2
+-- what is told of the units that are read is told of those of the statement
+pub statement_told : (text bytes : Text) (from line n : ℕ) (result : Result (List Token) Stop) (answer : Answer) → text ≡ bytes → drop from text ≡ text_behind_start text → n ≡ newlines (take from text)
+    → Told sql_views result (sql_answer (line + n) (sql_units (drop from text))) → SqlTokensOrStop line bytes answer → Told sql_views result answer
+statement_told text bytes from line n result answer same behind lines told is =
+    subst (λ (a : Answer). Told sql_views result a) (statement_at sql_answer text bytes from line n is.0 same behind lines is.1 ∙ sym is.2) told

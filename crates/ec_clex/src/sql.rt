@@ -1,19 +1,20 @@
 //! The tokens of an embedded statement.
-ghost use Rattle.std.specs.Prelude.{◌≡◌, ◌+◌, ◌-◌, ◌≤◌, ◌<◌, ◌^◌, ◌∷◌, ◌++◌, [], ℕ, List as Sequence, Result as Answer, true, false, length, take, drop, IfOk};
+ghost use Rattle.std.specs.Prelude.{◌≡◌, ◌+◌, ◌-◌, ◌≤◌, ◌<◌, ◌^◌, ◌∷◌, ◌++◌, [], ℕ, List as Sequence, Result as Answer, true, false, length, take, drop, IfOk, IfSome};
 ghost use Rattle.ec_language.specs.Line as lines;
 ghost use Rattle.ec_language.specs.SqlTokens as sql;
 ghost use Rattle.ec_base.specs.declared.stop.Stop.{Stop as TheStop};
-ghost use Rattle.ec_language.specs.Tokens.{SqlTokensOrStop};
+ghost use Rattle.ec_language.specs.Tokens.{SqlTokensOrStop, sql_answer};
 ghost use Rattle.ec_language.specs.ReadPieces as read;
 ghost use Rattle.ec_language.specs.ReadTokens.{sql_units, text_behind_start};
 ghost use Rattle.ec_clex.specs.Items.{Told};
 ghost use Rattle.ec_clex.specs.Sql as view;
 
 use crate::lexer::behind;
-use crate::statements::first_bad_line;
 use ec_base::{FaultKind, Line, List, Name, OutOfMemory, Stop};
 use ec_ctypes::Piece;
-use ec_split::scanning::bytes::{begins_two, is_quote, is_sql_word_start, newlines};
+use ec_split::scanning::bytes::{
+    ByteClass, begins_two, behind_all, is_blank, is_quote, is_sql_word_start, newlines,
+};
 use ec_split::scanning::ends::End;
 use ec_split::scanning::units::{begins_escaped, begins_gap, begins_number, sql_end};
 use std::alloc::Global;
@@ -77,7 +78,104 @@ fn begins_pair(text: &[u8], at: usize) -> bool
     begins_two(text, at, b'-', b'>')
 }
 
+/// Whether the byte is a mark by itself, but for what makes it one of two bytes. There are others
+/// that are.
+fn is_lone_mark(byte: u8) -> bool
+    ensures { result ≡ view.is_lone_mark byte }
+{
+    byte == b','
+        || byte == b'('
+        || byte == b')'
+        || byte == b'='
+        || byte == b':'
+        || byte == b'['
+        || byte == b']'
+        || byte == b'*'
+        || byte == b'<'
+        || byte == b'>'
+}
+
+/// Whether the byte begins no token.
+fn is_bad_byte(byte: u8) -> bool
+    ensures { result ≡ view.is_bad_byte byte }
+{
+    byte == 0 || byte == b'$'
+}
+
+/// A token in which no newline stands.
+#[derive(Clone, Copy)]
+struct Flat {
+    class: SqlClass,
+    /// The index behind it.
+    end: usize,
+}
+
+/// The token that stands at the index, if its first bytes tell that it is a word or a mark.
+#[inline(always)]
+fn flat_at(text: &[u8], at: usize) -> Option<Flat>
+    requires { at < length text.now }
+    ensures is { IfSome result (λ found. view.IsFlat (drop at text.now) (drop found.end text.now)
+        found.class) }
+    ensures within { IfSome result (λ found. (at + 1 ≤ found.end)
+        × (found.end ≤ length text.now)) }
+{
+    let byte = text[at];
+    if is_sql_word_start(byte) {
+        if begins_escaped(text, at) {
+            return None;
+        }
+        return Some(Flat {
+            class: SqlClass::Word,
+            end: behind_all(ByteClass::SqlWord, text, at + 1),
+        });
+    }
+    if is_lone_mark(byte) && !begins_pair(text, at) {
+        return Some(Flat {
+            class: SqlClass::Mark,
+            end: at + 1,
+        });
+    }
+    None
+}
+
+/// How many newlines the byte is.
+fn lines_in(byte: u8) -> u32
+    ensures is { result ≡ lines.newlines (byte ∷ []) }
+    ensures most { result ≤ 1 }
+{
+    if byte == b'\n' {
+        return 1;
+    }
+    0
+}
+
+/// For how many tokens room is made at first, in a statement of so many bytes.
+fn room_for(length: usize) -> usize {
+    if length < 80 {
+        return 4 + length / 4;
+    }
+    24
+}
+
 impl SqlLexer {
+    /// Puts a token of these bytes behind the others, and counts no lines.
+    #[inline(never)]
+    fn put(&mut self, alloc: Global, class: SqlClass, bytes: &[u8]) -> Result<(), OutOfMemory>
+        ensures tokens { IfOk result (λ _. view.sql_views self.new.tokens
+            ≡ view.sql_views self.old.tokens ++ view.next_token self.old class bytes.now ∷ []) }
+        ensures gap { IfOk result (λ _. self.new.gap ≡ false) }
+        ensures line { IfOk result (λ _. self.new.line ≡ self.old.line) }
+    {
+        self.tokens.push(SqlToken {
+            class,
+            bytes: Name::from_slice(alloc, bytes)?,
+            gap: self.gap,
+            line: Line(self.line),
+        })?;
+        self.gap = false;
+        Ok(())
+    }
+
     /// Puts a token of these bytes behind the others.
     fn push(&mut self, alloc: Global, class: SqlClass, bytes: &[u8]) -> Result<(), OutOfMemory>
         requires { self.old.line + length bytes.now < 2 ^ 32 }
@@ -87,15 +185,47 @@ impl SqlLexer {
         ensures line { IfOk result (λ _. self.new.line ≡ self.old.line + lines.newlines bytes.now) }
         ensures most { IfOk result (λ _. self.new.line ≤ self.old.line + length bytes.now) }
     {
-        self.tokens.push(SqlToken {
-            class,
-            bytes: Name::from_slice(alloc, bytes)?,
-            gap: self.gap,
-            line: Line(self.line),
-        })?;
-        self.gap = false;
+        self.put(alloc, class, bytes)?;
         self.line += newlines(bytes) as u32;
         Ok(())
+    }
+
+    /// Takes the token that stands there, in which no newline stands.
+    #[inline(always)]
+    fn flat(
+        &mut self,
+        alloc: Global,
+        text: &[u8],
+        at: usize,
+        found: Flat,
+    ) -> Result<(), OutOfMemory>
+        requires order { at + 1 ≤ found.end }
+        requires inside { found.end ≤ length text.now }
+        requires flat { view.IsFlat (drop at text.now) (drop found.end text.now) found.class }
+        ensures all { IfOk result (λ _. view.all_tokens self.new (drop found.end text.now)
+            ≡ view.all_tokens self.old (drop at text.now)) }
+        ensures good { IfOk result (λ _. view.bad_line self.new (drop found.end text.now)
+            ≡ view.bad_line self.old (drop at text.now)) }
+        ensures line { IfOk result (λ _. self.new.line ≡ self.old.line) }
+    {
+        self.put(alloc, found.class, &text[at..found.end])?;
+        Ok(())
+    }
+
+    /// Passes over a blank.
+    #[inline(always)]
+    fn blank(&mut self, text: &[u8], at: usize)
+        requires fits { self.old.line + 1 < 2 ^ 32 }
+        requires inside { at < length text.now }
+        requires blank { view.begins_blank (drop at text.now) ≡ true }
+        ensures all { view.all_tokens self.new (drop (at + 1) text.now)
+            ≡ view.all_tokens self.old (drop at text.now) }
+        ensures good { view.bad_line self.new (drop (at + 1) text.now)
+            ≡ view.bad_line self.old (drop at text.now) }
+        ensures most { self.new.line ≤ self.old.line + 1 }
+    {
+        self.gap = true;
+        self.line += lines_in(text[at]);
     }
 
     /// Passes over a gap.
@@ -125,6 +255,8 @@ impl SqlLexer {
         requires behind { read.passed (drop end text.now) ≡ read.sql_end (drop at text.now) }
         requires solid { read.begins_gap (drop at text.now) ≡ false }
         requires escaped { read.begins_escaped (drop at text.now) ≡ true }
+        ensures line { IfOk result (λ _. self.new.line
+            ≡ self.old.line + lines.newlines (take (end - at) (drop at text.now))) }
         ensures all { IfOk result (λ _. view.all_tokens self.new (drop end text.now)
             ≡ view.all_tokens self.old (drop at text.now)) }
         ensures most { IfOk result (λ _. self.new.line ≤ self.old.line + (end - at)) }
@@ -147,6 +279,9 @@ impl SqlLexer {
         requires fits { self.old.line + (length text.now - at) < 2 ^ 32 }
         requires more { read.begins_semicolon (drop at text.now) ≡ false }
         requires behind { read.passed (drop end text.now) ≡ read.sql_end (drop at text.now) }
+        requires good { view.begins_bad (drop at text.now) ≡ false }
+        ensures good { IfOk result (λ next. view.bad_line self.new (drop next text.now)
+            ≡ view.bad_line self.old (drop at text.now)) }
         ensures all { IfOk result (λ next. view.all_tokens self.new (drop next text.now)
             ≡ view.all_tokens self.old (drop at text.now)) }
         ensures within { IfOk result (λ next. (at + 1 ≤ next) × (next ≤ length text.now)) }
@@ -169,27 +304,37 @@ impl SqlLexer {
     }
 }
 
-/// The tokens of the units that stand from the index on, the first of which stands on this line.
-fn tokens_from(
-    alloc: Global,
-    text: &[u8],
-    from: usize,
-    line: u32,
-) -> Result<List<SqlToken>, OutOfMemory>
+/// The tokens of the units that stand from the index on, the first of which stands on this line,
+/// or the fault of the first byte that begins none.
+#[tactic(auto, using(crate::proofs::FlatTokens::bad_told, crate::proofs::FlatTokens::all_told))]
+fn tokens_from(alloc: Global, text: &[u8], from: usize, line: u32) -> Result<List<SqlToken>, Stop>
     requires inside { from ≤ length text.now }
     requires fits { line + (length text.now - from) < 2 ^ 32 }
-    ensures { IfOk result (λ tokens. view.sql_views tokens
-        ≡ sql.sql_tokens_from false line (sql_units (drop from text.now))) }
+    ensures { Told view.sql_views result (sql_answer line (sql_units (drop from text.now))) }
 {
     let mut lexer = SqlLexer {
-        tokens: List::new(alloc),
+        tokens: List::with_capacity(alloc, room_for(text.len()))?,
         gap: false,
         line,
     };
     let mut at = from;
     while at < text.len() {
-        if text[at] == b';' {
+        let byte = text[at];
+        if is_blank(byte) {
+            lexer.blank(text, at);
+            at += 1;
+            continue;
+        }
+        if let Some(found) = flat_at(text, at) {
+            lexer.flat(alloc, text, at, found)?;
+            at = found.end;
+            continue;
+        }
+        if byte == b';' {
             return Ok(lexer.tokens);
+        }
+        if is_bad_byte(byte) {
+            return Err(Stop::Refused(FaultKind::F4, Line(lexer.line)));
         }
         match sql_end(text, at) {
             End::Passed(end) => at = lexer.unit(alloc, text, at, end)?,
@@ -211,8 +356,5 @@ pub fn sql_tokens(alloc: Global, piece: &Piece) -> Result<List<SqlToken>, Stop>
     let text = piece.bytes.as_slice();
     let from = behind(text);
     let line = piece.line.0 + newlines(&text[..from]) as u32;
-    match first_bad_line(text, from, line) {
-        Some(bad) => Err(Stop::Refused(FaultKind::F4, Line(bad))),
-        None => Ok(tokens_from(alloc, text, from, line)?),
-    }
+    tokens_from(alloc, text, from, line)
 }

@@ -1,5 +1,5 @@
 -- Where an SQLDA is named.
-use Rattle.std.specs.Prelude.{ℕ, Bool, not, ◌&&◌, ◌||◌, ◌==◌, codes}
+use Rattle.std.specs.Prelude.{ℕ, Bool, false, not, ◌&&◌, ◌||◌, ◌==◌, [], ◌∷◌, codes}
 use Rattle.ec_language.specs.SqlTokens.{SqlToken}
 use Rattle.ec_embedded.specs.LeftOut.{is_first}
 use Rattle.ec_embedded.specs.ServerText.{Tokens}
@@ -14,3 +14,8 @@ names_area_here using depth inserts t w =
 
 abbrev pub is_insert : SqlToken → Bool
 is_insert t = is (keyword (codes "INSERT")) t || is (keyword (codes "MERGE")) t
+
+-- whether the word DESCRIPTOR is one of the tokens
+abbrev pub has_descriptor : Tokens → Bool
+has_descriptor [] = false
+has_descriptor (t ∷ w) = is (keyword (codes "DESCRIPTOR")) t || has_descriptor w

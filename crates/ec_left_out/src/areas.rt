@@ -4,7 +4,7 @@ ghost use Rattle.std.specs.Prelude.{◌≡◌, false, ◌+◌, ◌≤◌, ◌<�
 ghost use Rattle.ec_clex.specs.Sql.{sql_view, sql_views};
 ghost use Rattle.ec_embedded.specs.LeftOut as spec;
 ghost use Rattle.ec_embedded.specs.ServerText.{depth_behind};
-ghost use Rattle.ec_left_out.specs.Areas.{names_area_here, is_insert};
+ghost use Rattle.ec_left_out.specs.Areas.{has_descriptor, names_area_here, is_insert};
 
 use crate::words::is_first;
 use ec_clex::SqlToken;
@@ -48,11 +48,29 @@ fn inserts(token: &SqlToken) -> bool
     is_keyword(token, b"INSERT") || is_keyword(token, b"MERGE")
 }
 
+/// Whether the word DESCRIPTOR is one of the tokens. Most statements don't have it.
+fn has_descriptor(tokens: &[SqlToken]) -> bool
+    ensures { result ≡ has_descriptor (sql_views tokens.now) }
+{
+    let mut left = tokens;
+    while let [token, rest @ ..] = left {
+        if is_keyword(token, b"DESCRIPTOR") {
+            return true;
+        }
+        left = rest;
+    }
+    false
+}
+
 /// Whether an SQLDA is named: DESCRIPTOR directly behind an INTO outside parentheses that isn't that of INSERT or MERGE,
 /// or, where it may, behind a USING.
+#[tactic(auto, using(crate::proofs::Descriptors::none_named))]
 pub fn names_area(by_using: bool, tokens: &[SqlToken]) -> bool
     ensures { result ≡ spec.names_area by_using 0 false (sql_views tokens.now) }
 {
+    if !has_descriptor(tokens) {
+        return false;
+    }
     let mut left = tokens;
     let mut depth = 0u64;
     let mut behind_insert = false;

@@ -1,2 +1,3 @@
+pub mod HostAlone
 pub mod CutSteps
 pub mod Longest

@@ -43,6 +43,10 @@ long_indicator =
       | false ↦ done None n w
     ])
 
+-- whether an indicator begins here
+abbrev pub has_indicator : Tokens → Bool
+has_indicator w = begins_host w || begins_indicator w
+
 unfoldable pub long_host : Begins → Reader HostData
 long_host b =
     long_reference b >>= (λ e. long_indicator

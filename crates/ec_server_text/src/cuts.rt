@@ -51,119 +51,109 @@ fn depth_behind(depth: u64, token: &SqlToken) -> u64
     depth
 }
 
-/// With a blank where a gap stands, but at the start.
-fn with_blank(mut bytes: Bytes, first: bool, gap: bool) -> Result<Bytes, OutOfMemory>
-    ensures { IfOk result (λ more. more ≡ spec.spaced bytes first gap) }
+/// Puts a blank where a gap stands, but at the start.
+fn put_blank(bytes: &mut Bytes, first: bool, gap: bool) -> Result<(), OutOfMemory>
+    ensures { IfOk result (λ _. bytes.new ≡ spec.spaced bytes.old first gap) }
 {
     if gap && !first {
         bytes.push(b' ')?;
     }
-    Ok(bytes)
+    Ok(())
 }
 
-/// With a token as it stands.
-fn with_token(cutting: Cutting, token: &SqlToken) -> Result<Cutting, OutOfMemory>
-    requires { cutting.depth + 1 < 2 ^ 64 }
-    ensures is { IfOk result (λ more. cutting_view more
-        ≡ spec.token_cut (cutting_view cutting) (sql_view token.now)) }
-    ensures most { IfOk result (λ more. more.depth ≤ cutting.depth + 1) }
+/// Puts a token as it stands.
+#[inline(always)]
+fn put_token(cutting: &mut Cutting, token: &SqlToken) -> Result<(), OutOfMemory>
+    requires { cutting.old.depth + 1 < 2 ^ 64 }
+    ensures is { IfOk result (λ _. cutting_view cutting.new
+        ≡ spec.token_cut (cutting_view cutting.old) (sql_view token.now)) }
+    ensures most { IfOk result (λ _. cutting.new.depth ≤ cutting.old.depth + 1) }
 {
-    let mut bytes = with_blank(cutting.bytes, cutting.first, token.gap || cutting.gap)?;
-    bytes.extend_from_slice(token.bytes.as_slice())?;
-    Ok(Cutting {
-        parts: cutting.parts,
-        bytes,
-        first: false,
-        gap: false,
-        outs: cutting.outs,
-        depth: depth_behind(cutting.depth, token),
-        free: cutting.free,
-    })
+    put_blank(&mut cutting.bytes, cutting.first, token.gap || cutting.gap)?;
+    cutting.bytes.extend_from_slice(token.bytes.as_slice())?;
+    cutting.first = false;
+    cutting.gap = false;
+    cutting.depth = depth_behind(cutting.depth, token);
+    Ok(())
 }
 
-/// The parts with these bytes behind them, if there are any.
-fn with_bytes(mut parts: List<Part>, bytes: Bytes) -> Result<List<Part>, OutOfMemory>
-    ensures { IfOk result (λ more. map part_view more
-        ≡ spec.with_bytes (map part_view parts) bytes) }
+/// Puts these bytes behind the parts, if there are any. They take no more memory than they need.
+fn put_bytes(alloc: Global, parts: &mut List<Part>, bytes: &[u8]) -> Result<(), OutOfMemory>
+    ensures { IfOk result (λ _. map part_view parts.new
+        ≡ spec.with_bytes (map part_view parts.old) bytes.now) }
 {
     if bytes.is_empty() {
-        return Ok(parts);
+        return Ok(());
     }
-    parts.push(Part::Bytes(bytes))?;
-    Ok(parts)
+    parts.push(Part::Bytes(List::from_slice(alloc, bytes)?))?;
+    Ok(())
 }
 
-/// The parts with a host behind them.
-fn with_part(mut parts: List<Part>, host: Boxed<Host>) -> Result<List<Part>, OutOfMemory>
-    ensures { IfOk result (λ more. map part_view more
-        ≡ spec.with_host_part (map part_view parts) (host_view host)) }
+/// Puts a host behind the parts.
+fn put_part(parts: &mut List<Part>, host: Boxed<Host>) -> Result<(), OutOfMemory>
+    ensures { IfOk result (λ _. map part_view parts.new
+        ≡ spec.with_host_part (map part_view parts.old) (host_view host)) }
 {
     parts.push(Part::Host(host))?;
-    Ok(parts)
+    Ok(())
 }
 
-/// With a host.
-fn with_host(
+/// Puts a host.
+fn put_host(
     alloc: Global,
-    cutting: Cutting,
+    cutting: &mut Cutting,
     gap: bool,
     host: Boxed<Host>,
-) -> Result<Cutting, OutOfMemory>
-    ensures is { IfOk result (λ more. cutting_view more
-        ≡ spec.with_host_cut (cutting_view cutting) gap (host_view host)) }
-    ensures most { IfOk result (λ more. more.depth ≡ cutting.depth) }
+) -> Result<(), OutOfMemory>
+    ensures is { IfOk result (λ _. cutting_view cutting.new
+        ≡ spec.with_host_cut (cutting_view cutting.old) gap (host_view host)) }
+    ensures most { IfOk result (λ _. cutting.new.depth ≡ cutting.old.depth) }
 {
-    let bytes = with_blank(cutting.bytes, cutting.first, gap || cutting.gap)?;
-    let parts = with_bytes(cutting.parts, bytes)?;
-    let parts = with_part(parts, host)?;
-    Ok(Cutting {
-        parts,
-        bytes: List::new(alloc),
-        first: false,
-        gap: false,
-        outs: cutting.outs,
-        depth: cutting.depth,
-        free: cutting.free,
-    })
+    put_blank(&mut cutting.bytes, cutting.first, gap || cutting.gap)?;
+    put_bytes(alloc, &mut cutting.parts, cutting.bytes.as_slice())?;
+    put_part(&mut cutting.parts, host)?;
+    cutting.bytes.clear();
+    cutting.first = false;
+    cutting.gap = false;
+    Ok(())
 }
 
 /// Cuts the list of an INTO.
-fn into_cut(alloc: Global, cursor: &mut Cursor<'_>, cutting: Cutting) -> Result<Cutting, Failure>
-    ensures is { CursorReads cutting_view (spec.into_cut (cutting_view cutting))
-        cursor.old result cursor.new }
-    ensures most { IfOk result (λ more. more.depth ≡ cutting.depth) }
+#[inline(never)]
+fn into_cut(alloc: Global, cursor: &mut Cursor<'_>, cutting: &mut Cutting) -> Result<(), Failure>
+    ensures is { CursorReads (λ _. cutting_view cutting.new)
+        (spec.into_cut (cutting_view cutting.old)) cursor.old result cursor.new }
+    ensures most { IfOk result (λ _. cutting.new.depth ≡ cutting.old.depth) }
 {
     cursor.word(b"INTO")?;
     let outs = outputs(alloc, cursor)?;
     let outs = Boxed::new(alloc, outs)?;
-    Ok(Cutting {
-        parts: cutting.parts,
-        bytes: cutting.bytes,
-        first: cutting.first,
-        gap: true,
-        outs: Some(outs),
-        depth: cutting.depth,
-        free: false,
-    })
+    cutting.gap = true;
+    cutting.outs = Some(outs);
+    cutting.free = false;
+    Ok(())
 }
 
 /// Cuts a host.
+#[inline(never)]
 fn host_cut(
     alloc: Global,
     cursor: &mut Cursor<'_>,
-    cutting: Cutting,
+    cutting: &mut Cutting,
     gap: bool,
-) -> Result<Cutting, Failure>
-    ensures is { CursorReads cutting_view (spec.host_cut (cutting_view cutting) gap)
-        cursor.old result cursor.new }
-    ensures most { IfOk result (λ more. more.depth ≡ cutting.depth) }
+) -> Result<(), Failure>
+    ensures is { CursorReads (λ _. cutting_view cutting.new)
+        (spec.host_cut (cutting_view cutting.old) gap) cursor.old result cursor.new }
+    ensures most { IfOk result (λ _. cutting.new.depth ≡ cutting.old.depth) }
 {
     let host = input_host(alloc, cursor)?;
     let host = Boxed::new(alloc, host)?;
-    Ok(with_host(alloc, cutting, gap, host)?)
+    put_host(alloc, cutting, gap, host)?;
+    Ok(())
 }
 
 /// Whether an INTO list stands here outside parentheses.
+#[inline(always)]
 fn is_into(depth: u64, tokens: &[SqlToken]) -> bool
     ensures { result ≡ spec.is_into depth (sql_views tokens.now) }
 {
@@ -171,12 +161,13 @@ fn is_into(depth: u64, tokens: &[SqlToken]) -> bool
 }
 
 /// Cuts what stands next.
+#[inline(always)]
 #[tactic(auto, unfolding(crate::specs::Readers::one_cut))]
-fn one_cut(alloc: Global, cursor: &mut Cursor<'_>, cutting: Cutting) -> Result<Cutting, Failure>
-    requires { cutting.depth + 1 < 2 ^ 64 }
-    ensures is { CursorReads cutting_view (spec.one_cut (cutting_view cutting))
-        cursor.old result cursor.new }
-    ensures most { IfOk result (λ more. more.depth ≤ cutting.depth + 1) }
+fn one_cut(alloc: Global, cursor: &mut Cursor<'_>, cutting: &mut Cutting) -> Result<(), Failure>
+    requires { cutting.old.depth + 1 < 2 ^ 64 }
+    ensures is { CursorReads (λ _. cutting_view cutting.new)
+        (spec.one_cut (cutting_view cutting.old)) cursor.old result cursor.new }
+    ensures most { IfOk result (λ _. cutting.new.depth ≤ cutting.old.depth + 1) }
 {
     let tokens = cursor.rest();
     match tokens {
@@ -191,9 +182,10 @@ fn one_cut(alloc: Global, cursor: &mut Cursor<'_>, cutting: Cutting) -> Result<C
                 return host_cut(alloc, cursor, cutting, token.gap);
             }
             cursor.next();
-            Ok(with_token(cutting, token)?)
+            put_token(cutting, token)?;
+            Ok(())
         }
-        [] => Ok(cutting),
+        [] => Ok(()),
     }
 }
 
@@ -211,32 +203,41 @@ fn all_cuts(
         if cursor.left() == 0 {
             return Ok(cutting);
         }
-        cutting = one_cut(alloc, cursor, cutting)?;
+        one_cut(alloc, cursor, &mut cutting)?;
     }
     Ok(cutting)
 }
 
-/// Nothing is written.
-fn cutting_from(alloc: Global, free: bool) -> Cutting
-    ensures is { cutting_view result ≡ spec.cutting_from free }
-    ensures depth { result.depth ≡ 0 }
+/// Nothing is written. There is room for the bytes of most statements.
+fn cutting_from(alloc: Global, free: bool) -> Result<Cutting, OutOfMemory>
+    ensures is { IfOk result (λ cutting. cutting_view cutting ≡ spec.cutting_from free) }
+    ensures depth { IfOk result (λ cutting. cutting.depth ≡ 0) }
 {
-    Cutting {
+    Ok(Cutting {
         parts: List::new(alloc),
-        bytes: List::new(alloc),
+        bytes: List::with_capacity(alloc, 96)?,
         first: true,
         gap: false,
         outs: None,
         depth: 0,
         free,
-    }
+    })
+}
+
+/// The parts, with the bytes that may go on behind them.
+fn parts_of(alloc: Global, mut parts: List<Part>, bytes: Bytes) -> Result<List<Part>, OutOfMemory>
+    ensures { IfOk result (λ more. map part_view more
+        ≡ spec.with_bytes (map part_view parts) bytes) }
+{
+    put_bytes(alloc, &mut parts, bytes.as_slice())?;
+    Ok(parts)
 }
 
 /// The statement that is written so.
-fn sent_by(cutting: Cutting) -> Result<EmbKind, OutOfMemory>
+fn sent_by(alloc: Global, cutting: Cutting) -> Result<EmbKind, OutOfMemory>
     ensures { IfOk result (λ kind. emb_kind_view kind ≡ spec.sent_by (cutting_view cutting)) }
 {
-    let parts = with_bytes(cutting.parts, cutting.bytes)?;
+    let parts = parts_of(alloc, cutting.parts, cutting.bytes)?;
     Ok(match cutting.outs {
         Some(outs) => EmbKind::Text {
             parts,
@@ -254,17 +255,18 @@ fn sent_by(cutting: Cutting) -> Result<EmbKind, OutOfMemory>
 pub fn server(alloc: Global, cursor: &mut Cursor<'_>) -> Result<EmbKind, Failure>
     ensures { CursorReads emb_kind_view spec.sending cursor.old result cursor.new }
 {
-    let cutting = all_cuts(alloc, cursor, cutting_from(alloc, true))?;
-    Ok(sent_by(cutting)?)
+    let cutting = cutting_from(alloc, true)?;
+    let cutting = all_cuts(alloc, cursor, cutting)?;
+    Ok(sent_by(alloc, cutting)?)
 }
 
 /// Takes the next token, which begins no host.
 #[tactic(auto, unfolding(crate::specs::Readers::one_plain))]
-fn one_plain(cursor: &mut Cursor<'_>, cutting: Cutting) -> Result<Cutting, Failure>
-    requires { cutting.depth + 1 < 2 ^ 64 }
-    ensures is { CursorReads cutting_view (spec.one_plain (cutting_view cutting))
-        cursor.old result cursor.new }
-    ensures most { IfOk result (λ more. more.depth ≤ cutting.depth + 1) }
+fn one_plain(cursor: &mut Cursor<'_>, cutting: &mut Cutting) -> Result<(), Failure>
+    requires { cutting.old.depth + 1 < 2 ^ 64 }
+    ensures is { CursorReads (λ _. cutting_view cutting.new)
+        (spec.one_plain (cutting_view cutting.old)) cursor.old result cursor.new }
+    ensures most { IfOk result (λ _. cutting.new.depth ≤ cutting.old.depth + 1) }
 {
     let tokens = cursor.rest();
     match tokens {
@@ -273,9 +275,10 @@ fn one_plain(cursor: &mut Cursor<'_>, cutting: Cutting) -> Result<Cutting, Failu
                 return Err(Failure::Dead(tokens.len()));
             }
             cursor.next();
-            Ok(with_token(cutting, token)?)
+            put_token(cutting, token)?;
+            Ok(())
         }
-        [] => Ok(cutting),
+        [] => Ok(()),
     }
 }
 
@@ -289,7 +292,7 @@ fn all_plain(cursor: &mut Cursor<'_>, mut cutting: Cutting) -> Result<Cutting, F
         if cursor.left() == 0 {
             return Ok(cutting);
         }
-        cutting = one_plain(cursor, cutting)?;
+        one_plain(cursor, &mut cutting)?;
     }
     Ok(cutting)
 }
@@ -309,7 +312,7 @@ fn bytes_in(alloc: Global, parts: &List<Part>) -> Result<Bytes, OutOfMemory>
 fn controlled_by(alloc: Global, cutting: Cutting) -> Result<EmbKind, OutOfMemory>
     ensures { IfOk result (λ kind. emb_kind_view kind ≡ spec.controlled_by (cutting_view cutting)) }
 {
-    let parts = with_bytes(cutting.parts, cutting.bytes)?;
+    let parts = parts_of(alloc, cutting.parts, cutting.bytes)?;
     Ok(EmbKind::Trans(bytes_in(alloc, &parts)?))
 }
 
@@ -318,18 +321,19 @@ fn controlled_by(alloc: Global, cutting: Cutting) -> Result<EmbKind, OutOfMemory
 pub fn transaction(alloc: Global, cursor: &mut Cursor<'_>) -> Result<EmbKind, Failure>
     ensures { CursorReads emb_kind_view spec.controlling cursor.old result cursor.new }
 {
-    let cutting = all_plain(cursor, cutting_from(alloc, true))?;
+    let cutting = cutting_from(alloc, true)?;
+    let cutting = all_plain(cursor, cutting)?;
     Ok(controlled_by(alloc, cutting)?)
 }
 
 /// The declaration of a cursor that is written so.
-fn declared_by(cutting: Cutting, name: Name) -> Result<EmbKind, OutOfMemory>
+fn declared_by(alloc: Global, cutting: Cutting, name: Name) -> Result<EmbKind, OutOfMemory>
     ensures { IfOk result
         (λ kind. emb_kind_view kind ≡ spec.declared_by name (cutting_view cutting)) }
 {
     Ok(EmbKind::Declare {
         cursor: name,
-        parts: with_bytes(cutting.parts, cutting.bytes)?,
+        parts: parts_of(alloc, cutting.parts, cutting.bytes)?,
         prepared: None,
     })
 }
@@ -339,8 +343,9 @@ fn declared_by(cutting: Cutting, name: Name) -> Result<EmbKind, OutOfMemory>
 pub fn declare(alloc: Global, cursor: &mut Cursor<'_>, name: Name) -> Result<EmbKind, Failure>
     ensures { CursorReads emb_kind_view (spec.declaring name) cursor.old result cursor.new }
 {
-    let cutting = all_cuts(alloc, cursor, cutting_from(alloc, false))?;
-    Ok(declared_by(cutting, name)?)
+    let cutting = cutting_from(alloc, false)?;
+    let cutting = all_cuts(alloc, cursor, cutting)?;
+    Ok(declared_by(alloc, cutting, name)?)
 }
 
 /// So many cuts at most.
@@ -358,7 +363,7 @@ fn cuts_within(
         if cursor.left() == 0 {
             return Ok(cutting);
         }
-        cutting = one_cut(alloc, cursor, cutting)?;
+        one_cut(alloc, cursor, &mut cutting)?;
     }
     Ok(cutting)
 }
@@ -373,7 +378,7 @@ fn prepared_by(
     ensures { IfOk result (λ kind. emb_kind_view kind
         ≡ spec.prepared_by name prepared (cutting_view cutting)) }
 {
-    let written = with_bytes(cutting.parts, cutting.bytes)?;
+    let written = parts_of(alloc, cutting.parts, cutting.bytes)?;
     let mut bytes = bytes_in(alloc, &written)?;
     bytes.push(b' ')?;
     let mut parts = List::new(alloc);
@@ -397,7 +402,8 @@ pub fn declare_prepared(
         cursor.old result cursor.new }
 {
     let turns = cursor.left().saturating_sub(1);
-    let cutting = cuts_within(alloc, cursor, turns, cutting_from(alloc, false))?;
+    let cutting = cutting_from(alloc, false)?;
+    let cutting = cuts_within(alloc, cursor, turns, cutting)?;
     cursor.go_to(&[]);
     Ok(prepared_by(alloc, cutting, name, prepared)?)
 }

@@ -1,6 +1,7 @@
 //! References of a statement for the server, each as long as it can be, and the list of an INTO.
 
 ghost use Rattle.std.specs.Prelude.{◌≡◌, map};
+ghost use Rattle.ec_clex.specs.Sql.{sql_views};
 ghost use Rattle.ec_ctypes.specs.views.Embedded.{host_view, outs_view, text_arg_view};
 ghost use Rattle.ec_ctypes.specs.views.Exprs.{expr_option_view, expr_view};
 ghost use Rattle.ec_embedded.specs.Terminals.{input, reference};
@@ -9,6 +10,7 @@ ghost use Rattle.ec_server_text.specs.Readers as spec;
 
 use crate::lookahead::{begins_area, begins_host, begins_indicator, begins_more, begins_suffix};
 use ec_base::{Boxed, List};
+use ec_clex::SqlToken;
 use ec_ctypes::{Expr, Host, Outs, TextArg};
 use ec_references::{Class, Cursor, copy_bytes, name, suffix_behind, text_of_host, unquoted};
 use ec_shapes::Failure;
@@ -67,6 +69,13 @@ fn long_indicator(alloc: Global, cursor: &mut Cursor<'_>) -> Result<Option<Boxed
     Ok(None)
 }
 
+/// Whether an indicator begins here.
+fn has_indicator(tokens: &[SqlToken]) -> bool
+    ensures { result ≡ spec.has_indicator (sql_views tokens.now) }
+{
+    begins_host(tokens) || begins_indicator(tokens)
+}
+
 /// A host with its indicator.
 #[tactic(auto, unfolding(crate::specs::Readers::long_host))]
 pub fn long_host(alloc: Global, cursor: &mut Cursor<'_>) -> Result<Host, Failure>
@@ -87,6 +96,12 @@ pub fn input_host(alloc: Global, cursor: &mut Cursor<'_>) -> Result<Host, Failur
     ensures { CursorReads host_view (spec.long_host input) cursor.old result cursor.new }
 {
     let value = long_input(alloc, cursor)?;
+    if !has_indicator(cursor.rest()) {
+        return Ok(Host {
+            value,
+            indicator: None,
+        });
+    }
     let value = Boxed::new(alloc, value)?;
     let indicator = long_indicator(alloc, cursor)?;
     Ok(Host {

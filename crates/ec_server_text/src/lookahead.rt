@@ -9,6 +9,7 @@ use ec_clex::SqlToken;
 use ec_references::{Class, is_class, is_glued_mark, is_keyword, is_mark};
 
 /// Whether a `:` stands directly before a word.
+#[inline(always)]
 pub fn begins_host(tokens: &[SqlToken]) -> bool
     ensures { result ≡ text.begins_host (sql_views tokens.now) }
 {
@@ -41,6 +42,7 @@ pub fn begins_area(tokens: &[SqlToken]) -> bool
 }
 
 /// Whether an INTO stands before a host or a descriptor.
+#[inline(always)]
 pub fn begins_into(tokens: &[SqlToken]) -> bool
     ensures { result ≡ text.begins_into (sql_views tokens.now) }
 {

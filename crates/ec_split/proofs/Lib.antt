@@ -1,3 +1,4 @@
+pub mod ByteTables
 pub mod Scans
 pub mod Steps
 pub mod Walks

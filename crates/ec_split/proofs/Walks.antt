@@ -13,7 +13,7 @@ use Rattle.ec_language.proofs.CWalks.{c_stop_on}
 use Rattle.ec_language.proofs.Classes.{neither}
 use Rattle.ec_language.proofs.SqlWalks.{gap_stop_on, statement_end_on, statement_stop}
 use Rattle.ec_language.proofs.Declarations.{run, has_end_next, has_end_skip, run_next, run_stop}
-use Rattle.ec_split.specs.Places.{word_before, text_behind, ends_mark, kind_behind}
+use Rattle.ec_split.specs.Places.{word_before, text_behind, ends_mark, kind_behind, is_single}
 use Rattle.ec_split.specs.WordTables.{word_in}
 use Rattle.ec_split.proofs.Steps.{at_place, later, same_byte, other_byte}
 use Rattle.ec_split.proofs.WordTables.{looked_up}
@@ -189,6 +189,38 @@ gap_next s r g e = sym (gap_stop_on s r g (sym e))
 
 pub statement_next : (s r : Text) → begins_semicolon s ≡ false → passed r ≡ sql_end s → statement_end r ≡ statement_end s
 statement_next s r g e = sym (statement_end_on s r g (sym e))
+
+single_no_start : (b : ℕ) → is_single b ≡ true → is_sql_word_start b ≡ false
+single_no_start b e = grind (arith, nat_tests)
+
+single_no_e : (b : ℕ) → is_single b ≡ true → same_word (b ∷ []) (codes "E") ≡ false
+single_no_e b e = λ i. not_e b (letter b e) i && true
+  where
+    letter : (b : ℕ) → is_single b ≡ true → (b == 69 || b == 101) ≡ false
+    letter b e = grind (arith, nat_tests)
+
+pub single_unit : (b : ℕ) (s : Text) → is_single b ≡ true → passed s ≡ sql_end (b ∷ s)
+single_unit b s e =
+    let w : is_sql_word_start b ≡ false = single_no_start b e in
+    let k : begins_escaped (b ∷ s) ≡ false = λ i. single_no_e b e i && begins_with (codes "'") s in
+    let d : is_digit b ≡ false = grind (arith, nat_tests) in
+    let f : (b == 46) ≡ false = grind (arith, nat_tests) in
+    let m : begins_number (b ∷ s) ≡ false = λ i. d i || (f i && begins is_digit s) in
+    let q : is_quote b ≡ false = grind (arith, nat_tests) in
+    let n : (47 == b) ≡ false = grind (arith, nat_tests) in
+    let o : (45 == b) ≡ false = grind (arith, nat_tests) in
+    let x : begins_with (codes "/*") (b ∷ s) ≡ false = λ i. n i && same_text (codes "*") (take 1 s) in
+    let y : begins_with (codes "--") (b ∷ s) ≡ false = λ i. o i && same_text (codes "-") (take 1 s) in
+    rw (k, w, m, q, x, y, sql_end) refl
+
+single_goes_on : (b : ℕ) (s : Text) → is_single b ≡ true → begins_semicolon (b ∷ s) ≡ false
+single_goes_on b s e = grind (arith, nat_tests)
+
+pub statement_single : (t : Text) (i : ℕ) → i < length t → is_single (get_or t i 0) ≡ true → statement_end (drop (i + 1) t) ≡ statement_end (drop i t)
+statement_single t i h e =
+    let b = get_or t i 0 in
+    let s = drop (i + 1) t in
+    statement_next (b ∷ s) s (single_goes_on b s e) (single_unit b s e) ∙ sym (ap statement_end (at_place t i h))
 
 pub c_next : (s r : Text) → starts_piece s ≡ false → passed r ≡ c_end s → c_stop r ≡ c_stop s
 c_next s r g e = sym (c_stop_on s r g (sym e))

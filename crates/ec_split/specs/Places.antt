@@ -1,5 +1,5 @@
 -- What an index into a text stands for: the text from there on.
-use Rattle.std.specs.Prelude.{◌≡◌, ℕ, ◌≤◌, Bool, false, ◌&&◌, ◌||◌, Option, option_map, Some, None, List, [], ◌∷◌, codes, length, drop, ⊤, Result, Ok, Err, if◌then◌else◌}
+use Rattle.std.specs.Prelude.{◌≡◌, ℕ, ◌≤◌, Bool, false, ◌&&◌, ◌||◌, ◌==◌, Option, option_map, Some, None, List, [], ◌∷◌, codes, length, drop, ⊤, Result, Ok, Err, if◌then◌else◌}
 use Rattle.ec_ctypes.specs.declared.text.piece.PieceKind.{PieceKind}
 use Rattle.ec_ctypes.specs.declared.text.piece.PieceKind.TheVariants.{Emb, SectionStart, SectionEnd}
 use Rattle.ec_language.specs.Letters.{Text, is_blank, is_word_byte, is_number_byte, is_sql_word_byte, is_not_newline, is_empty, same_word}
@@ -23,6 +23,10 @@ class_test Word = is_word_byte
 class_test Number = is_number_byte
 class_test SqlWord = is_sql_word_byte
 class_test Line = is_not_newline
+
+-- a byte that is a unit of SQL text by itself, whatever stands behind it, and no `;`
+abbrev pub is_single : ℕ → Bool
+is_single b = is_blank b || b == 44 || b == 40 || b == 41 || b == 61 || b == 58
 
 -- the end that stands at an index
 abbrev pub behind_at : Text → End → Behind

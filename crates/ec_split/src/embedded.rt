@@ -6,7 +6,7 @@ ghost use Rattle.ec_language.specs.ReadPieces as read;
 ghost use Rattle.ec_split.specs.Places as places;
 ghost use Rattle.ec_split.specs.Places.{found_at, FoundWithin, text_from, FindsWord, kind_behind};
 
-use crate::scanning::bytes::byte_at;
+use crate::scanning::bytes::{byte_at, is_single};
 use crate::scanning::ends::End;
 use crate::scanning::fronts::{gap_stop, unit_end};
 use crate::scanning::units::{c_end, sql_end};
@@ -25,7 +25,7 @@ pub enum Found {
 }
 
 /// The index behind the first `;` of SQL text.
-#[tactic(auto, using(crate::proofs::Walks::statement_next, crate::proofs::Walks::statement_here))]
+#[tactic(auto, using(crate::proofs::Walks::statement_next, crate::proofs::Walks::statement_here, crate::proofs::Walks::statement_single))]
 pub fn statement_end(text: &[u8], from: usize) -> Option<usize>
     requires { from ≤ length text.now }
     ensures is { text_from text.now result ≡ read.statement_end (drop from text.now) }
@@ -33,6 +33,10 @@ pub fn statement_end(text: &[u8], from: usize) -> Option<usize>
 {
     let mut at = from;
     while at < text.len() {
+        if is_single(text[at]) {
+            at += 1;
+            continue;
+        }
         if byte_at(text, at, b';') {
             return Some(at + 1);
         }

@@ -1,8 +1,9 @@
 //! Single bytes of a text, and the first bytes from an index on.
-ghost use Rattle.std.specs.Prelude.{◌≡◌, ◌+◌, ◌≤◌, length, drop, take, true, [], ◌∷◌, ◌==◌};
+ghost use Rattle.std.specs.Prelude.{◌≡◌, ◌+◌, ◌≤◌, length, drop, take, true, false, [], ◌∷◌, ◌==◌};
 ghost use Rattle.ec_language.specs.Letters as letters;
 ghost use Rattle.ec_language.specs.Line as lines;
 ghost use Rattle.ec_language.specs.ReadPieces as read;
+ghost use Rattle.ec_split.specs.Places as places;
 ghost use Rattle.ec_split.specs.Places.{class_test};
 
 /// A class of bytes.
@@ -55,15 +56,74 @@ pub fn is_quote(byte: u8) -> bool
     byte == b'\'' || byte == b'"'
 }
 
+/// Whether a word of C goes on with each byte.
+const WORD_BYTES: [bool; 256] = [
+    false, false, false, false, false, false, false, false, false, false, false, false, false,
+    false, false, false, false, false, false, false, false, false, false, false, false, false,
+    false, false, false, false, false, false, false, false, false, false, false, false, false,
+    false, false, false, false, false, false, false, false, false, true, true, true, true, true,
+    true, true, true, true, true, false, false, false, false, false, false, false, true, true,
+    true, true, true, true, true, true, true, true, true, true, true, true, true, true, true, true,
+    true, true, true, true, true, true, true, true, false, false, false, false, true, false, true,
+    true, true, true, true, true, true, true, true, true, true, true, true, true, true, true, true,
+    true, true, true, true, true, true, true, true, true, false, false, false, false, false, false,
+    false, false, false, false, false, false, false, false, false, false, false, false, false,
+    false, false, false, false, false, false, false, false, false, false, false, false, false,
+    false, false, false, false, false, false, false, false, false, false, false, false, false,
+    false, false, false, false, false, false, false, false, false, false, false, false, false,
+    false, false, false, false, false, false, false, false, false, false, false, false, false,
+    false, false, false, false, false, false, false, false, false, false, false, false, false,
+    false, false, false, false, false, false, false, false, false, false, false, false, false,
+    false, false, false, false, false, false, false, false, false, false, false, false, false,
+    false, false, false, false, false, false, false, false, false, false, false, false, false,
+    false, false, false, false, false, false, false, false, false, false,
+];
+
+/// Whether a word of C goes on with the byte. It is looked up, since it is asked of most bytes.
+fn is_word_byte(byte: u8) -> bool
+    ensures { result ≡ letters.is_word_byte byte }
+{
+    WORD_BYTES[byte as usize]
+}
+
+/// Whether a word of SQL goes on with each byte.
+const SQL_WORD_BYTES: [bool; 256] = [
+    false, false, false, false, false, false, false, false, false, false, false, false, false,
+    false, false, false, false, false, false, false, false, false, false, false, false, false,
+    false, false, false, false, false, false, false, false, false, false, true, false, false,
+    false, false, false, false, false, false, false, false, false, true, true, true, true, true,
+    true, true, true, true, true, false, false, false, false, false, false, false, true, true,
+    true, true, true, true, true, true, true, true, true, true, true, true, true, true, true, true,
+    true, true, true, true, true, true, true, true, false, false, false, false, true, false, true,
+    true, true, true, true, true, true, true, true, true, true, true, true, true, true, true, true,
+    true, true, true, true, true, true, true, true, true, false, false, false, false, false, true,
+    true, true, true, true, true, true, true, true, true, true, true, true, true, true, true, true,
+    true, true, true, true, true, true, true, true, true, true, true, true, true, true, true, true,
+    true, true, true, true, true, true, true, true, true, true, true, true, true, true, true, true,
+    true, true, true, true, true, true, true, true, true, true, true, true, true, true, true, true,
+    true, true, true, true, true, true, true, true, true, true, true, true, true, true, true, true,
+    true, true, true, true, true, true, true, true, true, true, true, true, true, true, true, true,
+    true, true, true, true, true, true, true, true, true, true, true, true, true, true, true, true,
+    true, true, true, true, true, true, true, true, true, true, true, true, true, true, true,
+];
+
+/// Whether a word of SQL goes on with the byte. It is looked up, since it is asked of most bytes of
+/// a statement.
+fn is_sql_word_byte(byte: u8) -> bool
+    ensures { result ≡ letters.is_sql_word_byte byte }
+{
+    SQL_WORD_BYTES[byte as usize]
+}
+
 /// Whether the byte is one of the class.
 pub fn is_in(class: ByteClass, byte: u8) -> bool
     ensures { result ≡ class_test class byte }
 {
     match class {
         ByteClass::Blank => is_blank(byte),
-        ByteClass::Word => is_word_start(byte) || is_digit(byte),
+        ByteClass::Word => is_word_byte(byte),
         ByteClass::Number => is_word_start(byte) || is_digit(byte) || byte == b'.',
-        ByteClass::SqlWord => is_sql_word_start(byte) || is_digit(byte) || byte == b'$',
+        ByteClass::SqlWord => is_sql_word_byte(byte),
         ByteClass::Line => byte != b'\n',
     }
 }
@@ -77,6 +137,46 @@ pub fn lower(byte: u8) -> u8
     } else {
         byte
     }
+}
+
+/// Whether the bytes are one, in any case of letters. Mostly they are equal as they stand.
+#[inline(always)]
+fn is_same_letter(byte: u8, other: u8) -> bool
+    ensures { result ≡ (letters.lower byte == letters.lower other) }
+{
+    byte == other || lower(byte) == lower(other)
+}
+
+/// Whether each byte is a unit of SQL text by itself.
+const SINGLE_BYTES: [bool; 256] = [
+    false, false, false, false, false, false, false, false, false, true, true, true, true, true,
+    false, false, false, false, false, false, false, false, false, false, false, false, false,
+    false, false, false, false, false, true, false, false, false, false, false, false, false, true,
+    true, false, false, true, false, false, false, false, false, false, false, false, false, false,
+    false, false, false, true, false, false, true, false, false, false, false, false, false, false,
+    false, false, false, false, false, false, false, false, false, false, false, false, false,
+    false, false, false, false, false, false, false, false, false, false, false, false, false,
+    false, false, false, false, false, false, false, false, false, false, false, false, false,
+    false, false, false, false, false, false, false, false, false, false, false, false, false,
+    false, false, false, false, false, false, false, false, false, false, false, false, false,
+    false, false, false, false, false, false, false, false, false, false, false, false, false,
+    false, false, false, false, false, false, false, false, false, false, false, false, false,
+    false, false, false, false, false, false, false, false, false, false, false, false, false,
+    false, false, false, false, false, false, false, false, false, false, false, false, false,
+    false, false, false, false, false, false, false, false, false, false, false, false, false,
+    false, false, false, false, false, false, false, false, false, false, false, false, false,
+    false, false, false, false, false, false, false, false, false, false, false, false, false,
+    false, false, false, false, false, false, false, false, false, false, false, false, false,
+    false, false, false, false, false, false, false, false, false, false, false, false, false,
+    false, false, false, false, false,
+];
+
+/// Whether the byte is a unit of SQL text by itself, whatever stands behind it, and ends no
+/// statement. There are others that are.
+pub fn is_single(byte: u8) -> bool
+    ensures { result ≡ places.is_single byte }
+{
+    SINGLE_BYTES[byte as usize]
 }
 
 /// Whether the byte at the index is one of the class.
@@ -113,7 +213,7 @@ pub fn word_at(text: &[u8], at: usize, word: &[u8]) -> bool
     ensures fits { result ≡ true → at + length word.now ≤ length text.now }
 {
     for (i, byte) in word.iter().enumerate() {
-        if text.len() - at <= i || lower(text[at + i]) != lower(*byte) {
+        if text.len() - at <= i || !is_same_letter(text[at + i], *byte) {
             return false;
         }
     }
@@ -138,8 +238,33 @@ pub fn behind_all(class: ByteClass, text: &[u8], from: usize) -> usize
     at
 }
 
-/// How many newlines stand in the bytes.
+/// Whether one of four bytes is a newline.
+#[inline(always)]
+fn is_newline_in(a: &u8, b: &u8, c: &u8, d: &u8) -> bool
+    ensures { result ≡ false → lines.newlines (a.now ∷ b.now ∷ c.now ∷ d.now ∷ []) ≡ 0 }
+{
+    *a == b'\n' || *b == b'\n' || *c == b'\n' || *d == b'\n'
+}
+
+/// How many newlines stand in the bytes. Most lines are long, so eight bytes are looked at before
+/// each is counted.
 pub fn newlines(bytes: &[u8]) -> usize
+    ensures is { result ≡ lines.newlines bytes.now }
+    ensures most { result ≤ length bytes.now }
+{
+    let mut count = 0;
+    let mut left = bytes;
+    while let [a, b, c, d, e, f, g, h, rest @ ..] = left {
+        if is_newline_in(a, b, c, d) || is_newline_in(e, f, g, h) {
+            count += counted_newlines(&left[..8]);
+        }
+        left = rest;
+    }
+    count + counted_newlines(left)
+}
+
+/// How many newlines stand in the bytes, looked at one by one.
+fn counted_newlines(bytes: &[u8]) -> usize
     ensures is { result ≡ lines.newlines bytes.now }
     ensures most { result ≤ length bytes.now }
 {

@@ -5,7 +5,7 @@ use Rattle.ec_language.specs.SqlTokens.{sql_tokens_from}
 use Rattle.ec_language.specs.ReadTokens.{sql_units}
 use Rattle.ec_clex.specs.Sql.{sql_views}
 use Rattle.ec_clex.proofs.Units.{UnitAt}
-use Rattle.ec_clex.proofs.SqlSteps.{token_of, one_more, escaped_slices}
+use Rattle.ec_clex.proofs.SqlSteps.{token_of, one_more, two_slices, escaped_slices}
 use Rattle.ec_clex.proofs.sql.SqlLexer.escaped.Goals as goal
 
 pub returns-clause-all : goal.returns-clause-all
@@ -27,3 +27,6 @@ returns-clause-all c =
     ((λ i. token_of sql.word first old.gap old.line ∷ token_of sql.quoted second (e.gap i) (e.line i)
     ∷ sql_tokens_from (f.gap i) ((f.line ∙ ap (λ k. k + newlines second) e.line) i) (sql_units (drop end t)))
     ∙ escaped_slices t at end old.gap old.line u c.requires.order c.requires.solid c.requires.escaped)
+
+pub returns-clause-line : goal.returns-clause-line
+returns-clause-line c = omega (arith, c.in_ok-push.ensures.line, c.in_ok-push-2.ensures.line, two_slices c.args.text.now c.args.at c.args.end c.requires.order)
