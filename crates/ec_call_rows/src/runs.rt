@@ -10,7 +10,7 @@ use ec_convert::HostPlace;
 use ec_ctypes::Sym;
 use ec_link::{MemLink, Rack, Reply};
 use ec_memory::Store;
-use ec_runtime::{Call, Host, Input, Kind, Library, Statement, TextArg, Wanted};
+use ec_runtime::{Act, Call, Host, Input, Kind, Library, Statement, TextArg, Wanted};
 use std::alloc::Global;
 
 // An int at the front of an object.
@@ -38,12 +38,14 @@ fn select(alloc: Global) -> Result<Call, OutOfMemory> {
     let text = Bytes::from_slice(alloc, b"SELECT a FROM t WHERE b = $1")?;
     Ok(Call {
         line: Line(3),
-        connection: TextArg::Absent,
-        kind: Kind::Run(Statement {
-            wanted: Wanted::Normal(text),
-            ins,
-            outs,
-        }),
+        kind: Kind::Over(
+            TextArg::Absent,
+            Act::Run(Statement {
+                wanted: Wanted::Normal(text),
+                ins,
+                outs,
+            }),
+        ),
     })
 }
 
@@ -72,7 +74,7 @@ pub fn run(alloc: Global, reply: Reply, shown: &mut Bytes) -> Result<(), OutOfMe
     if rack.add_ready(Name::new(), link).is_err() {
         return Err(OutOfMemory);
     }
-    let mut library = Library::new();
+    let mut library = Library::new(alloc);
     let opened = library.open_ready(&mut rack);
     let done = library.call(alloc, &mut store, &mut rack, &call);
     library.finish(&mut rack);

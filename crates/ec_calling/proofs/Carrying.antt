@@ -17,11 +17,9 @@ use Rattle.ec_evaluation.specs.Evaluate.{World}
 use Rattle.ec_evaluation.specs.Results.{Res, over, turn}
 use Rattle.ec_evaluation.specs.State.{Answer, Ending, State}
 use Rattle.ec_library_step.proofs.Keeping.{cut_grows, settled_grows, turn_grows}
-use Rattle.ec_link.specs.declared.connection.Conn.{Conn}
 use Rattle.ec_link.specs.declared.logged.Logged.{Logged}
 use Rattle.ec_link.specs.declared.rack.Rack.{Rack}
 use Rattle.ec_link.specs.Logged.{Talk}
-use Rattle.ec_link.specs.Rack.{log_of}
 use Rattle.ec_machine.specs.declared.stop.End.TheVariants as ends
 use Rattle.ec_machine.specs.declared.stop.Stop.{Stop}
 use Rattle.ec_machine.specs.declared.stop.Stop.TheVariants as stop
@@ -34,7 +32,7 @@ use Rattle.ec_running.specs.Sessions.{Answers, Called, Session, holding, placed,
 use Rattle.ec_runtime.specs.declared.library.Library.{Library}
 use Rattle.ec_runtime.specs.declared.stop.CallStop.{CallStop}
 use Rattle.ec_runtime.specs.declared.stop.CallStop.TheVariants as calls
-use Rattle.ec_runtime.specs.Calling.{Called as Served, MayAsk, conn_of, seen_by, Answers as Says, Stopped}
+use Rattle.ec_runtime.specs.Calling.{Called as Served, seen_by, Answers as Says, Stopped}
 use Rattle.ec_runtime.specs.Does.{placed as placed_there, saying as saying_there}
 use Rattle.ec_values.specs.declared.word.Stop.{Stop as NoValue}
 use Rattle.ec_calling.specs.declared.call.Call.{Call}
@@ -62,13 +60,6 @@ left_off o u g = (g.said.0, g.said.1)
 
 -- ---- a call that the library makes
 
-said_by : {X : Type 0} {F : X → Type 0} (talk : DynBox X Global F → Option Talk) (faults : DynBox X Global F → ℕ) (old new : Rack X F) (was now : Option (Conn X F)) (growth : List Logged)
-    → MayAsk talk faults old was new now growth → log_of new ≡ log_of old ++ growth
-said_by talk faults old new None None growth p = p.2 ∙ sym (append-nil (log_of old)) ∙ ap (λ g. log_of old ++ g) (sym p.0)
-said_by talk faults old new (Some was) (Some now) growth p = p.logged
-said_by talk faults old new None (Some now) growth p = absurd p
-said_by talk faults old new (Some was) None growth p = absurd p
-
 -- how the run goes on behind what the library answers
 abbrev pub answer_of : Line → Result (Unit {0}) CallStop → Result (Unit {0}) Stop
 answer_of line (Ok x) = Ok x
@@ -95,7 +86,7 @@ module _ {X : Type 0} {F : X → Type 0} (talk : DynBox X Global F → Option Ta
       → Made (λ w first s. settled line.0 (action s)) (position m turns (known_of old was)) (position m' turns (known_of new now)) (answer_of line result)
   served_made result p = record {
     growth = p.growth;
-    said = said_by talk faults old new (conn_of was) (conn_of now) p.growth p.asked;
+    said = p.moves.logged;
     does = λ w first s rest. answered_so p.growth result s rest (p.carries.says (record s { turns = turns }) rest) p.carries.left;
   }
 

@@ -10,8 +10,7 @@ use Rattle.ec_machine.specs.declared.stop.Stop.{Stop}
 use Rattle.ec_objects.specs.Memory.{Memory}
 use Rattle.ec_observed.specs.Observed.{answers_in}
 use Rattle.ec_running.specs.Sessions.{Answers, Said, Session, holding, placed, saying}
-use Rattle.ec_runtime.specs.Calling.{connection_of}
-use Rattle.ec_runtime.specs.Does.{connections_of, current_of}
+use Rattle.ec_runtime.specs.Calling.{connections_of}
 use Rattle.ec_runtime.specs.declared.library.Library.{Library}
 
 -- ---- where a run stands
@@ -26,12 +25,12 @@ abbrev pub position : Memory → ℕ → Option Session → Position
 position m turns x = record { memory = m; turns = turns; known = x }
 
 module _ {X : Type 0} {F : X → Type 0} where
-  -- the connection that is open is the current one; there is no descriptor; the log is the rack's
+  -- its connections; there is no descriptor; the log is the rack's
   abbrev pub known_of : Rack X F → Library X F → Option Session
   known_of rack it =
       Some (record {
-        connections = connections_of (connection_of it);
-        current = current_of (connection_of it);
+        connections = connections_of it;
+        current = it.current;
         descriptors = [];
         log = log_of rack;
       })

@@ -7,8 +7,8 @@ use Rattle.ec_cut.specs.declared.arguments.Cut.{Cut}
 use Rattle.ec_cut.specs.declared.arguments.Member.{Member}
 use Rattle.ec_cut.specs.declared.arguments.Statement.{Statement}
 use Rattle.ec_cut.specs.declared.arguments.Text.{Text}
-use Rattle.ec_runtime.specs.declared.call.Kind.{Kind}
-use Rattle.ec_runtime.specs.Statements.{kind_view}
+use Rattle.ec_runtime.specs.declared.call.Act.{Act}
+use Rattle.ec_runtime.specs.Statements.{act_view}
 use Rattle.ec_calling.specs.declared.address.Address.{Address}
 use Rattle.ec_calling.specs.Giving.{bytes_of, number_of}
 
@@ -46,10 +46,26 @@ run_seen line connection statement ins outs =
       call = spec.run (text_seen connection) statement (members_seen ins) (members_seen outs);
     }
 
--- a call of a kind that the library makes, on a line and over a connection
-abbrev pub call_seen : ℕ → GivenText → Kind → spec.Cut ℕ
-call_seen line connection kind =
-    record { line = line; call = kind_view (text_seen connection) kind }
+-- what is called on a line and over a connection
+abbrev pub act_seen : ℕ → GivenText → Act → spec.Cut ℕ
+act_seen line connection act =
+    record { line = line; call = act_view (text_seen connection) act }
+
+-- CONNECT on a line: to which server, by whom, with which password and under which name
+abbrev pub connect_seen : ℕ → GivenText → GivenText → GivenText → GivenText → spec.Cut ℕ
+connect_seen line target user password name =
+    record {
+      line = line;
+      call = spec.connect (text_seen target) (text_seen user) (text_seen password) (text_seen name);
+    }
+
+-- DISCONNECT and SET CONNECTION on a line, by a name
+abbrev pub disconnect_seen : ℕ → GivenText → spec.Cut ℕ
+disconnect_seen line name = record { line = line; call = spec.disconnect (text_seen name) }
+
+abbrev pub set_connection_seen : ℕ → GivenText → spec.Cut ℕ
+set_connection_seen line name =
+    record { line = line; call = spec.set_connection (text_seen name) }
 
 -- PREPARE on a line: over which connection, under which name, which text
 abbrev pub prepare_seen : ℕ → GivenText → List ℕ → GivenText → spec.Cut ℕ

@@ -1,16 +1,16 @@
-//! Calls that are cut, as the library is given them: transaction control, autocommit, PREPARE,
-//! DEALLOCATE, and ECPGdo over hosts and constants.
+//! Calls that are cut, as the library is given them: CONNECT, DISCONNECT, SET CONNECTION, transaction control, autocommit,
+//! PREPARE, DEALLOCATE, and ECPGdo over hosts and constants.
 
 ghost use Rattle.std.specs.Prelude.{◌≡◌, IfSome, map, option_map};
 ghost use Rattle.ec_cut.specs.Views.{indicators_view, place_view};
-ghost use Rattle.ec_runtime.specs.declared.call.Kind.TheVariants as kinds;
+ghost use Rattle.ec_runtime.specs.declared.call.Act.TheVariants as acts;
 ghost use Rattle.ec_runtime.specs.declared.call.Wanted.TheVariants as wants;
 ghost use Rattle.ec_runtime.specs.Places as places;
 ghost use Rattle.ec_runtime.specs.Reading.{given_view, input_view, text_view};
 ghost use Rattle.ec_runtime.specs.Statements.{cut_view, target_view, wanted_view};
 ghost use Rattle.ec_runtime.specs.Views.{host_view};
 ghost use Rattle.ec_calling.specs.Giving.{number_of};
-ghost use Rattle.ec_calling.specs.Serving.{call_seen, cut_seen, member_seen, members_seen, prepare_seen, run_seen, statement_seen, text_seen};
+ghost use Rattle.ec_calling.specs.Serving.{act_seen, connect_seen, cut_seen, disconnect_seen, member_seen, members_seen, prepare_seen, run_seen, set_connection_seen, statement_seen, text_seen};
 
 use crate::address::Address;
 use ec_base::{Bytes, Line, List, Name};
@@ -18,7 +18,7 @@ use ec_bytes::Ptr;
 use ec_convert::HostPlace;
 use ec_ctypes::Sym;
 use ec_cut::{Call as CutCall, Cut, Indicator, Member, Place, Statement as Asked, Text};
-use ec_runtime::{Call, GivenText, Host, Input, Kind, Statement, TextArg, Wanted};
+use ec_runtime::{Act, Call, Connect, GivenText, Host, Input, Kind, Statement, TextArg, Wanted};
 use std::alloc::Global;
 
 // A text.
@@ -163,12 +163,8 @@ fn made_of(
     let Some(outs) = outputs_of(alloc, outs) else {
         return None;
     };
-    let kind = Kind::Run(Statement { wanted, ins, outs });
-    Some(Call {
-        line,
-        connection,
-        kind,
-    })
+    let kind = Kind::Over(connection, Act::Run(Statement { wanted, ins, outs }));
+    Some(Call { line, kind })
 }
 
 // A text that is there.
@@ -237,9 +233,9 @@ fn run_of(
     }
 }
 
-// A call of this kind.
-fn call_of(alloc: Global, line: u64, connection: Text<&[u8], Address>, kind: Kind) -> Option<Call>
-    ensures { IfSome result (λ made. cut_view made ≡ call_seen line connection.entry kind) }
+// What is called over a connection.
+fn call_of(alloc: Global, line: u64, connection: Text<&[u8], Address>, act: Act) -> Option<Call>
+    ensures { IfSome result (λ made. cut_view made ≡ act_seen line connection.entry act) }
 {
     let Some(line) = line_of(line) else {
         return None;
@@ -247,19 +243,84 @@ fn call_of(alloc: Global, line: u64, connection: Text<&[u8], Address>, kind: Kin
     let Some(connection) = text_of(alloc, connection) else {
         return None;
     };
-    Some(Call {
-        line,
-        connection,
-        kind,
-    })
+    let kind = Kind::Over(connection, act);
+    Some(Call { line, kind })
+}
+
+// CONNECT.
+fn connect_of(
+    alloc: Global,
+    line: u64,
+    target: Text<&[u8], Address>,
+    user: Text<&[u8], Address>,
+    password: Text<&[u8], Address>,
+    name: Text<&[u8], Address>,
+) -> Option<Call>
+    ensures { IfSome result (λ made. cut_view made
+        ≡ connect_seen line target.entry user.entry password.entry name.entry) }
+{
+    let Some(line) = line_of(line) else {
+        return None;
+    };
+    let Some(target) = given_of(alloc, target) else {
+        return None;
+    };
+    let Some(user) = text_of(alloc, user) else {
+        return None;
+    };
+    let Some(password) = text_of(alloc, password) else {
+        return None;
+    };
+    let Some(name) = text_of(alloc, name) else {
+        return None;
+    };
+    let kind = Kind::Connect(Connect {
+        target,
+        user,
+        password,
+        name,
+    });
+    Some(Call { line, kind })
+}
+
+// DISCONNECT.
+fn disconnect_of(alloc: Global, line: u64, name: Text<&[u8], Address>) -> Option<Call>
+    ensures { IfSome result (λ made. cut_view made ≡ disconnect_seen line name.entry) }
+{
+    let Some(line) = line_of(line) else {
+        return None;
+    };
+    match given_of(alloc, name) {
+        Some(name) => Some(Call {
+            line,
+            kind: Kind::Disconnect(name),
+        }),
+        None => None,
+    }
+}
+
+// SET CONNECTION.
+fn set_connection_of(alloc: Global, line: u64, name: Text<&[u8], Address>) -> Option<Call>
+    ensures { IfSome result (λ made. cut_view made ≡ set_connection_seen line name.entry) }
+{
+    let Some(line) = line_of(line) else {
+        return None;
+    };
+    match given_of(alloc, name) {
+        Some(name) => Some(Call {
+            line,
+            kind: Kind::SetConnection(name),
+        }),
+        None => None,
+    }
 }
 
 // Transaction control.
-fn control_of(alloc: Global, text: &[u8]) -> Option<Kind>
-    ensures { IfSome result (λ made. made ≡ kinds.Control text.now) }
+fn control_of(alloc: Global, text: &[u8]) -> Option<Act>
+    ensures { IfSome result (λ made. made ≡ acts.Control text.now) }
 {
     match Bytes::from_slice(alloc, text) {
-        Ok(text) => Some(Kind::Control(text)),
+        Ok(text) => Some(Act::Control(text)),
         Err(_) => None,
     }
 }
@@ -281,15 +342,15 @@ fn prepare_of(
     let Some(text) = given_of(alloc, text) else {
         return None;
     };
-    call_of(alloc, line, connection, Kind::Prepare { name, text })
+    call_of(alloc, line, connection, Act::Prepare { name, text })
 }
 
 // DEALLOCATE.
-fn deallocate_of(alloc: Global, name: &[u8]) -> Option<Kind>
-    ensures { IfSome result (λ made. made ≡ kinds.Deallocate name.now) }
+fn deallocate_of(alloc: Global, name: &[u8]) -> Option<Act>
+    ensures { IfSome result (λ made. made ≡ acts.Deallocate name.now) }
 {
     match Name::from_slice(alloc, name) {
-        Ok(copy) => Some(Kind::Deallocate(copy)),
+        Ok(copy) => Some(Act::Deallocate(copy)),
         Err(_) => None,
     }
 }
@@ -308,18 +369,23 @@ pub(crate) fn served(alloc: Global, cut: &Cut<&[u8], Address>) -> Option<Call>
             ins.as_slice(),
             outs.as_slice(),
         ),
+        CutCall::Connect(target, user, password, name) => {
+            connect_of(alloc, cut.line, *target, *user, *password, *name)
+        }
+        CutCall::Disconnect(name) => disconnect_of(alloc, cut.line, *name),
+        CutCall::SetConnection(name) => set_connection_of(alloc, cut.line, *name),
         CutCall::SetAutocommit(on, connection) => {
-            call_of(alloc, cut.line, *connection, Kind::Autocommit(*on))
+            call_of(alloc, cut.line, *connection, Act::Autocommit(*on))
         }
         CutCall::Control(connection, text) => match control_of(alloc, text) {
-            Some(kind) => call_of(alloc, cut.line, *connection, kind),
+            Some(act) => call_of(alloc, cut.line, *connection, act),
             None => None,
         },
         CutCall::Prepare(connection, name, text) => {
             prepare_of(alloc, cut.line, *connection, name, *text)
         }
         CutCall::Deallocate(connection, name) => match deallocate_of(alloc, name) {
-            Some(kind) => call_of(alloc, cut.line, *connection, kind),
+            Some(act) => call_of(alloc, cut.line, *connection, act),
             None => None,
         },
         _ => None,

@@ -20,7 +20,7 @@ use std::marker::PhantomData;
 
 /// The library of a program whose calls are these, over a rack of links.
 ///
-/// It can't be dropped, since the library's connection has to be given back. It names the links,
+/// It can't be dropped, since the library's connections have to be given back. It names the links,
 /// which the rack has inside, so that its ghost members can speak of what they tell.
 pub struct Session<'p, 'r> {
     pub alloc: Global,

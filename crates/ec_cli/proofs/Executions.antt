@@ -19,13 +19,14 @@ use Rattle.ec_link.specs.declared.logged.Logged.{Logged}
 use Rattle.ec_link.specs.declared.rack.Rack.{Rack}
 use Rattle.ec_link.specs.Logged.{Talk}
 use Rattle.ec_link.specs.Rack.{slots_of, log_of}
-use Rattle.ec_link.specs.Slot.{states, talk_at}
+use Rattle.ec_link.specs.Slot.{states, link_at, talk_at}
 use Rattle.ec_link.specs.SlotState.{ready_slot}
 use Rattle.ec_link.specs.Told.{KeepsTalks, SparesDropped}
 use Rattle.ec_observed.specs.Headline.{IsRead, RefusesAt, ReadsWithin}
 use Rattle.ec_observed.specs.Observed.{answers_in}
 use Rattle.ec_evaluation.specs.State as evaluation
 use Rattle.ec_evaluation.specs.State.{Answer}
+use Rattle.ec_runtime.specs.Racks.{KeepsLinks}
 use Rattle.ec_execution.specs.Programs.{Executable, meaning}
 use Rattle.ec_execution.specs.Runs.{Runs, RunsPart}
 use Rattle.ec_execute.specs.declared.running.RunEnd.{RunEnd}
@@ -35,15 +36,16 @@ use Rattle.ec_execute.specs.Answers.{TellsProgram}
 use Rattle.ec_execute.specs.Ends.{Performs}
 use Rattle.ec_execute.specs.Executables.{executable_view}
 use Rattle.ec_execute.specs.Runs.{Connects, Ran}
-use Rattle.ec_cli.specs.Answers.{IsCrowded, RunsOver, grown}
+use Rattle.ec_cli.specs.Answers.{IsCrowded, grown}
 use Rattle.ec_cli.specs.Executing.{IsOfProgram, IsOfCarried, IsOfExecution, EndsAs, ending_of_program, limit_of, text_refusal, IsRefusedAs, PassesAs, DecidesExecution, meaning_over, Untouched, CarriedOut, CarriedPart, Carries, RefusesText, ExecutesText, Executes}
 use Rattle.ec_cli.specs.Forms.{Program, IsRunAs, Meaning, meaning_as, RunsText, TellsRun}
+use Rattle.ec_cli.specs.Racks.{RunsOver}
 use Rattle.ec_cli.specs.declared.form.Form.{Form}
 use Rattle.ec_cli.specs.declared.form.Form.TheVariants.{Source, Written}
 use Rattle.ec_run.specs.Answers.{TellsRunnable}
 use Rattle.ec_cli.specs.declared.ending.Ending.{Ending}
 use Rattle.ec_cli.specs.declared.ending.Ending.TheVariants.{Wrote, Exited, Trapped, TurnsSpent, Usage, Refused, Limit, ReadFault, WriteFault, OutOfMemory}
-use Rattle.ec_cli.proofs.SameRack.{same_log, same_talks, same_dropped}
+use Rattle.ec_cli.proofs.SameRack.{same_log, same_talks, same_links, same_dropped}
 use Rattle.ec_cli.proofs.Sessions as session
 
 either : {A B C : Type 0} → (A → C) → (B → C) → A ⊎ B → C
@@ -169,28 +171,31 @@ stopped_ending input_stop.Fault = ReadFault
 stopped_ending input_stop.TooLong = Limit L6
 stopped_ending input_stop.OutOfMemory = OutOfMemory
 
-module _ {O E X : Type 0} {F : X → Type 0} (held : O → Option (List ℕ)) (puts : O → ℕ) (told : E → Option (List ℕ)) (tells : E → ℕ) (talk : DynBox X Allocator F → Option Talk) where
+module _ {O E X : Type 0} {F : X → Type 0} (held : O → Option (List ℕ)) (puts : O → ℕ) (told : E → Option (List ℕ)) (tells : E → ℕ) (talk : DynBox X Allocator F → Option Talk) (faults : DynBox X Allocator F → ℕ) where
   -- ---- a program
 
-  module _ (faults : DynBox X Allocator F → ℕ) (x : Executable) (turns : ℕ) (out out' : O) (err err' : E) (rack rack' : Rack X F) where
+  module _ (x : Executable) (turns : ℕ) (out out' : O) (err err' : E) (rack rack' : Rack X F) where
     module _ (growth : List Logged) (c : Connects talk faults rack rack' growth) where
       log_grown : log_of rack' ≡ log_of rack ++ growth
-      log_grown = session.run_logged talk faults rack c.opened c.given_back.closing rack' c.was c.given_back.now growth c.logged c.given_back.asked c.given_back.logged
+      log_grown = session.run_logged talk faults rack c.opened c.given_back.closing rack' c.was c.given_back.now growth c.taken c.given_back.moves c.given_back.held c.given_back.given c.logged c.given_back.logged
 
       same : growth ≡ grown rack rack'
       same = sym (growth_of-grown (log_of rack) (log_of rack') growth log_grown)
 
       over_slots : RunsOver (slots_of rack) (grown rack rack') (slots_of rack')
       over_slots = subst (λ w. RunsOver (slots_of rack) w (slots_of rack')) same
-          (session.RunsOver-run talk faults rack c.opened c.given_back.closing rack' c.was c.given_back.now growth c.taken c.given_back.asked c.given_back.given)
+          (session.RunsOver-run talk faults rack c.opened c.given_back.closing rack' c.was c.given_back.now growth c.taken c.given_back.moves c.given_back.held c.given_back.given)
+
+      links_kept : KeepsLinks talk faults (link_at (slots_of rack)) (link_at (slots_of rack')) (grown rack rack')
+      links_kept = subst (λ w. KeepsLinks talk faults (link_at (slots_of rack)) (link_at (slots_of rack')) w) same
+          (session.KeepsLinks-run talk faults rack c.opened c.given_back.closing rack' c.was c.given_back.now growth c.taken c.given_back.moves c.given_back.held c.given_back.given)
 
       talks_kept : KeepsTalks (talk_at talk (slots_of rack)) (talk_at talk (slots_of rack')) (grown rack rack')
-      talks_kept = subst (λ w. KeepsTalks (talk_at talk (slots_of rack)) (talk_at talk (slots_of rack')) w) same
-          (session.KeepsTalks-session talk faults rack c.opened c.given_back.closing rack' c.was c.given_back.now growth c.taken c.given_back.asked c.given_back.given)
+      talks_kept = session.KeepsTalks-links talk faults (slots_of rack) (slots_of rack') (grown rack rack') links_kept
 
       dropped_spared : SparesDropped (states (slots_of rack)) (states (slots_of rack')) (grown rack rack')
       dropped_spared = subst (λ w. SparesDropped (states (slots_of rack)) (states (slots_of rack')) w) same
-          (session.SparesDropped-session talk faults rack c.opened c.given_back.closing rack' c.was c.given_back.now growth c.taken c.given_back.asked c.given_back.given)
+          (session.SparesDropped-run talk faults rack c.opened c.given_back.closing rack' c.was c.given_back.now growth c.taken c.given_back.moves c.given_back.held c.given_back.given)
 
       log_logged : log_of rack' ≡ log_of rack ++ grown rack rack'
       log_logged = log_grown ∙ ap (λ w. log_of rack ++ w) same
@@ -201,19 +206,20 @@ module _ {O E X : Type 0} {F : X → Type 0} (held : O → Option (List ℕ)) (p
 
     module _ (growth : List Logged) (c : Connects talk faults rack rack' growth) where
       carried_out : (e : evaluation.Ending) (ending : Ending) → EndsAs e ending → Runs held puts told tells (meaning_over (meaning x) turns rack rack') (grown rack rack') e out out' err err'
-          → CarriedOut held puts told tells talk (meaning x) turns out out' err err' rack rack' ending
+          → CarriedOut held puts told tells talk faults (meaning x) turns out out' err err' rack rack' ending
       carried_out e ending agrees r = record { ended = e; ends = agrees; runs = r; slots = over_slots growth c }
 
-      carried_part : RunsPart held puts told tells (meaning_over (meaning x) turns rack rack') (grown rack rack') out out' err err' → CarriedPart held puts told tells talk (meaning x) turns out out' err err' rack rack'
+      carried_part : RunsPart held puts told tells (meaning_over (meaning x) turns rack rack') (grown rack rack') out out' err err' → CarriedPart held puts told tells talk faults (meaning x) turns out out' err err' rack rack'
       carried_part r = record { part = r; slots = over_slots growth c }
 
       ran : (e : evaluation.Ending) (ending : Ending) → EndsAs e ending → IsOfCarried ending → (ending ≡ WriteFault → ⊥) → (ending ≡ OutOfMemory → ⊥)
-          → Runs held puts told tells (meaning_over (meaning x) turns rack rack') (grown rack rack') e out out' err err' → Carries held puts told tells talk (meaning x) turns out out' err err' rack rack' ending
+          → Runs held puts told tells (meaning_over (meaning x) turns rack rack') (grown rack rack') e out out' err err' → Carries held puts told tells talk faults (meaning x) turns out out' err err' rack rack' ending
       ran e ending agrees own calm room r = record {
         whole = λ h. carried_out e ending agrees r;
         part = λ h. absurd (either calm room h);
         ends = own;
         talks = talks_kept growth c;
+        links = links_kept growth c;
         dropped = dropped_spared growth c;
         logged = log_logged growth c;
         fault = λ h. absurd (calm h);
@@ -221,7 +227,7 @@ module _ {O E X : Type 0} {F : X → Type 0} (held : O → Option (List ℕ)) (p
       }
 
       performed : (end : RunEnd) → Performs held puts told tells (meaning_over (meaning x) turns rack rack') (grown rack rack') out out' err err' end
-          → Carries held puts told tells talk (meaning x) turns out out' err err' rack rack' (ending_of_program end)
+          → Carries held puts told tells talk faults (meaning x) turns out out' err err' rack rack' (ending_of_program end)
       performed (ends.Exited status) done = ran (evaluation.exited status) (Exited status) refl tt (λ e. cc (e)) (λ e. cc (e)) done
       performed (ends.Trapped trap line) done = ran (evaluation.trapped trap line.0) (Trapped trap line) refl tt (λ e. cc (e)) (λ e. cc (e)) done
       performed ends.TurnsSpent done = ran evaluation.turns_spent TurnsSpent refl tt (λ e. cc (e)) (λ e. cc (e)) done
@@ -230,6 +236,7 @@ module _ {O E X : Type 0} {F : X → Type 0} (held : O → Option (List ℕ)) (p
         part = λ e. carried_part done.0;
         ends = tt;
         talks = talks_kept growth c;
+        links = links_kept growth c;
         dropped = dropped_spared growth c;
         logged = log_logged growth c;
         fault = λ e. done.1;
@@ -240,6 +247,7 @@ module _ {O E X : Type 0} {F : X → Type 0} (held : O → Option (List ℕ)) (p
         part = λ e. carried_part done.0;
         ends = tt;
         talks = talks_kept growth c;
+        links = links_kept growth c;
         dropped = dropped_spared growth c;
         logged = log_logged growth c;
         fault = λ e. absurd (cc (e));
@@ -248,9 +256,9 @@ module _ {O E X : Type 0} {F : X → Type 0} (held : O → Option (List ℕ)) (p
 
     -- with the ending of the run
     pub carries_by : (end : RunEnd) (ending : Ending) → ending ≡ ending_of_program end → Ran talk faults held puts told tells x turns out out' err err' rack rack' end
-        → Carries held puts told tells talk (meaning x) turns out out' err err' rack rack' ending
+        → Carries held puts told tells talk faults (meaning x) turns out out' err err' rack rack' ending
     carries_by end ending e r =
-        subst (λ w. Carries held puts told tells talk (meaning x) turns out out' err err' rack rack' w) (sym e) (performed r.growth r.connects end (here end r))
+        subst (λ w. Carries held puts told tells talk faults (meaning x) turns out out' err err' rack rack' w) (sym e) (performed r.growth r.connects end (here end r))
 
   -- ---- a program that means the same
 
@@ -258,7 +266,7 @@ module _ {O E X : Type 0} {F : X → Type 0} (held : O → Option (List ℕ)) (p
     over : meaning_over m turns rack rack' ≡ meaning_over m' turns rack rack'
     over = same (ready_slot (states (slots_of rack))) (answers_in (grown rack rack'))
 
-    out_as : (ending : Ending) → CarriedOut held puts told tells talk m turns out out' err err' rack rack' ending → CarriedOut held puts told tells talk m' turns out out' err err' rack rack' ending
+    out_as : (ending : Ending) → CarriedOut held puts told tells talk faults m turns out out' err err' rack rack' ending → CarriedOut held puts told tells talk faults m' turns out out' err err' rack rack' ending
     out_as ending c = record {
       ended = c.ended;
       ends = c.ends;
@@ -266,15 +274,16 @@ module _ {O E X : Type 0} {F : X → Type 0} (held : O → Option (List ℕ)) (p
       slots = c.slots;
     }
 
-    part_as : CarriedPart held puts told tells talk m turns out out' err err' rack rack' → CarriedPart held puts told tells talk m' turns out out' err err' rack rack'
+    part_as : CarriedPart held puts told tells talk faults m turns out out' err err' rack rack' → CarriedPart held puts told tells talk faults m' turns out out' err err' rack rack'
     part_as c = record { part = subst (λ w. RunsPart held puts told tells w (grown rack rack') out out' err err') over c.part; slots = c.slots }
 
-    carries_as : (ending : Ending) → Carries held puts told tells talk m turns out out' err err' rack rack' ending → Carries held puts told tells talk m' turns out out' err err' rack rack' ending
+    carries_as : (ending : Ending) → Carries held puts told tells talk faults m turns out out' err err' rack rack' ending → Carries held puts told tells talk faults m' turns out out' err err' rack rack' ending
     carries_as ending c = record {
       whole = λ h. out_as ending (c.whole h);
       part = λ h. part_as (c.part h);
       ends = c.ends;
       talks = c.talks;
+      links = c.links;
       dropped = c.dropped;
       logged = c.logged;
       fault = c.fault;
@@ -283,8 +292,8 @@ module _ {O E X : Type 0} {F : X → Type 0} (held : O → Option (List ℕ)) (p
 
   -- the executable of a text was run
   pub text_carried : (form : Form) (text : List ℕ) (executable : execute.Executable) (turns : ℕ) (out out' : O) (err err' : E) (rack rack' : Rack X F) (ending : Ending)
-      → RunsText form text executable → Carries held puts told tells talk (meaning (executable_view executable)) turns out out' err err' rack rack' ending
-      → ExecutesText held puts told tells talk form turns text out out' err err' rack rack' ending
+      → RunsText form text executable → Carries held puts told tells talk faults (meaning (executable_view executable)) turns out out' err err' rack rack' ending
+      → ExecutesText held puts told tells talk faults form turns text out out' err err' rack rack' ending
   text_carried form text executable turns out out' err err' rack rack' ending r c =
       inl (r.program, r.is, carries_as (meaning (executable_view executable)) (meaning_as form r.program) turns out out' err err' rack rack' (r.means turns) ending c)
 
@@ -292,7 +301,7 @@ module _ {O E X : Type 0} {F : X → Type 0} (held : O → Option (List ℕ)) (p
 
   module _ {I : Type 0} (left : I → Option (List ℕ)) (reads : I → ℕ) (form : Form) (turns : ℕ) (input input' : I) (out out' : O) (err err' : E) (rack rack' : Rack X F) where
     abbrev Done : Ending → Type 0
-    Done ending = Executes held puts told tells talk left reads form turns input input' out out' err err' rack rack' ending
+    Done ending = Executes held puts told tells talk faults left reads form turns input input' out out' err err' rack rack' ending
 
     abbrev Decided : Ending → Type 0
     Decided ending = (text : List ℕ) → (IsCrowded rack → ⊥) → left input ≡ Some text
@@ -309,7 +318,7 @@ module _ {O E X : Type 0} {F : X → Type 0} (held : O → Option (List ℕ)) (p
     read_of text r = record { taken = r.reads.taken; ended = r.ended; within = r.within }
 
     -- nothing was run
-    idle : (ending : Ending) → Untouched held puts told tells talk out out' err err' rack rack' → (IsOfProgram ending → ⊥) → (ending ≡ WriteFault → ⊥) → IsOfExecution ending
+    idle : (ending : Ending) → Untouched held puts told tells talk faults out out' err err' rack rack' → (IsOfProgram ending → ⊥) → (ending ≡ WriteFault → ⊥) → IsOfExecution ending
         → ((ending ≡ Limit L7) ↔ IsCrowded rack) → (ending ≡ Limit L7 → input' ≡ input) → Refusing ending → Limiting ending
         → (ending ≡ ReadFault → Rose (reads input) (reads input')) → ReadsWithin (left input) (left input') → ((ending ≡ ReadFault → ⊥) → reads input' ≡ reads input) → Decided ending
         → Done ending
@@ -322,6 +331,7 @@ module _ {O E X : Type 0} {F : X → Type 0} (held : O → Option (List ℕ)) (p
       crowded = crowded;
       unread = unread;
       talks = same_talks talk rack rack' u.links;
+      links = same_links talk faults rack rack' u.links;
       dropped = same_dropped rack rack' u.links;
       logged = same_log rack rack' u.links;
       refused = refused;
@@ -337,7 +347,7 @@ module _ {O E X : Type 0} {F : X → Type 0} (held : O → Option (List ℕ)) (p
 
     -- the text was refused
     text_refused : (ending : Ending) (text : List ℕ) → (IsCrowded rack → ⊥) → ReadsAll left reads input input' (2 ^ 24) text → RefusesText form text ending
-        → Untouched held puts told tells talk out out' err err' rack rack' → Done ending
+        → Untouched held puts told tells talk faults out out' err err' rack rack' → Done ending
     text_refused ending text room r h u =
         idle ending u (refused_not_run form text ending h) (λ e. subst (RefusesText form text) e h) (refused_is_own form text ending h)
         ((λ e. absurd ((subst (RefusesText form text) e h).0 refl)), (λ full. absurd (room full)))
@@ -351,21 +361,21 @@ module _ {O E X : Type 0} {F : X → Type 0} (held : O → Option (List ℕ)) (p
         (refused_decides form turns _ _ text ending r.within h))
 
     -- a program that was carried out ends as it means to
-    concluded : (ending : Ending) (text : List ℕ) (p : Program form) → length text ≤ 2 ^ 24 → IsRunAs form text (Ok p) → Carries held puts told tells talk (meaning_as form p) turns out out' err err' rack rack' ending
+    concluded : (ending : Ending) (text : List ℕ) (p : Program form) → length text ≤ 2 ^ 24 → IsRunAs form text (Ok p) → Carries held puts told tells talk faults (meaning_as form p) turns out out' err err' rack rack' ending
         → (Rose (puts out) (puts out') → ⊥) → (Rose (tells err) (tells err') → ⊥) → Sorted ending → DecidesExecution form turns (ready_slot (states (slots_of rack))) (answers_in (grown rack rack')) text ending
     concluded ending text p small is c calm calm' (inl h) =
         let w = c.whole h in inr (inr (small, (Ok p, is, subst (λ e. EndsAs e ending) (sym w.runs.ends) w.ends)))
     concluded ending text p small is c calm calm' (inr (inl e)) = absurd (either calm calm' (c.fault e))
     concluded ending text p small is c calm calm' (inr (inr e)) = inl e
 
-    other_of : (ending : Ending) → Sorted ending → IsOfProgram ending ⊎ (ending ≡ WriteFault) ⊎ (ending ≡ OutOfMemory) ⊎ Untouched held puts told tells talk out out' err err' rack rack'
+    other_of : (ending : Ending) → Sorted ending → IsOfProgram ending ⊎ (ending ≡ WriteFault) ⊎ (ending ≡ OutOfMemory) ⊎ Untouched held puts told tells talk faults out out' err err' rack rack'
     other_of ending (inl h) = inl h
     other_of ending (inr (inl e)) = inr (inl e)
     other_of ending (inr (inr e)) = inr (inr (inl e))
 
     -- its program was run
     text_run : (ending : Ending) (text : List ℕ) (p : Program form) → (IsCrowded rack → ⊥) → ReadsAll left reads input input' (2 ^ 24) text → IsRunAs form text (Ok p)
-        → Carries held puts told tells talk (meaning_as form p) turns out out' err err' rack rack' ending → Done ending
+        → Carries held puts told tells talk faults (meaning_as form p) turns out out' err err' rack rack' ending → Done ending
     text_run ending text p room r is c = record {
       whole = λ h. record { text = text; read = read_of text r; program = p; is = is; carried = c.whole h };
       part = λ h. record { text = text; read = read_of text r; program = p; is = is; carried = c.part (inl h) };
@@ -375,6 +385,7 @@ module _ {O E X : Type 0} {F : X → Type 0} (held : O → Option (List ℕ)) (p
       crowded = ((λ e. absurd (subst IsOfCarried e c.ends)), (λ full. absurd (room full)));
       unread = λ e. absurd (subst IsOfCarried e c.ends);
       talks = c.talks;
+      links = c.links;
       dropped = c.dropped;
       logged = c.logged;
       refused = λ kind line e. absurd (subst IsOfCarried e c.ends);
@@ -391,12 +402,12 @@ module _ {O E X : Type 0} {F : X → Type 0} (held : O → Option (List ℕ)) (p
 
     -- the input was read to its end
     pub executes : (ending : Ending) (text : List ℕ) → (IsCrowded rack → ⊥) → ReadsAll left reads input input' (2 ^ 24) text
-        → ExecutesText held puts told tells talk form turns text out out' err err' rack rack' ending → Done ending
+        → ExecutesText held puts told tells talk faults form turns text out out' err err' rack rack' ending → Done ending
     executes ending text room r (inl ran) = text_run ending text ran.0 room r ran.1 ran.2
     executes ending text room r (inr h) = text_refused ending text room r h.0 h.1
 
     -- reading it stopped
-    pub stopped : (stop : InputStop) → (IsCrowded rack → ⊥) → ReadsPart left reads input input' (2 ^ 24) stop → Untouched held puts told tells talk out out' err err' rack rack' → Done (stopped_ending stop)
+    pub stopped : (stop : InputStop) → (IsCrowded rack → ⊥) → ReadsPart left reads input input' (2 ^ 24) stop → Untouched held puts told tells talk faults out out' err err' rack rack' → Done (stopped_ending stop)
     stopped input_stop.Fault room r u =
         idle ReadFault u (λ h. h) (λ e. cc (e)) tt ((λ e. absurd (cc (e))), (λ full. absurd (room full))) (λ e. absurd (cc (e)))
         (λ kind line e. absurd (cc (e))) (λ kind but e. absurd (cc (e))) (λ e. r.reason.0)
@@ -416,7 +427,7 @@ module _ {O E X : Type 0} {F : X → Type 0} (held : O → Option (List ℕ)) (p
         (λ e. r.reason.0) (λ text none e calm calm' calm''. inl refl)
 
     -- the rack has too many slots
-    pub full : IsCrowded rack → input' ≡ input → Untouched held puts told tells talk out out' err err' rack rack' → Done (Limit L7)
+    pub full : IsCrowded rack → input' ≡ input → Untouched held puts told tells talk faults out out' err err' rack rack' → Done (Limit L7)
     full crowded same u =
         idle (Limit L7) u (λ h. h) (λ e. cc (e)) tt ((λ e. crowded), (λ h. refl)) (λ e. same)
         (λ kind line e. absurd (cc (e))) (λ kind but e. absurd (but (cc (e)))) (λ e. absurd (cc (e)))

@@ -1,14 +1,16 @@
 -- A rack that is as it was.
-use Rattle.std.proofs.Common.{◌≡◌, [], ◌++◌, refl, ap, sym, ◌∙◌, subst, Option, append-nil}
+use Rattle.std.proofs.Common.{◌≡◌, ℕ, [], ◌++◌, refl, ap, sym, ◌∙◌, subst, Option, append-nil}
 use Rattle.std.specs.declared.alloc.Global.{Global as Allocator}
 use Rattle.std.specs.declared.dyn_box.DynBox.{DynBox}
 use Rattle.ec_link.specs.declared.rack.Rack.{Rack}
 use Rattle.ec_link.specs.Logged.{Talk}
 use Rattle.ec_link.specs.Rack.{slots_of, log_of}
-use Rattle.ec_link.specs.Slot.{states, talk_at}
+use Rattle.ec_link.specs.Slot.{states, link_at, talk_at}
 use Rattle.ec_link.specs.Told.{KeepsTalks, SparesDropped}
 use Rattle.ec_link.proofs.Runs.{growth_of-grown}
 use Rattle.ec_link.proofs.Talks.{KeepsTalks-same}
+use Rattle.ec_runtime.specs.Racks.{KeepsLinks}
+use Rattle.ec_runtime.proofs.Moving.{grows_same}
 use Rattle.ec_cli.specs.Answers.{grown}
 
 module _ {X : Type 0} {F : X → Type 0} where
@@ -26,6 +28,13 @@ module _ {X : Type 0} {F : X → Type 0} where
   same_talks talk rack rack' e =
       let t = talk_at talk (slots_of rack) in
       subst (λ q. KeepsTalks (talk_at talk (slots_of rack)) (talk_at talk (slots_of q)) (grown rack q)) (sym e) (subst (λ g. KeepsTalks t t g) (sym (no_growth rack rack refl)) (KeepsTalks-same t t (λ i. refl)))
+
+  pub same_links : (talk : DynBox X Allocator F → Option Talk) (faults : DynBox X Allocator F → ℕ) (rack rack' : Rack X F) → rack' ≡ rack
+      → KeepsLinks talk faults (link_at (slots_of rack)) (link_at (slots_of rack')) (grown rack rack')
+  same_links talk faults rack rack' e =
+      let l = link_at (slots_of rack) in
+      subst (λ q. KeepsLinks talk faults (link_at (slots_of rack)) (link_at (slots_of q)) (grown rack q)) (sym e)
+      (subst (λ g. KeepsLinks talk faults l l g) (sym (no_growth rack rack refl)) (λ i. grows_same talk faults (l i) (l i) [] refl refl))
 
   pub same_dropped : (rack rack' : Rack X F) → rack' ≡ rack → SparesDropped (states (slots_of rack)) (states (slots_of rack')) (grown rack rack')
   same_dropped rack rack' e =

@@ -11,7 +11,7 @@ use Rattle.ec_base.specs.Causes.{Rose}
 use Rattle.ec_link.specs.declared.rack.Rack.{Rack}
 use Rattle.ec_link.specs.Logged.{Talk}
 use Rattle.ec_link.specs.Rack.{slots_of, log_of}
-use Rattle.ec_link.specs.Slot.{states, talk_at}
+use Rattle.ec_link.specs.Slot.{states, link_at, talk_at}
 use Rattle.ec_link.specs.Told.{KeepsTalks, SparesDropped}
 use Rattle.ec_link.specs.SlotState.{ready_slot}
 use Rattle.ec_observed.specs.Observed.{answers_in}
@@ -24,8 +24,9 @@ use Rattle.ec_cli.specs.Executing.{IsOfProgram, IsOfExecution, IsRefusedAs, Pass
 use Rattle.ec_cli.specs.Forms.{IsRunning, HasTurns}
 use Rattle.ec_cli.specs.Answers.{IsCrowded, IsRefusal, Announces, grown}
 use Rattle.ec_cli.specs.Translating.{IsTranslating, IsOfTranslation, IsRefused, PassesLimit, WritesWhole, WritesPart, DecidesTranslation}
+use Rattle.ec_runtime.specs.Racks.{KeepsLinks}
 use Rattle.ec_cli.proofs.Executions.{unread_within}
-use Rattle.ec_cli.proofs.SameRack.{same_log, same_talks, same_dropped}
+use Rattle.ec_cli.proofs.SameRack.{same_log, same_talks, same_links, same_dropped}
 use Rattle.ec_cli.proofs.Words.{never_both, is_running, one_form, as_named}
 
 -- an ending that isn't of a translation
@@ -55,10 +56,10 @@ module _ {O E : Type 0} (puts : O → ℕ) {told : E → Option (List ℕ)} (tel
   risen (inl r) = inl r
   risen (inr r) = inr (rose_later _ _ _ r (later err' last line a))
 
-module _ {O E X : Type 0} {F : X → Type 0} {held : O → Option (List ℕ)} {puts : O → ℕ} {told : E → Option (List ℕ)} {tells : E → ℕ} {talk : DynBox X Allocator F → Option Talk} where
+module _ {O E X : Type 0} {F : X → Type 0} {held : O → Option (List ℕ)} {puts : O → ℕ} {told : E → Option (List ℕ)} {tells : E → ℕ} {talk : DynBox X Allocator F → Option Talk} {faults : DynBox X Allocator F → ℕ} where
   -- a refused run touches nothing
-  idle_by : {out out' : O} {err err' : E} {rack rack' : Rack X F} (ending : Ending) → IsOfProgram ending ⊎ (ending ≡ WriteFault) ⊎ (ending ≡ OutOfMemory) ⊎ Untouched held puts told tells talk out out' err err' rack rack'
-      → IsRefusal ending → Untouched held puts told tells talk out out' err err' rack rack'
+  idle_by : {out out' : O} {err err' : E} {rack rack' : Rack X F} (ending : Ending) → IsOfProgram ending ⊎ (ending ≡ WriteFault) ⊎ (ending ≡ OutOfMemory) ⊎ Untouched held puts told tells talk faults out out' err err' rack rack'
+      → IsRefusal ending → Untouched held puts told tells talk faults out out' err err' rack rack'
   idle_by Usage (inl h) k = absurd h
   idle_by (Refused kind line) (inl h) k = absurd h
   idle_by (Limit kind) (inl h) k = absurd h
@@ -73,92 +74,92 @@ module _ {O E X : Type 0} {F : X → Type 0} {held : O → Option (List ℕ)} {p
   idle_by e (inr (inr (inl w))) k = absurd (subst IsRefusal w k)
   idle_by e (inr (inr (inr u))) k = u
 
-module _ {I O E X : Type 0} {F : X → Type 0} {left : I → Option (List ℕ)} {reads : I → ℕ} {held : O → Option (List ℕ)} {puts : O → ℕ} {told : E → Option (List ℕ)} {tells : E → ℕ} {talk : DynBox X Allocator F → Option Talk} where
-  idle : {form : Form} {turns : ℕ} {input input' : I} {out out' : O} {err err' : E} {rack rack' : Rack X F} {ending : Ending} → Executes held puts told tells talk left reads form turns input input' out out' err err' rack rack' ending → IsRefusal ending → Untouched held puts told tells talk out out' err err' rack rack'
+module _ {I O E X : Type 0} {F : X → Type 0} {left : I → Option (List ℕ)} {reads : I → ℕ} {held : O → Option (List ℕ)} {puts : O → ℕ} {told : E → Option (List ℕ)} {tells : E → ℕ} {talk : DynBox X Allocator F → Option Talk} {faults : DynBox X Allocator F → ℕ} where
+  idle : {form : Form} {turns : ℕ} {input input' : I} {out out' : O} {err err' : E} {rack rack' : Rack X F} {ending : Ending} → Executes held puts told tells talk faults left reads form turns input input' out out' err err' rack rack' ending → IsRefusal ending → Untouched held puts told tells talk faults out out' err err' rack rack'
   idle {ending} x h = idle_by ending x.other h
 
-module _ {I O E X : Type 0} {F : X → Type 0} {left : I → Option (List ℕ)} {reads : I → ℕ} {held : O → Option (List ℕ)} {puts : O → ℕ} {told : E → Option (List ℕ)} {tells : E → ℕ} {talk : DynBox X Allocator F → Option Talk} {words : List (String Allocator)} {input input' : I} {out out' : O} {err err' : E} {rack rack' : Rack X F} {ending : Ending} where
+module _ {I O E X : Type 0} {F : X → Type 0} {left : I → Option (List ℕ)} {reads : I → ℕ} {held : O → Option (List ℕ)} {puts : O → ℕ} {told : E → Option (List ℕ)} {tells : E → ℕ} {talk : DynBox X Allocator F → Option Talk} {faults : DynBox X Allocator F → ℕ} {words : List (String Allocator)} {input input' : I} {out out' : O} {err err' : E} {rack rack' : Rack X F} {ending : Ending} where
   -- ---- what a translation owes
 
-  translation_of : Does left reads held puts told tells talk words input input' out out' err err' rack rack' ending → IsTranslating words → HasTranslated left reads held puts told tells talk words input input' out out' err err' rack rack' ending
+  translation_of : Does left reads held puts told tells talk faults words input input' out out' err err' rack rack' ending → IsTranslating words → HasTranslated left reads held puts told tells talk faults words input input' out out' err err' rack rack' ending
   translation_of (inl t) h = t
   translation_of (inr (inl x)) h = absurd (never_both words x.form (is_running words x.form x.turns x.named) h)
   translation_of (inr (inr r)) h = absurd (r.other h)
 
-  pub wrote : Does left reads held puts told tells talk words input input' out out' err err' rack rack' ending → ending ≡ Wrote → WritesWhole (left input) (left input') (held out) (held out')
+  pub wrote : Does left reads held puts told tells talk faults words input input' out out' err err' rack rack' ending → ending ≡ Wrote → WritesWhole (left input) (left input') (held out) (held out')
   wrote (inl t) e = t.translates.wrote e
   wrote (inr (inl x)) e = absurd (subst IsOfExecution e x.executes.ends)
   wrote (inr (inr r)) e = absurd (cc (e, r.usage))
 
-  pub written_part : Does left reads held puts told tells talk words input input' out out' err err' rack rack' ending → IsTranslating words → ending ≡ WriteFault → WritesPart left reads held puts input input' out out'
+  pub written_part : Does left reads held puts told tells talk faults words input input' out out' err err' rack rack' ending → IsTranslating words → ending ≡ WriteFault → WritesPart left reads held puts input input' out out'
   written_part d h = (translation_of d h).translates.part
 
-  pub written_want : Does left reads held puts told tells talk words input input' out out' err err' rack rack' ending → IsTranslating words → ending ≡ OutOfMemory → out' ≡ out
+  pub written_want : Does left reads held puts told tells talk faults words input input' out out' err err' rack rack' ending → IsTranslating words → ending ≡ OutOfMemory → out' ≡ out
   written_want d h e = (translation_of d h).translates.untouched (λ w. cc (e, w)) (λ w. cc (e, w))
 
-  pub unlinked : Does left reads held puts told tells talk words input input' out out' err err' rack rack' ending → IsTranslating words → rack' ≡ rack
+  pub unlinked : Does left reads held puts told tells talk faults words input input' out out' err err' rack rack' ending → IsTranslating words → rack' ≡ rack
   unlinked d h = (translation_of d h).unlinked
 
-  pub own_translation : Does left reads held puts told tells talk words input input' out out' err err' rack rack' ending → IsTranslating words → IsOfTranslation ending
+  pub own_translation : Does left reads held puts told tells talk faults words input input' out out' err err' rack rack' ending → IsTranslating words → IsOfTranslation ending
   own_translation d h = (translation_of d h).translates.ends
 
-  pub source_refused : Does left reads held puts told tells talk words input input' out out' err err' rack rack' ending → (kind : FaultKind) (line : Line) → IsTranslating words → ending ≡ Refused kind line → RefusesAt IsRefused (left input) (left input') kind line.0
+  pub source_refused : Does left reads held puts told tells talk faults words input input' out out' err err' rack rack' ending → (kind : FaultKind) (line : Line) → IsTranslating words → ending ≡ Refused kind line → RefusesAt IsRefused (left input) (left input') kind line.0
   source_refused d kind line h = (translation_of d h).translates.refused kind line
 
-  pub source_limit : Does left reads held puts told tells talk words input input' out out' err err' rack rack' ending → (kind : LimitKind) → IsTranslating words → ending ≡ Limit kind → PassesLimit (left input) (left input') kind
+  pub source_limit : Does left reads held puts told tells talk faults words input input' out out' err err' rack rack' ending → (kind : LimitKind) → IsTranslating words → ending ≡ Limit kind → PassesLimit (left input) (left input') kind
   source_limit d kind h = (translation_of d h).translates.limit kind
 
-  pub write_fault : Does left reads held puts told tells talk words input input' out out' err err' rack rack' ending → IsTranslating words → ending ≡ WriteFault → Rose (puts out) (puts out')
+  pub write_fault : Does left reads held puts told tells talk faults words input input' out out' err err' rack rack' ending → IsTranslating words → ending ≡ WriteFault → Rose (puts out) (puts out')
   write_fault d h = (translation_of d h).translates.write_fault
 
-  pub decides_translation : Does left reads held puts told tells talk words input input' out out' err err' rack rack' ending → (text : List ℕ) → IsTranslating words → left input ≡ Some text → (Rose (reads input) (reads input') → ⊥) → (Rose (puts out) (puts out') → ⊥) → DecidesTranslation text ending
+  pub decides_translation : Does left reads held puts told tells talk faults words input input' out out' err err' rack rack' ending → (text : List ℕ) → IsTranslating words → left input ≡ Some text → (Rose (reads input) (reads input') → ⊥) → (Rose (puts out) (puts out') → ⊥) → DecidesTranslation text ending
   decides_translation d text h = (translation_of d h).translates.decides text
 
   -- ---- what a run owes
 
-  executed_of : Does left reads held puts told tells talk words input input' out out' err err' rack rack' ending → (form : Form) → IsRunning words form → HasExecuted left reads held puts told tells talk words input input' out out' err err' rack rack' ending
+  executed_of : Does left reads held puts told tells talk faults words input input' out out' err err' rack rack' ending → (form : Form) → IsRunning words form → HasExecuted left reads held puts told tells talk faults words input input' out out' err err' rack rack' ending
   executed_of (inl t) form h = absurd (never_both words form h t.named)
   executed_of (inr (inl x)) form h = x
   executed_of (inr (inr r)) form h = absurd (r.unnamed form h)
 
   -- with the form and the turns that the words name
-  executes : Does left reads held puts told tells talk words input input' out out' err err' rack rack' ending → (form : Form) (turns : ℕ) → HasTurns words form turns → Executes held puts told tells talk left reads form turns input input' out out' err err' rack rack' ending
+  executes : Does left reads held puts told tells talk faults words input input' out out' err err' rack rack' ending → (form : Form) (turns : ℕ) → HasTurns words form turns → Executes held puts told tells talk faults left reads form turns input input' out out' err err' rack rack' ending
   executes d form turns h =
       let x = executed_of d form (is_running words form turns h) in
-      as_named words (λ f n. Executes held puts told tells talk left reads f n input input' out out' err err' rack rack' ending) x.form form x.turns turns x.named h x.executes
+      as_named words (λ f n. Executes held puts told tells talk faults left reads f n input input' out out' err err' rack rack' ending) x.form form x.turns turns x.named h x.executes
 
   -- with the form that they name
-  executes_as : Does left reads held puts told tells talk words input input' out out' err err' rack rack' ending → (form : Form) → IsRunning words form → (turns : ℕ) × Executes held puts told tells talk left reads form turns input input' out out' err err' rack rack' ending
+  executes_as : Does left reads held puts told tells talk faults words input input' out out' err err' rack rack' ending → (form : Form) → IsRunning words form → (turns : ℕ) × Executes held puts told tells talk faults left reads form turns input input' out out' err err' rack rack' ending
   executes_as d form h =
       let x = executed_of d form h in
-      (x.turns, subst (λ f. Executes held puts told tells talk left reads f x.turns input input' out out' err err' rack rack' ending) (one_form words x.form form (is_running words x.form x.turns x.named) h) x.executes)
+      (x.turns, subst (λ f. Executes held puts told tells talk faults left reads f x.turns input input' out out' err err' rack rack' ending) (one_form words x.form form (is_running words x.form x.turns x.named) h) x.executes)
 
-  pub own : Does left reads held puts told tells talk words input input' out out' err err' rack rack' ending → (form : Form) → IsRunning words form → IsOfExecution ending
+  pub own : Does left reads held puts told tells talk faults words input input' out out' err err' rack rack' ending → (form : Form) → IsRunning words form → IsOfExecution ending
   own d form h = (executes_as d form h).1.ends
 
-  pub crowded : Does left reads held puts told tells talk words input input' out out' err err' rack rack' ending → (form : Form) → IsRunning words form → ((ending ≡ Limit L7) ↔ IsCrowded rack)
+  pub crowded : Does left reads held puts told tells talk faults words input input' out out' err err' rack rack' ending → (form : Form) → IsRunning words form → ((ending ≡ Limit L7) ↔ IsCrowded rack)
   crowded d form h = (executes_as d form h).1.crowded
 
-  pub refused : Does left reads held puts told tells talk words input input' out out' err err' rack rack' ending → (form : Form) (kind : FaultKind) (line : Line) → IsRunning words form → ending ≡ Refused kind line → RefusesAt (IsRefusedAs form) (left input) (left input') kind line.0
+  pub refused : Does left reads held puts told tells talk faults words input input' out out' err err' rack rack' ending → (form : Form) (kind : FaultKind) (line : Line) → IsRunning words form → ending ≡ Refused kind line → RefusesAt (IsRefusedAs form) (left input) (left input') kind line.0
   refused d form kind line h = (executes_as d form h).1.refused kind line
 
-  pub limit : Does left reads held puts told tells talk words input input' out out' err err' rack rack' ending → (form : Form) (kind : LimitKind) → IsRunning words form → (kind ≡ L7 → ⊥) → ending ≡ Limit kind → PassesAs form (left input) (left input') kind
+  pub limit : Does left reads held puts told tells talk faults words input input' out out' err err' rack rack' ending → (form : Form) (kind : LimitKind) → IsRunning words form → (kind ≡ L7 → ⊥) → ending ≡ Limit kind → PassesAs form (left input) (left input') kind
   limit d form kind h = (executes_as d form h).1.limit kind
 
   module _ (last : E) (line : List ℕ) (a : Announces told tells err' last line) where
-    pub whole : Does left reads held puts told tells talk words input input' out out' err err' rack rack' ending → (form : Form) (turns : ℕ) → HasTurns words form turns → IsOfProgram ending
-        → BeforeLine told tells last line (λ between. ExecutesWhole held puts told tells talk left form turns input input' out out' err between rack rack' ending)
+    pub whole : Does left reads held puts told tells talk faults words input input' out out' err err' rack rack' ending → (form : Form) (turns : ℕ) → HasTurns words form turns → IsOfProgram ending
+        → BeforeLine told tells last line (λ between. ExecutesWhole held puts told tells talk faults left form turns input input' out out' err between rack rack' ending)
     whole d form turns h e = record { between = err'; done = (executes d form turns h).whole e; announced = a }
 
-    pub part : Does left reads held puts told tells talk words input input' out out' err err' rack rack' ending → (form : Form) (turns : ℕ) → HasTurns words form turns → ending ≡ WriteFault
-        → BeforeLine told tells last line (λ between. ExecutesPart held puts told tells talk left form turns input input' out out' err between rack rack')
+    pub part : Does left reads held puts told tells talk faults words input input' out out' err err' rack rack' ending → (form : Form) (turns : ℕ) → HasTurns words form turns → ending ≡ WriteFault
+        → BeforeLine told tells last line (λ between. ExecutesPart held puts told tells talk faults left form turns input input' out out' err between rack rack')
     part d form turns h e = record { between = err'; done = (executes d form turns h).part e; announced = a }
 
-    pub want : Does left reads held puts told tells talk words input input' out out' err err' rack rack' ending → (form : Form) (turns : ℕ) → HasTurns words form turns → ending ≡ OutOfMemory
-        → BeforeLine told tells last line (λ between. MayExecute held puts told tells talk left form turns input input' out out' err between rack rack')
+    pub want : Does left reads held puts told tells talk faults words input input' out out' err err' rack rack' ending → (form : Form) (turns : ℕ) → HasTurns words form turns → ending ≡ OutOfMemory
+        → BeforeLine told tells last line (λ between. MayExecute held puts told tells talk faults left form turns input input' out out' err between rack rack')
     want d form turns h e = record { between = err'; done = (executes d form turns h).want e; announced = a }
 
-    pub decides : Does left reads held puts told tells talk words input input' out out' err err' rack rack' ending → (form : Form) (turns : ℕ) (text : List ℕ) → HasTurns words form turns → (IsCrowded rack → ⊥) → left input ≡ Some text
+    pub decides : Does left reads held puts told tells talk faults words input input' out out' err err' rack rack' ending → (form : Form) (turns : ℕ) (text : List ℕ) → HasTurns words form turns → (IsCrowded rack → ⊥) → left input ≡ Some text
         → (Rose (reads input) (reads input') → ⊥) → (Rose (puts out) (puts out') → ⊥) → (Rose (tells err) (tells last) → ⊥)
         → DecidesExecution form turns (ready_slot (states (slots_of rack))) (answers_in (grown rack rack')) text ending
     decides d form turns text h room e calm calm' calm'' =
@@ -166,76 +167,81 @@ module _ {I O E X : Type 0} {F : X → Type 0} {left : I → Option (List ℕ)} 
 
     -- ---- what all owe to standard error
 
-    pub errors_steady : Does left reads held puts told tells talk words input input' out out' err err' rack rack' ending → (ending ≡ WriteFault → ⊥) → BeforeLine told tells last line (λ between. tells between ≡ tells err)
+    pub errors_steady : Does left reads held puts told tells talk faults words input input' out out' err err' rack rack' ending → (ending ≡ WriteFault → ⊥) → BeforeLine told tells last line (λ between. tells between ≡ tells err)
     errors_steady (inl t) calm = record { between = err'; done = ap tells t.silent; announced = a }
     errors_steady (inr (inl x)) calm = record { between = err'; done = x.executes.tells_steady calm; announced = a }
     errors_steady (inr (inr r)) calm = record { between = err'; done = ap tells r.untouched.errors; announced = a }
 
-    pub either_fault : Does left reads held puts told tells talk words input input' out out' err err' rack rack' ending → ending ≡ WriteFault → Rose (puts out) (puts out') ⊎ Rose (tells err) (tells last)
+    pub either_fault : Does left reads held puts told tells talk faults words input input' out out' err err' rack rack' ending → ending ≡ WriteFault → Rose (puts out) (puts out') ⊎ Rose (tells err) (tells last)
     either_fault (inl t) e = inl (t.translates.write_fault e)
     either_fault (inr (inl x)) e = risen puts tells out out' err err' last line a (x.executes.write_fault e)
     either_fault (inr (inr r)) e = absurd (cc (e, r.usage))
 
     -- only a program puts something before the last line
-    silent : Does left reads held puts told tells talk words input input' out out' err err' rack rack' ending → IsTranslating words ⊎ IsRefusal ending → err' ≡ err
+    silent : Does left reads held puts told tells talk faults words input input' out out' err err' rack rack' ending → IsTranslating words ⊎ IsRefusal ending → err' ≡ err
     silent (inl t) h = t.silent
     silent (inr (inr r)) h = r.untouched.errors
     silent (inr (inl x)) (inl h) = absurd (never_both words x.form (is_running words x.form x.turns x.named) h)
     silent (inr (inl x)) (inr refusal) = (idle x.executes refusal).errors
 
-    pub last_line : Does left reads held puts told tells talk words input input' out out' err err' rack rack' ending → IsTranslating words ⊎ IsRefusal ending → Announces told tells err last line
+    pub last_line : Does left reads held puts told tells talk faults words input input' out out' err err' rack rack' ending → IsTranslating words ⊎ IsRefusal ending → Announces told tells err last line
     last_line d h = subst (λ e. Announces told tells e last line) (silent d h) a
 
   -- ---- what all owe
 
-  pub untouched : Does left reads held puts told tells talk words input input' out out' err err' rack rack' ending → IsRefusal ending → (rack' ≡ rack) × (out' ≡ out)
+  pub untouched : Does left reads held puts told tells talk faults words input input' out out' err err' rack rack' ending → IsRefusal ending → (rack' ≡ rack) × (out' ≡ out)
   untouched (inl t) h = let but = no_refusal_but ending h in (t.unlinked, t.translates.untouched but.0 but.1)
   untouched (inr (inl x)) h = let u = idle x.executes h in (u.links, u.output)
   untouched (inr (inr r)) h = (r.untouched.links, r.untouched.output)
 
-  pub usage : Does left reads held puts told tells talk words input input' out out' err err' rack rack' ending → ((ending ≡ Usage) ↔ ((IsTranslating words → ⊥) × ((form : Form) → IsRunning words form → ⊥)))
+  pub usage : Does left reads held puts told tells talk faults words input input' out out' err err' rack rack' ending → ((ending ≡ Usage) ↔ ((IsTranslating words → ⊥) × ((form : Form) → IsRunning words form → ⊥)))
   usage (inl t) = (λ e. absurd (not_of ending Usage e t.translates.ends (λ h. h)), λ neither. absurd (neither.0 t.named))
   usage (inr (inl x)) = (λ e. absurd (subst IsOfExecution e x.executes.ends), λ neither. absurd (neither.1 x.form (is_running words x.form x.turns x.named)))
   usage (inr (inr r)) = (λ e. (r.other, r.unnamed), λ neither. r.usage)
 
-  pub unread : Does left reads held puts told tells talk words input input' out out' err err' rack rack' ending → (ending ≡ Usage) ⊎ ((form : Form) × IsRunning words form × (ending ≡ Limit L7)) → input' ≡ input
+  pub unread : Does left reads held puts told tells talk faults words input input' out out' err err' rack rack' ending → (ending ≡ Usage) ⊎ ((form : Form) × IsRunning words form × (ending ≡ Limit L7)) → input' ≡ input
   unread (inl t) (inl e) = absurd (not_of ending Usage e t.translates.ends (λ h. h))
   unread (inl t) (inr h) = absurd (never_both words h.0 h.1 t.named)
   unread (inr (inl x)) (inl e) = absurd (subst IsOfExecution e x.executes.ends)
   unread (inr (inl x)) (inr h) = x.executes.unread h.2
   unread (inr (inr r)) h = r.unread
 
-  pub within : Does left reads held puts told tells talk words input input' out out' err err' rack rack' ending → ReadsWithin (left input) (left input')
+  pub within : Does left reads held puts told tells talk faults words input input' out out' err err' rack rack' ending → ReadsWithin (left input) (left input')
   within (inl t) = t.translates.within
   within (inr (inl x)) = x.executes.within
   within (inr (inr r)) = unread_within left reads input input' r.unread
 
-  pub read_fault : Does left reads held puts told tells talk words input input' out out' err err' rack rack' ending → ending ≡ ReadFault → Rose (reads input) (reads input')
+  pub read_fault : Does left reads held puts told tells talk faults words input input' out out' err err' rack rack' ending → ending ≡ ReadFault → Rose (reads input) (reads input')
   read_fault (inl t) = t.translates.read_fault
   read_fault (inr (inl x)) = x.executes.read_fault
   read_fault (inr (inr r)) = λ e. absurd (cc (e, r.usage))
 
-  pub read_steady : Does left reads held puts told tells talk words input input' out out' err err' rack rack' ending → (ending ≡ ReadFault → ⊥) → reads input' ≡ reads input
+  pub read_steady : Does left reads held puts told tells talk faults words input input' out out' err err' rack rack' ending → (ending ≡ ReadFault → ⊥) → reads input' ≡ reads input
   read_steady (inl t) = t.translates.reads_steady
   read_steady (inr (inl x)) = x.executes.reads_steady
   read_steady (inr (inr r)) = λ calm. ap reads r.unread
 
-  pub write_steady : Does left reads held puts told tells talk words input input' out out' err err' rack rack' ending → (ending ≡ WriteFault → ⊥) → puts out' ≡ puts out
+  pub write_steady : Does left reads held puts told tells talk faults words input input' out out' err err' rack rack' ending → (ending ≡ WriteFault → ⊥) → puts out' ≡ puts out
   write_steady (inl t) = t.translates.puts_steady
   write_steady (inr (inl x)) = x.executes.puts_steady
   write_steady (inr (inr r)) = λ calm. ap puts r.untouched.output
 
-  pub talks : Does left reads held puts told tells talk words input input' out out' err err' rack rack' ending → KeepsTalks (talk_at talk (slots_of rack)) (talk_at talk (slots_of rack')) (grown rack rack')
+  pub talks : Does left reads held puts told tells talk faults words input input' out out' err err' rack rack' ending → KeepsTalks (talk_at talk (slots_of rack)) (talk_at talk (slots_of rack')) (grown rack rack')
   talks (inl t) = same_talks talk rack rack' t.unlinked
   talks (inr (inl x)) = x.executes.talks
   talks (inr (inr r)) = same_talks talk rack rack' r.untouched.links
 
-  pub dropped : Does left reads held puts told tells talk words input input' out out' err err' rack rack' ending → SparesDropped (states (slots_of rack)) (states (slots_of rack')) (grown rack rack')
+  pub links : Does left reads held puts told tells talk faults words input input' out out' err err' rack rack' ending → KeepsLinks talk faults (link_at (slots_of rack)) (link_at (slots_of rack')) (grown rack rack')
+  links (inl t) = same_links talk faults rack rack' t.unlinked
+  links (inr (inl x)) = x.executes.links
+  links (inr (inr r)) = same_links talk faults rack rack' r.untouched.links
+
+  pub dropped : Does left reads held puts told tells talk faults words input input' out out' err err' rack rack' ending → SparesDropped (states (slots_of rack)) (states (slots_of rack')) (grown rack rack')
   dropped (inl t) = same_dropped rack rack' t.unlinked
   dropped (inr (inl x)) = x.executes.dropped
   dropped (inr (inr r)) = same_dropped rack rack' r.untouched.links
 
-  pub logged : Does left reads held puts told tells talk words input input' out out' err err' rack rack' ending → log_of rack' ≡ log_of rack ++ grown rack rack'
+  pub logged : Does left reads held puts told tells talk faults words input input' out out' err err' rack rack' ending → log_of rack' ≡ log_of rack ++ grown rack rack'
   logged (inl t) = same_log rack rack' t.unlinked
   logged (inr (inl x)) = x.executes.logged
   logged (inr (inr r)) = same_log rack rack' r.untouched.links

@@ -1,14 +1,10 @@
 -- What a call of the tool leaves, whatever its command.
-use Rattle.std.specs.Prelude.{◌≡◌, ℕ, ◌<◌, ◌⊎◌, List, [], length, Option, MatchOption}
+use Rattle.std.specs.Prelude.{ℕ, ◌<◌, ◌⊎◌, List, length, Option}
 use Rattle.ec_base.specs.Putting.{Puts, PutsPart}
 use Rattle.ec_link.specs.declared.logged.Logged.{Logged}
 use Rattle.ec_link.specs.declared.rack.Rack.{Rack}
-use Rattle.ec_link.specs.declared.slot.Slot.{Slot}
-use Rattle.ec_link.specs.Calls.{Ran}
 use Rattle.ec_link.specs.Logged.{growth_of}
 use Rattle.ec_link.specs.Rack.{slots_of, log_of}
-use Rattle.ec_link.specs.Slot.{states}
-use Rattle.ec_link.specs.SlotState.{ready_slot}
 use Rattle.ec_cli.specs.declared.ending.Ending.{Ending}
 use Rattle.ec_cli.specs.declared.ending.Ending.TheVariants.{Wrote, Exited, Trapped, TurnsSpent, Usage, Refused, Limit, ReadFault, WriteFault, OutOfMemory}
 
@@ -37,10 +33,3 @@ Announces held faults old new text = Puts held faults old new text
 -- what the log of a rack grew by in a call
 abbrev pub grown : {X : Type 0} {F : X → Type 0} → Rack X F → Rack X F → List Logged
 grown rack rack' = growth_of (log_of rack) (log_of rack')
-
--- what a run over the first connection does to the slots: nothing where none is ready
-abbrev pub RunsOver : {X : Type 0} {F : X → Type 0} →
-    List (Slot X F) → List Logged → List (Slot X F) → Type 0
-RunsOver before growth after =
-    MatchOption (ready_slot (states before))
-    ((growth ≡ []) × (after ≡ before)) (λ _. Ran before growth after)

@@ -12,7 +12,7 @@ use Rattle.ec_base.specs.Causes.{Rose}
 use Rattle.ec_link.specs.declared.rack.Rack.{Rack}
 use Rattle.ec_link.specs.Logged.{Talk}
 use Rattle.ec_link.specs.Rack.{slots_of, log_of}
-use Rattle.ec_link.specs.Slot.{states, talk_at}
+use Rattle.ec_link.specs.Slot.{states, link_at, talk_at}
 use Rattle.ec_link.specs.SlotState.{ready_slot}
 use Rattle.ec_link.specs.Told.{KeepsTalks, SparesDropped}
 use Rattle.ec_observed.specs.Headline.{IsRead, RefusesAt, IsTooLong, ReadsWithin}
@@ -21,10 +21,12 @@ use Rattle.ec_evaluation.specs.State as evaluation
 use Rattle.ec_evaluation.specs.State.{Answer}
 use Rattle.ec_evaluation.specs.Whole.{Observed}
 use Rattle.ec_execution.specs.Runs.{Runs, RunsPart}
+use Rattle.ec_runtime.specs.Racks.{KeepsLinks}
 use Rattle.ec_execute.specs.declared.running.RunEnd.{RunEnd}
 use Rattle.ec_execute.specs.declared.running.RunEnd.TheVariants as ends
-use Rattle.ec_cli.specs.Answers.{IsCrowded, Announces, RunsOver, grown}
+use Rattle.ec_cli.specs.Answers.{IsCrowded, Announces, grown}
 use Rattle.ec_cli.specs.Forms.{Program, IsRunAs, Meaning, meaning_as}
+use Rattle.ec_cli.specs.Racks.{RunsOver}
 use Rattle.ec_cli.specs.declared.form.Form.{Form}
 use Rattle.ec_cli.specs.declared.ending.Ending.{Ending}
 use Rattle.ec_cli.specs.declared.ending.Ending.TheVariants.{Wrote, Exited, Trapped, TurnsSpent, Usage, Refused, Limit, ReadFault, WriteFault, OutOfMemory}
@@ -167,14 +169,15 @@ pub record BeforeLine {E : Type 0} (told : E → Option (List ℕ))
   pub announced : Announces told tells between last line
 
 module _ {O E X : Type 0} {F : X → Type 0} (held : O → Option (List ℕ)) (puts : O → ℕ)
-    (told : E → Option (List ℕ)) (tells : E → ℕ) (talk : DynBox X Allocator F → Option Talk) where
+    (told : E → Option (List ℕ)) (tells : E → ℕ) (talk : DynBox X Allocator F → Option Talk)
+    (faults : DynBox X Allocator F → ℕ) where
   -- nothing was run
   pub record Untouched (out out' : O) (err err' : E) (rack rack' : Rack X F) : Type 0 where
     pub output : out' ≡ out
     pub errors : err' ≡ err
     pub links : rack' ≡ rack
 
-  -- the whole of what a program means was carried out, and the slot that was ready is free
+  -- the whole of what a program means was carried out, and the connections were given back
   pub record CarriedOut (meaning : Meaning) (turns : ℕ) (out out' : O)
       (err err' : E) (rack rack' : Rack X F) (ending : Ending) : Type 0 where
     pub ended : evaluation.Ending
@@ -199,6 +202,8 @@ module _ {O E X : Type 0} {F : X → Type 0} (held : O → Option (List ℕ)) (p
     pub ends : IsOfCarried ending
     pub talks : KeepsTalks (talk_at talk (slots_of rack))
         (talk_at talk (slots_of rack')) (grown rack rack')
+    pub links : KeepsLinks talk faults (link_at (slots_of rack))
+        (link_at (slots_of rack')) (grown rack rack')
     pub dropped : SparesDropped (states (slots_of rack))
         (states (slots_of rack')) (grown rack rack')
     pub logged : log_of rack' ≡ log_of rack ++ grown rack rack'
@@ -254,6 +259,8 @@ module _ {O E X : Type 0} {F : X → Type 0} (held : O → Option (List ℕ)) (p
       pub unread : ending ≡ Limit L7 → input' ≡ input
       pub talks : KeepsTalks (talk_at talk (slots_of rack))
           (talk_at talk (slots_of rack')) (grown rack rack')
+      pub links : KeepsLinks talk faults (link_at (slots_of rack))
+          (link_at (slots_of rack')) (grown rack rack')
       pub dropped : SparesDropped (states (slots_of rack))
           (states (slots_of rack')) (grown rack rack')
       pub logged : log_of rack' ≡ log_of rack ++ grown rack rack'

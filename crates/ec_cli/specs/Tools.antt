@@ -14,7 +14,7 @@ use Rattle.ec_cli.specs.Translating.{IsTranslating, Translates}
 
 module _ {I O E X : Type 0} {F : X → Type 0} (left : I → Option (List ℕ)) (reads : I → ℕ)
     (held : O → Option (List ℕ)) (puts : O → ℕ) (told : E → Option (List ℕ)) (tells : E → ℕ)
-    (talk : DynBox X Allocator F → Option Talk) where
+    (talk : DynBox X Allocator F → Option Talk) (faults : DynBox X Allocator F → ℕ) where
   -- a translation leaves the rack as it was, and says nothing on standard error
   pub record HasTranslated (words : List (String Allocator)) (input input' : I) (out out' : O)
       (err err' : E) (rack rack' : Rack X F) (ending : Ending) : Type 0 where
@@ -28,7 +28,7 @@ module _ {I O E X : Type 0} {F : X → Type 0} (left : I → Option (List ℕ)) 
     pub form : Form
     pub turns : ℕ
     pub named : HasTurns words form turns
-    pub executes : Executes held puts told tells talk left reads form turns
+    pub executes : Executes held puts told tells talk faults left reads form turns
         input input' out out' err err' rack rack' ending
 
   pub record HasDeclined (words : List (String Allocator)) (input input' : I) (out out' : O)
@@ -37,7 +37,7 @@ module _ {I O E X : Type 0} {F : X → Type 0} (left : I → Option (List ℕ)) 
     pub unnamed : (form : Form) → IsRunning words form → ⊥
     pub usage : ending ≡ Usage
     pub unread : input' ≡ input
-    pub untouched : Untouched held puts told tells talk out out' err err' rack rack'
+    pub untouched : Untouched held puts told tells talk faults out out' err err' rack rack'
 
   abbrev pub Does : List (String Allocator) → I → I → O → O → E → E → Rack X F → Rack X F → Ending
       → Type 0

@@ -1,7 +1,7 @@
 //! The commands `run` and `exec`: a source or written C is read, and run.
 ghost use Rattle.std.specs.Prelude.{◌≡◌};
 ghost use Rattle.ec_execute.specs.Executables.{executable_view};
-ghost use Rattle.ec_link.specs.Links.{talk_by};
+ghost use Rattle.ec_link.specs.Links.{talk_by, faults_by};
 ghost use Rattle.ec_cli.specs.Answers.{IsCrowded};
 ghost use Rattle.ec_execution.specs.Programs.{meaning};
 ghost use Rattle.ec_cli.specs.Executing.{ending_of_program, text_refusal, Carries, ExecutesText, Executes};
@@ -40,7 +40,7 @@ fn refused(stop: Stop) -> Ending
     }
 }
 
-// Runs a program over the first ready slot, if there is one.
+// Runs a program, which begins connected to the first ready slot, if there is one.
 fn run_over<O: Sink, E: Sink>(
     alloc: Global,
     executable: &Executable,
@@ -50,7 +50,8 @@ fn run_over<O: Sink, E: Sink>(
     rack: &mut Rack,
 ) -> Ending
     requires { IsCrowded rack.old → ⊥ }
-    ensures { Carries O.held O.faults E.held E.faults (talk_by ⟦<dyn Link as Link>⟧)
+    ensures { Carries O.held O.faults E.held E.faults
+        (talk_by ⟦<dyn Link as Link>⟧) (faults_by ⟦<dyn Link as Link>⟧)
         (meaning (executable_view executable.now)) turns
         out.old out.new err.old err.new rack.old rack.new result }
 {
@@ -78,7 +79,8 @@ fn execute_text<O: Sink, E: Sink>(
     rack: &mut Rack,
 ) -> Ending
     requires { IsCrowded rack.old → ⊥ }
-    ensures { ExecutesText O.held O.faults E.held E.faults (talk_by ⟦<dyn Link as Link>⟧)
+    ensures { ExecutesText O.held O.faults E.held E.faults
+        (talk_by ⟦<dyn Link as Link>⟧) (faults_by ⟦<dyn Link as Link>⟧)
         form turns text out.old out.new err.old err.new rack.old rack.new result }
 {
     match read_text(alloc, form, text.as_slice()) {
@@ -97,7 +99,8 @@ pub fn execute<I: Input, O: Sink, E: Sink>(
     err: &mut E,
     rack: &mut Rack,
 ) -> Ending
-    ensures { Executes O.held O.faults E.held E.faults (talk_by ⟦<dyn Link as Link>⟧)
+    ensures { Executes O.held O.faults E.held E.faults
+        (talk_by ⟦<dyn Link as Link>⟧) (faults_by ⟦<dyn Link as Link>⟧)
         I.left I.faults form turns
         input.old input.new out.old out.new err.old err.new rack.old rack.new result }
 {

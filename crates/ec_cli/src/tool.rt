@@ -6,10 +6,11 @@ ghost use Rattle.ec_base.specs.declared.fault.LimitKind.TheVariants.{L7};
 ghost use Rattle.ec_base.specs.declared.line.Line.{Line};
 ghost use Rattle.ec_base.specs.Causes.{Rose};
 ghost use Rattle.ec_link.specs.Rack.{slots_of, log_of};
-ghost use Rattle.ec_link.specs.Slot.{states, talk_at};
+ghost use Rattle.ec_link.specs.Slot.{states, link_at, talk_at};
 ghost use Rattle.ec_link.specs.SlotState.{ready_slot};
 ghost use Rattle.ec_link.specs.Told.{KeepsTalks, SparesDropped};
 ghost use Rattle.ec_observed.specs.Observed.{answers_in};
+ghost use Rattle.ec_runtime.specs.Racks.{KeepsLinks};
 ghost use Rattle.ec_observed.specs.Headline.{RefusesAt, ReadsWithin};
 ghost use Rattle.ec_cli.specs.declared.form.Form.{Form};
 ghost use Rattle.ec_cli.specs.Answers.{IsCrowded, IsRefusal, Announces, grown};
@@ -18,7 +19,7 @@ ghost use Rattle.ec_cli.specs.Executing.{IsOfProgram, IsOfExecution, IsRefusedAs
 ghost use Rattle.ec_cli.specs.Forms.{IsRunning, HasTurns};
 ghost use Rattle.ec_cli.specs.Tools.{Does};
 ghost use Rattle.ec_cli.specs.Translating.{IsTranslating, IsOfTranslation, IsRefused, PassesLimit, WritesWhole, WritesPart, DecidesTranslation};
-ghost use Rattle.ec_link.specs.Links.{talk_by};
+ghost use Rattle.ec_link.specs.Links.{talk_by, faults_by};
 
 use crate::ending::Ending;
 use crate::execution::execute;
@@ -53,7 +54,8 @@ fn perform<I: Source, O: Sink, E: Sink>(
     err: &mut E,
     rack: &mut Rack,
 ) -> Ending
-    ensures { Does I.left I.faults O.held O.faults E.held E.faults (talk_by ⟦<dyn Link as Link>⟧)
+    ensures { Does I.left I.faults O.held O.faults E.held E.faults
+        (talk_by ⟦<dyn Link as Link>⟧) (faults_by ⟦<dyn Link as Link>⟧)
         words.now input.old input.new out.old out.new err.old err.new rack.old rack.new result }
 {
     if names_translation(words) {
@@ -72,8 +74,9 @@ fn perform<I: Source, O: Sink, E: Sink>(
 ///
 /// `run` runs the source that `input` gives, and `exec` the written C. What the program prints on its two outputs goes to
 /// `out` and `err`, which are flushed at its end, before the ending is decided. It begins connected to the first ready slot
-/// of the rack, if it has one, which is free at the end. A program with a call that the library doesn't make yet is
-/// refused. More than 64 slots are a limit, which is tested before the input is read.
+/// of the rack, if it has one, and may open, choose and close connections. The slots of those that are open at the end are
+/// free again. A program with a call that the library doesn't make yet is refused. More than 64 slots are a limit, which is
+/// tested before the input is read.
 ///
 /// A fault while the last line is put changes no ending.
 pub fn ec_main<I: Source, O: Sink, E: Sink>(
@@ -96,28 +99,37 @@ pub fn ec_main<I: Source, O: Sink, E: Sink>(
 
     // A run to its end is the whole of what the source means, or of what the written C means, over the answers that the log
     // got in this call: what is said is in the log, what is printed is on the two outputs, and the last line stands behind it.
-    // The ready slot is taken, and free again at the end.
+    // The first ready slot is taken, each exchange does to the slots what it says, and the connections are given back at the
+    // end (`RunsOver`).
     ensures whole { (form : Form) (turns : ℕ) → HasTurns words.now form turns → IsOfProgram result →
         BeforeLine E.held E.faults err.new (last_line result) (λ between.
-        ExecutesWhole O.held O.faults E.held E.faults (talk_by ⟦<dyn Link as Link>⟧) I.left
+        ExecutesWhole O.held O.faults E.held E.faults
+        (talk_by ⟦<dyn Link as Link>⟧) (faults_by ⟦<dyn Link as Link>⟧) I.left
         form turns input.old input.new out.old out.new err.old between rack.old rack.new result) }
 
     // A run that stopped is a part of it, and want of memory may also come before anything was done.
     ensures part { (form : Form) (turns : ℕ) → HasTurns words.now form turns
         → result ≡ Ending.WriteFault →
         BeforeLine E.held E.faults err.new (last_line result) (λ between.
-        ExecutesPart O.held O.faults E.held E.faults (talk_by ⟦<dyn Link as Link>⟧) I.left
+        ExecutesPart O.held O.faults E.held E.faults
+        (talk_by ⟦<dyn Link as Link>⟧) (faults_by ⟦<dyn Link as Link>⟧) I.left
         form turns input.old input.new out.old out.new err.old between rack.old rack.new) }
     ensures want { (form : Form) (turns : ℕ) → HasTurns words.now form turns
         → result ≡ Ending.OutOfMemory →
         BeforeLine E.held E.faults err.new (last_line result) (λ between.
-        MayExecute O.held O.faults E.held E.faults (talk_by ⟦<dyn Link as Link>⟧) I.left
+        MayExecute O.held O.faults E.held E.faults
+        (talk_by ⟦<dyn Link as Link>⟧) (faults_by ⟦<dyn Link as Link>⟧) I.left
         form turns input.old input.new out.old out.new err.old between rack.old rack.new) }
 
     // A link that tells its talk says what the log says of its slot.
     ensures talks { KeepsTalks
         (talk_at (talk_by ⟦<dyn Link as Link>⟧) (slots_of rack.old))
         (talk_at (talk_by ⟦<dyn Link as Link>⟧) (slots_of rack.new)) (grown rack.old rack.new) }
+
+    // Each link that is in its slot after the call was there before it. Its talk grew by what the log got for its slot, and
+    // where a reply of that was broken, its count of faults rose.
+    ensures links { KeepsLinks (talk_by ⟦<dyn Link as Link>⟧) (faults_by ⟦<dyn Link as Link>⟧)
+        (link_at (slots_of rack.old)) (link_at (slots_of rack.new)) (grown rack.old rack.new) }
     ensures dropped { SparesDropped
         (states (slots_of rack.old)) (states (slots_of rack.new)) (grown rack.old rack.new) }
     ensures logged { log_of rack.new ≡ log_of rack.old ++ grown rack.old rack.new }

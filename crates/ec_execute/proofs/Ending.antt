@@ -1,5 +1,5 @@
 -- From the run of a machine to what is done of what a program means.
-use Rattle.std.proofs.Common.{◌≡◌, ◌⊎◌, inl, inr, ℕ, suc, ◌≤◌, List, [], ◌++◌, refl, ap, sym, ◌∙◌, subst, arith, Option, None, Some, append-nil}
+use Rattle.std.proofs.Common.{◌≡◌, ◌⊎◌, inl, inr, ℕ, ◌≤◌, List, [], refl, sym, ◌∙◌, arith, Option, None, Some, append-nil}
 use Rattle.std.specs.Io.KnownBytes.{Appends, Keeps}
 use Rattle.ec_base.specs.Causes.{Rose}
 use Rattle.ec_base.specs.Putting.{Puts, Took}

@@ -1,5 +1,5 @@
 -- What reading a program of written C answers.
-use Rattle.std.proofs.Common.{◌≡◌, ℕ, Bool, true, false, if◌then◌else◌, List, [], ◌∷◌, map, Option, None, Some, Result, Ok, Err, refl, sym, ap, ◌∙◌, subst}
+use Rattle.std.proofs.Common.{◌≡◌, ℕ, Bool, true, false, if◌then◌else◌, List, [], ◌∷◌, map, Option, None, Some, Result, Ok, Err, refl, sym, ap, subst}
 use Rattle.ec_base.specs.declared.stop.Stop.{Stop}
 use Rattle.ec_base.specs.declared.stop.Stop.TheVariants.{Refused, Limit, OutOfMemory}
 use Rattle.ec_ctypes.specs.declared.checked.typed.Typed.{Typed}
@@ -10,12 +10,12 @@ use Rattle.ec_ctypes.specs.views.Embedded.{emb_view}
 use Rattle.ec_language.specs.First.{Violation, comes_before, earlier, first_of, stop_at}
 use Rattle.ec_language.specs.Letters.{Text}
 use Rattle.ec_sections.specs.Answers.{hosts_answer}
-use Rattle.ec_typing.specs.Answers.{answer_by, check_answer, checked, stop_of_unit, violations}
+use Rattle.ec_typing.specs.Answers.{answer_by, checked, stop_of_unit, violations}
 use Rattle.ec_typing.specs.Worlds.{World}
 use Rattle.ec_read_written.specs.Answers as reading
 use Rattle.ec_execution.specs.ec_written.Written.{plain, checked_with, checked_plain, checked_written, ReadsWritten}
 use Rattle.ec_execution.specs.Laws.{HasOneProgram}
-use Rattle.ec_execution.specs.Programs.{resolved, IsProgram}
+use Rattle.ec_execution.specs.Programs.{resolved}
 use Rattle.ec_execution.specs.Programs.IsProgram.{left_of}
 use Rattle.ec_execute.specs.Answers.{Is, TellsProgram, IsOnlyProgram}
 use Rattle.ec_execute.specs.declared.executable.Executable.{Executable}

@@ -47,8 +47,8 @@ fn ended(end: MachineEnd) -> RunEnd
     }
 }
 
-// Carries a program out over the connection that is open, if one is, and gives it back. What the program printed may not be
-// passed on yet.
+// Carries a program out over the connection that is open, if one is, and gives back those that are open then. What the
+// program printed may not be passed on yet.
 fn carry_out<O: Sink, E: Sink>(
     alloc: Global,
     executable: &Executable,
@@ -104,7 +104,7 @@ fn run_over<O: Sink, E: Sink>(
         O.held O.faults E.held E.faults (executable_view executable.now) turns
         out.old out.new err.old err.new rack.old rack.new result }
 {
-    let mut library = Library::new();
+    let mut library = Library::new(alloc);
     match library.open_ready(rack) {
         Ok(()) => carry_out(alloc, executable, turns, rack, library, out, err),
         Err(_) => {
@@ -132,8 +132,8 @@ fn flush_both<O: Sink, E: Sink>(out: &mut O, err: &mut E) -> Result<(), Failed>
     }
 }
 
-/// Runs a program with so many turns over the first ready slot of a rack, if it has one. The slot is free at the end. What
-/// the program printed is passed on, however it ended.
+/// Runs a program with so many turns over the first ready slot of a rack, if it has one. The slot of each connection that is
+/// open at the end is free again. What the program printed is passed on, however it ended.
 pub fn run<O: Sink, E: Sink>(
     alloc: Global,
     executable: &Executable,

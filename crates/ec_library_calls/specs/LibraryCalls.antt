@@ -21,10 +21,13 @@ abbrev pub has_descriptor : ExprList → Bool
 has_descriptor no_exprs = false
 has_descriptor (exprs e es) = is_symbol symbol.Descriptor e || has_descriptor es
 
--- The calls that the library makes: transaction control; autocommit; PREPARE and DEALLOCATE; a
--- statement over hosts and constants.
+-- The calls that the library makes: CONNECT, DISCONNECT and SET CONNECTION; transaction control;
+-- autocommit; PREPARE and DEALLOCATE; a statement over hosts and constants.
 abbrev pub is_made : LibName → ExprList → Bool
 is_made library.Do es = not (has_descriptor es)
+is_made library.Connect es = true
+is_made library.Disconnect es = true
+is_made library.SetConn es = true
 is_made library.Trans es = true
 is_made library.SetCommit es = true
 is_made library.Prepare es = true

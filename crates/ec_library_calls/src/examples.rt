@@ -4,9 +4,9 @@
 ghost use Rattle.std.specs.Prelude.{◌≡◌};
 ghost use Rattle.ec_library_calls.specs.Examples.{unmade_in, nowhere, on_line};
 
-/// A call over hosts and constants is made, whatever is called for its arguments, and so are transaction control,
-/// autocommit, PREPARE and DEALLOCATE; one over a descriptor, or of another function of the library isn't yet. The first
-/// such call in the text counts.
+/// A call over hosts and constants is made, whatever is called for its arguments, and so are CONNECT, DISCONNECT, SET
+/// CONNECTION, transaction control, autocommit, PREPARE and DEALLOCATE; one over a descriptor, or of another function of the
+/// library isn't yet. The first such call in the text counts.
 pub fn worked_examples()
     ensures no_call { unmade_in "f();"
         ≡ nowhere }
@@ -52,10 +52,19 @@ pub fn worked_examples()
     ensures function_called_for_connection { unmade_in
         "ECPGtrans(2, &a[f()], \"commit\");"
         ≡ nowhere }
-    ensures other_function { unmade_in
+    ensures connect { unmade_in
+        "ECPGconnect(2, \"db\", NULL, NULL, \"c\");"
+        ≡ nowhere }
+    ensures disconnect { unmade_in
         "ECPGdisconnect(2, \"CURRENT\");"
+        ≡ nowhere }
+    ensures set_connection { unmade_in
+        "ECPGsetconn(2, \"c\");"
+        ≡ nowhere }
+    ensures other_function { unmade_in
+        "ECPGallocate_desc(2, \"d\");"
         ≡ on_line 2 }
     ensures behind_others { unmade_in
-        "ECPGdo(2, NULL, ECPGst_normal, \"s\", ECPGt_EOIT, ECPGt_EORT);\nif (f()) ECPGsetconn(3, \"c\");\nECPGdisconnect(4, \"CURRENT\");"
+        "ECPGdo(2, NULL, ECPGst_normal, \"s\", ECPGt_EOIT, ECPGt_EORT);\nif (f()) ECPGallocate_desc(3, \"d\");\nECPGdeallocate_desc(4, \"d\");"
         ≡ on_line 3 }
 {}

@@ -36,6 +36,7 @@ fn is_made(call: LibName, es: &[Expr]) -> bool
 {
     match call {
         LibName::Do => !has_descriptor(es),
+        LibName::Connect | LibName::Disconnect | LibName::SetConn => true,
         LibName::Trans | LibName::SetCommit | LibName::Prepare | LibName::Deallocate => true,
         _ => false,
     }

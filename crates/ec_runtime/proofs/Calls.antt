@@ -1,32 +1,51 @@
 -- A whole call, from its parts.
-use Rattle.std.proofs.Common.{◌≡◌, ℕ, Bool, List, [], ◌++◌, Option, Some, None, Result, Ok, Err, refl, sym, subst}
+use Rattle.std.proofs.Common.{◌≡◌, ℕ, Bool, List, [], ◌++◌, Option, Some, None, Result, Ok, Err, refl, sym, subst, ap, ◌∙◌, ◌∷◌}
+use Rattle.std.specs.Prelude.{option_map, slice_get, slice_set}
+use Rattle.std.proofs.lemmas.Option.{slice_get-map}
 use Rattle.std.specs.declared.alloc.Global.{Global}
 use Rattle.std.specs.declared.dyn_box.DynBox.{DynBox}
+use Rattle.ec_arguments.specs.Arguments.{TextArg as TextData}
+use Rattle.ec_base.specs.declared.stop.Trap.{Trap}
 use Rattle.ec_link.specs.declared.logged.Logged.{Logged}
 use Rattle.ec_link.specs.declared.rack.Rack.{Rack}
 use Rattle.ec_link.specs.Logged.{Talk}
+use Rattle.ec_link.specs.Rack.{slots_of}
+use Rattle.ec_link.specs.Slot.{states}
+use Rattle.ec_link.specs.SlotState.{TakenAt}
+use Rattle.ec_link.specs.Conn.{slot_of}
 use Rattle.ec_objects.specs.Memory.{Memory}
 use Rattle.ec_observed.specs.Observed.{answers_in}
 use Rattle.ec_evaluation.specs.State.{Connection, State}
 use Rattle.ec_calls.specs.Autocommit.{autocommit_set}
 use Rattle.ec_calls.specs.Connections.{control_sent}
-use Rattle.ec_calls.specs.Outcomes.{Text, Outcome}
+use Rattle.ec_calls.specs.Inputs.{text_read}
+use Rattle.ec_calls.specs.Library.{call_done}
+use Rattle.ec_calls.specs.Outcomes.{Text, Outcome, over, trapped, with_memory}
 use Rattle.ec_calls.specs.Steps.{settled}
-use Rattle.ec_runtime.specs.declared.call.Kind.{Kind}
-use Rattle.ec_runtime.specs.declared.call.Kind.TheVariants as kinds
+use Rattle.ec_runtime.specs.declared.call.Act.{Act}
+use Rattle.ec_runtime.specs.declared.call.Act.TheVariants as acts
 use Rattle.ec_runtime.specs.declared.call.Statement.{Statement}
 use Rattle.ec_runtime.specs.declared.library.Library.{Library}
 use Rattle.ec_runtime.specs.declared.open.Open.{Open}
 use Rattle.ec_runtime.specs.declared.stop.Stop.{Stop}
 use Rattle.ec_runtime.specs.declared.stop.Stop.TheVariants as stops
 use Rattle.ec_runtime.specs.declared.stop.CallStop.{CallStop}
-use Rattle.ec_runtime.specs.Calling.{called_by, Answers, Stopped, Carries, bare, Closed, Called}
-use Rattle.ec_runtime.specs.Does.{Seen, placed, saying, Left, Does, Over}
+use Rattle.ec_runtime.specs.Calling.{called_by, AllNamed, Answers, Stopped, Carries, Changes, Closed, Called, Holds, connections_of}
+use Rattle.ec_runtime.specs.Closing.{at_place}
+use Rattle.ec_runtime.specs.Does.{Seen, placed, saying, Left, Does, OverNamed}
+use Rattle.ec_runtime.specs.Opening.{open_view}
+use Rattle.ec_runtime.specs.Racks.{AllTaken}
+use Rattle.ec_runtime.specs.Reading.{TextIs}
 use Rattle.ec_runtime.specs.Says.{Says}
+use Rattle.ec_runtime.specs.Seeking.{place_sought, sought}
 use Rattle.ec_runtime.specs.declared.inputs.GivenText.{GivenText}
-use Rattle.ec_runtime.specs.Statements.{reached, deallocated, preparing, ran, kind_done}
+use Rattle.ec_runtime.specs.Statements.{act_done, act_view, reached, deallocated, preparing, ran}
+use Rattle.ec_runtime.proofs.Connections.{taken_here}
 use Rattle.ec_runtime.proofs.Grows.{control_grows}
 use Rattle.ec_runtime.proofs.Joining.{and_stop}
+use Rattle.ec_runtime.proofs.Making.{Made, changes_from, links, made_along, made_over, held_same, links_among, made_still, named_same, split_at, views, views_among}
+use Rattle.ec_runtime.proofs.Seeking.{sought_at}
+use Rattle.ec_runtime.proofs.Starting.{does_named, does_trapped, only}
 use Rattle.ec_runtime.proofs.Switching.{set_grows}
 use Rattle.ec_runtime.proofs.Takes.{deallocated_grows}
 
@@ -49,53 +68,99 @@ carries_as action x y growth r p = record {
   left = stopped_as action x growth r p.left;
 }
 
-module _ {X : Type 0} {F : X → Type 0} (talk : DynBox X Global F → Option Talk) (faults : DynBox X Global F → ℕ) where
-  -- a call over the open connection
-  pub called_over : (action : State → Outcome (Unit {0})) (m m' : Memory) (old new : Rack X F) (was now : Open X F) (r : Result (Unit {0}) Stop)
-      → Over talk faults action m old was m' new now r → Called talk faults action m old (record { session = Some was }) m' new (record { session = Some now }) (called_by r)
-  called_over action m m' old new was now r p = record { growth = p.growth; asked = p.asks; carries = carries_as action _ _ p.growth r p.does }
+-- a part of a call is the call
+pub called_as : {X : Type 0} {F : X → Type 0} (talk : DynBox X Global F → Option Talk) (faults : DynBox X Global F → ℕ) (action : State → Outcome (Unit {0})) (m m' : Memory) (old new : Rack X F) (was now : Library X F) (r : Result (Unit {0}) Stop) (answer : Result (Unit {0}) CallStop)
+    → answer ≡ called_by r → Changes talk faults action m old was m' new now r → Called talk faults action m old was m' new now answer
+called_as talk faults action m m' old new was now r answer e p =
+    subst (λ x. Called talk faults action m old was m' new now x) (sym e) (record { growth = p.growth; moves = p.moves; carries = carries_as action _ _ p.growth r p.does })
 
-  -- a call without a connection
-  pub called_closed : (action : State → Outcome (Unit {0})) (m m' : Memory) (rack : Rack X F) (r : Result (Unit {0}) Stop)
-      → Closed action m m' r → Called {X = X} {F = F} talk faults action m rack (record { session = None }) m' rack (record { session = None }) (called_by r)
-  called_closed action m m' rack r p = record { growth = []; asked = (refl, refl, refl); carries = carries_as action (bare m) (bare m') [] r p }
+-- ---- over a connection
 
-  -- the same for a library that has one, or none
-  pub called_some : (action : State → Outcome (Unit {0})) (m m' : Memory) (old new : Rack X F) (it : Library X F) (was now : Open X F) (r : Result (Unit {0}) Stop) (answer : Result (Unit {0}) CallStop)
-      → it.session ≡ Some was → answer ≡ called_by r → Over talk faults action m old was m' new now r → Called talk faults action m old it m' new (record { session = Some now }) answer
-  called_some action m m' old new it was now r answer e a p =
-      subst (λ x. Called talk faults action m old it m' new (record { session = Some now }) x) (sym a)
-      (subst (λ o. Called talk faults action m old (record { session = o }) m' new (record { session = Some now }) (called_by r)) (sym e) (called_over action m m' old new was now r p))
+place_there : {X : Type 0} {F : X → Type 0} (items : List (Open X F)) (at : ℕ) (o : Open X F) → slice_get items at ≡ Some o → slice_get (views items) at ≡ Some (open_view o)
+place_there items at o e = slice_get-map open_view items at ∙ ap (option_map open_view) e
 
-  pub called_none : (action : State → Outcome (Unit {0})) (m m' : Memory) (rack : Rack X F) (it : Library X F) (r : Result (Unit {0}) Stop) (answer : Result (Unit {0}) CallStop)
-      → it.session ≡ None → answer ≡ called_by r → Closed action m m' r → Called talk faults action m rack it m' rack it answer
-  called_none action m m' rack it r answer e a p =
-      subst (λ x. Called talk faults action m rack it m' rack it x) (sym a)
-      (subst (λ o. Called talk faults action m rack (record { session = o }) m' rack (record { session = o }) (called_by r)) (sym e) (called_closed action m m' rack r p))
+module _ {X : Type 0} {F : X → Type 0} (talk : DynBox X Global F → Option Talk) (faults : DynBox X Global F → ℕ) (line : ℕ) (named : TextData ℕ) (act : Act) (m : Memory) (old : Rack X F) (was : Library X F) where
+  abbrev Acts : Memory → Rack X F → Library X F → Result (Unit {0}) Stop → Type 0
+  Acts m' new now r = Changes talk faults (λ s. call_done line (act_view named act) s) m old was m' new now r
 
--- ---- without a connection
+  pub act_trapped : (trap : Trap) → ((s : State) → text_read named (with_memory m s) ≡ over (trapped trap) (with_memory m s)) → Acts m old was (Err (stops.Trapped trap))
+  act_trapped trap is =
+      changes_from talk faults (made_still talk faults (λ s. call_done line (act_view named act) s) m m old was.sessions.items was.current was.current (Err (stops.Trapped trap))
+      (does_trapped line named act trap (only m (connections_of was) was.current) is))
 
-module _ (line : ℕ) (kind : Kind) (name : Option Text) (m : Memory) where
-  abbrev Ends : Kind → Memory → Stop → Type 0
-  Ends k m' stop = Closed (kind_done line k name) m m' (Err stop)
+  -- the name leads to none
+  pub act_missing : (read : Option Text) (m' : Memory) (r : Result (Unit {0}) Stop) → TextIs named m read → None ≡ place_sought read was.current (connections_of was) → Closed read (act_done line act read) m m' r → Acts m' old was r
+  act_missing read m' r is e p =
+      changes_from talk faults (made_still talk faults (λ s. call_done line (act_view named act) s) m m' old was.sessions.items was.current was.current r
+      (does_named line named act read (only m (connections_of was) was.current) (only m' (connections_of was) was.current) [] r is
+      (p (connections_of was) was.current (sought_at read was.current (connections_of was) ∙ ap (at_place (connections_of was)) (sym e)))))
 
-  pub run_closed : (it : Statement) (m' : Memory) (r : Result (Unit {0}) Stop) → kind ≡ kinds.Run it → Closed (ran line it name) m m' r → Closed (kind_done line kind name) m m' r
-  run_closed it m' r e p = subst (λ k. Closed (kind_done line k name) m m' r) (sym e) p
+  -- it leads to this one
+  pub act_found : (read : Option Text) (at : ℕ) (o o' : Open X F) (m' : Memory) (new : Rack X F) (now : Library X F) (r : Result (Unit {0}) Stop) → TextIs named m read → Some at ≡ place_sought read was.current (connections_of was)
+      → slice_get was.sessions.items at ≡ Some o → now.sessions.items ≡ slice_set was.sessions.items at o' → now.current ≡ was.current → Holds was old → OverNamed talk faults read (act_done line act read) m old o m' new o' r → Acts m' new now r
+  act_found read at o o' m' new now r is e there set same holds p =
+      let s = split_at was.sessions.items at o there in
+      let cs = was.current in
+      let leads : sought read was.current (connections_of was) ≡ Some (open_view o) =
+      sought_at read was.current (connections_of was) ∙ ap (at_place (connections_of was)) (sym e) ∙ place_there was.sessions.items at o there in
+      changes_from talk faults
+      (made_along talk faults s.is refl (set ∙ s.set o') same
+      (named_made s.before s.behind (subst (λ xs. AllTaken (states (slots_of old)) (links xs)) s.is holds.taken)
+      (subst (λ xs. sought read was.current (views xs) ≡ Some (open_view o)) s.is leads) p))
+    where
+      named_made : (before behind : List (Open X F)) → AllTaken (states (slots_of old)) (links (before ++ o ∷ behind)) → sought read was.current (views (before ++ o ∷ behind)) ≡ Some (open_view o) → OverNamed talk faults read (act_done line act read) m old o m' new o' r
+          → Made talk faults (λ s. call_done line (act_view named act) s) m old (before ++ o ∷ behind) was.current m' new (before ++ o' ∷ behind) was.current r
+      named_made before behind held leads p =
+          let made = made_over talk faults read was.current (act_done line act read) m m' old new before behind o o' r held (subst (λ cs. sought read was.current cs ≡ Some (open_view o)) (views_among before behind o) leads) p in
+          record {
+            growth = made.growth;
+            moves = made.moves;
+            does = does_named line named act read (only m (views (before ++ o ∷ behind)) was.current) (only m' (views (before ++ o' ∷ behind)) was.current) made.growth r is made.does;
+          }
 
-  pub control_closed : (text : Text) (m' : Memory) (stop : Stop) → kind ≡ kinds.Control text → Does {A = Connection} (reached line name) (bare m) (bare m') [] (Err stop) → Ends kind m' stop
+module _ {X : Type 0} {F : X → Type 0} (old : Rack X F) (was : Library X F) (at : ℕ) (o : Open X F) (there : slice_get was.sessions.items at ≡ Some o) (holds : Holds was old) where
+  -- its slot is taken
+  pub act_taken : TakenAt (states (slots_of old)) (slot_of o.conn)
+  act_taken =
+      let s = split_at was.sessions.items at o there in
+      taken_here (states (slots_of old)) (links s.before) (links s.behind) o.conn
+      (subst (λ cs. AllTaken (states (slots_of old)) cs) (links_among s.before s.behind o) (subst (λ xs. AllTaken (states (slots_of old)) (links xs)) s.is holds.taken))
+
+  pub act_holds : (o' : Open X F) (new : Rack X F) (now : Library X F) → slot_of o'.conn ≡ slot_of o.conn → slots_of new ≡ slots_of old → o'.name ≡ o.name → now.sessions.items ≡ slice_set was.sessions.items at o' → Holds now new
+  act_holds o' new now slot slots name set =
+      let s = split_at was.sessions.items at o there in
+      let is : now.sessions.items ≡ s.before ++ o' ∷ s.behind = set ∙ s.set o' in
+      record {
+        taken = subst (λ xs. AllTaken (states (slots_of new)) (links xs)) (sym is) (held_same old new s.before s.behind o o' slot slots (subst (λ xs. AllTaken (states (slots_of old)) (links xs)) s.is holds.taken));
+        named = subst (λ xs. AllNamed (views xs)) (sym is) (named_same s.before s.behind o o' name (subst (λ xs. AllNamed (views xs)) s.is holds.named));
+      }
+
+-- ---- where the name leads to no connection
+
+module _ (line : ℕ) (act : Act) (name : Option Text) (m : Memory) where
+  abbrev Reached : Memory → Stop → Type 0
+  Reached m' stop = (cs : List Connection) (current : Option Text) → sought name current cs ≡ None → Does {A = Connection} (reached line name) (only m cs current) (only m' cs current) [] (Err stop)
+
+  abbrev Ends : Act → Memory → Stop → Type 0
+  Ends k m' stop = Closed name (act_done line k name) m m' (Err stop)
+
+  pub run_closed : (it : Statement) (m' : Memory) (r : Result (Unit {0}) Stop) → act ≡ acts.Run it → Closed name (ran line it name) m m' r → Closed name (act_done line act name) m m' r
+  run_closed it m' r e p = subst (λ k. Closed name (act_done line k name) m m' r) (sym e) p
+
+  pub control_closed : (text : Text) (m' : Memory) (stop : Stop) → act ≡ acts.Control text → Reached m' stop → Ends act m' stop
   control_closed text m' stop e p =
       subst (λ k. Ends k m' stop) (sym e)
-      (and_stop (reached line name) (λ c t. control_sent line c text t) (bare m) (bare m') [] stop (λ c. control_grows line c text) p)
+      (λ cs current none. and_stop (reached line name) (λ c t. control_sent line c text t) (only m cs current) (only m' cs current) [] stop (λ c. control_grows line c text) (p cs current none))
 
-  pub autocommit_closed : (on : Bool) (m' : Memory) (stop : Stop) → kind ≡ kinds.Autocommit on → Does {A = Connection} (reached line name) (bare m) (bare m') [] (Err stop) → Ends kind m' stop
+  pub autocommit_closed : (on : Bool) (m' : Memory) (stop : Stop) → act ≡ acts.Autocommit on → Reached m' stop → Ends act m' stop
   autocommit_closed on m' stop e p =
       subst (λ k. Ends k m' stop) (sym e)
-      (and_stop (reached line name) (λ c t. autocommit_set line on c t) (bare m) (bare m') [] stop (λ c. set_grows line on c) p)
+      (λ cs current none. and_stop (reached line name) (λ c t. autocommit_set line on c t) (only m cs current) (only m' cs current) [] stop (λ c. set_grows line on c) (p cs current none))
 
-  pub prepare_closed : (own : Text) (given : GivenText) (m' : Memory) (r : Result (Unit {0}) Stop) → kind ≡ kinds.Prepare own given → Closed (preparing line own given name) m m' r → Closed (kind_done line kind name) m m' r
-  prepare_closed own given m' r e p = subst (λ k. Closed (kind_done line k name) m m' r) (sym e) p
+  pub prepare_closed : (own : Text) (given : GivenText) (m' : Memory) (r : Result (Unit {0}) Stop) → act ≡ acts.Prepare own given → Closed name (preparing line own given name) m m' r → Closed name (act_done line act name) m m' r
+  prepare_closed own given m' r e p = subst (λ k. Closed name (act_done line k name) m m' r) (sym e) p
 
-  pub deallocate_closed : (own : Text) (m' : Memory) (stop : Stop) → kind ≡ kinds.Deallocate own → Does {A = Connection} (reached line name) (bare m) (bare m') [] (Err stop) → Ends kind m' stop
+  pub deallocate_closed : (own : Text) (m' : Memory) (stop : Stop) → act ≡ acts.Deallocate own → Reached m' stop → Ends act m' stop
   deallocate_closed own m' stop e p =
       subst (λ k. Ends k m' stop) (sym e)
-      (and_stop (reached line name) (λ c t. deallocated line own c t) (bare m) (bare m') [] stop (λ c. deallocated_grows line own c) p)
+      (λ cs current none. and_stop (reached line name) (λ c t. deallocated line own c t) (only m cs current) (only m' cs current) [] stop (λ c. deallocated_grows line own c) (p cs current none))

@@ -1,5 +1,5 @@
 -- Parts of a call, one after the other.
-use Rattle.std.proofs.Common.{◌≡◌, ℕ, List, [], ◌∷◌, ◌++◌, Option, Some, None, Result, Ok, Err, true, false, refl, sym, subst, ◌∙◌, append_assoc, eq-eqb, arith}
+use Rattle.std.proofs.Common.{◌≡◌, ℕ, List, [], ◌∷◌, ◌++◌, Option, Some, None, Result, Ok, Err, true, false, refl, sym, ap, subst, ◌∙◌, append_assoc, eq-eqb, arith}
 use Rattle.std.specs.declared.alloc.Global.{Global}
 use Rattle.std.specs.declared.dyn_box.DynBox.{DynBox}
 use Rattle.ec_link.specs.declared.logged.Logged.{Logged}
@@ -22,7 +22,7 @@ use Rattle.ec_calls.specs.Connections.{told_by, with_told, changed_at, exchange,
 use Rattle.ec_runtime.specs.declared.open.Open.{Open}
 use Rattle.ec_runtime.specs.declared.stop.Stop.{Stop}
 use Rattle.ec_runtime.specs.declared.stop.Stop.TheVariants as stops
-use Rattle.ec_runtime.specs.Does.{Seen, placed, saying, Left, Does, seen, Over}
+use Rattle.ec_runtime.specs.Does.{Around, Apart, NoneAt, Seen, among, placed, saying, Left, Does, seen, Over}
 use Rattle.ec_runtime.specs.Opening.{open_view, Asked}
 use Rattle.ec_runtime.specs.Says.{Says, Quiet}
 use Rattle.ec_runtime.proofs.Grows.{same_front, front_next}
@@ -117,25 +117,32 @@ same_action action other x y z g r h p = record {
 
 -- ---- a request
 
-name_kept : (o : Option Tx) (c : Connection) → (with_told o c).name ≡ c.name
-name_kept None c = refl
-name_kept (Some tx) c = refl
+told_name : (o : Option Tx) (c : Connection) → (with_told o c).name ≡ c.name
+told_name None c = refl
+told_name (Some tx) c = refl
 
 pub slot_kept : (o : Option Tx) (c : Connection) → (with_told o c).slot ≡ c.slot
 slot_kept None c = refl
 slot_kept (Some tx) c = refl
 
--- the connection of a slot is the only one
-pub changed_only : (change : Connection → Connection) (c : Connection) → changed_at c.slot change (c ∷ []) ≡ change c ∷ []
-changed_only change c = λ j. elim (eq-eqb c.slot c.slot refl j) [ true ↦ change c ∷ [] | false ↦ c ∷ [] ]
+-- the connection of a slot is changed among others
+pub changed_among : (change : Connection → Connection) (c : Connection) (before behind : List Connection) → NoneAt c.slot before → changed_at c.slot change (before ++ c ∷ behind) ≡ before ++ change c ∷ behind
+changed_among change c [] behind apart = λ j. elim (eq-eqb c.slot c.slot refl j) [ true ↦ change c ∷ behind | false ↦ c ∷ changed_at c.slot change behind ]
+changed_among change c (d ∷ before) behind apart =
+    (λ j. elim (apart.0 j) [ true ↦ change d ∷ (before ++ c ∷ behind) | false ↦ d ∷ changed_at c.slot change (before ++ c ∷ behind) ])
+    ∙ (λ j. d ∷ changed_among change c before behind apart.1 j)
 
-pub asked_does : (c : Connection) (m : Memory) (request : Request) (reply : Reply)
-    → Does (asked c.slot request) (record { memory = m; connection = Some c }) (record { memory = m; connection = Some (with_told (told_by reply) c) }) (exchange (Some c.slot) request reply ∷ []) (Ok reply)
-asked_does c m request reply = record {
+-- what is seen of a connection among others
+abbrev pub there : Around → Memory → Connection → Seen
+there around m c = record { memory = m; connections = among around c; current = around.current }
+
+pub asked_does : (around : Around) (c : Connection) (m : Memory) (request : Request) (reply : Reply) → Apart c.slot around
+    → Does (asked c.slot request) (there around m c) (there around m (with_told (told_by reply) c)) (exchange (Some c.slot) request reply ∷ []) (Ok reply)
+asked_does around c m request reply apart = record {
   says = λ s rest j. gives reply (record s {
     memory = m;
-    connections = changed_only (with_told (told_by reply)) c j;
-    current = Some (sym (name_kept (told_by reply) c) j);
+    connections = changed_among (with_told (told_by reply)) c around.before around.behind apart j;
+    current = around.current;
     descriptors = [];
     conversation = s.conversation ++ exchange (Some c.slot) request reply ∷ [];
     answers = rest;
@@ -151,10 +158,12 @@ module _ {X : Type 0} {F : X → Type 0} (talk : DynBox X Global F → Option Ta
   over_asked {B} request m m' old was new now go r a grows q = record {
     growth = exchange (Some (slot_of was.conn)) request a.reply ∷ [];
     asks = a.asks;
-    does = and_next (asked (slot_of was.conn) request) go (seen m was) (seen m now) (seen m' now) a.reply (exchange (Some (slot_of was.conn)) request a.reply ∷ []) [] r
-        (subst (λ c. Does (asked (slot_of was.conn) request) (seen m was) (record { memory = m; connection = Some c }) (exchange (Some (slot_of was.conn)) request a.reply ∷ []) (Ok a.reply)) (sym a.view)
-        (asked_does (open_view was) m request a.reply))
-        (quiet (go a.reply) (seen m now) m' r grows q);
+    named = ap (λ v. v.name) a.view ∙ told_name (told_by a.reply) (open_view was);
+    does = λ around apart.
+        and_next (asked (slot_of was.conn) request) go (seen around m was) (seen around m now) (seen around m' now) a.reply (exchange (Some (slot_of was.conn)) request a.reply ∷ []) [] r
+        (subst (λ c. Does (asked (slot_of was.conn) request) (seen around m was) (there around m c) (exchange (Some (slot_of was.conn)) request a.reply ∷ []) (Ok a.reply)) (sym a.view)
+        (asked_does around (open_view was) m request a.reply apart))
+        (quiet (go a.reply) (seen around m now) m' r grows q);
   }
 
   -- the same with the reply as it was read from the rack
@@ -168,8 +177,8 @@ module _ {X : Type 0} {F : X → Type 0} (talk : DynBox X Global F → Option Ta
 
   -- a request that found no memory
   pub over_unasked : {B : Type 0} (action : State → Outcome B) (m : Memory) (old : Rack X F) (was : Open X F) (new : Rack X F) (now : Open X F) → Grows action
-      → Asks talk faults old was.conn new now.conn [] → Over {X = X} {F = F} talk faults {A = B} action m old was m new now (Err stops.OutOfMemory)
-  over_unasked action m old was new now grows asks = record { growth = []; asks = asks; does = no_memory action (seen m was) (seen m now) grows }
+      → Asks talk faults old was.conn new now.conn [] → open_view now ≡ open_view was → Over {X = X} {F = F} talk faults {A = B} action m old was m new now (Err stops.OutOfMemory)
+  over_unasked action m old was new now grows asks same = record { growth = []; asks = asks; named = ap (λ v. v.name) same; does = λ around apart. no_memory action (seen around m was) (seen around m now) grows }
 
   -- a part that asks nothing
   pub over_quiet : {B : Type 0} (action : State → Outcome B) (m m' : Memory) (rack : Rack X F) (open' : Open X F) (r : Result B Stop) → Grows action → Quiet r action m m'
@@ -177,7 +186,8 @@ module _ {X : Type 0} {F : X → Type 0} (talk : DynBox X Global F → Option Ta
   over_quiet action m m' rack open' r grows q = record {
     growth = [];
     asks = Asks-nil talk faults rack rack open'.conn open'.conn refl refl refl refl (omega arith);
-    does = quiet action (seen m open') m' r grows q;
+    named = refl;
+    does = λ around apart. quiet action (seen around m open') m' r grows q;
   }
 
   -- one part and then another
@@ -186,7 +196,10 @@ module _ {X : Type 0} {F : X → Type 0} (talk : DynBox X Global F → Option Ta
   over_next first go m1 m2 m3 r1 o1 r2 o2 r3 o3 a r p q = record {
     growth = p.growth ++ q.growth;
     asks = Asks-append talk faults r1 o1.conn r2 o2.conn r3 o3.conn p.growth q.growth p.asks q.asks;
-    does = and_next first go (seen m1 o1) (seen m2 o2) (seen m3 o3) a p.growth q.growth r p.does q.does;
+    named = q.named ∙ p.named;
+    does = λ around apart.
+        and_next first go (seen around m1 o1) (seen around m2 o2) (seen around m3 o3) a p.growth q.growth r (p.does around apart)
+        (q.does around (subst (λ i. Apart i around) (sym p.asks.slot) apart));
   }
 
   pub over_stop : {A B : Type 0} (first : State → Outcome A) (go : A → State → Outcome B) (m1 m2 : Memory) (r1 : Rack X F) (o1 : Open X F) (r2 : Rack X F) (o2 : Open X F) (stop : Stop) → ((a : A) → Grows (go a))
@@ -194,7 +207,8 @@ module _ {X : Type 0} {F : X → Type 0} (talk : DynBox X Global F → Option Ta
   over_stop first go m1 m2 r1 o1 r2 o2 stop grows p = record {
     growth = p.growth;
     asks = p.asks;
-    does = and_stop first go (seen m1 o1) (seen m2 o2) p.growth stop grows p.does;
+    named = p.named;
+    does = λ around apart. and_stop first go (seen around m1 o1) (seen around m2 o2) p.growth stop grows (p.does around apart);
   }
 
   -- ---- transaction control

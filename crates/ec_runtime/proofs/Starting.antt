@@ -1,6 +1,6 @@
 -- A call from its arguments on: what is read, the connection, and what follows.
-use Rattle.std.proofs.Common.{◌≡◌, ℕ, List, [], ◌∷◌, map, Option, Some, None, Result, Ok, Err, true, false, refl, sym, subst, ap, ◌∙◌, arith}
-use Rattle.std.specs.Cmp.Lexicographic.{nat_list_eq_equiv}
+use Rattle.std.proofs.Common.{◌≡◌, ℕ, List, [], ◌∷◌, map, Option, Some, None, Result, Ok, Err, refl, sym, subst, ap, ◌∙◌, arith}
+use Rattle.std.specs.Prelude.{option_and_then}
 use Rattle.std.specs.declared.alloc.Global.{Global}
 use Rattle.std.specs.declared.dyn_box.DynBox.{DynBox}
 use Rattle.ec_base.specs.declared.stop.Trap.{Trap}
@@ -18,15 +18,14 @@ use Rattle.ec_evaluation.specs.State.{Answer, Connection, State}
 use Rattle.ec_calls.specs.Growth.{Grows}
 use Rattle.ec_calls.specs.Outcomes.{Text, Field, trapped, Outcome, gives, finished, over, next, with_memory, fresh_area, told_area, begun_area, raised}
 use Rattle.ec_calls.specs.Answers.{taken}
-use Rattle.ec_calls.specs.Connections.{same_name, found_connection, connection_for, asked}
+use Rattle.ec_calls.specs.Connections.{connection_named, connection_of, found_connection, connection_for, asked}
 use Rattle.ec_calls.specs.Inputs.{text_read, given_read, Inputs, with_param, inputs_read, value_read, member_read}
 use Rattle.ec_calls.specs.Library.{call_done}
 use Rattle.ec_calls.specs.Marks.{with_marks}
 use Rattle.ec_calls.specs.Preparing.{with_text, without_text, prepared_anew, prepare_call, deallocate_call}
 use Rattle.ec_calls.specs.Running.{text, places_of, into_places, outputs_read, outputs_found, carried_out, request_of, prepared_text, found_text, statement_read as statement_said}
-use Rattle.ec_runtime.specs.declared.call.Call.{Call}
-use Rattle.ec_runtime.specs.declared.call.Kind.{Kind}
-use Rattle.ec_runtime.specs.declared.call.Kind.TheVariants as kinds
+use Rattle.ec_runtime.specs.declared.call.Act.{Act}
+use Rattle.ec_runtime.specs.declared.call.Act.TheVariants as acts
 use Rattle.ec_runtime.specs.declared.call.Statement.{Statement}
 use Rattle.ec_runtime.specs.declared.call.Wanted.{Wanted}
 use Rattle.ec_runtime.specs.declared.call.Wanted.TheVariants as wants
@@ -41,15 +40,15 @@ use Rattle.ec_runtime.specs.declared.order.What.{What}
 use Rattle.ec_runtime.specs.declared.order.What.TheVariants as whats
 use Rattle.ec_runtime.specs.declared.stop.Stop.{Stop}
 use Rattle.ec_runtime.specs.declared.stop.Stop.TheVariants as stops
-use Rattle.ec_runtime.specs.Calling.{bare}
-use Rattle.ec_runtime.specs.Does.{Seen, placed, seen, Does, Over}
+use Rattle.ec_runtime.specs.Does.{Seen, among, placed, seen, Does, Over, OverNamed}
 use Rattle.ec_runtime.specs.Opening.{open_view}
-use Rattle.ec_runtime.specs.Reading.{text_view, given_view, input_view, values_read, is_named, TextIs}
+use Rattle.ec_runtime.specs.Reading.{given_view, input_view, values_read, TextIs}
 use Rattle.ec_runtime.specs.Says.{Says, Quiet}
-use Rattle.ec_runtime.specs.Statements.{reached, carried, what_view, ordered, started, wanted_read, wanted_view, statement_read, ran, controlling, request_taken, deallocate_sent, text_prepared, preparing, deallocating, kind_done, target_view, kind_view, call_action}
+use Rattle.ec_runtime.specs.Seeking.{sought}
+use Rattle.ec_runtime.specs.Statements.{reached, carried, what_view, ordered, started, wanted_read, wanted_view, statement_read, ran, request_taken, deallocate_sent, text_prepared, preparing, deallocating, act_done, target_view, act_view}
 use Rattle.ec_runtime.specs.Views.{host_view, hosts_view, outputs_of}
 use Rattle.ec_runtime.proofs.Grows.{same_front, next_grows, trying_grows, begun_area_grows, connection_grows, member_grows}
-use Rattle.ec_runtime.proofs.Joining.{quiet, same_action, and_next, and_stop, over_quiet, over_next, over_stop}
+use Rattle.ec_runtime.proofs.Joining.{quiet, same_action, and_next, and_stop}
 use Rattle.ec_runtime.proofs.Orders.{ordered_grows}
 use Rattle.ec_runtime.proofs.Targets.{stopped_next}
 
@@ -121,7 +120,7 @@ outputs_there line [] s = refl
 outputs_there line (h ∷ hs) s = refl
 
 -- two parts that follow one are what follows it
-next_next : {A B C : Type 0} (o : Outcome A) (go : A → State → Outcome B) (more : B → State → Outcome C) → next (next o go) more ≡ next o (λ a s. next (go a s) more)
+pub next_next : {A B C : Type 0} (o : Outcome A) (go : A → State → Outcome B) (more : B → State → Outcome C) → next (next o go) more ≡ next o (λ a s. next (go a s) more)
 next_next (gives a s) go more = refl
 next_next (finished s) go more = refl
 next_next (over halt s) go more = refl
@@ -202,82 +201,99 @@ module _ (line : ℕ) (named : TextData ℕ) (own : Text) (s : State) where
       ∙ (λ j. next (text_read named s) (λ called t. next (connection_for line called (with_memory (fresh_area t.memory) t)) (λ c u.
       sym (next_next (found_text line (prepared_text own c.prepared) (λ bytes. bytes) u) (λ _ v. gives (tt {0}) v) (λ _ v. deallocate_sent line own c v)) j)))
 
-kind_is : (line : ℕ) (named : TextData ℕ) (kind : Kind) (s : State) → call_done line (kind_view named kind) s ≡ next (text_read named s) (λ name t. kind_done line kind name t)
-kind_is line named (kinds.Run it) s = behind_name line it (text_read named s)
-kind_is line named (kinds.Control bytes) s = refl
-kind_is line named (kinds.Autocommit on) s = refl
-kind_is line named (kinds.Prepare own given) s = prepare_is line named own s given
-kind_is line named (kinds.Deallocate own) s = deallocate_is line named own s
+act_is : (line : ℕ) (named : TextData ℕ) (act : Act) (s : State) → call_done line (act_view named act) s ≡ next (text_read named s) (λ name t. act_done line act name t)
+act_is line named (acts.Run it) s = behind_name line it (text_read named s)
+act_is line named (acts.Control bytes) s = refl
+act_is line named (acts.Autocommit on) s = refl
+act_is line named (acts.Prepare own given) s = prepare_is line named own s given
+act_is line named (acts.Deallocate own) s = deallocate_is line named own s
 
-module _ (it : Call) where
-  abbrev behind : Option Text → State → Outcome (Unit {0})
-  behind name t = kind_done it.line.0 it.kind name t
-
+module _ (line : ℕ) (named : TextData ℕ) (act : Act) where
   -- the name is read
-  named_is : (name : Option Text) (x : Seen) → TextIs (text_view it.connection) x.memory name → (s : State) (answers : List Answer) → call_action it (placed x answers s) ≡ behind name (placed x answers s)
-  named_is name x is s answers = kind_is it.line.0 (text_view it.connection) it.kind (placed x answers s) ∙ (λ j. next (is (placed x answers s) j) behind)
+  named_is : (name : Option Text) (x : Seen) → TextIs named x.memory name → (s : State) (answers : List Answer) → call_done line (act_view named act) (placed x answers s) ≡ act_done line act name (placed x answers s)
+  named_is name x is s answers = act_is line named act (placed x answers s) ∙ (λ j. next (is (placed x answers s) j) (λ n t. act_done line act n t))
 
-  named_traps : (trap : Trap) (x : Seen) → ((s : State) → text_read (text_view it.connection) (with_memory x.memory s) ≡ over (trapped trap) (with_memory x.memory s))
-      → (s : State) (answers : List Answer) → call_action it (placed x answers s) ≡ over (trapped trap) (placed x answers s)
-  named_traps trap x is s answers = kind_is it.line.0 (text_view it.connection) it.kind (placed x answers s) ∙ (λ j. next (is (placed x answers s) j) behind)
+  named_traps : (trap : Trap) (x : Seen) → ((s : State) → text_read named (with_memory x.memory s) ≡ over (trapped trap) (with_memory x.memory s))
+      → (s : State) (answers : List Answer) → call_done line (act_view named act) (placed x answers s) ≡ over (trapped trap) (placed x answers s)
+  named_traps trap x is s answers = act_is line named act (placed x answers s) ∙ (λ j. next (is (placed x answers s) j) (λ n t. act_done line act n t))
 
-  pub does_named : (name : Option Text) (x y : Seen) (g : List Logged) (r : Result (Unit {0}) Stop) → TextIs (text_view it.connection) x.memory name → Does (behind name) x y g r → Does (call_action it) x y g r
-  does_named name x y g r is p = same_action (call_action it) (behind name) x x y g r (named_is name x is) p
+  pub does_named : (name : Option Text) (x y : Seen) (g : List Logged) (r : Result (Unit {0}) Stop) → TextIs named x.memory name → Does (λ t. act_done line act name t) x y g r → Does (λ s. call_done line (act_view named act) s) x y g r
+  does_named name x y g r is p = same_action (λ s. call_done line (act_view named act) s) (λ t. act_done line act name t) x x y g r (named_is name x is) p
 
-  pub does_trapped : (trap : Trap) (x : Seen) → ((s : State) → text_read (text_view it.connection) (with_memory x.memory s) ≡ over (trapped trap) (with_memory x.memory s))
-      → Does {A = Unit {0}} (call_action it) x x [] (Err (stops.Trapped trap))
+  pub does_trapped : (trap : Trap) (x : Seen) → ((s : State) → text_read named (with_memory x.memory s) ≡ over (trapped trap) (with_memory x.memory s))
+      → Does {A = Unit {0}} (λ s. call_done line (act_view named act) s) x x [] (Err (stops.Trapped trap))
   does_trapped trap x is =
-      same_action (call_action it) (λ s. over (trapped trap) s) x x x [] (Err (stops.Trapped trap)) (named_traps trap x is)
+      same_action (λ s. call_done line (act_view named act) s) (λ s. over (trapped trap) s) x x x [] (Err (stops.Trapped trap)) (named_traps trap x is)
       (quiet (λ s. over (trapped trap) s) x x.memory (Err (stops.Trapped trap)) (λ s. same_front s.conversation) (λ s. refl))
 
 -- ---- the connection
 
-module _ (c : Connection) (m : Memory) (line : ℕ) (s : State) (answers : List Answer) where
-  abbrev there : Seen
-  there = record { memory = m; connection = Some c }
+-- it is the one that is sought
+pub connection_sought : (line : ℕ) (name : Option Text) (s : State) → connection_for line name s ≡ found_connection line (sought name s.current s.connections) s
+connection_sought line None s = go s.current
+  where
+    go : (o : Option Text) → connection_of line o s ≡ found_connection line (option_and_then (λ wanted. connection_named wanted s.connections) o) s
+    go None = refl
+    go (Some name) = refl
+connection_sought line (Some name) s = refl
 
-  own : same_name c.name c.name ≡ true
-  own = nat_list_eq_equiv.refl c.name
+-- a memory, and these connections
+abbrev pub only : Memory → List Connection → Option Text → Seen
+only m cs current = record { memory = m; connections = cs; current = current }
 
-  pub is_found : (name : Option Text) → true ≡ is_named c.name name → connection_for line name (placed there answers s) ≡ gives c (placed there answers s)
-  is_found None e = λ j. found_connection line (elim (own j) [ true ↦ Some c | false ↦ None ]) (placed there answers s)
-  is_found (Some name) e = λ j. found_connection line (elim (sym e j) [ true ↦ Some c | false ↦ None ]) (placed there answers s)
+module _ (line : ℕ) (name : Option Text) (m m1 : Memory) (cs : List Connection) (current : Option Text) (area : m1 ≡ fresh_area m) where
+  -- with this area it is reached
+  pub reached_there : (c : Connection) → sought name current cs ≡ Some c → Does (reached line name) (only m cs current) (only m1 cs current) [] (Ok c)
+  reached_there c e =
+      subst (λ a. Does (reached line name) (only m cs current) (only a cs current) [] (Ok c)) (sym area)
+      (same_action (reached line name) (λ s. gives c s) (only m cs current) (only (fresh_area m) cs current) (only (fresh_area m) cs current) [] (Ok c)
+      (λ s answers. connection_sought line name (placed (only (fresh_area m) cs current) answers s) ∙ (λ j. found_connection line (e j) (placed (only (fresh_area m) cs current) answers s)))
+      (quiet (λ s. gives c s) (only (fresh_area m) cs current) (fresh_area m) (Ok c) (λ s. same_front s.conversation) (λ s. refl)))
 
-  pub is_missing : (name : Option Text) → false ≡ is_named c.name name → connection_for line name (placed there answers s) ≡ raised {A = Connection} line found.NoConnection (placed there answers s)
-  is_missing None e = cc
-  is_missing (Some name) e = λ j. found_connection line (elim (sym e j) [ true ↦ Some c | false ↦ None ]) (placed there answers s)
+  -- there is none, and a code ends the call
+  pub reached_nowhere : (m' : Memory) (stop : Stop) → sought name current cs ≡ None → m' ≡ told_area (code_of found.NoConnection) (state_of found.NoConnection) (text_of_finding found.NoConnection) line m1 → stop ≡ stops.Finished
+      → Does {A = Connection} (reached line name) (only m cs current) (only m' cs current) [] (Err stop)
+  reached_nowhere m' stop e told is =
+      subst (λ x. Does {A = Connection} (reached line name) (only m cs current) (only m' cs current) [] (Err x)) (sym is)
+      (subst (λ a. Does {A = Connection} (reached line name) (only m cs current) (only a cs current) [] (Err stops.Finished)) (sym (told ∙ ap (told_area (code_of found.NoConnection) (state_of found.NoConnection) (text_of_finding found.NoConnection) line) area))
+      (same_action (reached line name) (raised line found.NoConnection) (only m cs current) (only (fresh_area m) cs current) (only _ cs current) [] (Err stops.Finished)
+      (λ s answers. connection_sought line name (placed (only (fresh_area m) cs current) answers s) ∙ (λ j. found_connection line (e j) (placed (only (fresh_area m) cs current) answers s)))
+      (quiet (raised line found.NoConnection) (only (fresh_area m) cs current) _ (Err stops.Finished) (λ s. same_front s.conversation) (λ s. refl))))
 
--- with this area the connection is reached
-module _ {X : Type 0} {F : X → Type 0} (line : ℕ) (name : Option Text) (m m1 : Memory) (o : Open X F) (area : m1 ≡ fresh_area m) where
-  pub reached_there : true ≡ is_named o.name name → Does (reached line name) (seen m o) (seen m1 o) [] (Ok (open_view o))
-  reached_there e =
-      subst (λ a. Does (reached line name) (seen m o) (seen a o) [] (Ok (open_view o))) (sym area)
-      (same_action (reached line name) (λ s. gives (open_view o) s) (seen m o) (seen (fresh_area m) o) (seen (fresh_area m) o) [] (Ok (open_view o))
-      (λ s answers. is_found (open_view o) (fresh_area m) line s answers name e)
-      (quiet (λ s. gives (open_view o) s) (seen (fresh_area m) o) (fresh_area m) (Ok (open_view o)) (λ s. same_front s.conversation) (λ s. refl)))
+module _ {X : Type 0} {F : X → Type 0} (talk : DynBox X Global F → Option Talk) (faults : DynBox X Global F → ℕ) (name : Option Text) where
+  -- the connection is reached, and then a part over it
+  pub named_reached : (line : ℕ) (go : Connection → State → Outcome (Unit {0})) (m m1 m' : Memory) (old : Rack X F) (was : Open X F) (new : Rack X F) (now : Open X F) (r : Result (Unit {0}) Stop)
+      → m1 ≡ fresh_area m → Over talk faults (go (open_view was)) m1 old was m' new now r → OverNamed talk faults name (λ s. next (reached line name s) go) m old was m' new now r
+  named_reached line go m m1 m' old was new now r area p = record {
+    growth = p.growth;
+    asks = p.asks;
+    named = p.named;
+    does = λ around apart leads.
+        and_next (reached line name) go (seen around m was) (seen around m1 was) (seen around m' now) (open_view was) [] p.growth r
+        (reached_there line name m m1 (among around (open_view was)) around.current area (open_view was) leads) (p.does around apart);
+  }
 
-  -- it is another one, and a code ends the call
-  pub reached_no : (m' : Memory) (stop : Stop) → false ≡ is_named o.name name → m' ≡ told_area (code_of found.NoConnection) (state_of found.NoConnection) (text_of_finding found.NoConnection) line m1 → stop ≡ stops.Finished
-      → Does {A = Connection} (reached line name) (seen m o) (seen m' o) [] (Err stop)
-  reached_no m' stop e told is =
-      subst (λ x. Does {A = Connection} (reached line name) (seen m o) (seen m' o) [] (Err x)) (sym is)
-      (subst (λ a. Does {A = Connection} (reached line name) (seen m o) (seen a o) [] (Err stops.Finished)) (sym (told ∙ ap (told_area (code_of found.NoConnection) (state_of found.NoConnection) (text_of_finding found.NoConnection) line) area))
-      (same_action (reached line name) (raised line found.NoConnection) (seen m o) (seen (fresh_area m) o) (seen _ o) [] (Err stops.Finished)
-      (λ s answers. is_missing (open_view o) (fresh_area m) line s answers name e)
-      (quiet (raised line found.NoConnection) (seen (fresh_area m) o) _ (Err stops.Finished) (λ s. same_front s.conversation) (λ s. refl))))
+  -- something is read before
+  pub named_read : {A : Type 0} (first : State → Outcome A) (go : A → State → Outcome (Unit {0})) (m m' : Memory) (old : Rack X F) (was : Open X F) (new : Rack X F) (now : Open X F) (a : A) (r : Result (Unit {0}) Stop)
+      → Grows first → Quiet (Ok a) first m m → OverNamed talk faults name (go a) m old was m' new now r → OverNamed talk faults name (λ s. next (first s) go) m old was m' new now r
+  named_read first go m m' old was new now a r grows q p = record {
+    growth = p.growth;
+    asks = p.asks;
+    named = p.named;
+    does = λ around apart leads.
+        and_next first go (seen around m was) (seen around m was) (seen around m' now) a [] p.growth r
+        (quiet first (seen around m was) m (Ok a) grows q) (p.does around apart leads);
+  }
 
-nowhere : (line : ℕ) (name : Option Text) (m : Memory) (s : State) (answers : List Answer) → reached line name (placed (bare m) answers s) ≡ raised {A = Connection} line found.NoConnection (placed (bare (fresh_area m)) answers s)
-nowhere line None m s answers = refl
-nowhere line (Some name) m s answers = refl
-
--- where no connection is open a code ends the call
-pub reached_closed : (line : ℕ) (name : Option Text) (m m1 m' : Memory) (stop : Stop) → m1 ≡ fresh_area m → m' ≡ told_area (code_of found.NoConnection) (state_of found.NoConnection) (text_of_finding found.NoConnection) line m1 → stop ≡ stops.Finished
-    → Does {A = Connection} (reached line name) (bare m) (bare m') [] (Err stop)
-reached_closed line name m m1 m' stop area told is =
-    subst (λ x. Does {A = Connection} (reached line name) (bare m) (bare m') [] (Err x)) (sym is)
-    (subst (λ a. Does {A = Connection} (reached line name) (bare m) (bare a) [] (Err stops.Finished)) (sym (told ∙ ap (told_area (code_of found.NoConnection) (state_of found.NoConnection) (text_of_finding found.NoConnection) line) area))
-    (same_action (reached line name) (raised line found.NoConnection) (bare m) (bare (fresh_area m)) (bare _) [] (Err stops.Finished) (nowhere line name m)
-    (quiet (raised line found.NoConnection) (bare (fresh_area m)) _ (Err stops.Finished) (λ s. same_front s.conversation) (λ s. refl))))
+  pub named_unread : {A : Type 0} (first : State → Outcome A) (go : A → State → Outcome (Unit {0})) (m : Memory) (rack : Rack X F) (was : Open X F) (stop : Stop)
+      → Grows first → ((a : A) → Grows (go a)) → Quiet {A = A} (Err stop) first m m → OverNamed talk faults name (λ s. next (first s) go) m rack was m rack was (Err stop)
+  named_unread first go m rack was stop grows more q = record {
+    growth = [];
+    asks = Asks-nil talk faults rack rack was.conn was.conn refl refl refl refl (omega arith);
+    named = refl;
+    does = λ around apart leads.
+        and_stop first go (seen around m was) (seen around m was) [] stop more (quiet first (seen around m was) m (Err stop) grows q);
+  }
 
 -- ---- what a statement reads
 
@@ -298,72 +314,17 @@ module _ (it : Statement) (lent : List Input) (m : Memory) (what : What) (e : le
   reading_gives params q s =
       read_first s ∙ (λ j. next (subst (λ x. Quiet (Ok params) (values_read (map input_view x)) m m) e q s j) (λ given t. gives (record { what = what; params = given }) t))
 
-module _ {X : Type 0} {F : X → Type 0} (talk : DynBox X Global F → Option Talk) (faults : DynBox X Global F → ℕ) where
-  -- the action is another one in the states that are met
-  pub over_moved : (action other : State → Outcome (Unit {0})) (m m' : Memory) (old : Rack X F) (was : Open X F) (new : Rack X F) (now : Open X F) (r : Result (Unit {0}) Stop)
-      → ((s : State) (answers : List Answer) → action (placed (seen m was) answers s) ≡ other (placed (seen m was) answers s))
-      → Over talk faults other m old was m' new now r → Over talk faults action m old was m' new now r
-  over_moved action other m m' old was new now r h p = record {
-    growth = p.growth;
-    asks = p.asks;
-    does = same_action action other (seen m was) (seen m was) (seen m' now) p.growth r h p.does;
-  }
+-- ---- a statement where the name leads to no connection
 
-  -- nothing is asked
-  pub over_still : {A : Type 0} (action : State → Outcome A) (m m' : Memory) (rack : Rack X F) (o : Open X F) (r : Result A Stop) → Does action (seen m o) (seen m' o) [] r → Over talk faults action m rack o m' rack o r
-  over_still action m m' rack o r p = record {
-    growth = [];
-    asks = Asks-nil talk faults rack rack o.conn o.conn refl refl refl refl (omega arith);
-    does = p;
-  }
+module _ (line : ℕ) (it : Statement) (name : Option Text) (m : Memory) (cs : List Connection) (current : Option Text) where
+  pub run_ended : (m' : Memory) (order : Order) (stop : Stop) → Quiet (Ok order) (statement_read it) m m
+      → Does {A = Connection} (reached line name) (only m cs current) (only m' cs current) [] (Err stop) → Does {A = Unit {0}} (ran line it name) (only m cs current) (only m' cs current) [] (Err stop)
+  run_ended m' order stop q p =
+      and_next (statement_read it) (λ x t. started line x it.outs name t) (only m cs current) (only m cs current) (only m' cs current) order [] [] (Err stop)
+      (quiet (statement_read it) (only m cs current) m (Ok order) (statement_grows it) q)
+      (and_stop (reached line name) (λ c t. ordered line order it.outs c t) (only m cs current) (only m' cs current) [] stop (λ c. ordered_grows line order it.outs c) p)
 
-  -- ---- a call over the open connection
-
-  module _ (it : Call) (m : Memory) (rack : Rack X F) (was : Open X F) where
-    pub over_trapped : (trap : Trap) → ((s : State) → text_read (text_view it.connection) (with_memory m s) ≡ over (trapped trap) (with_memory m s))
-        → Over {X = X} {F = F} talk faults {A = Unit {0}} (call_action it) m rack was m rack was (Err (stops.Trapped trap))
-    over_trapped trap is = over_still (call_action it) m m rack was (Err (stops.Trapped trap)) (does_trapped it trap (seen m was) is)
-
-    pub over_named : (name : Option Text) (kind : Kind) (m' : Memory) (new : Rack X F) (now : Open X F) (r : Result (Unit {0}) Stop) → TextIs (text_view it.connection) m name → it.kind ≡ kind
-        → Over talk faults (λ t. kind_done it.line.0 kind name t) m rack was m' new now r → Over talk faults (call_action it) m rack was m' new now r
-    over_named name kind m' new now r is e p =
-        over_moved (call_action it) (λ t. kind_done it.line.0 it.kind name t) m m' rack was new now r (λ s answers. named_is it name (seen m was) is s answers)
-        (subst (λ k. Over talk faults (λ t. kind_done it.line.0 k name t) m rack was m' new now r) (sym e) p)
-
-    -- with a text as it is lent
-    pub over_control : (name : Option Text) (lent bytes : Text) (m' : Memory) (new : Rack X F) (now : Open X F) (r : Result (Unit {0}) Stop) → TextIs (text_view it.connection) m name → it.kind ≡ kinds.Control bytes → lent ≡ bytes
-        → Over talk faults (controlling it.line.0 lent name) m rack was m' new now r → Over talk faults (call_action it) m rack was m' new now r
-    over_control name lent bytes m' new now r is e same p =
-        over_named name (kinds.Control bytes) m' new now r is e (subst (λ x. Over talk faults (controlling it.line.0 x name) m rack was m' new now r) same p)
-
-  -- ---- a statement over it
-
-  module _ (line : ℕ) (it : Statement) (name : Option Text) (m : Memory) (rack : Rack X F) (was : Open X F) where
-    abbrev With : Order → State → Outcome (Unit {0})
-    With order t = started line order it.outs name t
-
-    pub run_stopped : (stop : Stop) → Quiet {A = Order} (Err stop) (statement_read it) m m → Over {X = X} {F = F} talk faults {A = Unit {0}} (ran line it name) m rack was m rack was (Err stop)
-    run_stopped stop q =
-        over_stop talk faults (statement_read it) With m m rack was rack was stop (λ order. started_grows line order it.outs name)
-        (over_quiet talk faults (statement_read it) m m rack was (Err stop) (statement_grows it) q)
-
-    pub run_started : (order : Order) (lent : List Host) (m' : Memory) (new : Rack X F) (now : Open X F) (r : Result (Unit {0}) Stop) → Quiet (Ok order) (statement_read it) m m → lent ≡ it.outs
-        → Over talk faults (started line order lent name) m rack was m' new now r → Over talk faults (ran line it name) m rack was m' new now r
-    run_started order lent m' new now r q e p =
-        over_next talk faults (statement_read it) With m m m' rack was rack was new now order r
-        (over_quiet talk faults (statement_read it) m m rack was (Ok order) (statement_grows it) q)
-        (subst (λ x. Over talk faults (started line order x name) m rack was m' new now r) e p)
-
--- ---- a statement where no connection is open
-
-pub run_ended : (line : ℕ) (it : Statement) (name : Option Text) (m m' : Memory) (order : Order) (stop : Stop) → Quiet (Ok order) (statement_read it) m m
-    → Does {A = Connection} (reached line name) (bare m) (bare m') [] (Err stop) → Does {A = Unit {0}} (ran line it name) (bare m) (bare m') [] (Err stop)
-run_ended line it name m m' order stop q p =
-    and_next (statement_read it) (λ x t. started line x it.outs name t) (bare m) (bare m) (bare m') order [] [] (Err stop)
-    (quiet (statement_read it) (bare m) m (Ok order) (statement_grows it) q)
-    (and_stop (reached line name) (λ c t. ordered line order it.outs c t) (bare m) (bare m') [] stop (λ c. ordered_grows line order it.outs c) p)
-
-pub run_unread : (line : ℕ) (it : Statement) (name : Option Text) (m : Memory) (stop : Stop) → Quiet {A = Order} (Err stop) (statement_read it) m m → Does {A = Unit {0}} (ran line it name) (bare m) (bare m) [] (Err stop)
-run_unread line it name m stop q =
-    and_stop (statement_read it) (λ x t. started line x it.outs name t) (bare m) (bare m) [] stop (λ order. started_grows line order it.outs name)
-    (quiet (statement_read it) (bare m) m (Err stop) (statement_grows it) q)
+  pub run_unread : (stop : Stop) → Quiet {A = Order} (Err stop) (statement_read it) m m → Does {A = Unit {0}} (ran line it name) (only m cs current) (only m cs current) [] (Err stop)
+  run_unread stop q =
+      and_stop (statement_read it) (λ x t. started line x it.outs name t) (only m cs current) (only m cs current) [] stop (λ order. started_grows line order it.outs name)
+      (quiet (statement_read it) (only m cs current) m (Err stop) (statement_grows it) q)

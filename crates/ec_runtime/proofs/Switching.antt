@@ -1,5 +1,5 @@
 -- Autocommit over the open connection.
-use Rattle.std.proofs.Common.{◌≡◌, ℕ, Bool, true, false, [], ◌∷◌, Ok, Err, refl, sym, subst, ap, ◌∙◌, codes, arith}
+use Rattle.std.proofs.Common.{◌≡◌, ℕ, Bool, true, false, [], Ok, Err, refl, sym, subst, ap, ◌∙◌, codes, arith}
 use Rattle.std.specs.Prelude.{Option}
 use Rattle.std.specs.declared.alloc.Global.{Global}
 use Rattle.std.specs.declared.dyn_box.DynBox.{DynBox}
@@ -15,10 +15,10 @@ use Rattle.ec_calls.specs.Growth.{state_of, IsFront, Grows}
 use Rattle.ec_calls.specs.Outcomes.{Text, Outcome, gives, next}
 use Rattle.ec_runtime.specs.declared.open.Open.{Open}
 use Rattle.ec_runtime.specs.declared.stop.Stop.{Stop}
-use Rattle.ec_runtime.specs.Does.{placed, seen, Over}
+use Rattle.ec_runtime.specs.Does.{among, placed, seen, Over}
 use Rattle.ec_runtime.specs.Opening.{open_view}
 use Rattle.ec_runtime.proofs.Grows.{same_front, next_grows, control_grows}
-use Rattle.ec_runtime.proofs.Joining.{quiet, same_action, changed_only, over_next, over_stop}
+use Rattle.ec_runtime.proofs.Joining.{quiet, same_action, changed_among, over_next, over_stop}
 
 switched_grows : (on : Bool) (c : Connection) → Grows (switched on c)
 switched_grows on c s = same_front s.conversation
@@ -36,9 +36,13 @@ module _ {X : Type 0} {F : X → Type 0} (talk : DynBox X Global F → Option Ta
   switched_over on c m rack o e = record {
     growth = [];
     asks = Asks-nil talk faults rack rack o.conn o.conn refl refl refl refl (omega arith);
-    does = same_action (switched on c) (λ s. gives tt s) (seen m o) (seen m (record o { autocommit = on })) (seen m (record o { autocommit = on })) [] (Ok tt)
-        (λ s answers j. gives tt (record (placed (seen m o) answers s) { connections = (ap (λ n. changed_at n (with_autocommit on) (open_view o ∷ [])) e ∙ changed_only (with_autocommit on) (open_view o)) j }))
-        (quiet (λ s. gives tt s) (seen m (record o { autocommit = on })) m (Ok tt) (λ s. same_front s.conversation) (λ s. refl));
+    named = refl;
+    does = λ around apart.
+        same_action (switched on c) (λ s. gives tt s) (seen around m o) (seen around m (record o { autocommit = on })) (seen around m (record o { autocommit = on })) [] (Ok tt)
+        (λ s answers j. gives tt (record (placed (seen around m o) answers s) {
+          connections = (ap (λ n. changed_at n (with_autocommit on) (among around (open_view o))) e ∙ changed_among (with_autocommit on) (open_view o) around.before around.behind apart) j;
+        }))
+        (quiet (λ s. gives tt s) (seen around m (record o { autocommit = on })) m (Ok tt) (λ s. same_front s.conversation) (λ s. refl));
   }
 
   module _ (line : ℕ) (on : Bool) (m : Memory) (old : Rack X F) (was : Open X F) where

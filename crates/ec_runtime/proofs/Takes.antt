@@ -1,5 +1,5 @@
 -- PREPARE and DEALLOCATE over the open connection.
-use Rattle.std.proofs.Common.{◌≡◌, ℕ, List, [], ◌∷◌, Option, Result, Ok, Err, refl, sym, subst, ap, ◌∙◌, arith}
+use Rattle.std.proofs.Common.{◌≡◌, ℕ, List, [], Option, Result, Ok, Err, refl, sym, subst, ap, ◌∙◌, arith}
 use Rattle.std.specs.declared.alloc.Global.{Global}
 use Rattle.std.specs.declared.dyn_box.DynBox.{DynBox}
 use Rattle.ec_link.specs.declared.rack.Rack.{Rack}
@@ -23,16 +23,15 @@ use Rattle.ec_runtime.specs.declared.open.Open.{Open}
 use Rattle.ec_runtime.specs.declared.prepared.Prepared.{Prepared}
 use Rattle.ec_runtime.specs.declared.stop.Stop.{Stop}
 use Rattle.ec_runtime.specs.declared.stop.Stop.TheVariants as stops
-use Rattle.ec_runtime.specs.Calling.{bare}
-use Rattle.ec_runtime.specs.Does.{placed, seen, Does, Over}
+use Rattle.ec_runtime.specs.Does.{among, placed, seen, Does, Over, OverNamed}
 use Rattle.ec_runtime.specs.Opening.{open_view}
 use Rattle.ec_runtime.specs.Prepared.{prepared_views}
 use Rattle.ec_runtime.specs.Reading.{given_view}
 use Rattle.ec_runtime.specs.Says.{Quiet}
 use Rattle.ec_runtime.specs.Statements.{reached, request_taken, changed_behind, prepare_sent, deallocate_sent, name_there, deallocated, marks_read, text_prepared, preparing}
 use Rattle.ec_runtime.proofs.Grows.{same_front, next_grows, asked_grows, taken_grows, found_text_grows}
-use Rattle.ec_runtime.proofs.Joining.{quiet, same_action, changed_only, and_next, and_stop, no_memory, over_quiet, over_next, over_stop}
-use Rattle.ec_runtime.proofs.Starting.{given_grows, reached_grows}
+use Rattle.ec_runtime.proofs.Joining.{quiet, same_action, changed_among, and_next, and_stop, no_memory, over_quiet, over_next, over_stop}
+use Rattle.ec_runtime.proofs.Starting.{given_grows, only, reached_grows, named_read, named_unread}
 use Rattle.ec_runtime.proofs.Targets.{stopped_next}
 
 -- ---- what only adds
@@ -92,11 +91,14 @@ module _ {X : Type 0} {F : X → Type 0} (talk : DynBox X Global F → Option Ta
   changed_over change slot m rack o ps e is = record {
     growth = [];
     asks = Asks-nil talk faults rack rack o.conn o.conn refl refl refl refl (omega arith);
-    does = same_action (changing slot change) (λ s. gives tt s) (seen m o) (seen m (record o { prepared = ps })) (seen m (record o { prepared = ps })) [] (Ok tt)
-        (λ s answers j. gives tt (record (placed (seen m o) answers s) {
-          connections = (ap (λ n. changed_at n anew (open_view o ∷ [])) e ∙ changed_only anew (open_view o) ∙ (λ k. record (open_view o) { prepared = sym is k } ∷ [])) j;
+    named = refl;
+    does = λ around apart.
+        same_action (changing slot change) (λ s. gives tt s) (seen around m o) (seen around m (record o { prepared = ps })) (seen around m (record o { prepared = ps })) [] (Ok tt)
+        (λ s answers j. gives tt (record (placed (seen around m o) answers s) {
+          connections = (ap (λ n. changed_at n anew (among around (open_view o))) e ∙ changed_among anew (open_view o) around.before around.behind apart
+              ∙ (λ k. among around (record (open_view o) { prepared = sym is k }))) j;
         }))
-        (quiet (λ s. gives tt s) (seen m (record o { prepared = ps })) m (Ok tt) (λ s. same_front s.conversation) (λ s. refl));
+        (quiet (λ s. gives tt s) (seen around m (record o { prepared = ps })) m (Ok tt) (λ s. same_front s.conversation) (λ s. refl));
   }
     where
       anew : Connection → Connection
@@ -108,7 +110,8 @@ module _ {X : Type 0} {F : X → Type 0} (talk : DynBox X Global F → Option Ta
   unchanged_over change slot m rack o ps = record {
     growth = [];
     asks = Asks-nil talk faults rack rack o.conn o.conn refl refl refl refl (omega arith);
-    does = no_memory (changing slot change) (seen m o) (seen m (record o { prepared = ps })) (changing_grows slot change);
+    named = refl;
+    does = λ around apart. no_memory (changing slot change) (seen around m o) (seen around m (record o { prepared = ps })) (changing_grows slot change);
   }
 
   module _ (line : ℕ) (asks : Request) (change : Change) (m m' : Memory) (old new : Rack X F) (was now : Open X F) where
@@ -147,16 +150,12 @@ module _ {X : Type 0} {F : X → Type 0} (talk : DynBox X Global F → Option Ta
       abbrev With : Text → State → Outcome (Unit {0})
       With bytes t = text_prepared line name bytes called t
 
-      pub prepare_unread : (stop : Stop) → Quiet {A = Text} (Err stop) (marks_read given) m m → Over {X = X} {F = F} talk faults {A = Unit {0}} (preparing line name given called) m old was m old was (Err stop)
-      prepare_unread stop q =
-          over_stop talk faults (marks_read given) With m m old was old was stop (λ bytes. text_prepared_grows line name bytes called)
-          (over_quiet talk faults (marks_read given) m m old was (Err stop) (marks_grow given) q)
+      pub prepare_unread : (stop : Stop) → Quiet {A = Text} (Err stop) (marks_read given) m m → OverNamed talk faults called (preparing line name given called) m old was m old was (Err stop)
+      prepare_unread stop q = named_unread talk faults called (marks_read given) With m old was stop (marks_grow given) (λ bytes. text_prepared_grows line name bytes called) q
 
       pub prepare_read : (bytes : Text) (m' : Memory) (new : Rack X F) (now : Open X F) (r : Result (Unit {0}) Stop) → Quiet (Ok bytes) (marks_read given) m m
-          → Over talk faults (With bytes) m old was m' new now r → Over talk faults (preparing line name given called) m old was m' new now r
-      prepare_read bytes m' new now r q p =
-          over_next talk faults (marks_read given) With m m m' old was old was new now bytes r
-          (over_quiet talk faults (marks_read given) m m old was (Ok bytes) (marks_grow given) q) p
+          → OverNamed talk faults called (With bytes) m old was m' new now r → OverNamed talk faults called (preparing line name given called) m old was m' new now r
+      prepare_read bytes m' new now r q p = named_read talk faults called (marks_read given) With m m' old was new now bytes r (marks_grow given) q p
 
   -- ---- DEALLOCATE
 
@@ -185,17 +184,17 @@ module _ {X : Type 0} {F : X → Type 0} (talk : DynBox X Global F → Option Ta
         over_next talk faults (name_there line name (open_view was)) Sent m m1 m' old was old was new now tt r
         (over_quiet talk faults (name_there line name (open_view was)) m m1 old was (Ok tt) (there_grows line name (open_view was)) q) p
 
--- ---- where no connection is open
+-- ---- where the name leads to no connection
 
-module _ (line : ℕ) (name : Text) (given : GivenText) (called : Option Text) (m : Memory) where
-  pub prepare_ended : (m' : Memory) (bytes : Text) (stop : Stop) → Quiet (Ok bytes) (marks_read given) m m → Does {A = Connection} (reached line called) (bare m) (bare m') [] (Err stop)
-      → Does {A = Unit {0}} (preparing line name given called) (bare m) (bare m') [] (Err stop)
+module _ (line : ℕ) (name : Text) (given : GivenText) (called : Option Text) (m : Memory) (cs : List Connection) (current : Option Text) where
+  pub prepare_ended : (m' : Memory) (bytes : Text) (stop : Stop) → Quiet (Ok bytes) (marks_read given) m m → Does {A = Connection} (reached line called) (only m cs current) (only m' cs current) [] (Err stop)
+      → Does {A = Unit {0}} (preparing line name given called) (only m cs current) (only m' cs current) [] (Err stop)
   prepare_ended m' bytes stop q p =
-      and_next (marks_read given) (λ b t. text_prepared line name b called t) (bare m) (bare m) (bare m') bytes [] [] (Err stop)
-      (quiet (marks_read given) (bare m) m (Ok bytes) (marks_grow given) q)
-      (and_stop (reached line called) (λ c t. prepare_sent line name bytes c t) (bare m) (bare m') [] stop (λ c. prepare_grows line name bytes c) p)
+      and_next (marks_read given) (λ b t. text_prepared line name b called t) (only m cs current) (only m cs current) (only m' cs current) bytes [] [] (Err stop)
+      (quiet (marks_read given) (only m cs current) m (Ok bytes) (marks_grow given) q)
+      (and_stop (reached line called) (λ c t. prepare_sent line name bytes c t) (only m cs current) (only m' cs current) [] stop (λ c. prepare_grows line name bytes c) p)
 
-  pub prepare_trapped : (stop : Stop) → Quiet {A = Text} (Err stop) (marks_read given) m m → Does {A = Unit {0}} (preparing line name given called) (bare m) (bare m) [] (Err stop)
+  pub prepare_trapped : (stop : Stop) → Quiet {A = Text} (Err stop) (marks_read given) m m → Does {A = Unit {0}} (preparing line name given called) (only m cs current) (only m cs current) [] (Err stop)
   prepare_trapped stop q =
-      and_stop (marks_read given) (λ b t. text_prepared line name b called t) (bare m) (bare m) [] stop (λ bytes. text_prepared_grows line name bytes called)
-      (quiet (marks_read given) (bare m) m (Err stop) (marks_grow given) q)
+      and_stop (marks_read given) (λ b t. text_prepared line name b called t) (only m cs current) (only m cs current) [] stop (λ bytes. text_prepared_grows line name bytes called)
+      (quiet (marks_read given) (only m cs current) m (Err stop) (marks_grow given) q)

@@ -71,3 +71,7 @@ held_given t at bytes m r is e ok err =
 pub held_trapped : (t : GivenText) (at : Ptr) (trap : Trap) (m : Memory) → t ≡ givens.Held at → Err trap ≡ text_at m at.0
     → Quiet {A = List ℕ} (Err (stops.Trapped trap)) (given_read (given_view t)) m m
 held_trapped t at trap m is e = λ s. (λ j. given_read (given_view (is j)) (with_memory m s)) ∙ (λ j. trying (sym e j) (with_memory m s))
+
+-- it is read
+pub held_read : (t : GivenText) (at : Ptr) (bytes : List ℕ) (m : Memory) → t ≡ givens.Held at → Ok bytes ≡ text_at m at.0 → (s : State) → given_read (given_view t) (with_memory m s) ≡ gives bytes (with_memory m s)
+held_read t at bytes m is e = λ s. (λ j. given_read (given_view (is j)) (with_memory m s)) ∙ (λ j. trying (sym e j) (with_memory m s))

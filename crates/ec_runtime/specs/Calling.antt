@@ -1,25 +1,25 @@
 -- What a library shows, and what its calls promise.
-use Rattle.std.specs.Prelude.{◌≡◌, ℕ, true, List, [], ◌++◌, Option, Some, None, option_map, Result, Ok, Err}
+use Rattle.std.specs.Prelude.{◌≡◌, ℕ, false, List, [], ◌∷◌, ◌++◌, map, reverse, Option, None, Result, Ok, Err}
 use Rattle.std.specs.declared.alloc.Global.{Global}
 use Rattle.std.specs.declared.dyn_box.DynBox.{DynBox}
 use Rattle.ec_link.specs.declared.connection.Conn.{Conn}
 use Rattle.ec_link.specs.declared.logged.Logged.{Logged}
 use Rattle.ec_link.specs.declared.rack.Rack.{Rack}
-use Rattle.ec_link.specs.declared.reply.Tx.TheVariants.{Idle}
 use Rattle.ec_link.specs.declared.slot.Slot.{Slot}
-use Rattle.ec_link.specs.Calls.{TakesReady, GivesBack, Asks}
-use Rattle.ec_link.specs.Conn.{slot_of}
+use Rattle.ec_link.specs.Calls.{TakesReady}
 use Rattle.ec_link.specs.Logged.{Talk}
-use Rattle.ec_link.specs.Rack.{slots_of, log_of}
+use Rattle.ec_link.specs.Rack.{slots_of}
 use Rattle.ec_link.specs.Slot.{states}
-use Rattle.ec_link.specs.SlotState.{TakenAt, ready_slot}
+use Rattle.ec_link.specs.SlotState.{ready_slot}
 use Rattle.ec_objects.specs.Memory.{Memory}
 use Rattle.ec_observed.specs.Observed.{answers_in}
 use Rattle.ec_evaluation.specs.State as state
 use Rattle.ec_evaluation.specs.State.{Answer, Connection, State}
 use Rattle.ec_evaluation.specs.Results.{on, over}
+use Rattle.ec_evaluation.specs.Whole.{ready_connections, ready_name}
+use Rattle.ec_calls.specs.Connections.{same_name}
 use Rattle.ec_calls.specs.Growth.{state_of, IsFront}
-use Rattle.ec_calls.specs.Outcomes.{Outcome}
+use Rattle.ec_calls.specs.Outcomes.{Text, Outcome}
 use Rattle.ec_calls.specs.Steps.{settled}
 use Rattle.ec_runtime.specs.declared.library.Library.{Library}
 use Rattle.ec_runtime.specs.declared.stop.Stop.{Stop}
@@ -28,6 +28,8 @@ use Rattle.ec_runtime.specs.declared.stop.CallStop.{CallStop}
 use Rattle.ec_runtime.specs.declared.stop.CallStop.TheVariants as calls
 use Rattle.ec_runtime.specs.Does.{Seen, placed, saying, Does}
 use Rattle.ec_runtime.specs.Opening.{open_view}
+use Rattle.ec_runtime.specs.Racks.{AllTaken, GivesAll, Moves}
+use Rattle.ec_runtime.specs.Seeking.{sought}
 
 -- what a call answers, by how its parts end
 abbrev pub called_by : Result (Unit {0}) Stop → Result (Unit {0}) CallStop
@@ -59,70 +61,70 @@ pub record Carries (action : State → Outcome (Unit {0})) (x y : Seen)
       (action (placed x (answers_in growth ++ rest) s)) (placed y rest (saying growth s))
   pub left : Stopped action x growth result
 
--- a connection that was ready
-abbrev pub ready_connection : ℕ × List ℕ → Connection
-ready_connection r =
-    record { name = r.1; slot = r.0; autocommit = true; told = Idle; prepared = [] }
+-- whatever connections are open, where the name leads to none of them
+abbrev pub Closed : Option Text → (State → Outcome (Unit {0})) → Memory → Memory →
+    Result (Unit {0}) Stop → Type 0
+Closed name action m m' result =
+    (cs : List Connection) (current : Option Text) → sought name current cs ≡ None → Does action
+    (record { memory = m; connections = cs; current = current })
+    (record { memory = m'; connections = cs; current = current }) [] result
 
--- without a connection
-abbrev pub bare : Memory → Seen
-bare m = record { memory = m; connection = None }
+-- no connection has the name
+abbrev pub NoneNamed : Text → List Connection → Type 0
+NoneNamed name [] = Unit {0}
+NoneNamed name (c ∷ cs) = (same_name c.name name ≡ false) × NoneNamed name cs
 
-abbrev pub Closed : (State → Outcome (Unit {0})) → Memory → Memory → Result (Unit {0}) Stop → Type 0
-Closed action m m' result = Does action (bare m) (bare m') [] result
+-- no two connections have one name
+abbrev pub AllNamed : List Connection → Type 0
+AllNamed [] = Unit {0}
+AllNamed (c ∷ cs) = NoneNamed c.name cs × AllNamed cs
 
 module _ {X : Type 0} {F : X → Type 0} where
-  -- the connection of a library, and its link
-  abbrev pub connection_of : Library X F → Option Connection
-  connection_of it = option_map open_view it.session
+  -- the connections of a library, in the order in which they were opened, and their links
+  abbrev pub connections_of : Library X F → List Connection
+  connections_of it = map open_view it.sessions.items
 
-  abbrev pub conn_of : Library X F → Option (Conn X F)
-  conn_of it = option_map (λ o. o.conn) it.session
+  abbrev pub conns_of : Library X F → List (Conn X F)
+  conns_of it = map (λ o. o.conn) it.sessions.items
 
   -- what code sees of a memory and a library
   abbrev pub seen_by : Memory → Library X F → Seen
-  seen_by m it = record { memory = m; connection = connection_of it }
+  seen_by m it = record { memory = m; connections = connections_of it; current = it.current }
 
-  -- the slot of the connection, if there is one, is taken
-  abbrev pub HoldsConn : Option (Conn X F) → Rack X F → Type 0
-  HoldsConn None rack = Unit {0}
-  HoldsConn (Some conn) rack = TakenAt (states (slots_of rack)) (slot_of conn)
+  -- the slots of the connections are taken, and no two connections have one slot or one name
+  pub record Holds (it : Library X F) (rack : Rack X F) : Type 0 where
+    pub taken : AllTaken (states (slots_of rack)) (conns_of it)
+    pub named : AllNamed (connections_of it)
 
-  abbrev pub Holds : Library X F → Rack X F → Type 0
-  Holds it rack = HoldsConn (conn_of it) rack
-
-  -- the slot that was ready is taken, and its link is that of the connection
-  abbrev pub TakesFirst : List (Slot X F) → Option (Conn X F) → List (Slot X F) → Type 0
-  TakesFirst before None after = after ≡ before
-  TakesFirst before (Some conn) after = TakesReady before after conn
+  -- the slot that was ready is taken, and its link is that of the connection; or no slot was ready
+  abbrev pub TakesFirst : List (Slot X F) → List (Conn X F) → List (Slot X F) → Type 0
+  TakesFirst before [] after = (ready_slot (states before) ≡ None) × (after ≡ before)
+  TakesFirst before (conn ∷ []) after = TakesReady before after conn
+  TakesFirst before (conn ∷ other ∷ conns) after = ⊥
 
   pub record Opens (before : List (Slot X F))
       (it : Library X F) (after : List (Slot X F)) : Type 0 where
-    pub connection : connection_of it ≡ option_map ready_connection (ready_slot (states before))
-    pub taken : TakesFirst before (conn_of it) after
+    pub connections : connections_of it ≡ ready_connections (ready_slot (states before))
+    pub current : it.current ≡ ready_name (ready_slot (states before))
+    pub taken : TakesFirst before (conns_of it) after
 
-  -- the connection's slot is free again, with its link
-  abbrev pub GivesFirst : List (Slot X F) → Option (Conn X F) → List (Slot X F) → Type 0
-  GivesFirst before None after = after ≡ before
-  GivesFirst before (Some conn) after = GivesBack before after conn
-
+  -- the connections are given back, the one opened last first
   abbrev pub Closes : List (Slot X F) → Library X F → List (Slot X F) → Type 0
-  Closes before it after = GivesFirst before (conn_of it) after
+  Closes before it after = GivesAll before (reverse (conns_of it)) after
 
   module _ (talk : DynBox X Global F → Option Talk) (faults : DynBox X Global F → ℕ) where
-    -- what was said over the connection, if there is one: the log and the talk of its link grew by it
-    abbrev pub MayAsk : Rack X F → Option (Conn X F) →
-        Rack X F → Option (Conn X F) → List Logged → Type 0
-    MayAsk old None new None growth = (growth ≡ [])
-        × (slots_of new ≡ slots_of old) × (log_of new ≡ log_of old)
-    MayAsk old (Some was) new (Some now) growth = Asks talk faults old was new now growth
-    MayAsk old None new (Some now) growth = ⊥
-    MayAsk old (Some was) new None growth = ⊥
+    -- a part of a call was carried out over the connections of a library
+    pub record Changes (action : State → Outcome (Unit {0})) (m : Memory) (old : Rack X F)
+        (was : Library X F) (m' : Memory) (new : Rack X F) (now : Library X F)
+        (result : Result (Unit {0}) Stop) : Type 0 where
+      pub growth : List Logged
+      pub moves : Moves talk faults old (conns_of was) new (conns_of now) growth
+      pub does : Does action (seen_by m was) (seen_by m' now) growth result
 
     -- a call was carried out
     pub record Called (action : State → Outcome (Unit {0})) (m : Memory) (old : Rack X F)
         (was : Library X F) (m' : Memory) (new : Rack X F) (now : Library X F)
         (result : Result (Unit {0}) CallStop) : Type 0 where
       pub growth : List Logged
-      pub asked : MayAsk old (conn_of was) new (conn_of now) growth
+      pub moves : Moves talk faults old (conns_of was) new (conns_of now) growth
       pub carries : Carries action (seen_by m was) (seen_by m' now) growth result

@@ -1,10 +1,11 @@
 -- What a part of a call does that asks a server whose answers aren't known beforehand: over the answers that came, and then any others, it leads where it says and leaves exactly the others.
-use Rattle.std.specs.Prelude.{ℕ, List, [], ◌∷◌, ◌++◌, Option, Some, None, Result, Ok, Err}
+use Rattle.std.specs.Prelude.{◌≡◌, ℕ, nat_eq, false, List, [], ◌∷◌, ◌++◌, Option, Some, Result, Ok, Err}
 use Rattle.std.specs.declared.alloc.Global.{Global}
 use Rattle.std.specs.declared.dyn_box.DynBox.{DynBox}
 use Rattle.ec_link.specs.declared.logged.Logged.{Logged}
 use Rattle.ec_link.specs.declared.rack.Rack.{Rack}
 use Rattle.ec_link.specs.Calls.{Asks}
+use Rattle.ec_link.specs.Conn.{slot_of}
 use Rattle.ec_link.specs.Logged.{Talk}
 use Rattle.ec_objects.specs.Memory.{Memory}
 use Rattle.ec_observed.specs.Observed.{answers_in}
@@ -15,27 +16,21 @@ use Rattle.ec_runtime.specs.declared.open.Open.{Open}
 use Rattle.ec_runtime.specs.declared.stop.Stop.{Stop}
 use Rattle.ec_runtime.specs.declared.stop.Stop.TheVariants as stops
 use Rattle.ec_runtime.specs.Opening.{open_view}
+use Rattle.ec_runtime.specs.Seeking.{sought}
 use Rattle.ec_runtime.specs.Says.{Says}
 
--- what code sees of a state: the memory, and the connection that is open
+-- what code sees of a state: the memory, the connections that are open, in the order in which they were opened, and the name of the current one
 pub record Seen : Type 0 where
   pub memory : Memory
-  pub connection : Option Connection
+  pub connections : List Connection
+  pub current : Option Text
 
-abbrev pub connections_of : Option Connection → List Connection
-connections_of None = []
-connections_of (Some c) = c ∷ []
-
-abbrev pub current_of : Option Connection → Option Text
-current_of None = None
-current_of (Some c) = Some c.name
-
--- a state with what is seen, and with these answers. The connection is the current one, and there is no descriptor
+-- a state with what is seen, and with these answers. There is no descriptor
 abbrev pub placed : Seen → List Answer → State → State
 placed x answers s = record s {
   memory = x.memory;
-  connections = connections_of x.connection;
-  current = current_of x.connection;
+  connections = x.connections;
+  current = x.current;
   descriptors = [];
   answers = answers;
 }
@@ -60,15 +55,57 @@ pub record Does {A : Type 0} (action : State → Outcome A) (x y : Seen)
       (placed y rest (saying growth s))
   pub left : Left action x growth result
 
--- what is seen of a memory and a connection
-abbrev pub seen : {X : Type 0} {F : X → Type 0} → Memory → Open X F → Seen
-seen m o = record { memory = m; connection = Some (open_view o) }
+-- ---- one connection among others
 
--- the same over a rack: the log and the talk of the connection's link grew by what was said
-pub record Over {X : Type 0} {F : X → Type 0} (talk : DynBox X Global F → Option Talk)
-    (faults : DynBox X Global F → ℕ) {A : Type 0} (action : State → Outcome A)
-    (m : Memory) (old : Rack X F) (was : Open X F) (m' : Memory)
-    (new : Rack X F) (now : Open X F) (result : Result A Stop) : Type 0 where
-  pub growth : List Logged
-  pub asks : Asks talk faults old was.conn new now.conn growth
-  pub does : Does action (seen m was) (seen m' now) growth result
+-- the connections that were opened before one and behind it, and the name of the current one
+pub record Around : Type 0 where
+  pub before : List Connection
+  pub behind : List Connection
+  pub current : Option Text
+
+abbrev pub among : Around → Connection → List Connection
+among around c = around.before ++ c ∷ around.behind
+
+-- what is seen of a memory, and of a connection among others
+abbrev pub seen : {X : Type 0} {F : X → Type 0} → Around → Memory → Open X F → Seen
+seen around m o = record {
+  memory = m;
+  connections = among around (open_view o);
+  current = around.current;
+}
+
+-- no connection has the slot
+abbrev pub NoneAt : ℕ → List Connection → Type 0
+NoneAt slot [] = Unit {0}
+NoneAt slot (c ∷ cs) = (nat_eq c.slot slot ≡ false) × NoneAt slot cs
+
+-- no connection that was opened before has the slot
+abbrev pub Apart : ℕ → Around → Type 0
+Apart slot around = NoneAt slot around.before
+
+-- among these connections the name, or without one the current one, leads to this connection
+abbrev pub LeadsTo : Option Text → Around → Connection → Type 0
+LeadsTo name around c = sought name around.current (among around c) ≡ Some c
+
+module _ {X : Type 0} {F : X → Type 0} (talk : DynBox X Global F → Option Talk)
+    (faults : DynBox X Global F → ℕ) where
+  -- the same over a rack: the log and the talk of the connection's link grew by what was said, and it keeps its name
+  pub record Over {A : Type 0} (action : State → Outcome A)
+      (m : Memory) (old : Rack X F) (was : Open X F) (m' : Memory)
+      (new : Rack X F) (now : Open X F) (result : Result A Stop) : Type 0 where
+    pub growth : List Logged
+    pub asks : Asks talk faults old was.conn new now.conn growth
+    pub named : now.name ≡ was.name
+    pub does : (around : Around) → Apart (slot_of was.conn) around
+        → Does action (seen around m was) (seen around m' now) growth result
+
+  -- the same over the connection that a name leads to
+  pub record OverNamed (name : Option Text) (action : State → Outcome (Unit {0}))
+      (m : Memory) (old : Rack X F) (was : Open X F) (m' : Memory)
+      (new : Rack X F) (now : Open X F) (result : Result (Unit {0}) Stop) : Type 0 where
+    pub growth : List Logged
+    pub asks : Asks talk faults old was.conn new now.conn growth
+    pub named : now.name ≡ was.name
+    pub does : (around : Around) → Apart (slot_of was.conn) around
+        → LeadsTo name around (open_view was)
+        → Does action (seen around m was) (seen around m' now) growth result

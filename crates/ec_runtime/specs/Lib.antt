@@ -1,10 +1,13 @@
 pub mod Calling
+pub mod Closing
 pub mod Does
 pub mod Fitting
 pub mod Opening
 pub mod Places
 pub mod Prepared
+pub mod Racks
 pub mod Reading
 pub mod Says
+pub mod Seeking
 pub mod Statements
 pub mod Views

@@ -1,11 +1,10 @@
 -- What a call reads.
-use Rattle.std.specs.Prelude.{◌≡◌, ℕ, Bool, true, List, [], ◌∷◌, Option, Some, None, Result, Ok, Err}
+use Rattle.std.specs.Prelude.{◌≡◌, ℕ, List, [], ◌∷◌, Option, Result, Ok, Err}
 use Rattle.ec_base.specs.declared.stop.Trap.{Trap}
 use Rattle.ec_arguments.specs.Arguments.{TextArg as TextData, absent, word, held, Member, host, constant}
 use Rattle.ec_objects.specs.Memory.{Memory}
-use Rattle.ec_evaluation.specs.State.{State}
+use Rattle.ec_evaluation.specs.State.{Connection, State}
 use Rattle.ec_calls.specs.Outcomes.{Text, Field, trapped, Outcome, gives, over, next, with_memory}
-use Rattle.ec_calls.specs.Connections.{same_name}
 use Rattle.ec_calls.specs.Inputs.{text_read, member_read}
 use Rattle.ec_runtime.specs.declared.inputs.TextArg.{TextArg}
 use Rattle.ec_runtime.specs.declared.inputs.TextArg.TheVariants as texts
@@ -13,6 +12,7 @@ use Rattle.ec_runtime.specs.declared.inputs.GivenText.{GivenText}
 use Rattle.ec_runtime.specs.declared.inputs.GivenText.TheVariants as givens
 use Rattle.ec_runtime.specs.declared.inputs.Input.{Input}
 use Rattle.ec_runtime.specs.declared.inputs.Input.TheVariants as inputs
+use Rattle.ec_runtime.specs.Seeking.{place_sought}
 use Rattle.ec_runtime.specs.Views.{host_view}
 
 abbrev pub text_view : TextArg → TextData ℕ
@@ -35,24 +35,14 @@ values_read (m ∷ ms) s =
     next (member_read m s)
     (λ field t. next (values_read ms t) (λ fields u. gives (field ∷ fields) u))
 
--- whether a name is the one that is asked for. Without one it is that of the current connection
-abbrev pub is_named : Text → Option Text → Bool
-is_named name None = true
-is_named name (Some other) = same_name name other
-
 -- what is read at a text, which may be absent, or the trap
 abbrev pub TextIs : TextData ℕ → Memory → Option Text → Type 0
 TextIs text m read = (s : State) → text_read text (with_memory m s) ≡ gives read (with_memory m s)
 
--- a text was read, and it traps where it says
-abbrev pub Reads : Result (Unit {0}) Trap → TextData ℕ → Memory → Type 0
-Reads (Ok x) text m = (read : Option Text) × TextIs text m read
-Reads (Err trap) text m = (s : State) →
-    text_read text (with_memory m s) ≡ over (trapped trap) (with_memory m s)
-
--- a text was read, and whether it names what is asked for
-abbrev pub Finds : Result Bool Trap → TextData ℕ → Text → Memory → Type 0
-Finds (Ok found) text name m = (read : Option Text)
-    × TextIs text m read × (found ≡ is_named name read)
-Finds (Err trap) text name m = (s : State) →
+-- a text was read, and where the connection stands that it names, or without a name the current one
+abbrev pub Finds : Result (Option ℕ) Trap → TextData ℕ → List Connection → Option Text → Memory →
+    Type 0
+Finds (Ok place) text connections current m = (read : Option Text)
+    × TextIs text m read × (place ≡ place_sought read current connections)
+Finds (Err trap) text connections current m = (s : State) →
     text_read text (with_memory m s) ≡ over (trapped trap) (with_memory m s)

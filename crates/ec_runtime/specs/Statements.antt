@@ -1,23 +1,27 @@
 -- The parts of a call over a connection, and what a call does.
-use Rattle.std.specs.Prelude.{ℕ, Bool, List, Option, map}
+use Rattle.std.specs.Prelude.{ℕ, Bool, List, Option, Some, map}
 use Rattle.ec_link.specs.declared.request.Request.{Request}
 use Rattle.ec_link.specs.declared.request.Request.TheVariants as request
-use Rattle.ec_arguments.specs.Arguments.{Call as CutCall, Cut, Member, Statement as Asked, TextArg, control, deallocate, host, immediate, normal, opening, prepare, prepared, run, set_autocommit}
+use Rattle.ec_arguments.specs.Arguments.{Call as CutCall, Cut, Member, Statement as Asked, TextArg, connect, control, deallocate, disconnect, host, immediate, normal, opening, prepare, prepared, run, set_autocommit, set_connection}
 use Rattle.ec_evaluation.specs.State.{Connection, State}
 use Rattle.ec_calls.specs.Outcomes.{Text, Field, Outcome, gives, next, begun_area}
-use Rattle.ec_calls.specs.Connections.{asked, begun, connection_for, control_sent}
+use Rattle.ec_calls.specs.Connecting.{own_name, unless_named}
+use Rattle.ec_calls.specs.Connections.{asked, begun, connection_for, connection_named, control_sent}
 use Rattle.ec_calls.specs.Autocommit.{autocommit_set}
 use Rattle.ec_calls.specs.Answers.{replied, taken}
 use Rattle.ec_calls.specs.Marks.{with_marks}
 use Rattle.ec_calls.specs.Preparing.{with_text, without_text, prepared_anew}
 use Rattle.ec_calls.specs.Running as sought
 use Rattle.ec_calls.specs.Running.{Wanted as Sought, is_wanted, table_kept, request_of, prepared_text, found_text}
-use Rattle.ec_calls.specs.Inputs.{given_read}
+use Rattle.ec_calls.specs.Inputs.{given_read, text_read}
 use Rattle.ec_calls.specs.Library.{cut_done}
 use Rattle.ec_runtime.specs.declared.host.Host.{Host}
 use Rattle.ec_runtime.specs.declared.call.Call.{Call}
+use Rattle.ec_runtime.specs.declared.call.Act.{Act}
+use Rattle.ec_runtime.specs.declared.call.Connect.{Connect}
 use Rattle.ec_runtime.specs.declared.call.Kind.{Kind}
 use Rattle.ec_runtime.specs.declared.call.Kind.TheVariants as kinds
+use Rattle.ec_runtime.specs.declared.call.Act.TheVariants as acts
 use Rattle.ec_runtime.specs.declared.call.Statement.{Statement}
 use Rattle.ec_runtime.specs.declared.call.Wanted.{Wanted}
 use Rattle.ec_runtime.specs.declared.call.Wanted.TheVariants as wants
@@ -141,12 +145,34 @@ abbrev pub deallocating : ℕ → Text → Option Text → State → Outcome (Un
 deallocating line name called s =
     next (reached line called s) (λ c t. deallocated line name c t)
 
-abbrev pub kind_done : ℕ → Kind → Option Text → State → Outcome (Unit {0})
-kind_done line (kinds.Run it) name s = ran line it name s
-kind_done line (kinds.Control text) name s = controlling line text name s
-kind_done line (kinds.Autocommit on) name s = switching line on name s
-kind_done line (kinds.Prepare own given) name s = preparing line own given name s
-kind_done line (kinds.Deallocate own) name s = deallocating line own name s
+abbrev pub act_done : ℕ → Act → Option Text → State → Outcome (Unit {0})
+act_done line (acts.Run it) name s = ran line it name s
+act_done line (acts.Control text) name s = controlling line text name s
+act_done line (acts.Autocommit on) name s = switching line on name s
+act_done line (acts.Prepare own given) name s = preparing line own given name s
+act_done line (acts.Deallocate own) name s = deallocating line own name s
+
+-- ---- connections
+
+-- what CONNECT is given: the name of the connection, and the request
+abbrev pub connect_read : Connect → State → Outcome (Text × Request)
+connect_read it s =
+    next (given_read (given_view it.target) s) (λ server t.
+    next (text_read (text_view it.user) t) (λ by u.
+    next (text_read (text_view it.password) u) (λ word v.
+    next (text_read (text_view it.name) v) (λ called w.
+    gives (own_name server called, request.Connect server by word) w))))
+
+-- a connection of this name is opened by this request, if the name isn't in use
+abbrev pub connected : ℕ → Text × Request → State → Outcome (Unit {0})
+connected line it s =
+    next (begun_area s) (λ _ t.
+    unless_named line it.0 it.1 (connection_named it.0 t.connections) t)
+
+-- the connection of this name is the current one
+abbrev pub current_set : ℕ → Text → State → Outcome (Unit {0})
+current_set line name s =
+    next (reached line (Some name) s) (λ _ t. gives tt (record t { current = Some name }))
 
 -- a host that is stored into
 abbrev pub target_view : Host → Member ℕ
@@ -158,17 +184,24 @@ wanted_view (wants.Prepared name) = prepared name
 wanted_view (wants.Immediate given) = immediate (given_view given)
 wanted_view (wants.Opening head name) = opening head name
 
--- a call, cut
-abbrev pub kind_view : TextArg ℕ → Kind → CutCall ℕ
-kind_view connection (kinds.Run it) =
+-- a call over a connection, cut
+abbrev pub act_view : TextArg ℕ → Act → CutCall ℕ
+act_view connection (acts.Run it) =
     run connection (wanted_view it.wanted) (map input_view it.ins) (map target_view it.outs)
-kind_view connection (kinds.Control text) = control connection text
-kind_view connection (kinds.Autocommit on) = set_autocommit on connection
-kind_view connection (kinds.Prepare name given) = prepare connection name (given_view given)
-kind_view connection (kinds.Deallocate name) = deallocate connection name
+act_view connection (acts.Control text) = control connection text
+act_view connection (acts.Autocommit on) = set_autocommit on connection
+act_view connection (acts.Prepare name given) = prepare connection name (given_view given)
+act_view connection (acts.Deallocate name) = deallocate connection name
+
+abbrev pub kind_view : Kind → CutCall ℕ
+kind_view (kinds.Over connection act) = act_view (text_view connection) act
+kind_view (kinds.Connect it) =
+    connect (given_view it.target) (text_view it.user) (text_view it.password) (text_view it.name)
+kind_view (kinds.Disconnect name) = disconnect (given_view name)
+kind_view (kinds.SetConnection name) = set_connection (given_view name)
 
 abbrev pub cut_view : Call → Cut ℕ
-cut_view it = record { line = it.line.0; call = kind_view (text_view it.connection) it.kind }
+cut_view it = record { line = it.line.0; call = kind_view it.kind }
 
 -- what it does
 abbrev pub call_action : Call → State → Outcome (Unit {0})

@@ -9,15 +9,14 @@ ghost use Rattle.ec_link.specs.SlotState.{TakenAt};
 ghost use Rattle.ec_transfer.specs.Area.{IsArea};
 ghost use Rattle.ec_calls.specs.Autocommit.{autocommit_set, commits_first};
 ghost use Rattle.ec_calls.specs.Outcomes.{Text};
-ghost use Rattle.ec_runtime.specs.Does.{Over};
+ghost use Rattle.ec_runtime.specs.Does.{Over, OverNamed};
 ghost use Rattle.ec_runtime.specs.Opening.{open_view};
-ghost use Rattle.ec_runtime.specs.Reading.{is_named};
 ghost use Rattle.ec_runtime.specs.Statements.{switching};
 ghost use Rattle.std.specs.declared.option.Option.{Option};
 
+use crate::area::begin_area;
 use crate::control::send_control;
 use crate::open::Open;
-use crate::reaching::reach;
 use crate::stop::Stop;
 use ec_base::Line;
 use ec_link::{Link, Rack, Tx};
@@ -68,27 +67,23 @@ fn set(
     }
 }
 
-/// ECPGsetcommit, where the open connection was found by its name or not.
+/// ECPGsetcommit.
 pub(crate) fn set_autocommit(
     alloc: Global,
     store: &mut Store,
     rack: &mut Rack,
     session: &mut Open,
     line: Line,
-    found: bool,
     on: bool,
 ) -> Result<(), Stop>
     requires area { IsArea store.old }
     requires taken { TakenAt (states (slots_of rack.old)) (slot_of session.old.conn) }
-    ensures over { (name : Option Text) → found ≡ is_named session.old.name name
-        → Over (talk_by ⟦<dyn Link as Link>⟧) (faults_by ⟦<dyn Link as Link>⟧)
-        (switching line.0 on name)
+    ensures over { (name : Option Text) → OverNamed (talk_by ⟦<dyn Link as Link>⟧)
+        (faults_by ⟦<dyn Link as Link>⟧) name (switching line.0 on name)
         store.old rack.old session.old store.new rack.new session.new result }
     ensures kept { IsArea store.new }
     ensures still_taken { TakenAt (states (slots_of rack.new)) (slot_of session.new.conn) }
 {
-    match reach(store, session, line, found) {
-        Err(stop) => Err(stop),
-        Ok(()) => set(alloc, store, rack, session, line, on),
-    }
+    begin_area(store);
+    set(alloc, store, rack, session, line, on)
 }

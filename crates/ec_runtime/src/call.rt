@@ -4,19 +4,41 @@ use crate::host::Host;
 use crate::inputs::{GivenText, Input, TextArg};
 use ec_base::{Bytes, Line, List, Name};
 
-/// A call over a connection.
+/// A call.
 #[derive(Debug, Drop)]
 pub struct Call {
     /// The line that is told with its codes.
     pub line: Line,
-    /// The name of its connection.
-    pub connection: TextArg,
     pub kind: Kind,
 }
 
-/// What is called (PostgreSQL manual, chapter ECPG).
+/// What is called (PostgreSQL manual, chapter ECPG, section "Managing Database Connections").
 #[derive(Debug, Drop)]
 pub enum Kind {
+    /// A call over the connection of a name, or without one over the current connection.
+    Over(TextArg, Act),
+    /// ECPGconnect.
+    Connect(Connect),
+    /// ECPGdisconnect, with the name of a connection, `CURRENT` or `ALL`.
+    Disconnect(GivenText),
+    /// ECPGsetconn, with the name of a connection.
+    SetConnection(GivenText),
+}
+
+/// What CONNECT is given.
+#[derive(Debug, Drop)]
+pub struct Connect {
+    /// The name of the server.
+    pub target: GivenText,
+    pub user: TextArg,
+    pub password: TextArg,
+    /// The name of the connection. Without one it has the name of the server.
+    pub name: TextArg,
+}
+
+/// What is called over a connection (PostgreSQL manual, chapter ECPG).
+#[derive(Debug, Drop)]
+pub enum Act {
     /// ECPGdo.
     Run(Statement),
     /// ECPGtrans, with the text of the transaction control.

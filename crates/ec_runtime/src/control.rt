@@ -9,15 +9,14 @@ ghost use Rattle.ec_link.specs.SlotState.{TakenAt};
 ghost use Rattle.ec_transfer.specs.Area.{IsArea};
 ghost use Rattle.ec_calls.specs.Connections.{control_sent};
 ghost use Rattle.ec_calls.specs.Outcomes.{Text};
-ghost use Rattle.ec_runtime.specs.Does.{Over};
+ghost use Rattle.ec_runtime.specs.Does.{Over, OverNamed};
 ghost use Rattle.ec_runtime.specs.Opening.{open_view};
-ghost use Rattle.ec_runtime.specs.Reading.{is_named};
 ghost use Rattle.ec_runtime.specs.Statements.{controlling};
 ghost use Rattle.std.specs.declared.option.Option.{Option};
 
 use crate::answering::controlled;
+use crate::area::begin_area;
 use crate::open::{Open, ask};
-use crate::reaching::reach;
 use crate::stop::Stop;
 use ec_base::{Bytes, Line, List};
 use ec_link::{Link, Rack, Request};
@@ -55,7 +54,7 @@ pub(crate) fn send_control(
     }
 }
 
-/// ECPGtrans, where the open connection was found by its name or not: the text is sent as it stands, and no transaction is
+/// ECPGtrans: the text is sent as it stands, and no transaction is
 /// begun before it.
 pub(crate) fn control(
     alloc: Global,
@@ -63,20 +62,16 @@ pub(crate) fn control(
     rack: &mut Rack,
     session: &mut Open,
     line: Line,
-    found: bool,
     text: &[u8],
 ) -> Result<(), Stop>
     requires area { IsArea store.old }
     requires taken { TakenAt (states (slots_of rack.old)) (slot_of session.old.conn) }
-    ensures over { (name : Option Text) → found ≡ is_named session.old.name name
-        → Over (talk_by ⟦<dyn Link as Link>⟧) (faults_by ⟦<dyn Link as Link>⟧)
-        (controlling line.0 text.now name)
+    ensures over { (name : Option Text) → OverNamed (talk_by ⟦<dyn Link as Link>⟧)
+        (faults_by ⟦<dyn Link as Link>⟧) name (controlling line.0 text.now name)
         store.old rack.old session.old store.new rack.new session.new result }
     ensures kept { IsArea store.new }
     ensures still_taken { TakenAt (states (slots_of rack.new)) (slot_of session.new.conn) }
 {
-    match reach(store, session, line, found) {
-        Err(stop) => Err(stop),
-        Ok(()) => send_control(alloc, store, rack, session, line, text),
-    }
+    begin_area(store);
+    send_control(alloc, store, rack, session, line, text)
 }

@@ -1,10 +1,8 @@
 //! What a call reads before it does anything.
 
 ghost use Rattle.std.specs.Prelude.{◌≡◌, map, IsSome, IfOk, IfErr};
-ghost use Rattle.ec_calls.specs.Inputs.{given_read, member_read};
-ghost use Rattle.ec_evaluation.specs.State.{Connection};
-ghost use Rattle.std.specs.declared.option.Option.{Option};
-ghost use Rattle.ec_runtime.specs.Reading.{values_read, given_view, input_view, text_view, Finds, Reads};
+ghost use Rattle.ec_calls.specs.Inputs.{given_read, member_read, text_read};
+ghost use Rattle.ec_runtime.specs.Reading.{values_read, given_view, input_view, text_view};
 ghost use Rattle.ec_runtime.specs.Says.{Quiet};
 ghost use Rattle.ec_runtime.specs.declared.stop.Stop.TheVariants as stops;
 
@@ -108,30 +106,20 @@ pub(crate) fn given_text(alloc: Global, store: &Store, text: &GivenText) -> Resu
     }
 }
 
-/// Reads a text, of which nothing is kept.
-pub(crate) fn pass_text(store: &Store, text: &TextArg) -> Result<(), Trap>
-    ensures { Reads result (text_view text.now) store.now }
+/// Reads a text that may be absent.
+pub(crate) fn maybe_text(
+    alloc: Global,
+    store: &Store,
+    text: &TextArg,
+) -> Result<Option<Bytes>, Stop>
+    ensures { Quiet result (text_read (text_view text.now)) store.now store.now }
 {
     match text {
-        TextArg::Absent => Ok(()),
-        TextArg::Word(_) => Ok(()),
+        TextArg::Absent => Ok(None),
+        TextArg::Word(bytes) => Ok(Some(kept(alloc, bytes.as_slice())?)),
         TextArg::Held(at) => match store.text(*at) {
-            Ok(_) => Ok(()),
-            Err(trap) => Err(trap),
-        },
-    }
-}
-
-/// Whether a text names the connection: without a name the current one is meant.
-pub(crate) fn finds(store: &Store, name: &[u8], text: &TextArg) -> Result<bool, Trap>
-    ensures { Finds result (text_view text.now) name.now store.now }
-{
-    match text {
-        TextArg::Absent => Ok(true),
-        TextArg::Word(bytes) => Ok(name == bytes.as_slice()),
-        TextArg::Held(at) => match store.text(*at) {
-            Ok(bytes) => Ok(name == bytes),
-            Err(trap) => Err(trap),
+            Ok(bytes) => Ok(Some(kept(alloc, bytes)?)),
+            Err(trap) => Err(Stop::Trapped(trap)),
         },
     }
 }

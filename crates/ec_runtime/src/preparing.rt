@@ -12,20 +12,18 @@ ghost use Rattle.ec_link.specs.Slot.{states};
 ghost use Rattle.ec_link.specs.declared.request.Request.TheVariants as Asks;
 ghost use Rattle.ec_link.specs.SlotState.{TakenAt};
 ghost use Rattle.ec_transfer.specs.Area.{IsArea};
-ghost use Rattle.ec_runtime.specs.Does.{Over};
+ghost use Rattle.ec_runtime.specs.Does.{Over, OverNamed};
 ghost use Rattle.ec_runtime.specs.Opening.{open_view};
-ghost use Rattle.ec_runtime.specs.Reading.{is_named};
 ghost use Rattle.ec_runtime.specs.Says.{Quiet};
 ghost use Rattle.ec_runtime.specs.Statements.{changed_behind, deallocate_sent, deallocated, deallocating, marks_read, name_there, prepare_sent, preparing, request_taken, text_prepared};
 ghost use Rattle.std.specs.declared.option.Option.{Option};
 
 use crate::answering::refused;
-use crate::area::refuse;
+use crate::area::{begin_area, refuse};
 use crate::inputs::{GivenText, given_text};
 use crate::open::{Open, ask};
 use crate::order::kept_name;
 use crate::prepared::{forget, keep, text_under};
-use crate::reaching::reach;
 use crate::stop::Stop;
 use ec_base::{Bytes, Line, Name, OutOfMemory};
 use ec_link::{Link, Rack, Reply, Request};
@@ -161,48 +159,42 @@ fn prepare_text(
     rack: &mut Rack,
     session: &mut Open,
     line: Line,
-    found: bool,
     name: &Name,
     text: Bytes,
 ) -> Result<(), Stop>
     requires area { IsArea store.old }
     requires taken { TakenAt (states (slots_of rack.old)) (slot_of session.old.conn) }
-    ensures over { (called : Option Text) → found ≡ is_named session.old.name called
-        → Over (talk_by ⟦<dyn Link as Link>⟧) (faults_by ⟦<dyn Link as Link>⟧)
-        (text_prepared line.0 name.now text called)
+    ensures over { (called : Option Text) → OverNamed (talk_by ⟦<dyn Link as Link>⟧)
+        (faults_by ⟦<dyn Link as Link>⟧) called (text_prepared line.0 name.now text called)
         store.old rack.old session.old store.new rack.new session.new result }
     ensures kept { IsArea store.new }
     ensures still_taken { TakenAt (states (slots_of rack.new)) (slot_of session.new.conn) }
 {
-    match reach(store, session, line, found) {
-        Err(stop) => Err(stop),
-        Ok(()) => send_prepare(alloc, store, rack, session, line, name, text),
-    }
+    begin_area(store);
+    send_prepare(alloc, store, rack, session, line, name, text)
 }
 
-/// ECPGprepare, where the open connection was found by its name or not.
+/// ECPGprepare.
 pub(crate) fn prepare(
     alloc: Global,
     store: &mut Store,
     rack: &mut Rack,
     session: &mut Open,
     line: Line,
-    found: bool,
     name: &Name,
     given: &GivenText,
 ) -> Result<(), Stop>
     requires area { IsArea store.old }
     requires taken { TakenAt (states (slots_of rack.old)) (slot_of session.old.conn) }
-    ensures over { (called : Option Text) → found ≡ is_named session.old.name called
-        → Over (talk_by ⟦<dyn Link as Link>⟧) (faults_by ⟦<dyn Link as Link>⟧)
-        (preparing line.0 name.now given.now called)
+    ensures over { (called : Option Text) → OverNamed (talk_by ⟦<dyn Link as Link>⟧)
+        (faults_by ⟦<dyn Link as Link>⟧) called (preparing line.0 name.now given.now called)
         store.old rack.old session.old store.new rack.new session.new result }
     ensures kept { IsArea store.new }
     ensures still_taken { TakenAt (states (slots_of rack.new)) (slot_of session.new.conn) }
 {
     match marked_text(alloc, store, given) {
         Err(stop) => Err(stop),
-        Ok(text) => prepare_text(alloc, store, rack, session, line, found, name, text),
+        Ok(text) => prepare_text(alloc, store, rack, session, line, name, text),
     }
 }
 
@@ -293,26 +285,22 @@ fn deallocate_named(
     }
 }
 
-/// ECPGdeallocate, where the open connection was found by its name or not.
+/// ECPGdeallocate.
 pub(crate) fn deallocate(
     store: &mut Store,
     rack: &mut Rack,
     session: &mut Open,
     line: Line,
-    found: bool,
     name: &Name,
 ) -> Result<(), Stop>
     requires area { IsArea store.old }
     requires taken { TakenAt (states (slots_of rack.old)) (slot_of session.old.conn) }
-    ensures over { (called : Option Text) → found ≡ is_named session.old.name called
-        → Over (talk_by ⟦<dyn Link as Link>⟧) (faults_by ⟦<dyn Link as Link>⟧)
-        (deallocating line.0 name.now called)
+    ensures over { (called : Option Text) → OverNamed (talk_by ⟦<dyn Link as Link>⟧)
+        (faults_by ⟦<dyn Link as Link>⟧) called (deallocating line.0 name.now called)
         store.old rack.old session.old store.new rack.new session.new result }
     ensures kept { IsArea store.new }
     ensures still_taken { TakenAt (states (slots_of rack.new)) (slot_of session.new.conn) }
 {
-    match reach(store, session, line, found) {
-        Err(stop) => Err(stop),
-        Ok(()) => deallocate_named(store, rack, session, line, name),
-    }
+    begin_area(store);
+    deallocate_named(store, rack, session, line, name)
 }

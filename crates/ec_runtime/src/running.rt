@@ -9,20 +9,19 @@ ghost use Rattle.ec_link.specs.Slot.{states};
 ghost use Rattle.ec_link.specs.SlotState.{TakenAt};
 ghost use Rattle.ec_transfer.specs.Area.{IsArea};
 ghost use Rattle.ec_calls.specs.Connections.{begun};
-ghost use Rattle.ec_runtime.specs.Does.{Over};
+ghost use Rattle.ec_runtime.specs.Does.{Over, OverNamed};
 ghost use Rattle.ec_runtime.specs.Opening.{open_view};
-ghost use Rattle.ec_runtime.specs.Reading.{is_named};
 ghost use Rattle.ec_runtime.specs.Statements.{sent, carried, ordered, started, ran};
 ghost use Rattle.ec_calls.specs.Outcomes.{Text};
 ghost use Rattle.std.specs.declared.option.Option.{Option};
 
 use crate::answering::answered;
+use crate::area::begin_area;
 use crate::call::Statement;
 use crate::control::send_control;
 use crate::host::Host;
 use crate::open::{Open, ask, is_due};
 use crate::order::{Order, read};
-use crate::reaching::reach;
 use crate::requests::make_request;
 use crate::stop::Stop;
 use ec_base::Line;
@@ -143,40 +142,34 @@ fn start(
     rack: &mut Rack,
     session: &mut Open,
     line: Line,
-    found: bool,
     order: Order,
     hosts: &[Host],
 ) -> Result<(), Stop>
     requires area { IsArea store.old }
     requires taken { TakenAt (states (slots_of rack.old)) (slot_of session.old.conn) }
-    ensures over { (name : Option Text) → found ≡ is_named session.old.name name
-        → Over (talk_by ⟦<dyn Link as Link>⟧) (faults_by ⟦<dyn Link as Link>⟧)
-        (started line.0 order hosts.now name)
+    ensures over { (name : Option Text) → OverNamed (talk_by ⟦<dyn Link as Link>⟧)
+        (faults_by ⟦<dyn Link as Link>⟧) name (started line.0 order hosts.now name)
         store.old rack.old session.old store.new rack.new session.new result }
     ensures kept { IsArea store.new }
     ensures still_taken { TakenAt (states (slots_of rack.new)) (slot_of session.new.conn) }
 {
-    match reach(store, session, line, found) {
-        Err(stop) => Err(stop),
-        Ok(()) => carry_order(alloc, store, rack, session, line, order, hosts),
-    }
+    begin_area(store);
+    carry_order(alloc, store, rack, session, line, order, hosts)
 }
 
-/// ECPGdo, where the open connection was found by its name or not.
+/// ECPGdo.
 pub(crate) fn run(
     alloc: Global,
     store: &mut Store,
     rack: &mut Rack,
     session: &mut Open,
     line: Line,
-    found: bool,
     it: &Statement,
 ) -> Result<(), Stop>
     requires area { IsArea store.old }
     requires taken { TakenAt (states (slots_of rack.old)) (slot_of session.old.conn) }
-    ensures over { (name : Option Text) → found ≡ is_named session.old.name name
-        → Over (talk_by ⟦<dyn Link as Link>⟧) (faults_by ⟦<dyn Link as Link>⟧)
-        (ran line.0 it.now name)
+    ensures over { (name : Option Text) → OverNamed (talk_by ⟦<dyn Link as Link>⟧)
+        (faults_by ⟦<dyn Link as Link>⟧) name (ran line.0 it.now name)
         store.old rack.old session.old store.new rack.new session.new result }
     ensures kept { IsArea store.new }
     ensures still_taken { TakenAt (states (slots_of rack.new)) (slot_of session.new.conn) }
@@ -185,7 +178,7 @@ pub(crate) fn run(
         Err(stop) => Err(stop),
         Ok(order) => {
             let hosts = it.outs.as_slice();
-            start(alloc, store, rack, session, line, found, order, hosts)
+            start(alloc, store, rack, session, line, order, hosts)
         }
     }
 }

@@ -1,4 +1,3 @@
-use Rattle.std.proofs.Common.{◌∙◌}
 use Rattle.std.proofs.lemmas.List.{drop_all}
 use Rattle.ec_calling.proofs.Evaluating.{drop_item, goes_on, halts, all_kept, next_still, none_kept, none_still, still}
 use Rattle.ec_calling.proofs.giving.give.Goals as goal

@@ -1,7 +1,4 @@
-use Rattle.std.proofs.Common.{drop, map}
-use Rattle.ec_calls.specs.Steps.{given_first}
-use Rattle.ec_values.specs.Words.{word_view}
-use Rattle.ec_calling.specs.Views.{argument_view}
+use Rattle.std.proofs.Common.{drop}
 use Rattle.ec_calling.proofs.Evaluating.{Onward, still}
 use Rattle.ec_calling.proofs.giving.give.Given as goal
 

@@ -30,10 +30,10 @@ pub returns-then-not-has_area-clause-moved : goal.returns-then-not-has_area-clau
 returns-then-not-has_area-clause-moved g c = unmoved (λ z. (goal.Link-dyn g (z.vtable, z.value)).talk z.value) (λ z. (goal.Link-dyn g (z.vtable, z.value)).faults z.value) c.args.rack.now c.args.library.now
 
 pub returns-in-Ok-clause-moved : goal.returns-in-Ok-clause-moved
-returns-in-Ok-clause-moved g c = record { growth = c.in-Ok.ensures.called.growth; asked = c.in-Ok.ensures.called.asked }
+returns-in-Ok-clause-moved g c = record { growth = c.in-Ok.ensures.called.growth; moves = c.in-Ok.ensures.called.moves }
 
 pub returns-in-Err-Trapped-clause-moved : goal.returns-in-Err-Trapped-clause-moved
-returns-in-Err-Trapped-clause-moved g c = record { growth = c.in-Err-Trapped.ensures.called.growth; asked = c.in-Err-Trapped.ensures.called.asked }
+returns-in-Err-Trapped-clause-moved g c = record { growth = c.in-Err-Trapped.ensures.called.growth; moves = c.in-Err-Trapped.ensures.called.moves }
 
 pub returns-in-Err-OutOfMemory-clause-moved : goal.returns-in-Err-OutOfMemory-clause-moved
-returns-in-Err-OutOfMemory-clause-moved g c = record { growth = c.in-Err-OutOfMemory.ensures.called.growth; asked = c.in-Err-OutOfMemory.ensures.called.asked }
+returns-in-Err-OutOfMemory-clause-moved g c = record { growth = c.in-Err-OutOfMemory.ensures.called.growth; moves = c.in-Err-OutOfMemory.ensures.called.moves }

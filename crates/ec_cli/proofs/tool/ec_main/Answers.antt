@@ -16,6 +16,9 @@ returns-clause-unlinked g c = tools.unlinked c.perform-ending.ensures
 pub returns-clause-talks : goal.returns-clause-talks
 returns-clause-talks g c = tools.talks c.perform-ending.ensures
 
+pub returns-clause-links : goal.returns-clause-links
+returns-clause-links g c = tools.links c.perform-ending.ensures
+
 pub returns-clause-dropped : goal.returns-clause-dropped
 returns-clause-dropped g c = tools.dropped c.perform-ending.ensures
 

@@ -16,7 +16,7 @@ pub returns-in-Err-ask-clause-over : goal.returns-in-Err-ask-clause-over
 returns-in-Err-ask-clause-over g c =
     over_unasked (λ z. (goal.Link-dyn g (z.vtable, z.value)).talk z.value) (λ z. (goal.Link-dyn g (z.vtable, z.value)).faults z.value)
     (control_sent c.args.line.0 (open_view c.args.session.now) c.args.text.now) c.args.store.now c.args.rack.now c.args.session.now c.ask.new.rack c.ask.new.session
-    (control_grows c.args.line.0 (open_view c.args.session.now) c.args.text.now) c.in-Err-ask.ensures.err
+    (control_grows c.args.line.0 (open_view c.args.session.now) c.args.text.now) c.in-Err-ask.ensures.err c.in-Err-ask.ensures.same
 
 pub returns-in-Some-clause-over : goal.returns-in-Some-clause-over
 returns-in-Some-clause-over g c =

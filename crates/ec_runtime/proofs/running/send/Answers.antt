@@ -11,7 +11,7 @@ pub returns-in-Err-clause-over : goal.returns-in-Err-clause-over
 returns-in-Err-clause-over g c =
     over_unasked (λ z. (goal.Link-dyn g (z.vtable, z.value)).talk z.value) (λ z. (goal.Link-dyn g (z.vtable, z.value)).faults z.value)
     (sent c.args.line.0 c.args.request c.args.hosts.now (slot_of c.args.session.now.conn)) c.args.store.now c.args.rack.now c.args.session.now c.ask.new.rack c.ask.new.session
-    (sent_grows c.args.line.0 c.args.request c.args.hosts.now (slot_of c.args.session.now.conn)) c.in-Err.ensures.err
+    (sent_grows c.args.line.0 c.args.request c.args.hosts.now (slot_of c.args.session.now.conn)) c.in-Err.ensures.err c.in-Err.ensures.same
 
 pub returns-in-Some-clause-over : goal.returns-in-Some-clause-over
 returns-in-Some-clause-over g c =

@@ -3,7 +3,7 @@ use Rattle.ec_calling.specs.Laws.{session_stays}
 use Rattle.ec_calling.specs.Making.{known_of}
 use Rattle.ec_calling.specs.Views.{call_view}
 use Rattle.ec_calling.proofs.Carrying.{numbered, unnumbered}
-use Rattle.ec_calling.proofs.Held.{holds}
+use Rattle.ec_calling.proofs.Held.{held, holds}
 use Rattle.ec_values.specs.Words.{word_view}
 use Rattle.ec_calling.proofs.session.SessionLibrary.call.Goals as goal
 
@@ -18,7 +18,7 @@ returns-in-Some-clause-called g c =
 pub returns-in-Some-clause-led : goal.returns-in-Some-clause-led
 returns-in-Some-clause-led g c = record {
   growth = c.make.ensures.moved.growth;
-  asked = c.make.ensures.moved.asked;
+  moves = c.make.ensures.moved.moves;
   same_reference = refl;
   same_calls = refl;
 }
@@ -31,3 +31,6 @@ pub returns-in-None-clause-led : goal.returns-in-None-clause-led
 returns-in-None-clause-led g c =
     session_stays (λ z. (goal.Link-dyn g (z.vtable, z.value)).talk z.value) (λ z. (goal.Link-dyn g (z.vtable, z.value)).faults z.value)
     c.args.self.now.calls.now c.args.self.now.rack c.args.self.now.library
+
+pub invariant_of-self : goal.invariant_of-self
+invariant_of-self g c = record { holds = held c.make.new.library c.make.new.rack c.make.ensures.still_holds }
