@@ -35,6 +35,10 @@ BYTES_OF_SQL = ["?", "?", "'", "'", '\\"', "\\\\", "-", "-", "/", "*", "E", "e",
 NAMES = ['"s"', '"s"', '"s"', '"p q"', '"S"', '"\\163"', '""', '"p" " q"', '"a name of more than 22 bytes"']
 HEADS = ['"declare c cursor for "', '"DECLARE \\"c\\" CURSOR FOR "', '""', '"?"']
 CONTROLS = ['"COMMIT"', '"ROLLBACK"', '"BEGIN WORK"', '"SAVEPOINT " "s"', '""']
+CONNECTIONS = ['"db"', '"db"', '"one"', '"one"', '"two"', '"x y"', '"o\\156e"', '"t" "wo"', '"DB"', '""', '"CURRENT"', '"ALL"',
+               '"a name of more than 22 bytes"', "connection", "(unsigned char *)connection"]
+SERVERS = ['"db"', '"db"', '"one"', '"one"', '"two"', '"x y"', '"d\\142"', '"on" "e"', '"no"', '""', "connection"]
+TARGETS = [b"db", b"db", b"db", b"one", b"one", b"one", b"two", b"two", b"x y", b"DEFAULT", b"no", b""]
 SWITCHES = ['"off"', '"off"', '"off"', '"on"', '"o\\156"']
 MOST_PRINTED = 48  # cells of a variable
 STATES = ["23505", "21000", "42P01", "XX000", "00000", "02000", "08006", "2350x"]
@@ -87,12 +91,16 @@ class Answers(Link):
         super().__init__([], breaks)
         self.rng, self.made = rng, []
 
-    def answer(self, outputs):
+    def answer(self, kind, outputs):
         self.asks += 1
         if self.asks - 1 in self.breaks:
             return ("broken",)
-        self.made.append(self.reply(outputs))
+        self.made.append(self.opening() if kind == "connect" else self.reply(outputs))
         return self.made[-1]
+
+    def opening(self):
+        """The reply to a request to connect: mostly it is open."""
+        return ("connected",) if self.rng.random() < 0.85 else self.reply([])
 
     def reply(self, outputs):
         tx = self.rng.choice("IIIAF")
@@ -150,7 +158,9 @@ class Programs:
         self.lines, self.hosts, self.indicators, self.texts, self.prepared = [], [], [], [], []
         self.unset = []  # members of structs that have no value yet
         self.is_lined, self.number = self.chance(0.6), 1
-        self.name_held = self.pick(["db", "db", "no"])
+        self.name_held = self.pick(["db", "db", "one", "no"])
+        # whether connections are opened and closed
+        self.is_linked = self.chance(0.5)
         # how often something in a list leads nowhere, or is an odd one
         self.wild = self.pick([0, 0, 0, 0.02, 0.05, 0.12])
         # how often a pointer is what a function gives
@@ -389,6 +399,8 @@ class Programs:
         return f"ECPGt_const, {self.pick(LITERALS)}, 0L, 1L, 0L, ECPGt_NO_INDICATOR, NULL, 0L, 0L, 0L"
 
     def connection(self):
+        if self.is_linked and self.chance(0.25):
+            return self.pick(CONNECTIONS)
         return self.pick(["NULL"] * 22 + ['"db"', '"d" "b"', '"d\\142"', '"no"', '""', "connection", "(unsigned char *)connection", self.given("connection", "named")])
 
     def text_given(self):
@@ -419,11 +431,29 @@ class Programs:
         text = self.text_given() if self.chance(0.3) else self.pick(MARKED) if self.chance(0.3) else self.text_with_marks()
         return f"ECPGprepare({front}, {text})"
 
+    def on_connections(self):
+        """A call that opens a connection, closes one, or makes one the current one."""
+        line, name = self.line_told(), self.pick(CONNECTIONS + [self.given("connection", "named")])
+        if self.chance(0.5):
+            target = self.text_pointer() if self.chance(self.wild) else self.pick(SERVERS)
+            user, password = self.who(), self.who()
+            return f"ECPGconnect({line}, {target}, {user}, {password}, {self.pick(['NULL', name])})"
+        if self.chance(0.45):
+            return f"ECPGsetconn({line}, {name})"
+        name = self.pick([name] * 5 + ['"CURRENT"', '"CURRENT"', '"CUR" "RENT"', '"ALL"', '"A\\114L"', '"all"', '"current"'])
+        return f"ECPGdisconnect({line}, {name})"
+
+    def who(self):
+        """A user or a password."""
+        return self.pick(["NULL"] * 6 + ['"me"', '"it\'s"', '""', '"a\\000b"', "connection", "room", self.text_pointer()])
+
     def line_told(self):
         return self.number if self.is_lined and self.chance(0.8) else self.pick([1, 7, 42, 1000, 2147483647, "0x1f", 0])
 
     def call(self):
         """The text of a call."""
+        if self.is_linked and self.chance(0.3):
+            return self.on_connections()
         if self.chance(0.15):
             return f"ECPGtrans({self.line_told()}, {self.connection()}, {self.pick(CONTROLS)})"
         if self.chance(0.18):
@@ -548,6 +578,8 @@ class Programs:
         for _ in range(self.rng.randrange(0, 2)):
             self.declare_indicator(False)
         self.settle()
+        for _ in range(self.pick([0, 1, 2, 3]) * self.is_linked):
+            self.say(self.on_connections() + ";")
         for _ in range(self.pick([0, 0, 1, 2])):
             self.say(self.preparing() + ";")
         for _ in range(self.rng.randrange(2, 7)):
@@ -610,16 +642,46 @@ def pointed(name, machine, cells):
 # ---- what the precompiler writes
 
 class ServerMaker(Maker):
-    """Writes a source whose statements pass to the server as they stand."""
+    """Writes a source whose statements pass to the server as they stand, with connections that are opened and closed."""
+
+    names = ["one", "one", "two", "db", "Default", "all", "current"]
+
+    def __init__(self, rng):
+        super().__init__(rng)
+        self.is_linked = self.chance(0.5)
 
     def executable(self):
-        return self.spelled(self.pick([self.server] * 9 + [self.fetch])())
+        return self.spelled(self.pick([self.server] * 9 + [self.fetch] + self.linking())())
+
+    def linking(self):
+        """What makes the forms of connections and of transactions."""
+        if not self.is_linked:
+            return []
+        return [self.connect, self.connect, self.connect, self.disconnect, self.set_connection, self.transaction, self.autocommit]
+
+    def named(self):
+        """A name of a connection, in a variable at times."""
+        return self.text_argument(self.names) if self.chance(0.3) else self.pick(self.names + ["'x y'"])
+
+    def connect(self):
+        target = self.pick(["db", "db", "one", "one", "one", "two", "two", "'x y'", "'o''e'", "t @ w", "tcp:postgresql://host/db", "default"])
+        if self.chance(0.3):
+            target = self.text_argument(["db", "one"])
+        return self.connected_to(target, self.names)
+
+    def disconnect(self):
+        return "DISCONNECT" + self.pick(["", " CURRENT", " ALL", " 'ALL'", " all", *[f" {self.named()}"] * 5])
+
+    def set_connection(self):
+        return "SET CONNECTION " + self.pick(["", "TO ", "= ", "to "]) + self.named()
 
     def into(self):
         hosts = self.outputs()
         return f"INTO {hosts}" if hosts else ""
 
     def at(self):
+        if self.is_linked and self.chance(0.15):
+            return f"AT {self.named()} "
         return f"AT {self.pick(['db', 'db', 'other'])} " if self.chance(0.1) else ""
 
 
@@ -633,9 +695,28 @@ def translated(rng):
 
 # ---- rows
 
-def slots(rng):
-    """Whether each slot is ready, and its name."""
-    return rng.choices([[(True, b"db")], [(False, b"x"), (True, b"db"), (False, b'"y')], [(False, b"db")], []], [88, 6, 3, 3])[0]
+def slots(rng, text):
+    """Whether each slot is ready, and its name: one that is ready, for the most part, and free ones for a program that connects."""
+    connects = re.search(r"ECPGconnect|CONNECT\s+TO", text, re.I) is not None
+    found = [(False, rng.choice(TARGETS)) for _ in range(rng.choice([0, 3, 6, 9, 12, 12] if connects else [0, 0, 0, 1, 2]))]
+    if rng.random() < 0.85:
+        found.insert(rng.randrange(len(found) + 1), (True, rng.choice([b"db"] * 9 + [b"one"])))
+    return found
+
+
+def linked(rng, there, answers):
+    """These slots, each with a link that makes its answers and mostly doesn't break."""
+    return [Slot(r, n, answers(rng, sorted(rng.sample(range(6), rng.choice([0] * 12 + [1, 1, 2]))))) for r, n in there]
+
+
+def places(rng, there, made):
+    """These slots for a row: the answers that were made of them, now and then with one more or without the last."""
+    found = []
+    for (r, n), slot in zip(there, made):
+        replies, breaks = slot.link.made, sorted(slot.link.breaks)
+        replies = replies[:-1] if rng.random() < 0.05 else replies + [("done", "I", 1)] * (rng.random() < 0.1)
+        found.append(SlotOf(r, n, replies, breaks))
+    return found
 
 
 def tampered(rng, text):
@@ -650,7 +731,9 @@ def tampered(rng, text):
         ("ECPGt_short", "ECPGt_unsigned_short"), ("2L", "16777217L"), ("NULL, 0L, 0L, 0L", "NULL, 0L, 1L, 0L"), ("NULL", "0"),
         ("ECPGt_EOIT", "ECPGt_descriptor, \"d\", 1L, 1L, 1L, ECPGt_NO_INDICATOR, NULL, 0L, 0L, 0L, ECPGt_EOIT"),
         ("ECPGt_EOIT", "ECPGt_char, strcpy(sqlca.sqlerrm.sqlerrmc, \"x\"), 5L, 1L, 5L, ECPGt_NO_INDICATOR, NULL, 0L, 0L, 0L, ECPGt_EOIT"),
-        ("ECPGdo(", "ECPGdisconnect(1, \"db\");\nECPGdo("), ("ECPGdo(", "ECPGsetconn(1, \"db\");\nECPGdo("),
+        ("ECPGdo(", "ECPGallocate_desc(1, \"d\");\nECPGdo("), ("ECPGdo(", "ECPGdeallocate_desc(1, connection);\nECPGdo("),
+        ("ECPGdo(", "ECPGsetconn(1, NULL);\nECPGdo("), ("ECPGdo(", "ECPGdisconnect(1, 0);\nECPGdo("),
+        ("ECPGdo(", "ECPGconnect(1, NULL, NULL, NULL, NULL);\nECPGdo("), ("ECPGdo(", "ECPGconnect(1, \"db\", NULL, NULL);\nECPGdo("),
     ])
     return text[:at] + text[at:].replace(*change, 1)
 
@@ -669,16 +752,13 @@ def row_tried(rng, title, is_translated):
     front = tampered(rng, front)
     few = [10, 5, 3, 2, 1, 0]
     turns = rng.choice([30, 60, 60, 100, 100] * 4 + few if is_translated else [None] * 18 + few)
-    breaks = sorted(rng.sample(range(6), rng.choice([0] * 12 + [1, 1, 2])))
-    there = slots(rng)
-    link = Answers(rng, breaks)
-    first = Run(front + end, DEFAULT_TURNS if turns is None else turns, [Slot(r, n, link) for r, n in there])
+    there = slots(rng, front)
+    made = linked(rng, there, Answers)
+    first = Run(front + end, DEFAULT_TURNS if turns is None else turns, made)
     if rng.random() < 0.25:
         turns = max(first.used - rng.choice([0, 0, 1]), 0)
     more = printed(first) if first.ending[0] == "exited" else []
-    replies = link.made[:-1] if rng.random() < 0.05 else link.made + [("done", "I", 1)] * (rng.random() < 0.1)
-    places = [SlotOf(r, n, replies if r else [], breaks if r else []) for r, n in there]
-    found = Row(title, front + "".join(line + "\n" for line in more) + end, turns, places)
+    found = Row(title, front + "".join(line + "\n" for line in more) + end, turns, places(rng, there, made))
     return found, found.run()
 
 

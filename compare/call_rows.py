@@ -48,8 +48,12 @@ def field_text(value):
     return "-" if value is None else quoted(value)
 
 
-def request_text(kind, first, second=None):
-    """A request of a kind: what it names, and the text or the parameters behind that."""
+def request_text(kind, first=None, second=None, *more):
+    """A request of a kind: what it names, and the text, the parameters, or the user and the password behind that."""
+    if kind == "close":
+        return kind
+    if kind == "connect":
+        return " ".join([kind, quoted(first), *(field_text(text) for text in (second, *more))])
     if second is None:
         return f"{kind} {quoted(first)}"
     if kind == "prepare":
@@ -125,9 +129,9 @@ def place_line(place, word, rest):
         place.replies[-1][3].append(fields(rest))
 
 
-def read(text):
-    """The rows of a file that run written C over outputs which take all."""
-    found, source, is_exec = [], "", True
+def read(text, command="exec"):
+    """The rows of a file that run written C, or sources, over outputs which take all."""
+    found, source, is_wanted = [], "", True
     for line in text.split("\n"):
         word, _, rest = line.partition(" ")
         if word == "source":
@@ -135,19 +139,19 @@ def read(text):
         elif word in ("|", "+", "times"):
             source += source_line(word, rest)
         elif word == "row":
-            row, is_exec = Row(rest, source), False
+            row, is_wanted = Row(rest, source), command == "run"
         elif word == "words":
-            words = re.fullmatch(r"exec(?: --turns (\d+))?", rest)
-            is_exec = words is not None
+            words = re.fullmatch(rf"{command}(?: --turns (\d+))?", rest)
+            is_wanted = words is not None
             row.turns = int(words[1]) if words and words[1] else None
         elif word in ("reads", "puts", "last", "room", "chunk"):
-            is_exec = False
+            is_wanted = False
         elif word == "slot":
             state, _, name = rest.partition(" ")
             row.places.append(Place(state == "ready", unquoted(name[1:-1])))
         elif word in ("breaks", "<", "c", "r"):
             place_line(row.places[-1], word, rest)
-        elif word == "go" and is_exec:
+        elif word == "go" and is_wanted:
             found.append(row)
     return found
 
@@ -173,10 +177,8 @@ def left(row, run):
     lines = [f"row {row.title}", NAMES.get(kind, kind), f"status {status}", f"out {quoted(run.output)}",
              f"err {quoted(run.errors + last)}", "left 0"]
     for slot, request, reply in run.exchanges:
-        lines += [f"@ {slot}", "> " + request_text(*request), *reply_lines(reply)]
-    for place in row.places:
-        state = "ready" if place.is_ready and kind == "refused" else "free"
-        lines.append(f"slot {state} {quoted(place.name)}")
+        lines += [f"@ {'-' if slot is None else slot}", "> " + request_text(*request), *reply_lines(reply)]
+    lines += [f"slot {slot.state} {quoted(slot.name)}" for slot in run.slots]
     return "\n".join(lines)
 
 

@@ -3,10 +3,9 @@
 
     compare/calls_made.py TURNS FILE
 
-runs a program of written C without a connection. A call goes over the one connection that is ready, whose link has a script
-of replies. A reply is a tuple: its kind, and what docs/ROWS.md says behind it, as bytes and numbers:
-("rows", "I", [(name, code)], [[field]]), ("done", "I", count), ("refused", "I", state, message), ("connected",),
-("notarget",) and ("broken",). A field and a parameter are bytes, or None for NULL.
+runs a program of written C without a slot. The link of a slot has a script of replies. A reply is a tuple: its kind, and what
+docs/ROWS.md says behind it, as bytes and numbers: ("rows", "I", [(name, code)], [[field]]), ("done", "I", count),
+("refused", "I", state, message), ("connected",), ("notarget",) and ("broken",). A field and a parameter are bytes, or None for NULL.
 """
 
 import re
@@ -22,7 +21,7 @@ FINDINGS = {
     -203: ("21000", "too many rows"), -204: ("42804", "not a number of type int"),
     -205: ("42804", "not a number of an unsigned type"), -211: ("42804", "not a bool"),
     -213: ("22002", "null value without indicator"), -220: ("08003", "no such connection"),
-    -230: ("26000", "no such statement"), -401: ("08007", "transaction control refused"),
+    -230: ("26000", "no such statement"), -401: ("08007", "transaction control refused"), -402: ("08001", "could not connect"),
 }
 BROKEN, OUT_OF_PLACE = (-400, b"08006", b"connection broken"), (-400, b"08P01", b"reply out of place")
 SERVER_CODES = {b"23505": -403, b"21000": -404}
@@ -144,12 +143,14 @@ def marked(text):
 
 class Call:
     """A call that is made: the text or the name that it sends, and what it is given and gives. ECPGsetcommit has none of
-    these."""
+    these, and a call on connections has texts alone."""
 
     def __init__(self, name, arguments):
         self.name, self.arguments, self.line = name, arguments, arguments[0].constant()
         self.text, self.own, self.head, self.inputs, self.outputs = None, None, b"", [], []
-        if name == "ECPGsetcommit":
+        if name in ON_CONNECTIONS:
+            self.texts = arguments[1:]
+        elif name == "ECPGsetcommit":
             self.is_on, self.connection = arguments[1].literal == b"on", arguments[2]
         elif name == "ECPGtrans":
             self.connection, self.text = arguments[1:3]
@@ -169,7 +170,8 @@ class Call:
             self.outputs, _ = members(rest, "ECPGt_EORT")
 
 
-MADE = ("ECPGdo", "ECPGtrans", "ECPGsetcommit", "ECPGprepare", "ECPGdeallocate")
+ON_CONNECTIONS = ("ECPGconnect", "ECPGdisconnect", "ECPGsetconn")
+MADE = ("ECPGdo", "ECPGtrans", "ECPGsetcommit", "ECPGprepare", "ECPGdeallocate", *ON_CONNECTIONS)
 
 
 def is_made(name, arguments):
@@ -266,8 +268,8 @@ class Link:
     def __init__(self, replies, breaks=()):
         self.replies, self.breaks, self.asks = list(replies), set(breaks), 0
 
-    def answer(self, outputs):
-        """The reply to a request whose rows go into these."""
+    def answer(self, kind, outputs):
+        """The reply to a request of a kind, whose rows go into these."""
         self.asks += 1
         if self.asks - 1 in self.breaks or not self.replies:
             return ("broken",)
@@ -275,8 +277,30 @@ class Link:
 
 
 class Slot:
+    """A link of a target's name: ready, free, taken by a connection, or dropped behind one."""
+
     def __init__(self, is_ready, name, link):
-        self.is_ready, self.name, self.link = is_ready, name, link
+        self.state, self.name, self.link = "ready" if is_ready else "free", name, link
+
+
+class Connection:
+    """An open connection, over the slot of a number: its transaction as the server told last, and its prepared texts."""
+
+    def __init__(self, name, number, slot, autocommit):
+        self.name, self.number, self.slot, self.autocommit = name, number, slot, autocommit
+        self.told, self.prepared = "I", {}
+        slot.state = "taken"
+
+
+def connected(slots):
+    """The connections that a program begins with: the slot that is ready has autocommit on."""
+    return [Connection(slot.name, n, slot, True) for n, slot in enumerate(slots) if slot.state == "ready"]
+
+
+def given_back(connections):
+    """The slots of connections that are open at the end."""
+    for c in connections:
+        c.slot.state = "free"
 
 
 # ---- runs
@@ -291,13 +315,19 @@ def finding(code):
 
 
 class CallingMachine(evaluator.Machine):
-    """A run over slots, of which one may be ready: that is the current connection, and autocommit is on."""
+    """A run over slots: its connections, that which was opened first before the others, and the name of the current one."""
 
     def __init__(self, program, turns, slots):
         super().__init__(program, turns)
-        self.exchanges = []
-        self.connection = next(((n, slot) for n, slot in enumerate(slots) if slot.is_ready), None)
-        self.autocommit, self.told, self.prepared = True, "I", {}
+        self.exchanges, self.slots = [], slots
+        self.connections, self.current = [], None
+
+    def main(self):
+        self.connections = connected(self.slots)
+        self.current = self.connections[0].name if self.connections else None
+        ending = super().main()
+        given_back(self.connections)
+        return ending
 
     def opened(self):
         super().opened()
@@ -319,64 +349,109 @@ class CallingMachine(evaluator.Machine):
             raise Trap(trap.args[0]) from None
 
     def made_call(self, call):
-        name = self.text_of(call.connection)
-        text = None if call.text is None else self.text_of(call.text)
-        parameters = [self.parameter(m) for m in call.inputs]
+        """All that the program gives is read first, so that behind a trap everything is as it was."""
+        if call.name in ON_CONNECTIONS:
+            texts = [self.text_of(one) for one in call.texts]
+            carry = lambda: self.on_connections(call.name, *texts)
+        else:
+            name = self.text_of(call.connection)
+            text = None if call.text is None else self.text_of(call.text)
+            parameters = [self.parameter(m) for m in call.inputs]
+            carry = lambda: self.carry(self.found(name), call, text, parameters)
         storing.reset(self.objects[1])
         try:
-            self.find(name)
-            self.carry(call, text, parameters)
+            carry()
         except Told as told:
             storing.raise_code(self.objects[1], *told.args, call.line)
         except storing.Code as code:
             storing.raise_code(self.objects[1], *finding(code.args[0]).args, call.line)
 
-    def find(self, name):
+    def named(self, name):
+        """The connection of this name, or None."""
+        return next((c for c in self.connections if c.name == name), None)
+
+    def found(self, name):
         """The connection of this name, or the current one."""
-        if self.connection is None or name not in (None, self.connection[1].name):
+        there = self.named(self.current if name is None else name)
+        if there is None:
             raise finding(-220)
+        return there
 
-    def carry(self, call, text, parameters):
-        if call.name == "ECPGtrans":
-            self.control(text)
-        elif call.name == "ECPGsetcommit":
-            if call.is_on and not self.autocommit and self.told != "I":
-                self.control(b"commit")
-            self.autocommit = call.is_on
-        elif call.name == "ECPGprepare":
-            self.prepare(call.own, marked(text))
-        elif call.name == "ECPGdeallocate":
-            self.deallocate(call.own)
+    def on_connections(self, call, *texts):
+        if call == "ECPGconnect":
+            self.connect(*texts)
+        elif call == "ECPGsetconn":
+            self.current = self.found(*texts).name
+        elif texts[0] == b"ALL":
+            while self.connections:
+                self.close(self.connections[-1])
         else:
-            request = self.request(call, text, parameters)
-            if not self.autocommit and self.told == "I":
-                self.control(b"begin transaction")
-            self.settled(call, self.asked(request, call.outputs))
+            self.close(self.found(None if texts[0] == b"CURRENT" else texts[0]))
 
-    def control(self, text):
-        if self.asked(("text", text, []), [])[0] not in ("rows", "done"):
+    def connect(self, target, user, password, name):
+        """Asks the first link of the target that no connection has or had."""
+        own = target if name is None else name
+        if self.named(own) is not None:
+            raise finding(-402)
+        free = [(n, slot) for n, slot in enumerate(self.slots) if slot.state == "free" and slot.name == target]
+        number, slot = free[0] if free else (None, None)
+        reply = slot.link.answer("connect", []) if free else ("notarget",)
+        self.exchanges.append((number, ("connect", target, user, password), reply))
+        if not free or reply[0] != "connected":
+            raise finding(-402)
+        self.connections.append(Connection(own, number, slot, False))
+        self.current = own
+
+    def close(self, connection):
+        """Whatever the answer. Of those that are left the one that was opened last is current, where this one was."""
+        self.asked(connection, ("close",), [])
+        connection.slot.state = "dropped"
+        self.connections.remove(connection)
+        if self.current == connection.name:
+            self.current = self.connections[-1].name if self.connections else None
+
+    def carry(self, c, call, text, parameters):
+        """What a call does over a connection."""
+        if call.name == "ECPGtrans":
+            self.control(c, text)
+        elif call.name == "ECPGsetcommit":
+            if call.is_on and not c.autocommit and c.told != "I":
+                self.control(c, b"commit")
+            c.autocommit = call.is_on
+        elif call.name == "ECPGprepare":
+            self.prepare(c, call.own, marked(text))
+        elif call.name == "ECPGdeallocate":
+            self.deallocate(c, call.own)
+        else:
+            request = self.request(c, call, text, parameters)
+            if not c.autocommit and c.told == "I":
+                self.control(c, b"begin transaction")
+            self.settled(call, self.asked(c, request, call.outputs))
+
+    def control(self, c, text):
+        if self.asked(c, ("text", text, []), [])[0] not in ("rows", "done"):
             raise finding(-401)
 
-    def prepared_text(self, name):
-        if name not in self.prepared:
+    def prepared_text(self, c, name):
+        if name not in c.prepared:
             raise finding(-230)
-        return self.prepared[name]
+        return c.prepared[name]
 
-    def request(self, call, text, parameters):
+    def request(self, c, call, text, parameters):
         """What ECPGdo asks: of a prepared statement by its name, of a cursor for one by its text."""
         if call.own is None:
             return "text", text, parameters
-        prepared = self.prepared_text(call.own)
+        prepared = self.prepared_text(c, call.own)
         return ("exec", call.own, parameters) if call.kind == "ECPGst_execute" else ("text", call.head + prepared, parameters)
 
-    def prepare(self, name, text):
-        self.taken(self.asked(("prepare", name, text), []))
-        self.prepared[name] = text
+    def prepare(self, c, name, text):
+        self.taken(self.asked(c, ("prepare", name, text), []))
+        c.prepared[name] = text
 
-    def deallocate(self, name):
-        self.prepared_text(name)
-        self.taken(self.asked(("deallocate", name), []))
-        del self.prepared[name]
+    def deallocate(self, c, name):
+        self.prepared_text(c, name)
+        self.taken(self.asked(c, ("deallocate", name), []))
+        del c.prepared[name]
 
     def taken(self, reply):
         """PREPARE and DEALLOCATE count nothing, and rows are as good as done."""
@@ -392,13 +467,12 @@ class CallingMachine(evaluator.Machine):
     def parameter(self, member):
         return member.at.literal if member.symbol == "const" else storing.to_text(self.objects, member.host())
 
-    def asked(self, request, outputs):
-        """The reply to a request, and what it tells of the transaction."""
-        number, slot = self.connection
-        reply = slot.link.answer(outputs)
+    def asked(self, c, request, outputs):
+        """The reply to a request over a connection, and what it tells of the transaction."""
+        reply = c.slot.link.answer(request[0], outputs)
         if reply[0] in ("rows", "done", "refused"):
-            self.told = reply[1]
-        self.exchanges.append((number, request, reply))
+            c.told = reply[1]
+        self.exchanges.append((c.number, request, reply))
         return reply
 
     def settled(self, call, reply):
@@ -441,7 +515,7 @@ class CallingMachine(evaluator.Machine):
 
 
 class Run:
-    """What is seen of a run: its outputs, its ending, its exchanges (slot, request, reply), and each object's cells.
+    """What is seen of a run: its outputs, its ending, its exchanges (slot, request, reply), its slots, and each object's cells.
 
     `used` is the number of turns that it took. A program that is refused has the ending ("refused", LINE), for F16.
     """
@@ -452,7 +526,7 @@ class Run:
         refused = program.refusal()
         self.ending = ("refused", refused) if refused is not None else self.machine.main()
         self.output, self.errors = bytes(self.machine.output), bytes(self.machine.errors)
-        self.exchanges, self.used = self.machine.exchanges, turns - self.machine.turns
+        self.exchanges, self.used, self.slots = self.machine.exchanges, turns - self.machine.turns, slots
         self.objects = [self.machine.objects.get(n) for n in range(1, self.machine.made + 1)]
 
 

@@ -3,9 +3,10 @@
 
 No C is written and no call of the library is made. C is taken by evaluator.py. An embedded statement is a step of its own: its
 hosts are places with types, found in the scope where it stands, and its handlers are the last WHENEVER of each condition above it
-in the text. It takes sources that the checks accept, with statements that pass to the server and cursors of a text.
+in the text. It takes sources that the checks accept, with statements that pass to the server, cursors of a text, connections,
+transaction control and autocommit.
 
-Without a connection at the start, each statement is -220. `Run` takes slots and replies as calls_made.py does.
+Without a slot, each statement that is sent is -220. `Run` takes slots and replies as calls_made.py does.
 """
 
 import re
@@ -27,7 +28,9 @@ TEXTS = {
     -203: (b"21000", b"too many rows"), -204: (b"42804", b"not a number of type int"),
     -205: (b"42804", b"not a number of an unsigned type"), -211: (b"42804", b"not a bool"),
     -213: (b"22002", b"null value without indicator"), -220: (b"08003", b"no such connection"),
+    -401: (b"08007", b"transaction control refused"), -402: (b"08001", b"could not connect"),
 }
+OPENING = ("connect", "set-connection", "disconnect")
 
 
 class NotMade(Exception):
@@ -108,10 +111,11 @@ def leaves(node):
 
 
 class Step:
-    """A statement that runs: its connection, its text, its inputs and its outputs (leaves, or bytes)."""
+    """A statement that runs: its form, the connection it is for or the texts of a form that opens and closes these, its text, its
+    inputs and its outputs (leaves, or bytes)."""
 
-    def __init__(self, line):
-        self.line, self.at, self.text, self.inputs, self.outputs = line, None, b"", [], []
+    def __init__(self, line, form):
+        self.line, self.form, self.texts, self.text, self.inputs, self.outputs = line, form, [], b"", [], []
 
 
 class SourceParser(evaluator.Parser):
@@ -228,22 +232,31 @@ class SourceParser(evaluator.Parser):
 
     def executed(self, statement):
         line = statement.line
-        if statement.form == "text":
-            text, outs = statement, statement.outs
-        elif statement.form == "open":
-            text, outs = self.cursors[statement.name.lower()], None
-        else:
+        step = Step(line, statement.form)
+        texts = statement.texts if statement.form in OPENING else [statement.at]
+        step.texts = [self.text_argument(text) for text in texts]
+        if statement.form in ("text", "open"):
+            self.fill(step, statement)
+        elif statement.form == "transaction":
+            step.text = statement.text
+        elif statement.form == "autocommit":
+            step.text = statement.name
+        elif statement.form not in OPENING:
             raise NotMade(line)
-        if text.form == "declare" and text.prepared is not None:
-            raise NotMade(line)
-        step = Step(line)
-        step.at = self.text_argument(statement.at)
-        self.sent(step, text.parts)
-        step.inputs += self.values(statement.ins, line)
-        step.outputs = self.values(outs, line)
         self.emit("evaluate", line, Node("step", VOID, step))
         for condition in ("not-found", "warning", "error"):
             self.handler(line, condition)
+
+    def fill(self, step, statement):
+        """What a statement sends and stores: of OPEN the text of its cursor."""
+        text, outs = statement, statement.outs
+        if statement.form == "open":
+            text, outs = self.cursors[statement.name.lower()], None
+            if text.prepared is not None:
+                raise NotMade(step.line)
+        self.sent(step, text.parts)
+        step.inputs += self.values(statement.ins, step.line)
+        step.outputs = self.values(outs, step.line)
 
     def sent(self, step, parts):
         """The text, in which each value of a host is a number, and these values."""
@@ -361,14 +374,36 @@ def field_as(t, field):
     return (int(field) % 2 ** (8 * size(t))).to_bytes(size(t), "little"), False
 
 
+class Open:
+    """A connection that is open: its name, its slot with the number of that, and where it stands."""
+
+    def __init__(self, name, number, slot, begins):
+        self.name, self.number, self.slot = name, number, slot
+        self.begins, self.is_idle = begins, True
+
+
 class DirectMachine(evaluator.Machine):
-    """A run over slots, of which one may be ready: that is the current connection, and autocommit is on."""
+    """A run over slots: the connections in the order in which they were opened, and the current one. That of the slot which is
+    ready was the first, and begins no transactions."""
 
     def __init__(self, program, turns, slots):
         super().__init__(program, turns)
-        self.exchanges = []
-        ready = [(n, slot) for n, slot in enumerate(slots) if slot.is_ready]
-        self.connection = ready[0] if ready else None
+        self.exchanges, self.slots = [], slots
+        self.there, self.current = [], None
+
+    def main(self):
+        for number, slot in enumerate(self.slots):
+            if slot.state == "ready":
+                self.joined(Open(slot.name, number, slot, False))
+        ending = super().main()
+        for one in self.there:
+            one.slot.state = "free"
+        return ending
+
+    def joined(self, one):
+        one.slot.state = "taken"
+        self.there.append(one)
+        self.current = one
 
     @property
     def area(self):
@@ -391,18 +426,82 @@ class DirectMachine(evaluator.Machine):
     # -- a step
 
     def value_step(self, t, step):
-        name = self.value(step.at) if isinstance(step.at, Node) else step.at
+        texts = [self.value(text) if isinstance(text, Node) else text for text in step.texts]
         inputs = [self.placed(leaf) for leaf in step.inputs]
         outputs = [self.placed(leaf) for leaf in step.outputs]
         self.turn()
-        if isinstance(step.at, Node):
-            name = bytes(self.front(name))
+        texts = [bytes(self.front(text)) if isinstance(of, Node) else text for of, text in zip(step.texts, texts)]
         parameters = [self.parameter(*one) for one in inputs]
         storing.reset(self.area)
         try:
-            self.settled(self.answered(step, name, parameters), outputs)
+            if step.form in OPENING:
+                getattr(self, "step_" + step.form.replace("-", "_"))(*texts)
+            else:
+                self.over(self.chosen(texts[0]), step, parameters, outputs)
         except Told as told:
             storing.raise_code(self.area, *told.args, step.line)
+
+    def over(self, one, step, parameters, outputs):
+        """A step over a connection."""
+        if step.form == "transaction":
+            self.controlled(one, step.text)
+        elif step.form == "autocommit":
+            if step.text == b"on" and one.begins and not one.is_idle:
+                self.controlled(one, b"commit")
+            one.begins = step.text == b"off"
+        else:
+            if one.begins and one.is_idle:
+                self.controlled(one, b"begin transaction")
+            self.settled(self.answered(one, ("text", step.text, parameters), step.outputs), outputs)
+
+    def controlled(self, one, text):
+        if self.answered(one, ("text", text, []), [])[0] not in ("rows", "done"):
+            raise code(-401)
+
+    # -- connections
+
+    def chosen(self, name):
+        """The connection of a name, or the current one."""
+        for one in self.there:
+            if one.name == name or name is None and one is self.current:
+                return one
+        raise code(-220)
+
+    def step_connect(self, target, user, password, name):
+        name = target if name is None else name
+        if any(one.name == name for one in self.there):
+            raise code(-402)
+        request = "connect", target, user, password
+        for number, slot in enumerate(self.slots):
+            if slot.state == "free" and slot.name == target:
+                reply = slot.link.answer("connect", [])
+                self.exchanges.append((number, request, reply))
+                if reply[0] != "connected":
+                    raise code(-402)
+                self.joined(Open(name, number, slot, True))
+                return
+        self.exchanges.append((None, request, ("notarget",)))
+        raise code(-402)
+
+    def step_set_connection(self, name):
+        self.current = self.chosen(name)
+
+    def step_disconnect(self, name):
+        if name != b"ALL":
+            self.left_by(self.chosen(None if name == b"CURRENT" else name))
+        else:
+            for one in self.there[::-1]:
+                self.left_by(one)
+
+    def left_by(self, one):
+        """A connection is closed, and the answer doesn't matter."""
+        self.answered(one, ("close",), [])
+        one.slot.state = "dropped"
+        self.there = [other for other in self.there if other is not one]
+        if one is self.current:
+            self.current = self.there[-1] if self.there else None
+
+    # -- values and answers
 
     def placed(self, leaf):
         """A leaf with its place and that of its indicator."""
@@ -429,12 +528,12 @@ class DirectMachine(evaluator.Machine):
         number = self.load(at, t)
         return (b"t" if number else b"f") if t == "bool" else str(number).encode()
 
-    def answered(self, step, name, parameters):
-        if self.connection is None or name not in (None, self.connection[1].name):
-            raise code(-220)
-        number, slot = self.connection
-        reply = slot.link.answer(step.outputs)
-        self.exchanges.append((number, ("text", step.text, parameters), reply))
+    def answered(self, one, request, outputs):
+        """The reply over a connection, and what it tells of a transaction."""
+        reply = one.slot.link.answer(request[0], outputs)
+        if reply[0] in ("rows", "done", "refused"):
+            one.is_idle = reply[1] == "I"
+        self.exchanges.append((one.number, request, reply))
         return reply
 
     def settled(self, reply, outputs):
@@ -485,7 +584,7 @@ class DirectMachine(evaluator.Machine):
 
 
 class Run:
-    """What is seen of a run: its outputs, its ending, its exchanges (slot, request, reply), and each object's cells.
+    """What is seen of a run: its outputs, its ending, its exchanges (slot, request, reply), its slots, and each object's cells.
 
     `used` is the number of turns that it took.
     """
@@ -494,7 +593,7 @@ class Run:
         self.machine = DirectMachine(SourceParser(text), turns, slots)
         self.ending = self.machine.main()
         self.output, self.errors = bytes(self.machine.output), bytes(self.machine.errors)
-        self.exchanges, self.used = self.machine.exchanges, turns - self.machine.turns
+        self.exchanges, self.used, self.slots = self.machine.exchanges, turns - self.machine.turns, slots
 
 
 def main(turns, file):

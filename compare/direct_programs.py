@@ -9,9 +9,8 @@ import re
 from dataclasses import dataclass
 
 import evaluator
-from call_programs import MOST_PRINTED, WORDS, Answers, ServerMaker, constant, slots
+from call_programs import MOST_PRINTED, WORDS, Answers, ServerMaker, constant, linked, places, slots
 from call_rows import ROOM, Place
-from calls_made import Slot
 from checker import BITS, INT, SIGNED, array, is_array, is_number, is_pointer, is_struct, number, pointer
 from direct import Run
 from direct_small import SHOWN, SMALL
@@ -181,12 +180,14 @@ class Programs(ServerMaker):
             lambda: f"FETCH {cursor} {self.into()}", lambda: f"UPDATE t SET a = 1 RETURNING {noise} {self.into()}"])()
 
     def executable(self):
-        make = self.pick([self.server] * 5 + [self.asked] * 5 + [self.fetch] + [self.open] * (2 * bool(self.cursors)))
+        make = self.pick([self.server] * 5 + [self.asked] * 5 + [self.fetch] + [self.open] * (2 * bool(self.cursors)) + self.linking())
         return self.spelled(make())
 
     def at(self):
         if self.chance(2 * self.wild):
             return f"AT {self.pick([':connp', ':connv', self.host(self.is_text, False) or 'db'])} "
+        if self.is_linked and self.chance(0.2):
+            return f"AT {self.named()} "
         if self.chance(0.87):
             return ""
         return "AT " + self.pick(["db", "db", "'db'", ":conn", ":connp", ":connv", ":conn", ":connp", ":connv", "other", "DEFAULT", "'d'",
@@ -356,6 +357,8 @@ class Programs(ServerMaker):
         for _ in range(self.rng.randint(0, 2)):
             self.declare(True, True, True) if self.chance(0.5) else self.section(True)
         start = len(self.out)
+        for _ in range(self.pick([0, 1, 2, 3]) if is_main and self.is_linked else 0):
+            self.emit(self.spelled(self.connect()))
         for _ in range(self.rng.randint(2, 8)):
             self.statement()
         front = [label for label in sorted(self.labels - self.placed) if self.chance(0.06)]
@@ -465,11 +468,10 @@ class Made:
 def tried(rng, title):
     source = Programs(rng).source().encode().decode("latin-1")
     turns = given = rng.choice([20, 40, 60, 60, 100, 100, 200] * 3 + [10, 5, 3, 2, 1, 0])
-    breaks = sorted(rng.sample(range(6), rng.choice([0] * 12 + [1, 1, 2])))
-    there = slots(rng)
-    link = Replies(rng, breaks)
+    there = slots(rng, source)
+    made = linked(rng, there, Replies)
     try:
-        first = Run(source, turns, [Slot(r, n, link) for r, n in there])
+        first = Run(source, turns, made)
     except (AttributeError, KeyError, TypeError, ValueError, SyntaxError, IndexError, RecursionError):
         # a name means something else where a cursor is opened, so that the source has to be refused
         return Made(title, source, turns, [], None)
@@ -478,10 +480,9 @@ def tried(rng, title):
     more = printed(first) if first.ending[0] == "exited" else []
     if more:
         source = source.replace(MARK, "".join(line + "\n" for line in more))
-    replies = link.made[:-1] if rng.random() < 0.05 else link.made + [("done", "I", 1)] * (rng.random() < 0.1)
-    places = [Place(r, n, replies if r else [], breaks if r else []) for r, n in there]
-    is_done = not more and turns == given and len(replies) >= len(link.made)
-    return Made(title, source, turns, places, first if is_done else Run(source, turns, [p.slot() for p in places]))
+    found = places(rng, there, made)
+    is_done = not more and turns == given and all(len(p.replies) >= len(slot.link.made) for p, slot in zip(found, made))
+    return Made(title, source, turns, found, first if is_done else Run(source, turns, [p.slot() for p in found]))
 
 
 def made(seed):
