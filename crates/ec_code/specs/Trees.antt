@@ -8,6 +8,7 @@ use Rattle.ec_code.specs.declared.step.Unary.{Unary}
 use Rattle.ec_code.specs.declared.step.Unary.TheVariants as unary
 use Rattle.ec_code.specs.declared.step.Update.{Update}
 use Rattle.ec_objects.specs.Kinds.{kind_type}
+use Rattle.ec_objects.specs.declared.kind.Kind.TheVariants as kind
 use Rattle.ec_values.specs.ec_resolved.Resolved as of
 use Rattle.ec_values.specs.Operations.{operation_view}
 use Rattle.ec_values.specs.Words.{word_view}
@@ -16,6 +17,8 @@ abbrev pub leaf_view : Leaf → of.Exp
 leaf_view (leaf.Object n) = of.object n
 leaf_view (leaf.Slot i) = of.slot i
 leaf_view (leaf.Constant w) = of.constant (word_view w)
+leaf_view (leaf.IntValue i) = of.load (kind_type kind.Int) (of.slot i)
+leaf_view (leaf.LongValue i) = of.load (kind_type kind.Long) (of.slot i)
 leaf_view leaf.Faulty = of.faulty
 
 abbrev pub update_view : Update → of.Update

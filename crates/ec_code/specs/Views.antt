@@ -1,6 +1,9 @@
 -- The trees of code, as those of the definition.
 use Rattle.std.specs.Prelude.{ℕ, List, map, Option, Some, None, option_map}
 use Rattle.ec_objects.specs.Kinds.{kind_type}
+use Rattle.ec_objects.specs.Memory.{number}
+use Rattle.ec_code.specs.declared.step.Binary.TheVariants as binary
+use Rattle.ec_code.specs.declared.step.Leaf.TheVariants as leaf
 use Rattle.ec_values.specs.ec_resolved.Resolved as of
 use Rattle.ec_values.specs.ec_resolved.Programs as programs
 use Rattle.ec_formats.specs.Known.{known_view}
@@ -27,6 +30,10 @@ plain_step p = walked (leaf_view p.leaf) p.steps
 abbrev pub plain_step_step : PlainStep-F Step of.Exp → Step
 plain_step_step (PlainStep-F.One u) = one u
 plain_step_step (PlainStep-F.Two b p) = two b p
+plain_step_step (PlainStep-F.WithNumber op z) = two (binary.Operate op) (of.constant (number z))
+plain_step_step (PlainStep-F.WithInt op i) = two (binary.Operate op) (leaf_view (leaf.IntValue i))
+plain_step_step (PlainStep-F.WithLong op i) = two (binary.Operate op) (leaf_view (leaf.LongValue i))
+plain_step_step (PlainStep-F.ChangeBy u z) = two (binary.Update u) (of.constant (number z))
 
 abbrev pub plain_view : Plain → of.Exp
 plain_view = fold-Plain Step of.Exp plain_step_step plain_step

@@ -1,8 +1,9 @@
 //! Expressions: a chain of operators to the left is a list of steps, so that none goes deep.
 
-use crate::step::{Binary, Leaf, Unary};
+use crate::step::{Binary, Leaf, Unary, Update};
 use ec_base::List;
 use ec_formats::Known;
+use ec_values::Operation;
 
 /// An expression without calls: where it begins, and the steps that are taken from there.
 #[cycle(plain)]
@@ -18,6 +19,14 @@ pub struct Plain {
 pub enum PlainStep {
     One(Unary),
     Two(Binary, Plain),
+    /// An operation whose right operand is this number.
+    WithNumber(Operation, i64),
+    /// An operation whose right operand is the value of the `int` at this place among the objects in scope.
+    WithInt(Operation, u32),
+    /// The same of a `long`.
+    WithLong(Operation, u32),
+    /// `a op= b`, `++` and `--`, by this number.
+    ChangeBy(Update, i64),
 }
 
 /// An expression (ISO/IEC 9899:1999, 6.5).

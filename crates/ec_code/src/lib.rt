@@ -11,6 +11,7 @@ mod step;
 pub use ec_values;
 pub use ec_values::ec_bytes;
 pub use expression::{Expression, Full, FullStep, Head, Plain, PlainStep};
+pub use making::small;
 pub use program::{Function, GlobalVariable, Literal, ObjectSize, Program, Stored};
 pub use statement::{Loop, Statement};
 pub use step::{Binary, Leaf, Unary, Update};

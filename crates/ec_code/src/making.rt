@@ -1,15 +1,20 @@
 //! Expressions are made from what stands at their left: each operator adds a step.
 
-ghost use Rattle.std.specs.Prelude.{◌≡◌, IfOk};
+ghost use Rattle.std.specs.Prelude.{◌≡◌, IfOk, IfSome, map};
 ghost use Rattle.ec_values.specs.ec_resolved.Resolved as of;
 ghost use Rattle.ec_formats.specs.Known.{known_view};
-ghost use Rattle.ec_code.specs.Trees.{leaf_view, one_made, stepped, two_made};
+ghost use Rattle.ec_objects.specs.Memory.{number};
+ghost use Rattle.ec_values.specs.Words.{word_view};
+ghost use Rattle.ec_code.specs.Trees.{leaf_view, one_made, stepped, two, two_made, walked};
+ghost use Rattle.ec_code.specs.declared.expression.Plain.{out-Plain};
 ghost use Rattle.ec_code.specs.Views.{expression_view, expressions_view, full_step_view, full_view, head_view, plain_step_view, plain_view};
 
 use crate::expression::{Expression, Full, FullStep, Head, Plain, PlainStep};
 use crate::step::{Binary, Leaf, Unary};
 use ec_base::{List, OutOfMemory};
 use ec_formats::Known;
+use ec_objects::Kind;
+use ec_values::Word;
 use std::alloc::Global;
 
 impl Expression {
@@ -52,7 +57,7 @@ impl Expression {
             (λ made. expression_view made ≡ one_made step (expression_view self)) }
     {
         match self {
-            Expression::Plain(plain) => plain_with(plain, PlainStep::One(step)),
+            Expression::Plain(plain) => plain_unary(plain, step),
             Expression::Full(full) => full_with(full, FullStep::One(step)),
         }
     }
@@ -70,7 +75,7 @@ impl Expression {
         match left {
             Expression::Full(full) => full_with(full, FullStep::Two(step, right)),
             Expression::Plain(left) => match right {
-                Expression::Plain(right) => plain_with(left, PlainStep::Two(step, right)),
+                Expression::Plain(right) => plain_with(left, with_operand(step, right)),
                 Expression::Full(right) => {
                     let begun = Full {
                         head: Head::Begun(left),
@@ -111,4 +116,83 @@ fn full_with(full: Full, step: FullStep) -> Result<Expression, OutOfMemory>
     let Full { head, mut steps } = full;
     steps.push(step)?;
     Ok(Expression::Full(Full { head, steps }))
+}
+
+/// An expression without calls, with a unary step behind it.
+fn plain_unary(plain: Plain, step: Unary) -> Result<Expression, OutOfMemory>
+    ensures { IfOk result (λ made. expression_view made ≡ one_made step (plain_view plain)) }
+{
+    match value_leaf(&plain, &step) {
+        Some(leaf) => Ok(Expression::Plain(Plain {
+            leaf,
+            steps: plain.steps,
+        })),
+        None => plain_with(plain, PlainStep::One(step)),
+    }
+}
+
+/// Where an expression begins that is the value of an `int` or a `long` of the function.
+fn value_leaf(plain: &Plain, step: &Unary) -> Option<Leaf>
+    ensures { IfSome result (λ leaf.
+        walked (leaf_view leaf) (map plain_step_view (out-Plain plain.now).steps)
+        ≡ one_made step.now (plain_view plain.now)) }
+{
+    match plain.steps.as_slice() {
+        [] => match (plain.leaf, step) {
+            (Leaf::Slot(slot), Unary::Load(Kind::Int)) => Some(Leaf::IntValue(slot)),
+            (Leaf::Slot(slot), Unary::Load(Kind::Long)) => Some(Leaf::LongValue(slot)),
+            _ => None,
+        },
+        _ => None,
+    }
+}
+
+/// A step that takes another expression. Where that is a number or a variable it stands in the step.
+fn with_operand(step: Binary, right: Plain) -> PlainStep
+    ensures { plain_step_view result ≡ two step (plain_view right) }
+{
+    match found_operand(step, &right) {
+        Some(found) => found,
+        None => PlainStep::Two(step, right),
+    }
+}
+
+/// A step whose operand stands in it: a number or a variable.
+fn found_operand(step: Binary, right: &Plain) -> Option<PlainStep>
+    ensures { IfSome result (λ made. plain_step_view made ≡ two step (plain_view right.now)) }
+{
+    match right.steps.as_slice() {
+        [] => match step {
+            Binary::Operate(operation) => match right.leaf {
+                Leaf::IntValue(slot) => Some(PlainStep::WithInt(operation, slot)),
+                Leaf::LongValue(slot) => Some(PlainStep::WithLong(operation, slot)),
+                Leaf::Constant(word) => Some(PlainStep::WithNumber(operation, small(word)?)),
+                _ => None,
+            },
+            Binary::Update(update) => match right.leaf {
+                Leaf::Constant(word) => Some(PlainStep::ChangeBy(update, small(word)?)),
+                _ => None,
+            },
+            _ => None,
+        },
+        _ => None,
+    }
+}
+
+/// The number of a value, where `long` has it.
+#[inline(always)]
+pub fn small(word: Word) -> Option<i64>
+    ensures { IfSome result (λ z. word_view word ≡ number z) }
+{
+    match word {
+        Word::Signed(number) => Some(number),
+        Word::Unsigned(number) => {
+            if number <= i64::MAX as u64 {
+                Some(number as i64)
+            } else {
+                None
+            }
+        }
+        Word::Address(_) => None,
+    }
 }

@@ -13,6 +13,10 @@ pub enum Leaf {
     /// The object of the function that stands at this place among those in scope, parameters first.
     Slot(u32),
     Constant(Word),
+    /// The value of the `int` that stands at this place (6.3.2.1).
+    IntValue(u32),
+    /// The value of the `long` that stands at this place.
+    LongValue(u32),
     /// What stands for an expression with a fault.
     Faulty,
 }

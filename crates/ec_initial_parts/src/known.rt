@@ -27,6 +27,8 @@ fn known_leaf(leaf: Leaf) -> Option<Word>
         Leaf::Object(number) => Some(Word::Address(Ptr((number as u64) << 32))),
         Leaf::Slot(_) => None,
         Leaf::Constant(word) => Some(word),
+        Leaf::IntValue(_) => None,
+        Leaf::LongValue(_) => None,
         Leaf::Faulty => None,
     }
 }
@@ -58,6 +60,10 @@ fn behind_plain(value: Option<Word>, step: &PlainStep) -> Option<Word>
     match step {
         PlainStep::One(step) => known_behind(value, step),
         PlainStep::Two(_, _) => None,
+        PlainStep::WithNumber(_, _) => None,
+        PlainStep::WithInt(_, _) => None,
+        PlainStep::WithLong(_, _) => None,
+        PlainStep::ChangeBy(_, _) => None,
     }
 }
 

@@ -5,12 +5,14 @@ use Rattle.ec_code.specs.Trees.{Step}
 use Rattle.ec_code.specs.Views.{plain_step_view}
 use Rattle.ec_code.specs.declared.expression.PlainStep.{PlainStep}
 use Rattle.ec_evaluation.specs.Evaluate.{World, Step as Knowing, eval}
-use Rattle.ec_evaluation.specs.Results.{value}
+use Rattle.ec_code.specs.declared.step.Binary.TheVariants as binary
+use Rattle.ec_code.specs.declared.step.Update.{Update}
+use Rattle.ec_evaluation.specs.Results.{value, on_value}
 use Rattle.ec_evaluation.specs.State.{State}
-use Rattle.ec_objects.specs.Memory.{Memory, ValueData, number}
+use Rattle.ec_objects.specs.Memory.{Memory, ValueData, address, number}
 use Rattle.ec_resolved.specs.Resolved.{Exp}
 use Rattle.ec_plain.specs.Answered.{at, context}
-use Rattle.ec_plain.specs.Steps.{followed, step_on}
+use Rattle.ec_plain.specs.Steps.{both_on, followed, old_on, step_on}
 
 -- an expression leads from one memory to another, and has this value
 abbrev pub Leads : List Ptr → Exp → Memory → Memory → ValueData → Type 0
@@ -30,3 +32,22 @@ Follows scope steps begun m z =
     (knowing : Knowing) (w : World) (line : ℕ) (first : Bool) (s : State)
     → followed knowing w (context line scope first) (map plain_step_view steps)
     (value (number begun) (at s m)) ≡ value (number z) (at s m)
+
+-- behind the address of a place, steps that only read lead to a number
+abbrev pub FollowsPlace : List Ptr → List PlainStep → ℕ → Memory → ℤ → Type 0
+FollowsPlace scope steps p m z =
+    (knowing : Knowing) (w : World) (line : ℕ) (first : Bool) (s : State)
+    → followed knowing w (context line scope first) (map plain_step_view steps)
+    (value (address p) (at s m)) ≡ value (number z) (at s m)
+
+-- an expression is this place, whatever the memory holds
+abbrev pub Stands : List Ptr → Exp → ℕ → Type 0
+Stands scope e p = (m : Memory) → Leads scope e m m (address p)
+
+-- an update of what stands at a place, by a number, leads from one memory to another, and gives a number
+abbrev pub Changes : Update → ℕ → ℤ → Memory → Memory → ℤ → Type 0
+Changes u p by m n z =
+    (line : ℕ) (s : State)
+    → on_value (old_on line u (address p) (at s m))
+    (λ old t. both_on line (binary.Update u) (address p) old (number by) t)
+    ≡ value (number z) (at s n)

@@ -1,19 +1,21 @@
 //! Assignments of numbers that are found at once.
 
 ghost use Rattle.std.specs.Prelude.{◌≡◌, Ok, None, IfSome, OnErr};
-ghost use Rattle.ec_code.specs.Trees.{two};
-ghost use Rattle.ec_code.specs.Views.{plain_view};
+ghost use Rattle.ec_code.specs.Trees.{leaf_view, two};
+ghost use Rattle.ec_code.specs.Views.{plain_step_view, plain_view};
+ghost use Rattle.ec_code.specs.declared.expression.Plain.{out-Plain};
 ghost use Rattle.ec_code.specs.declared.step.Binary.TheVariants as binary;
 ghost use Rattle.ec_objects.specs.Kinds.{kind_type};
 ghost use Rattle.ec_objects.specs.Memory.{address, number, store as put_there};
 ghost use Rattle.ec_memory.specs.Store.{outcome};
-ghost use Rattle.ec_plain.specs.Numbers.{Leads, StepLeads};
+ghost use Rattle.ec_resolved.specs.Resolved.{Exp};
+ghost use Rattle.ec_plain.specs.Numbers.{Changes, Leads, StepLeads, Stands};
 
-use crate::number::{element, number, operand, place, read};
+use crate::number::{element, number, object_place, operand, read, slot_place};
 use crate::quick::{combined, fitted};
 use ec_base::Trap;
 use ec_bytes::Ptr;
-use ec_code::{Binary, Plain, PlainStep, Update};
+use ec_code::{Binary, Leaf, Plain, PlainStep, Unary, Update};
 use ec_memory::Store;
 use ec_objects::Kind;
 use ec_values::{Word, store as stored};
@@ -26,64 +28,66 @@ pub(crate) fn at_once(store: &mut Store, scope: &[Ptr], expression: &Plain) -> O
         Leads scope.now (plain_view expression.now) store.old store.new (number z)) }
     ensures none { result ≡ None → store.new ≡ store.old }
 {
-    match expression.steps.as_slice() {
-        [PlainStep::Two(_, _)] => at_object(store, scope, expression),
-        [PlainStep::Two(_, _), PlainStep::Two(_, _)] => at_element(store, scope, expression),
+    match expression.leaf {
+        Leaf::Slot(slot) => {
+            let place = slot_place(scope, slot)?;
+            at_place(store, scope, place, expression)
+        }
+        Leaf::Object(number) => {
+            let place = object_place(number);
+            at_place(store, scope, place, expression)
+        }
         _ => number(store, scope, expression),
     }
 }
 
-/// The same, where an object may be assigned to.
+/// The same, where it begins with a place.
 #[inline(never)]
-fn at_object(store: &mut Store, scope: &[Ptr], expression: &Plain) -> Option<i64>
+fn at_place(store: &mut Store, scope: &[Ptr], place: Ptr, expression: &Plain) -> Option<i64>
+    requires { Stands scope.now (leaf_view (out-Plain expression.now).leaf) place.0 }
     ensures some { IfSome result (λ z.
         Leads scope.now (plain_view expression.now) store.old store.new (number z)) }
     ensures none { result ≡ None → store.new ≡ store.old }
 {
     match expression.steps.as_slice() {
-        [only] => match only {
-            PlainStep::Two(step, right) => match place(scope, expression.leaf) {
-                Some(to) => assign(store, scope, to, step, right),
-                None => number(store, scope, expression),
-            },
-            PlainStep::One(_) => None,
-        },
-        _ => None,
-    }
-}
-
-/// The same, where an element of an array may be assigned to.
-#[inline(never)]
-fn at_element(store: &mut Store, scope: &[Ptr], expression: &Plain) -> Option<i64>
-    ensures some { IfSome result (λ z.
-        Leads scope.now (plain_view expression.now) store.old store.new (number z)) }
-    ensures none { result ≡ None → store.new ≡ store.old }
-{
-    match expression.steps.as_slice() {
-        [first, last] => match place(scope, expression.leaf) {
-            Some(place) => {
+        [only] => assign(store, scope, place, only),
+        [first, last] => {
+            if assigns(last) {
                 let to = element(store, scope, place, first)?;
-                match last {
-                    PlainStep::Two(step, right) => assign(store, scope, to, step, right),
-                    PlainStep::One(_) => None,
-                }
+                assign(store, scope, to, last)
+            } else {
+                number(store, scope, expression)
             }
-            None => number(store, scope, expression),
-        },
-        _ => None,
+        }
+        _ => number(store, scope, expression),
     }
 }
 
-/// An assignment to a place.
+/// Whether a step assigns to a place.
 #[inline(always)]
-fn assign(store: &mut Store, scope: &[Ptr], to: Ptr, step: &Binary, right: &Plain) -> Option<i64>
-    ensures some { IfSome result (λ z. StepLeads scope.now
-        (two step.now (plain_view right.now)) (address to.0) store.old store.new (number z)) }
+fn assigns(step: &PlainStep) -> bool {
+    match step {
+        PlainStep::Two(Binary::Store(_), _) => true,
+        PlainStep::Two(Binary::Update(_), _) => true,
+        PlainStep::ChangeBy(_, _) => true,
+        _ => false,
+    }
+}
+
+/// What a step gives at a place: the value there, or that of an assignment, which is done.
+#[inline(always)]
+fn assign(store: &mut Store, scope: &[Ptr], to: Ptr, step: &PlainStep) -> Option<i64>
+    ensures some { IfSome result (λ z. StepLeads scope.now (plain_step_view step.now)
+        (address to.0) store.old store.new (number z)) }
     ensures none { result ≡ None → store.new ≡ store.old }
 {
     match step {
-        Binary::Store(kind) => give(store, scope, to, *kind, right),
-        Binary::Update(update) => change(store, scope, to, update, right),
+        PlainStep::Two(Binary::Store(kind), right) => give(store, scope, to, *kind, right),
+        PlainStep::ChangeBy(update, by) => change(store, to, update, *by),
+        PlainStep::Two(Binary::Update(update), right) => {
+            renew(store, scope, to, update, right)
+        }
+        PlainStep::One(Unary::Load(kind)) => read(store, to, *kind),
         _ => None,
     }
 }
@@ -103,18 +107,27 @@ fn give(store: &mut Store, scope: &[Ptr], to: Ptr, kind: Kind, right: &Plain) ->
     }
 }
 
-/// `a op= b`, `++` and `--`, at a place.
+/// `a op= b`, at a place.
 #[inline(always)]
-fn change(store: &mut Store, scope: &[Ptr], to: Ptr, update: &Update, right: &Plain) -> Option<i64>
+fn renew(store: &mut Store, scope: &[Ptr], to: Ptr, update: &Update, right: &Plain) -> Option<i64>
     ensures some { IfSome result (λ z. StepLeads scope.now
         (two (binary.Update update.now) (plain_view right.now))
         (address to.0) store.old store.new (number z)) }
     ensures none { result ≡ None → store.new ≡ store.old }
 {
+    let by = operand(store, scope, right)?;
+    change(store, to, update, by)
+}
+
+/// `a op= b`, `++` and `--`, by a number, at a place.
+#[inline(always)]
+fn change(store: &mut Store, to: Ptr, update: &Update, by: i64) -> Option<i64>
+    ensures some { IfSome result (λ z. Changes update.now to.0 by store.old store.new z) }
+    ensures none { result ≡ None → store.new ≡ store.old }
+{
     let old = read(store, to, update.kind)?;
-    let right = operand(store, scope, right)?;
     let widened = fitted(update.widened, old)?;
-    let made = combined(update.operation, store, widened, right)?;
+    let made = combined(&update.operation, store, widened, by)?;
     let new = fitted(update.kind, made)?;
     match put(store, to, update.kind, new) {
         Ok(()) => Some(if update.gives_old { old } else { new }),
@@ -132,6 +145,7 @@ fn put(store: &mut Store, to: Ptr, kind: Kind, value: i64) -> Result<(), Trap>
     match kind {
         Kind::Int => stored(store, to, Kind::Int, Word::Signed(value)),
         Kind::Long => stored(store, to, Kind::Long, Word::Signed(value)),
+        Kind::Char => stored(store, to, Kind::Char, Word::Signed(value)),
         _ => put_other(store, to, kind, value),
     }
 }

@@ -1,19 +1,18 @@
 //! Numbers that are found at once: expressions that only read, over numbers that `long` has.
 
-ghost use Rattle.std.specs.Prelude.{◌≡◌, List, Ok, IfSome};
+ghost use Rattle.std.specs.Prelude.{◌≡◌, [], ◌∷◌, List, Ok, IfSome};
 ghost use Rattle.ec_bytes.specs.declared.scalar.address.Ptr.{Ptr};
-ghost use Rattle.ec_code.specs.Trees.{leaf_view, one, two};
+ghost use Rattle.ec_code.specs.Trees.{leaf_view, one};
 ghost use Rattle.ec_code.specs.Views.{plain_step_view, plain_view};
-ghost use Rattle.ec_code.specs.declared.step.Binary.TheVariants as binary;
+ghost use Rattle.ec_code.specs.declared.step.Leaf.TheVariants as leaf;
 ghost use Rattle.ec_code.specs.declared.step.Unary.TheVariants as unary;
 ghost use Rattle.ec_objects.specs.Kinds.{kind_type};
-ghost use Rattle.ec_objects.specs.Memory.{Memory, address, load as loaded, number};
-ghost use Rattle.ec_values.specs.declared.operation.Operation.TheVariants as operation;
-ghost use Rattle.ec_plain.specs.Numbers.{Follows, Leads, StepLeads};
+ghost use Rattle.ec_objects.specs.Memory.{Memory, address, load as loaded, moved, number};
+ghost use Rattle.ec_plain.specs.Numbers.{Follows, FollowsPlace, Leads, StepLeads};
 
-use crate::quick::{combined, fitted, small};
+use crate::quick::{combined, fitted};
 use ec_bytes::Ptr;
-use ec_code::{Binary, Leaf, Plain, PlainStep, Unary};
+use ec_code::{Binary, Leaf, Plain, PlainStep, Unary, small};
 use ec_memory::Store;
 use ec_objects::Kind;
 use ec_values::{Operation, load};
@@ -25,49 +24,71 @@ pub(crate) fn number(store: &Store, scope: &[Ptr], expression: &Plain) -> Option
     ensures { IfSome result (λ z.
         Leads scope.now (plain_view expression.now) store.now store.now (number z)) }
 {
-    match expression.steps.as_slice() {
+    match expression.leaf {
+        Leaf::IntValue(slot) => {
+            let begun = int(store, scope, slot)?;
+            follow(store, scope, begun, expression.steps.as_slice())
+        }
+        Leaf::LongValue(slot) => {
+            let begun = long(store, scope, slot)?;
+            follow(store, scope, begun, expression.steps.as_slice())
+        }
+        Leaf::Constant(word) => {
+            let begun = small(word)?;
+            follow(store, scope, begun, expression.steps.as_slice())
+        }
+        Leaf::Slot(slot) => {
+            let place = slot_place(scope, slot)?;
+            placed(store, scope, place, expression.steps.as_slice())
+        }
+        Leaf::Object(number) => {
+            let place = object_place(number);
+            placed(store, scope, place, expression.steps.as_slice())
+        }
+        Leaf::Faulty => None,
+    }
+}
+
+/// What steps make of a place that begin with the value there, or with that of an element of an array.
+#[cycle(number)]
+#[inline(never)]
+fn placed(store: &Store, scope: &[Ptr], place: Ptr, steps: &[PlainStep]) -> Option<i64>
+    ensures { IfSome result (λ z. FollowsPlace scope.now steps.now place.0 store.now z) }
+{
+    match steps {
         [first, rest @ ..] => match loaded_kind(first) {
             Some(kind) => {
-                let place = place(scope, expression.leaf)?;
                 let begun = read(store, place, kind)?;
                 follow(store, scope, begun, rest)
             }
-            None => other_first(store, scope, expression),
+            None => match rest {
+                [second, rest @ ..] => {
+                    let begun = element_value(store, scope, place, first, second)?;
+                    follow(store, scope, begun, rest)
+                }
+                [] => None,
+            },
         },
-        [] => constant(expression.leaf),
+        [] => None,
     }
 }
 
-/// The same, where it doesn't begin with the value of an object.
-#[cycle(number)]
-#[inline(never)]
-fn other_first(store: &Store, scope: &[Ptr], expression: &Plain) -> Option<i64>
-    ensures { IfSome result (λ z.
-        Leads scope.now (plain_view expression.now) store.now store.now (number z)) }
-{
-    match constant(expression.leaf) {
-        Some(begun) => follow(store, scope, begun, expression.steps.as_slice()),
-        None => element_first(store, scope, expression),
-    }
-}
-
-/// The same, where it begins with the value of an element of an array.
+/// The value of an element of an array, if the first step leads to one and the second loads it.
 #[cycle(number)]
 #[inline(always)]
-fn element_first(store: &Store, scope: &[Ptr], expression: &Plain) -> Option<i64>
-    ensures { IfSome result (λ z.
-        Leads scope.now (plain_view expression.now) store.now store.now (number z)) }
+fn element_value(
+    store: &Store,
+    scope: &[Ptr],
+    place: Ptr,
+    first: &PlainStep,
+    second: &PlainStep,
+) -> Option<i64>
+    ensures { IfSome result (λ z. FollowsPlace scope.now
+        (first.now ∷ second.now ∷ []) place.0 store.now z) }
 {
-    match expression.steps.as_slice() {
-        [first, second, rest @ ..] => {
-            let kind = loaded_kind(second)?;
-            let place = place(scope, expression.leaf)?;
-            let element = element(store, scope, place, first)?;
-            let begun = read(store, element, kind)?;
-            follow(store, scope, begun, rest)
-        }
-        _ => None,
-    }
+    let kind = loaded_kind(second)?;
+    let element = element(store, scope, place, first)?;
+    read(store, element, kind)
 }
 
 /// What the steps make of a number.
@@ -91,31 +112,58 @@ fn advance(store: &Store, scope: &[Ptr], value: i64, step: &PlainStep) -> Option
         store.now store.now (number z)) }
 {
     match step {
+        PlainStep::WithNumber(operation, right) => combined(operation, store, value, *right),
+        PlainStep::WithInt(operation, slot) => {
+            let right = int(store, scope, *slot)?;
+            combined(operation, store, value, right)
+        }
+        PlainStep::WithLong(operation, slot) => {
+            let right = long(store, scope, *slot)?;
+            combined(operation, store, value, right)
+        }
+        PlainStep::Two(Binary::Operate(operation), right) => {
+            let right = number(store, scope, right)?;
+            combined(operation, store, value, right)
+        }
         PlainStep::One(Unary::Convert(_, to)) => fitted(*to, value),
         PlainStep::One(Unary::Not) => Some((value == 0) as i64),
-        PlainStep::Two(Binary::Operate(operation), right) => {
-            let right = operand(store, scope, right)?;
-            combined(*operation, store, value, right)
-        }
         _ => None,
     }
 }
 
 /// The number of an expression that may well be a constant or a variable.
-#[cycle(number)]
 #[inline(always)]
 pub(crate) fn operand(store: &Store, scope: &[Ptr], expression: &Plain) -> Option<i64>
     ensures { IfSome result (λ z.
         Leads scope.now (plain_view expression.now) store.now store.now (number z)) }
 {
     match expression.steps.as_slice() {
-        [] => constant(expression.leaf),
-        [PlainStep::One(Unary::Load(kind))] => {
-            let place = place(scope, expression.leaf)?;
-            read(store, place, *kind)
-        }
+        [] => match expression.leaf {
+            Leaf::IntValue(slot) => int(store, scope, slot),
+            Leaf::LongValue(slot) => long(store, scope, slot),
+            Leaf::Constant(word) => small(word),
+            _ => None,
+        },
         _ => number(store, scope, expression),
     }
+}
+
+/// The value of an `int` of the function.
+#[inline(always)]
+pub(crate) fn int(store: &Store, scope: &[Ptr], slot: u32) -> Option<i64>
+    ensures { IfSome result (λ z.
+        Leads scope.now (leaf_view (leaf.IntValue slot)) store.now store.now (number z)) }
+{
+    found(store, slot_place(scope, slot)?, Kind::Int)
+}
+
+/// The value of a `long` of the function.
+#[inline(always)]
+pub(crate) fn long(store: &Store, scope: &[Ptr], slot: u32) -> Option<i64>
+    ensures { IfSome result (λ z.
+        Leads scope.now (leaf_view (leaf.LongValue slot)) store.now store.now (number z)) }
+{
+    found(store, slot_place(scope, slot)?, Kind::Long)
 }
 
 /// The type of the value that a step loads, if it does.
@@ -137,43 +185,51 @@ pub(crate) fn element(store: &Store, scope: &[Ptr], first: Ptr, step: &PlainStep
         (address first.0) store.now store.now (address p.0)) }
 {
     match step {
+        PlainStep::WithInt(Operation::PointerPlus(size), slot) => {
+            let by = int(store, scope, *slot)?;
+            moved(store, first, by, *size)
+        }
+        PlainStep::WithNumber(Operation::PointerPlus(size), by) => {
+            moved(store, first, *by, *size)
+        }
         PlainStep::Two(Binary::Operate(Operation::PointerPlus(size)), index) => {
-            let by = operand(store, scope, index)?;
-            match store.move_ptr(first, by, *size) {
-                Ok(to) => Some(to),
-                Err(_) => None,
-            }
+            let by = number(store, scope, index)?;
+            moved(store, first, by, *size)
         }
         _ => None,
     }
 }
 
-/// The number of a constant.
+/// The place that is so many elements further on, in the same object.
 #[inline(always)]
-fn constant(leaf: Leaf) -> Option<i64>
-    ensures { IfSome result (λ z. (scope : List Ptr) (m : Memory)
-        → Leads scope (leaf_view leaf) m m (number z)) }
+fn moved(store: &Store, first: Ptr, by: i64, size: u64) -> Option<Ptr>
+    ensures { IfSome result (λ p. moved store.now first.0 by size ≡ Ok p.0) }
 {
-    match leaf {
-        Leaf::Constant(word) => small(word),
-        _ => None,
+    match store.move_ptr(first, by, size) {
+        Ok(to) => Some(to),
+        Err(_) => None,
     }
 }
 
-/// The place of an object by its name.
+/// The place of an object of the function.
 #[inline(always)]
-pub(crate) fn place(scope: &[Ptr], leaf: Leaf) -> Option<Ptr>
+pub(crate) fn slot_place(scope: &[Ptr], slot: u32) -> Option<Ptr>
     ensures { IfSome result (λ p. (m : Memory)
-        → Leads scope.now (leaf_view leaf) m m (address p.0)) }
+        → Leads scope.now (leaf_view (leaf.Slot slot)) m m (address p.0)) }
 {
-    match leaf {
-        Leaf::Slot(index) => match scope.get(index as usize) {
-            Some(ptr) => Some(*ptr),
-            None => None,
-        },
-        Leaf::Object(number) => Some(Ptr((number as u64) << 32)),
-        _ => None,
+    match scope.get(slot as usize) {
+        Some(ptr) => Some(*ptr),
+        None => None,
     }
+}
+
+/// The place of an object of the program.
+#[inline(always)]
+pub(crate) fn object_place(number: u32) -> Ptr
+    ensures { (scope : List Ptr) (m : Memory)
+        → Leads scope (leaf_view (leaf.Object number)) m m (address result.0) }
+{
+    Ptr((number as u64) << 32)
 }
 
 /// The number at a place, where `long` has it.
@@ -184,6 +240,7 @@ pub(crate) fn read(store: &Store, place: Ptr, kind: Kind) -> Option<i64>
     match kind {
         Kind::Int => found(store, place, Kind::Int),
         Kind::Long => found(store, place, Kind::Long),
+        Kind::Char => found(store, place, Kind::Char),
         _ => read_other(store, place, kind),
     }
 }

@@ -11,6 +11,7 @@ ghost use Rattle.ec_plain.specs.Outcomes.{outcome_view};
 
 use crate::outcome::Outcome;
 use ec_bytes::Ptr;
+use ec_code::small;
 use ec_ctypes::Arith;
 use ec_memory::Store;
 use ec_objects::Kind;
@@ -60,31 +61,13 @@ fn moved(store: &Store, ptr: Ptr, by: i64, size: u64) -> Outcome
     }
 }
 
-/// The number of a value, where `long` has it.
-#[inline(always)]
-pub(crate) fn small(word: Word) -> Option<i64>
-    ensures { IfSome result (λ z. word_view word ≡ number z) }
-{
-    match word {
-        Word::Signed(number) => Some(number),
-        Word::Unsigned(number) => {
-            if number <= i64::MAX as u64 {
-                Some(number as i64)
-            } else {
-                None
-            }
-        }
-        Word::Address(_) => None,
-    }
-}
-
 /// What an operation gives for two numbers, where it is a number that `long` has.
 #[inline(always)]
-pub(crate) fn combined(operation: Operation, store: &Store, x: i64, y: i64) -> Option<i64>
+pub(crate) fn combined(operation: &Operation, store: &Store, x: i64, y: i64) -> Option<i64>
     ensures { IfSome result (λ z.
-        worked (operation_view operation) store.now (number x) (number y) ≡ gives (number z)) }
+        worked (operation_view operation.now) store.now (number x) (number y) ≡ gives (number z)) }
 {
-    match quick(operation, x, y) {
+    match quick(*operation, x, y) {
         Some(made) => Some(made),
         None => combined_slowly(operation, store, x, y),
     }
@@ -92,11 +75,11 @@ pub(crate) fn combined(operation: Operation, store: &Store, x: i64, y: i64) -> O
 
 /// The same, for any operation.
 #[inline(never)]
-fn combined_slowly(operation: Operation, store: &Store, x: i64, y: i64) -> Option<i64>
+fn combined_slowly(operation: &Operation, store: &Store, x: i64, y: i64) -> Option<i64>
     ensures { IfSome result (λ z.
-        worked (operation_view operation) store.now (number x) (number y) ≡ gives (number z)) }
+        worked (operation_view operation.now) store.now (number x) (number y) ≡ gives (number z)) }
 {
-    match slow(operation, store, Word::Signed(x), Word::Signed(y)).get() {
+    match slow(*operation, store, Word::Signed(x), Word::Signed(y)).get() {
         Ok(word) => small(word),
         Err(_) => None,
     }

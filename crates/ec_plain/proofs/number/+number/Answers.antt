@@ -5,15 +5,20 @@ use mir.Val.{SFits, to_z, of_z}
 use Rattle.std.specs.Prelude.{map}
 use Rattle.std.proofs.lemmas.Int.{to_z-of_z}
 use Rattle.std.proofs.lemmas.List.{drop_all}
-use Rattle.ec_code.specs.Trees.{one}
+use Rattle.ec_code.specs.Trees.{leaf_view, two}
 use Rattle.ec_code.specs.Views.{plain_step_view}
+use Rattle.ec_code.specs.declared.expression.PlainStep.{the_lemmas as step_lemmas}
+use Rattle.ec_code.specs.declared.step.Binary.TheVariants as binary
+use Rattle.ec_values.specs.declared.operation.Operation.TheVariants as operation
+use Rattle.ec_bytes.specs.declared.scalar.address.Ptr.{Ptr}
 use Rattle.ec_code.specs.declared.expression.Plain.{out-Plain}
+use Rattle.ec_code.specs.declared.step.Leaf.TheVariants as leaf
 use Rattle.ec_code.specs.declared.step.Unary.TheVariants as unary
 use Rattle.ec_evaluation.specs.Results.{value}
-use Rattle.ec_objects.specs.Memory.{number}
+use Rattle.ec_objects.specs.Memory.{address, number}
 use Rattle.ec_plain.specs.Answered.{at, context}
 use Rattle.ec_plain.specs.Steps.{followed}
-use Rattle.ec_plain.proofs.Numbers.{constant_leads, element_leads, front_is, front_two_is, load_leads}
+use Rattle.ec_plain.proofs.Numbers.{front_is, pair_leads, move_leads, number_leads, operate_leads, place_leads, step_as, steps_as}
 use Rattle.ec_plain.proofs.number.+number.Goals as goal
 
 pub follow-returns : goal.follow-returns
@@ -24,27 +29,64 @@ follow-returns t c = λ knowing w line first s.
     ∙ c.loop-step.invariant knowing w line first s
     ∙ ap (λ xs. followed knowing w (context line c.args.scope.now first) (map plain_step_view xs) (value (number (to_z w64 c.loop-step.value-bits)) (at s c.args.store.now))) (drop_all c.loop-step.step-index c.args.steps.now c.loop-step-test.false)
 
-pub element_first-returns-in_ok-begun-in-len2-up : goal.element_first-returns-in_ok-begun-in-len2-up
-element_first-returns-in_ok-begun-in-len2-up t c =
-    let f : SFits w64 c.in_ok-begun-in-len2-up.begun = search rules in
-    let xs = c.as_slice.result.now in
-    let rest = take (length xs - 2) (drop 2 xs) in
-    let step = plain_step_view c.first-item.result in
-    let all : map plain_step_view (out-Plain c.args.expression.now).steps ≡ step ∷ one (unary.Load c.in_ok-kind-in-len2-up.kind) ∷ map plain_step_view rest =
-    ap (map plain_step_view) (sym c.as_slice.ensures ∙ front_two_is xs c.first-item.result c.second-item.result c.in-len2-up.len_at_least c.first-item.is c.second-item.is)
-    ∙ ap (λ x. step ∷ x ∷ map plain_step_view rest) c.in_ok-kind-in-len2-up.ensures in
-    element_leads c.args.scope.now c.args.expression.now step rest c.in_ok-kind-in-len2-up.kind c.args.store.now c.in_ok-place-in-len2-up.place.0 c.in_ok-element-in-len2-up.element.0 c.in_ok-begun-in-len2-up.begun c.follow.result all (c.in_ok-place-in-len2-up.ensures c.args.store.now) c.in_ok-element-in-len2-up.ensures c.in_ok-begun-in-len2-up.ensures (simp to_z-of_z at c.follow.ensures)
 
-pub number-returns-in_ok-begun-in-Some : goal.number-returns-in_ok-begun-in-Some
-number-returns-in_ok-begun-in-Some t c =
-    let f : SFits w64 c.in_ok-begun-in-Some.begun = search rules in
-    let xs = c.as_slice.result.now in
-    let rest = take (length xs - 1) (drop 1 xs) in
-    load_leads c.args.scope.now c.args.expression.now rest c.in-Some.kind c.args.store.now c.in_ok-place-in-Some.place.0 c.in_ok-begun-in-Some.begun c.follow.result
-    (ap (map plain_step_view) (sym c.as_slice.ensures ∙ front_is xs c.first-item.result c.in-len1-up.len_at_least c.first-item.is) ∙ ap (λ x. x ∷ map plain_step_view rest) c.in-Some.ensures)
-    (c.in_ok-place-in-Some.ensures c.args.store.now) c.in_ok-begun-in-Some.ensures (simp to_z-of_z at c.follow.ensures)
+pub advance-returns-in_ok-right-in-WithInt : goal.advance-returns-in_ok-right-in-WithInt
+advance-returns-in_ok-right-in-WithInt t c =
+    let f : SFits w64 c.in_ok-right-in-WithInt.right = search rules in let g = c.ranges.value in
+    let e : plain_step_view c.args.step.now ≡ two (binary.Operate c.in-WithInt.operation) (leaf_view (leaf.IntValue c.in-WithInt.slot)) = search (rules, step_lemmas) in
+    step_as c.args.scope.now number (plain_step_view c.args.step.now) (two (binary.Operate c.in-WithInt.operation) (leaf_view (leaf.IntValue c.in-WithInt.slot))) (number c.args.value) c.args.store.now c.args.store.now c.combined-in-WithInt.result e
+    (operate_leads c.args.scope.now c.in-WithInt.operation (leaf_view (leaf.IntValue c.in-WithInt.slot)) c.args.value c.in_ok-right-in-WithInt.right c.args.store.now c.combined-in-WithInt.result c.in_ok-right-in-WithInt.ensures (simp to_z-of_z at c.combined-in-WithInt.ensures))
 
-pub other_first-returns-in-Some : goal.other_first-returns-in-Some
-other_first-returns-in-Some t c =
-    let f : SFits w64 c.in-Some.begun = search rules in
-    constant_leads c.args.scope.now c.args.expression.now c.as_slice.result.now c.args.store.now c.in-Some.begun c.follow.result c.as_slice.ensures (c.in-Some.ensures c.args.scope.now c.args.store.now) (simp to_z-of_z at c.follow.ensures)
+pub advance-returns-in_ok-right-in-WithLong : goal.advance-returns-in_ok-right-in-WithLong
+advance-returns-in_ok-right-in-WithLong t c =
+    let f : SFits w64 c.in_ok-right-in-WithLong.right = search rules in let g = c.ranges.value in
+    let e : plain_step_view c.args.step.now ≡ two (binary.Operate c.in-WithLong.operation) (leaf_view (leaf.LongValue c.in-WithLong.slot)) = search (rules, step_lemmas) in
+    step_as c.args.scope.now number (plain_step_view c.args.step.now) (two (binary.Operate c.in-WithLong.operation) (leaf_view (leaf.LongValue c.in-WithLong.slot))) (number c.args.value) c.args.store.now c.args.store.now c.combined-in-WithLong.result e
+    (operate_leads c.args.scope.now c.in-WithLong.operation (leaf_view (leaf.LongValue c.in-WithLong.slot)) c.args.value c.in_ok-right-in-WithLong.right c.args.store.now c.combined-in-WithLong.result c.in_ok-right-in-WithLong.ensures (simp to_z-of_z at c.combined-in-WithLong.ensures))
+
+pub element-returns-in_ok-by-in-WithInt-PointerPlus-default : goal.element-returns-in_ok-by-in-WithInt-PointerPlus-default
+element-returns-in_ok-by-in-WithInt-PointerPlus-default t c =
+    let f : SFits w64 c.in_ok-by-in-WithInt-PointerPlus-default.by = search rules in
+    let size = c.in-WithInt-PointerPlus-default.size in
+    let index = leaf_view (leaf.IntValue c.in-WithInt-PointerPlus-default.slot) in
+    let e : plain_step_view c.args.step.now ≡ two (binary.Operate (operation.PointerPlus size)) index = search (rules, step_lemmas) in
+    step_as c.args.scope.now (λ (p : Ptr). address p.0) (plain_step_view c.args.step.now) (two (binary.Operate (operation.PointerPlus size)) index) (address c.args.first.0) c.args.store.now c.args.store.now c.moved.result e
+    (move_leads c.args.scope.now size index c.args.first.0 c.in_ok-by-in-WithInt-PointerPlus-default.by c.args.store.now c.moved.result c.in_ok-by-in-WithInt-PointerPlus-default.ensures (simp to_z-of_z at c.moved.ensures))
+
+pub number-returns-in_ok-begun-in-IntValue : goal.number-returns-in_ok-begun-in-IntValue
+number-returns-in_ok-begun-in-IntValue t c =
+    let f : SFits w64 c.in_ok-begun-in-IntValue.begun = search rules in
+    number_leads c.args.scope.now c.args.expression.now (leaf.IntValue c.in-IntValue.slot) c.as_slice.result.now c.args.store.now c.in_ok-begun-in-IntValue.begun c.follow.result
+    c.in-IntValue.is c.as_slice.ensures c.in_ok-begun-in-IntValue.ensures (simp to_z-of_z at c.follow.ensures)
+
+pub number-returns-in_ok-begun-in-LongValue : goal.number-returns-in_ok-begun-in-LongValue
+number-returns-in_ok-begun-in-LongValue t c =
+    let f : SFits w64 c.in_ok-begun-in-LongValue.begun = search rules in
+    number_leads c.args.scope.now c.args.expression.now (leaf.LongValue c.in-LongValue.slot) c.as_slice-in-LongValue.result.now c.args.store.now c.in_ok-begun-in-LongValue.begun c.follow-in-LongValue.result
+    c.in-LongValue.is c.as_slice-in-LongValue.ensures c.in_ok-begun-in-LongValue.ensures (simp to_z-of_z at c.follow-in-LongValue.ensures)
+
+pub number-returns-in_ok-begun-in-Constant : goal.number-returns-in_ok-begun-in-Constant
+number-returns-in_ok-begun-in-Constant t c =
+    let f : SFits w64 c.in_ok-begun-in-Constant.begun = search rules in
+    number_leads c.args.scope.now c.args.expression.now (leaf.Constant c.in-Constant.word) c.as_slice-in-Constant.result.now c.args.store.now c.in_ok-begun-in-Constant.begun c.follow-in-Constant.result
+    c.in-Constant.is c.as_slice-in-Constant.ensures (λ knowing w line first s. ap (λ v. value v (at s c.args.store.now)) c.in_ok-begun-in-Constant.ensures) (simp to_z-of_z at c.follow-in-Constant.ensures)
+
+pub number-returns-in_ok-place-in-Slot : goal.number-returns-in_ok-place-in-Slot
+number-returns-in_ok-place-in-Slot t c =
+    place_leads c.args.scope.now c.args.expression.now (leaf.Slot c.in-Slot.slot) c.as_slice-in-Slot.result.now c.args.store.now c.in_ok-place-in-Slot.place.0 c.placed.result
+    c.in-Slot.is c.as_slice-in-Slot.ensures (c.in_ok-place-in-Slot.ensures c.args.store.now) c.placed.ensures
+
+pub number-returns-in-Object : goal.number-returns-in-Object
+number-returns-in-Object t c =
+    place_leads c.args.scope.now c.args.expression.now (leaf.Object c.in-Object.number) c.as_slice-in-Object.result.now c.args.store.now c.object_place-place.result.0 c.placed-in-Object.result
+    c.in-Object.is c.as_slice-in-Object.ensures (c.object_place-place.ensures c.args.scope.now c.args.store.now) c.placed-in-Object.ensures
+
+pub placed-returns-in_ok-begun-in-len1-up-rest : goal.placed-returns-in_ok-begun-in-len1-up-rest
+placed-returns-in_ok-begun-in-len1-up-rest t c =
+    let f : SFits w64 c.in_ok-begun-in-len1-up-rest.begun = search rules in
+    let xs = c.args.steps.now in
+    let behind = take (length xs - 1) (drop 1 xs) in
+    let rest = take (length behind - 1) (drop 1 behind) in
+    pair_leads c.args.scope.now xs c.first-item.result c.second-item.result rest c.args.store.now c.args.place.0 c.in_ok-begun-in-len1-up-rest.begun c.follow-in-len1-up-rest.result
+    (front_is xs c.first-item.result c.in-len1-up.len_at_least c.first-item.is ∙ ap (λ ys. c.first-item.result ∷ ys) (front_is behind c.second-item.result c.in-len1-up-rest.len_at_least c.second-item.is))
+    c.in_ok-begun-in-len1-up-rest.ensures (simp to_z-of_z at c.follow-in-len1-up-rest.ensures)
