@@ -1,5 +1,5 @@
 -- The trees of code, as those of the definition.
-use Rattle.std.specs.Prelude.{ℕ, List, map, Option, Some, None, option_map}
+use Rattle.std.specs.Prelude.{ℕ, List, map, option_map}
 use Rattle.ec_objects.specs.Kinds.{kind_type}
 use Rattle.ec_objects.specs.Memory.{number}
 use Rattle.ec_code.specs.declared.step.Binary.TheVariants as binary

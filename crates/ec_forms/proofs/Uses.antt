@@ -34,6 +34,8 @@ pub leaf_same : (l : Leaf) → without_use (leaf_view l) ≡ leaf_view l
 leaf_same (leaf.Object n) = refl
 leaf_same (leaf.Slot i) = refl
 leaf_same (leaf.Constant w) = refl
+leaf_same (leaf.IntValue i) = refl
+leaf_same (leaf.LongValue i) = refl
 leaf_same leaf.Faulty = refl
 
 pub plain_same : (l : Leaf) (ss : List Step) → walked (leaf_view l) ss ≡ without_use (walked (leaf_view l) ss)

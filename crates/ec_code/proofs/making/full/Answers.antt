@@ -1,5 +1,5 @@
 -- No step is there yet.
-use Rattle.std.proofs.Common.{◌≡◌, ◌∙◌, ap, rules, [], List}
+use Rattle.std.proofs.Common.{◌≡◌, ◌∙◌, ap, rules}
 use Rattle.std.specs.Prelude.{map}
 use Rattle.ec_code.specs.declared.expression.Expression.{the_lemmas}
 use Rattle.ec_code.specs.declared.expression.Expression.TheViews as E

@@ -1,5 +1,5 @@
 -- One more step.
-use Rattle.std.proofs.Common.{◌≡◌, ◌∙◌, ap, sym, rules, List}
+use Rattle.std.proofs.Common.{◌≡◌, ◌∙◌, ap, sym, rules}
 use Rattle.std.specs.Prelude.{map}
 use Rattle.ec_code.specs.declared.expression.Expression.{the_lemmas}
 use Rattle.ec_code.specs.declared.expression.Expression.TheViews as E

@@ -1,5 +1,5 @@
 -- The leaf is the place.
-use Rattle.std.proofs.Common.{◌≡◌, ◌∙◌, ap}
+use Rattle.std.proofs.Common.{◌∙◌, ap}
 use Rattle.ec_code.specs.Trees.{leaf_view}
 use Rattle.ec_evaluation.specs.Evaluate.{eval}
 use Rattle.ec_plain.specs.Answered.{at, context}

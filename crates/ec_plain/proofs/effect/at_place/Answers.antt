@@ -1,5 +1,5 @@
 -- One step at the place, or a step to an element and one at its place.
-use Rattle.std.proofs.Common.{◌≡◌, ◌∙◌, ap, sym}
+use Rattle.std.proofs.Common.{◌∙◌, ap, sym}
 use Rattle.std.specs.Prelude.{map}
 use Rattle.ec_code.specs.Views.{plain_step_view}
 use Rattle.ec_objects.specs.Memory.{address}

@@ -11,14 +11,12 @@ use Rattle.ec_code.specs.declared.expression.PlainStep.{the_lemmas as step_lemma
 use Rattle.ec_code.specs.declared.step.Binary.TheVariants as binary
 use Rattle.ec_values.specs.declared.operation.Operation.TheVariants as operation
 use Rattle.ec_bytes.specs.declared.scalar.address.Ptr.{Ptr}
-use Rattle.ec_code.specs.declared.expression.Plain.{out-Plain}
 use Rattle.ec_code.specs.declared.step.Leaf.TheVariants as leaf
-use Rattle.ec_code.specs.declared.step.Unary.TheVariants as unary
 use Rattle.ec_evaluation.specs.Results.{value}
 use Rattle.ec_objects.specs.Memory.{address, number}
 use Rattle.ec_plain.specs.Answered.{at, context}
 use Rattle.ec_plain.specs.Steps.{followed}
-use Rattle.ec_plain.proofs.Numbers.{front_is, pair_leads, move_leads, number_leads, operate_leads, place_leads, step_as, steps_as}
+use Rattle.ec_plain.proofs.Numbers.{front_is, pair_leads, move_leads, number_leads, operate_leads, place_leads, step_as}
 use Rattle.ec_plain.proofs.number.+number.Goals as goal
 
 pub follow-returns : goal.follow-returns

@@ -1,5 +1,5 @@
 -- A leaf alone.
-use Rattle.std.proofs.Common.{◌≡◌, ◌∙◌, sym}
+use Rattle.std.proofs.Common.{◌∙◌, sym}
 use Rattle.ec_code.specs.declared.step.Leaf.TheVariants as leaf
 use Rattle.ec_plain.proofs.Numbers.{constant_leads, leaf_leads, none_is}
 use Rattle.ec_plain.proofs.number.operand.Goals as goal

@@ -1,7 +1,7 @@
 -- Step by step.
 use Rattle.std.proofs.Common.{◌≡◌, ◌∙◌, ap, sym, rules, ◌+◌, drop}
 use Rattle.std.specs.Int.{w64}
-use mir.Val.{SFits, to_z, of_z}
+use mir.Val.{SFits}
 use Rattle.std.proofs.lemmas.Int.{to_z-of_z}
 use Rattle.std.specs.Prelude.{map}
 use Rattle.ec_code.specs.declared.expression.Plain.{out-Plain, the_lemmas}

@@ -1,5 +1,5 @@
 -- Behind the value of the object.
-use Rattle.std.proofs.Common.{◌≡◌, ◌∙◌, ap, sym}
+use Rattle.std.proofs.Common.{◌∙◌, ap, sym}
 use Rattle.ec_code.specs.declared.step.Binary.TheVariants as binary
 use Rattle.ec_evaluation.specs.Results.{on_value}
 use Rattle.ec_values.specs.Words.{word_view}

@@ -1,4 +1,4 @@
-use Rattle.std.proofs.Common.{◌≡◌, ◌+◌, ◌≤◌, length, sym, ap, subst, arith}
+use Rattle.std.proofs.Common.{◌+◌, ◌≤◌, length, sym, subst, arith}
 use Rattle.ec_code.specs.Objects.{AreInside}
 use Rattle.ec_code.proofs.Inside.{one_inside}
 use Rattle.ec_code.proofs.program.GlobalVariable.add.Goals as goal
