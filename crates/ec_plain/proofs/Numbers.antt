@@ -66,6 +66,11 @@ module _ (scope : List Ptr) where
   constant_leads x m None h = tt
   constant_leads x m (Some z) h = λ knowing w line first s. ap (λ v. value v (at s m)) h
 
+  -- the same of an equal leaf
+  pub leaf_as : (l k : Leaf) (m : Memory) (r : Option ℤ) → l ≡ k → IfSome r (λ z. Leads scope (leaf_view k) m m (number z)) → IfSome r (λ z. Leads scope (leaf_view l) m m (number z))
+  leaf_as l k m None h f = tt
+  leaf_as l k m (Some z) h f = λ knowing w line first s. ap (λ x. eval knowing w (context line scope first) (leaf_view x) (at s m)) h ∙ f knowing w line first s
+
   -- the value of an object
   pub value_leads : (e : Exp) (kind : Kind) (m : Memory) (p : ℕ) (r : Option ℤ) → Leads scope e m m (address p) → IfSome r (λ z. load m p (kind_type kind) ≡ Ok (number z)) → IfSome r (λ z. Leads scope (of.load (kind_type kind) e) m m (number z))
   value_leads e kind m p None l f = tt
@@ -139,14 +144,14 @@ module _ (scope : List Ptr) (e : Plain) where
       ∙ f knowing w line first s
 
   -- a leaf alone
-  pub leaf_leads : (l : Leaf) (m : Memory) (r : Option ℤ) → (out-Plain e).leaf ≡ l → (out-Plain e).steps ≡ [] → IfSome r (λ z. Leads scope (leaf_view l) m m (number z)) → IfSome r (λ z. Leads scope (plain_view e) m m (number z))
-  leaf_leads l m None i h f = tt
-  leaf_leads l m (Some z) i h f = leads_on [] m m (number z) (number z) (ap (map plain_step_view) h) (λ knowing w line first s. ap (λ x. eval knowing w (context line scope first) (leaf_view x) (at s m)) i ∙ f knowing w line first s) (λ knowing w line first s. refl)
+  pub leaf_leads : (m : Memory) (r : Option ℤ) → (out-Plain e).steps ≡ [] → IfSome r (λ z. Leads scope (leaf_view (out-Plain e).leaf) m m (number z)) → IfSome r (λ z. Leads scope (plain_view e) m m (number z))
+  leaf_leads m None h f = tt
+  leaf_leads m (Some z) h f = leads_on [] m m (number z) (number z) (ap (map plain_step_view) h) f (λ knowing w line first s. refl)
 
   -- a number, and all steps behind it
-  pub number_leads : (l : Leaf) (steps : List PlainStep) (m : Memory) (begun : ℤ) (r : Option ℤ) → (out-Plain e).leaf ≡ l → steps ≡ (out-Plain e).steps → Leads scope (leaf_view l) m m (number begun) → IfSome r (λ z. Follows scope steps begun m z) → IfSome r (λ z. Leads scope (plain_view e) m m (number z))
-  number_leads l steps m begun None i h b f = tt
-  number_leads l steps m begun (Some z) i h b f = leads_on (map plain_step_view steps) m m (number begun) (number z) (ap (map plain_step_view) (sym h)) (λ knowing w line first s. ap (λ x. eval knowing w (context line scope first) (leaf_view x) (at s m)) i ∙ b knowing w line first s) f
+  pub number_leads : (steps : List PlainStep) (m : Memory) (begun : ℤ) (r : Option ℤ) → steps ≡ (out-Plain e).steps → Leads scope (leaf_view (out-Plain e).leaf) m m (number begun) → IfSome r (λ z. Follows scope steps begun m z) → IfSome r (λ z. Leads scope (plain_view e) m m (number z))
+  number_leads steps m begun None h b f = tt
+  number_leads steps m begun (Some z) h b f = leads_on (map plain_step_view steps) m m (number begun) (number z) (ap (map plain_step_view) (sym h)) b f
 
   -- a place, and all steps behind it
   pub place_leads : (l : Leaf) (steps : List PlainStep) (m : Memory) (p : ℕ) (r : Option ℤ) → (out-Plain e).leaf ≡ l → steps ≡ (out-Plain e).steps → Leads scope (leaf_view l) m m (address p) → IfSome r (λ z. FollowsPlace scope steps p m z) → IfSome r (λ z. Leads scope (plain_view e) m m (number z))

@@ -25,18 +25,6 @@ pub(crate) fn number(store: &Store, scope: &[Ptr], expression: &Plain) -> Option
         Leads scope.now (plain_view expression.now) store.now store.now (number z)) }
 {
     match expression.leaf {
-        Leaf::IntValue(slot) => {
-            let begun = int(store, scope, slot)?;
-            follow(store, scope, begun, expression.steps.as_slice())
-        }
-        Leaf::LongValue(slot) => {
-            let begun = long(store, scope, slot)?;
-            follow(store, scope, begun, expression.steps.as_slice())
-        }
-        Leaf::Constant(word) => {
-            let begun = small(word)?;
-            follow(store, scope, begun, expression.steps.as_slice())
-        }
         Leaf::Slot(slot) => {
             let place = slot_place(scope, slot)?;
             placed(store, scope, place, expression.steps.as_slice())
@@ -45,7 +33,10 @@ pub(crate) fn number(store: &Store, scope: &[Ptr], expression: &Plain) -> Option
             let place = object_place(number);
             placed(store, scope, place, expression.steps.as_slice())
         }
-        Leaf::Faulty => None,
+        _ => {
+            let begun = leaf_number(store, scope, &expression.leaf)?;
+            follow(store, scope, begun, expression.steps.as_slice())
+        }
     }
 }
 
@@ -131,20 +122,33 @@ fn advance(store: &Store, scope: &[Ptr], value: i64, step: &PlainStep) -> Option
     }
 }
 
-/// The number of an expression that may well be a constant or a variable.
+/// The number of an expression that may well have one step or none.
 #[inline(always)]
 pub(crate) fn operand(store: &Store, scope: &[Ptr], expression: &Plain) -> Option<i64>
     ensures { IfSome result (λ z.
         Leads scope.now (plain_view expression.now) store.now store.now (number z)) }
 {
     match expression.steps.as_slice() {
-        [] => match expression.leaf {
-            Leaf::IntValue(slot) => int(store, scope, slot),
-            Leaf::LongValue(slot) => long(store, scope, slot),
-            Leaf::Constant(word) => small(word),
-            _ => None,
+        [] => leaf_number(store, scope, &expression.leaf),
+        [only] => match leaf_number(store, scope, &expression.leaf) {
+            Some(begun) => advance(store, scope, begun, only),
+            None => number(store, scope, expression),
         },
         _ => number(store, scope, expression),
+    }
+}
+
+/// The number of a constant, or of an `int` or a `long` of the function.
+#[inline(always)]
+fn leaf_number(store: &Store, scope: &[Ptr], leaf: &Leaf) -> Option<i64>
+    ensures { IfSome result (λ z.
+        Leads scope.now (leaf_view leaf.now) store.now store.now (number z)) }
+{
+    match leaf {
+        Leaf::IntValue(slot) => int(store, scope, *slot),
+        Leaf::LongValue(slot) => long(store, scope, *slot),
+        Leaf::Constant(word) => small(*word),
+        _ => None,
     }
 }
 

@@ -51,28 +51,16 @@ element-returns-in_ok-by-in-WithInt-PointerPlus-default t c =
     step_as c.args.scope.now (λ (p : Ptr). address p.0) (plain_step_view c.args.step.now) (two (binary.Operate (operation.PointerPlus size)) index) (address c.args.first.0) c.args.store.now c.args.store.now c.moved.result e
     (move_leads c.args.scope.now size index c.args.first.0 c.in_ok-by-in-WithInt-PointerPlus-default.by c.args.store.now c.moved.result c.in_ok-by-in-WithInt-PointerPlus-default.ensures (simp to_z-of_z at c.moved.ensures))
 
-pub number-returns-in_ok-begun-in-IntValue : goal.number-returns-in_ok-begun-in-IntValue
-number-returns-in_ok-begun-in-IntValue t c =
-    let f : SFits w64 c.in_ok-begun-in-IntValue.begun = search rules in
-    number_leads c.args.scope.now c.args.expression.now (leaf.IntValue c.in-IntValue.slot) c.as_slice.result.now c.args.store.now c.in_ok-begun-in-IntValue.begun c.follow.result
-    c.in-IntValue.is c.as_slice.ensures c.in_ok-begun-in-IntValue.ensures (simp to_z-of_z at c.follow.ensures)
-
-pub number-returns-in_ok-begun-in-LongValue : goal.number-returns-in_ok-begun-in-LongValue
-number-returns-in_ok-begun-in-LongValue t c =
-    let f : SFits w64 c.in_ok-begun-in-LongValue.begun = search rules in
-    number_leads c.args.scope.now c.args.expression.now (leaf.LongValue c.in-LongValue.slot) c.as_slice-in-LongValue.result.now c.args.store.now c.in_ok-begun-in-LongValue.begun c.follow-in-LongValue.result
-    c.in-LongValue.is c.as_slice-in-LongValue.ensures c.in_ok-begun-in-LongValue.ensures (simp to_z-of_z at c.follow-in-LongValue.ensures)
-
-pub number-returns-in_ok-begun-in-Constant : goal.number-returns-in_ok-begun-in-Constant
-number-returns-in_ok-begun-in-Constant t c =
-    let f : SFits w64 c.in_ok-begun-in-Constant.begun = search rules in
-    number_leads c.args.scope.now c.args.expression.now (leaf.Constant c.in-Constant.word) c.as_slice-in-Constant.result.now c.args.store.now c.in_ok-begun-in-Constant.begun c.follow-in-Constant.result
-    c.in-Constant.is c.as_slice-in-Constant.ensures (λ knowing w line first s. ap (λ v. value v (at s c.args.store.now)) c.in_ok-begun-in-Constant.ensures) (simp to_z-of_z at c.follow-in-Constant.ensures)
+pub number-returns-in_ok-begun-in_default : goal.number-returns-in_ok-begun-in_default
+number-returns-in_ok-begun-in_default t c =
+    let f : SFits w64 c.in_ok-begun-in_default.begun = search rules in
+    number_leads c.args.scope.now c.args.expression.now c.as_slice-in_default.result.now c.args.store.now c.in_ok-begun-in_default.begun c.follow.result
+    c.as_slice-in_default.ensures c.in_ok-begun-in_default.ensures (simp to_z-of_z at c.follow.ensures)
 
 pub number-returns-in_ok-place-in-Slot : goal.number-returns-in_ok-place-in-Slot
 number-returns-in_ok-place-in-Slot t c =
-    place_leads c.args.scope.now c.args.expression.now (leaf.Slot c.in-Slot.slot) c.as_slice-in-Slot.result.now c.args.store.now c.in_ok-place-in-Slot.place.0 c.placed.result
-    c.in-Slot.is c.as_slice-in-Slot.ensures (c.in_ok-place-in-Slot.ensures c.args.store.now) c.placed.ensures
+    place_leads c.args.scope.now c.args.expression.now (leaf.Slot c.in-Slot.slot) c.as_slice.result.now c.args.store.now c.in_ok-place-in-Slot.place.0 c.placed.result
+    c.in-Slot.is c.as_slice.ensures (c.in_ok-place-in-Slot.ensures c.args.store.now) c.placed.ensures
 
 pub number-returns-in-Object : goal.number-returns-in-Object
 number-returns-in-Object t c =
