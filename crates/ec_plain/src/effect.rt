@@ -84,9 +84,7 @@ fn assign(store: &mut Store, scope: &[Ptr], to: Ptr, step: &PlainStep) -> Option
     match step {
         PlainStep::Two(Binary::Store(kind), right) => give(store, scope, to, *kind, right),
         PlainStep::ChangeBy(update, by) => change(store, to, update, *by),
-        PlainStep::Two(Binary::Update(update), right) => {
-            renew(store, scope, to, update, right)
-        }
+        PlainStep::Two(Binary::Update(update), right) => { renew(store, scope, to, update, right) }
         PlainStep::One(Unary::Load(kind)) => read(store, to, *kind),
         _ => None,
     }

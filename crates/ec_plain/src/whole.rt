@@ -110,7 +110,13 @@ fn take_step(store: &mut Store, scope: &[Ptr], step: &PlainStep, value: Word) ->
         PlainStep::One(Unary::Load(kind)) => load(store, *kind, value),
         PlainStep::One(step) => unary(store, step, value),
         PlainStep::WithNumber(operation, number) => {
-            finish(store, Binary::Operate(*operation), value, value, Word::Signed(*number))
+            finish(
+                store,
+                Binary::Operate(*operation),
+                value,
+                value,
+                Word::Signed(*number),
+            )
         }
         PlainStep::WithInt(operation, slot) => {
             combine(store, scope, *operation, value, *slot, Kind::Int)

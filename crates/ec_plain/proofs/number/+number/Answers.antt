@@ -27,7 +27,6 @@ follow-returns t c = λ knowing w line first s.
     ∙ c.loop-step.invariant knowing w line first s
     ∙ ap (λ xs. followed knowing w (context line c.args.scope.now first) (map plain_step_view xs) (value (number (to_z w64 c.loop-step.value-bits)) (at s c.args.store.now))) (drop_all c.loop-step.step-index c.args.steps.now c.loop-step-test.false)
 
-
 pub advance-returns-in_ok-right-in-WithInt : goal.advance-returns-in_ok-right-in-WithInt
 advance-returns-in_ok-right-in-WithInt t c =
     let f : SFits w64 c.in_ok-right-in-WithInt.right = search rules in let g = c.ranges.value in
