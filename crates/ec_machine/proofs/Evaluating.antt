@@ -32,7 +32,7 @@ module _ (knowing : Knowing) (w : World) (c : Context) (s : State) where
   to_Full x p i = ap (λ z. eval knowing w c z s) (ap expression_view i ∙ view-Full p)
 
   -- an expression leads to what its steps make of what its beginning leads to
-  full_leads : (x : Full) (h : Head) (xs : List FullStep) → (out-Full x).head ≡ h → xs ≡ (out-Full x).steps → eval knowing w c (full_view x) s ≡ followed knowing w c (map full_step_view xs) (eval knowing w c (head_view h) s)
+  pub full_leads : (x : Full) (h : Head) (xs : List FullStep) → (out-Full x).head ≡ h → xs ≡ (out-Full x).steps → eval knowing w c (full_view x) s ≡ followed knowing w c (map full_step_view xs) (eval knowing w c (head_view h) s)
   full_leads x h xs i j =
       ap (λ z. eval knowing w c z s) (view-full x)
       ∙ walk_leads knowing w c (head_view (out-Full x).head) (map full_step_view (out-Full x).steps) s

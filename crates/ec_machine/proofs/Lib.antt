@@ -1,5 +1,6 @@
 pub use Rattle.ec_plain.proofs as ec_plain_proofs
 pub mod Evaluating
+pub mod Finding
 pub mod Fuel
 pub mod Moves
 pub mod Objects

@@ -1,23 +1,19 @@
 -- What pushing a frame keeps, and what passes every frame.
-use Rattle.std.proofs.Common.{◌≡◌, ℕ, ◌+◌, ◌-◌, ◌≤◌, List, [], ◌∷◌, ◌++◌, length, map, take, drop, Option, Some, None, Bool, true, false, refl, sym, ap, ◌∙◌, subst, arith, Result, Ok, Err, append_assoc, length-append}
+use Rattle.std.proofs.Common.{◌≡◌, ℕ, ◌+◌, ◌-◌, ◌≤◌, List, [], ◌∷◌, ◌++◌, length, map, take, drop, Option, Some, None, true, false, refl, sym, ap, ◌∙◌, subst, arith, Result, Ok, Err, append_assoc, length-append}
 use Rattle.std.specs.Prelude.{reverse, IsErrAnd}
 use Rattle.std.specs.Borrow.{Bor}
-use Rattle.std.specs.Option.{option_map}
 use Rattle.std.proofs.lemmas.List.{map-append, reverse-append, drop_all, drop-append-le, take_all, take_at, take-append-le}
 use Rattle.ec_bytes.specs.declared.scalar.address.Ptr.{Ptr}
 use Rattle.ec_code.specs.declared.program.Function.{Function}
 use Rattle.ec_code.specs.Trees.{Step}
 use Rattle.ec_code.specs.Views.{full_step_view, statements_view}
-use Rattle.ec_code.specs.declared.expression.FullStep.{FullStep}
 use Rattle.ec_code.specs.declared.statement.Statement.{Statement}
 use Rattle.ec_resolved.specs.Operations.{is_true}
 use Rattle.ec_resolved.specs.Resolved.{Exp, Stm}
-use Rattle.ec_values.specs.Words.{word_view}
-use Rattle.ec_values.specs.declared.word.Word.{Word}
 use Rattle.ec_base.specs.declared.line.Line.{Line}
 use Rattle.ec_evaluation.specs.Evaluate.{Context, World, Step as Knowing, turn_of, eval}
 use Rattle.ec_evaluation.specs.Execute.{tested, again, settle}
-use Rattle.ec_evaluation.specs.Results.{Res, on, over, on_value, closing, function_end, answered, ended_to}
+use Rattle.ec_evaluation.specs.Results.{Res, on, over, on_value, closing, ended_to}
 use Rattle.ec_evaluation.specs.State.{State, Ending}
 use Rattle.ec_objects.specs.Memory.{ValueData}
 use Rattle.ec_plain.specs.Answered.{scope_view}
@@ -33,7 +29,7 @@ use Rattle.ec_machine.specs.declared.machine.Machine.{Machine}
 use Rattle.ec_machine.specs.declared.scope.Scope.{Scope}
 use Rattle.ec_machine.specs.declared.stop.Stop.{Stop}
 use Rattle.ec_machine.specs.declared.stop.Stop.TheVariants as stop
-use Rattle.ec_machine.specs.Frames.{Env, Grown, cut, last_of, without_last, objects_of, here, below, plug, resume, led}
+use Rattle.ec_machine.specs.Frames.{Env, Grown, cut, last_of, without_last, objects_of, here, below, outside, plug, resume, led}
 use Rattle.ec_machine.specs.Goes.{Goes, Returns, Stands, Stops, IsOver, at, ending_view, env_of, tasks}
 
 pub pushed : (knowing : Knowing) (w : World) (e : Env) (fs fs' : List Frame) (f : Frame) (o : Res) → fs' ≡ fs ++ f ∷ [] → resume knowing w (below e f) (reverse fs) (plug knowing w e f o) ≡ resume knowing w e (reverse fs') o
@@ -46,7 +42,7 @@ plug_over : (knowing : Knowing) (w : World) (e : Env) (f : Frame) (x : Ending) (
 plug_over knowing w e (frame.Steps line xs) x s = followed_over knowing w (here e line) (map full_step_view xs.now) x s
 plug_over knowing w e (frame.Right line b v old xs) x s = followed_over knowing w (here e line) (map full_step_view xs.now) x s
 plug_over knowing w e (frame.Arguments line callee n es xs) x s = followed_over knowing w (here e line) (map full_step_view xs.now) x s
-plug_over knowing w e (frame.Call line used otherwise xs first) x s = followed_over knowing w (here (record e { first = first }) line) (map full_step_view xs.now) x s
+plug_over knowing w e (frame.Call y) x s = followed_over knowing w (here (outside y e) y.line) (map full_step_view y.steps.now) x s
 plug_over knowing w e (frame.Called line n xs) x s = followed_over knowing w (here e line) (map full_step_view xs.now) x s
 plug_over knowing w e frame.Do x s = refl
 plug_over knowing w e frame.Give x s = refl
@@ -88,6 +84,11 @@ over_stands knowing w e fs s m r x y o i j h = subst (λ r. Stands knowing w s m
 pub goes_as : (fs : List Function) (old new : Machine) (e : Env) (r : Result Focus Stop) (part part' : Knowing → World → State → Res) → ((knowing : Knowing) (w : World) (t : State) → part knowing w t ≡ part' knowing w t) → Goes fs old e part' r new → Goes fs old e part r new
 goes_as fs old new e r part part' h g =
     λ knowing fits k s l. subst (λ o. Stands knowing (tasks knowing fs k) s new r (resume knowing (tasks knowing fs k) e (reverse old.frames) o)) (sym (h knowing (tasks knowing fs k) (at s old))) (g knowing fits k s l)
+
+-- a part of the run as another that does the same from where the machine stood
+pub goes_at : (fs : List Function) (old new : Machine) (e : Env) (part part' : Knowing → World → State → Res) (r : Result Focus Stop) → ((knowing : Knowing) (w : World) (s : State) → part knowing w (at s old) ≡ part' knowing w (at s old)) → Goes fs old e part' r new → Goes fs old e part r new
+goes_at fs old new e part part' r h g =
+    λ knowing fits k s l. subst (λ o. Stands knowing (tasks knowing fs k) s new r (resume knowing (tasks knowing fs k) e (reverse old.frames) o)) (sym (h knowing (tasks knowing fs k) s)) (g knowing fits k s l)
 
 -- ---- scopes
 
@@ -143,7 +144,7 @@ pub stops_stand : (knowing : Knowing) (w : World) (e : Env) (fs : List Frame) (s
 stops_stand knowing w e fs s m (Ok f) x o i h = absurd i
 stops_stand knowing w e fs s m (Err y) x o i h = subst (λ y. Stops y (at s m) (resume knowing w e fs o)) (sym i) (lifted knowing w e fs (at s m) x o h)
 
--- ---- blocks and calls
+-- ---- blocks
 
 pub back_again : (e : Env) (sc : Scope) → Grown e.scope.pointers sc.pointers → cut (length e.scope.pointers) e.scope.count sc ≡ e.scope
 back_again e sc g = λ i. record { pointers = take_front e.scope.pointers sc.pointers g i; count = e.scope.count }
@@ -155,18 +156,6 @@ entered knowing w e sc fs fs₁ fs₂ mark line b o g p q =
     ap (λ x. resume knowing w (record e { scope = x }) (reverse fs) (closing mark (settle w (here (record e { scope = sc }) line) (statements_view b.now) o))) (sym (back_again e sc g))
     ∙ pushed knowing w (record e { scope = sc }) fs fs₁ (frame.Close mark (length e.scope.pointers) e.scope.count) (settle w (here (record e { scope = sc }) line) (statements_view b.now) o) p
     ∙ pushed knowing w (record e { scope = sc }) fs₁ fs₂ (frame.Settle line b) o q
-
-pub begun : (knowing : Knowing) (w : World) (e : Env) (sc : Scope) (fs fs₁ fs₂ fs₃ : List Frame) (mark : ℕ) (line : Line) (used : Bool) (otherwise : Option Word) (xs : Bor (List FullStep)) (b : Bor (List Statement)) (o : Res) → Grown e.scope.pointers sc.pointers
-    → fs₁ ≡ fs ++ frame.Call line used otherwise xs e.first ∷ [] → fs₂ ≡ fs₁ ++ frame.Close mark (length e.scope.pointers) e.scope.count ∷ [] → fs₃ ≡ fs₂ ++ frame.Settle line b ∷ []
-    → resume knowing w e (reverse fs) (followed knowing w (here e line) (map full_step_view xs.now) (answered line.0 used (function_end (option_map word_view otherwise) (closing mark (settle w (here (record e { scope = sc; first = false }) line) (statements_view b.now) o)))))
-    ≡ resume knowing w (record e { scope = sc; first = false }) (reverse fs₃) o
-begun knowing w e sc fs fs₁ fs₂ fs₃ mark line used otherwise xs b o g p q r =
-    let d : Env = record e { scope = sc; first = false } in
-    let x : Res = closing mark (settle w (here d line) (statements_view b.now) o) in
-    pushed knowing w (record e { first = false }) fs fs₁ (frame.Call line used otherwise xs e.first) x p
-    ∙ ap (λ y. resume knowing w (record e { scope = y; first = false }) (reverse fs₁) x) (sym (back_again e sc g))
-    ∙ pushed knowing w d fs₁ fs₂ (frame.Close mark (length e.scope.pointers) e.scope.count) (settle w (here d line) (statements_view b.now) o) q
-    ∙ pushed knowing w d fs₂ fs₃ (frame.Settle line b) o r
 
 -- ---- loops
 

@@ -1,6 +1,6 @@
 -- What parts of a step do, over plain variables.
 use Rattle.std.proofs.Common.{◌≡◌, ◌∙◌, refl, sym, ap, subst, arith, ℕ, ◌+◌, ◌-◌, ◌<◌, ◌≤◌, List, [], ◌∷◌, ◌++◌, length, get_or, map, take, drop, Option, Result}
-use Rattle.std.proofs.lemmas.List.{map-append, take_all}
+use Rattle.std.proofs.lemmas.List.{append-nil, map-append, take_all}
 use Rattle.ec_code.specs.declared.expression.FullStep.{FullStep}
 use Rattle.ec_code.specs.declared.expression.FullStep.TheVariants as step
 use Rattle.ec_code.specs.declared.expression.Expression.{Expression}
@@ -10,7 +10,7 @@ use Rattle.ec_code.specs.declared.step.Unary.{Unary}
 use Rattle.ec_code.specs.Trees.{Step}
 use Rattle.ec_code.specs.Views.{expression_view, full_step_view}
 use Rattle.ec_evaluation.specs.Evaluate.{Context, World, Step as Knowing}
-use Rattle.ec_evaluation.specs.Results.{Res, value, over, done_there}
+use Rattle.ec_evaluation.specs.Results.{Res, value, over, done_there, or_no_value}
 use Rattle.ec_evaluation.specs.State.{Ending, State}
 use Rattle.ec_functions.specs.Functions.{Channel, standard_output, standard_error, puts_bytes}
 use Rattle.ec_objects.specs.Memory.{Memory, ValueData}
@@ -24,43 +24,38 @@ use Rattle.ec_machine.specs.declared.stop.Stop.{Stop}
 use Rattle.ec_machine.specs.declared.stop.Stop.TheVariants as stop
 use Rattle.ec_machine.specs.Frames.{Env, below, denote, last_of, plug, without_last, waiting}
 use Rattle.ec_machine.specs.Goes.{Goes, Stops, ending_view, env_of, taken}
-use Rattle.ec_machine.proofs.Moves.{last_push, rest_push, none_waits, all_rest}
+use Rattle.ec_machine.proofs.Moves.{last_push, rest_push}
 use Rattle.ec_machine.proofs.Views.{view-One, view-Two}
 
 -- ---- values that wait
 
+module _ (m : Machine) (count more : ℕ) (v : Word) (vs : List Word) (p : vs ≡ m.values ++ v ∷ []) (q : more ≡ count + 1) where
+  pub values_wait : waiting count (env_of m) ++ word_view v ∷ [] ≡ waiting more (env_of (record m { values = vs }))
+  values_wait = sym ((λ i. map word_view (last_of (q i) (p i))) ∙ ap (map word_view) (last_push m.values count v) ∙ map-append word_view (last_of count m.values) (v ∷ []))
+
+  left : without_last more vs ≡ without_last count m.values
+  left = (λ i. without_last (q i) (p i)) ∙ rest_push m.values count v
+
+  pub values_rest : taken more (env_of (record m { values = vs })) ≡ taken count (env_of m)
+  values_rest = λ i. record (env_of m) { values = left i }
+
 pub values_pushed : (fs : List Function) (m new : Machine) (r : Result Focus Stop) (count more : ℕ) (v : Word) (vs : List Word) (part : List ValueData → Knowing → World → State → Res) → vs ≡ m.values ++ v ∷ [] → more ≡ count + 1
-    → Goes fs m (taken more (env_of (record m { values = vs }))) (part (waiting more (env_of (record m { values = vs })))) r new
+    → Goes fs (record m { values = vs }) (taken more (env_of (record m { values = vs }))) (part (waiting more (env_of (record m { values = vs })))) r new
     → Goes fs m (taken count (env_of m)) (part (waiting count (env_of m) ++ word_view v ∷ [])) r new
 values_pushed fs m new r count more v vs part p q g =
-    subst (λ e. Goes fs m e (part (waiting count (env_of m) ++ word_view v ∷ [])) r new) there
-    (subst (λ xs. Goes fs m (taken more (env_of (record m { values = vs }))) (part xs) r new) joined g)
-  where
-    joined : waiting more (env_of (record m { values = vs })) ≡ waiting count (env_of m) ++ word_view v ∷ []
-    joined = (λ i. map word_view (last_of (q i) (p i))) ∙ ap (map word_view) (last_push m.values count v) ∙ map-append word_view (last_of count m.values) (v ∷ [])
-
-    left : without_last more vs ≡ without_last count m.values
-    left = (λ i. without_last (q i) (p i)) ∙ rest_push m.values count v
-
-    there : taken more (env_of (record m { values = vs })) ≡ taken count (env_of m)
-    there = λ i. record (env_of m) { values = left i }
-
-pub no_values : (fs : List Function) (m new : Machine) (r : Result Focus Stop) (part : List ValueData → Knowing → World → State → Res)
-    → Goes fs m (taken 0 (env_of m)) (part (waiting 0 (env_of m))) r new → Goes fs m (env_of m) (part []) r new
-no_values fs m new r part g =
-    subst (λ e. Goes fs m e (part []) r new) there (subst (λ xs. Goes fs m (taken 0 (env_of m)) (part xs) r new) none g)
-  where
-    none : waiting 0 (env_of m) ≡ []
-    none = ap (map word_view) (none_waits m.values)
-
-    there : taken 0 (env_of m) ≡ env_of m
-    there = λ i. record (env_of m) { values = all_rest m.values i }
+    subst (λ e. Goes fs m e (part (waiting count (env_of m) ++ word_view v ∷ [])) r new) (values_rest m count more v vs p q)
+    (subst (λ xs. Goes fs m (taken more (env_of (record m { values = vs }))) (part xs) r new) (sym (values_wait m count more v vs p q)) g)
 
 -- ---- what is put
 
 pub puts_there : (channel : Channel) (line : ℕ) (v : Option ValueData) (m m' : Memory) (text : List ℕ) (s : State) → done_there line (puts_bytes channel v m text) s ≡ done_there line (puts_bytes channel v m text) (record s { memory = m' })
 puts_there standard_output line v m m' text s = refl
 puts_there standard_error line v m m' text s = refl
+
+-- no bytes are put
+pub nothing_put : (channel : Channel) (line : ℕ) (v : Option ValueData) (x : Word) (m : Memory) (text : List ℕ) (s : State) → text ≡ [] → word_view x ≡ or_no_value v → done_there line (puts_bytes channel v m text) s ≡ value (word_view x) (record s { memory = m })
+nothing_put standard_output line v x m text s p q = λ i. value (sym q i) (record s { memory = m; output = (ap (λ t. s.output ++ t) p ∙ append-nil s.output) i; errors = append-nil s.errors i })
+nothing_put standard_error line v x m text s p q = λ i. value (sym q i) (record s { memory = m; output = append-nil s.output i; errors = (ap (λ t. s.errors ++ t) p ∙ append-nil s.errors) i })
 
 -- ---- ends that pass
 

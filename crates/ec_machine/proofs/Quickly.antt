@@ -32,7 +32,7 @@ use Rattle.ec_machine.specs.declared.scope.Scope.{Scope}
 use Rattle.ec_machine.specs.declared.stop.Stop.{Stop}
 use Rattle.ec_machine.specs.declared.stop.Stop.TheVariants as stop
 use Rattle.ec_machine.specs.Frames.{Env, below, denote, objects_of, plug, resume}
-use Rattle.ec_machine.specs.Goes.{Fits, Goes, IsOver, Stops, at, ending_view, env_of, tasks}
+use Rattle.ec_machine.specs.Goes.{Fits, Goes, IsOver, Stops, at, env_of, tasks}
 use Rattle.ec_machine.specs.Quick.{Answers, Asks, Begins, Comes, IsLighter, IsNear, Keeps, Leaves, LeavesSome, Onward, PassesOver, Says}
 use Rattle.ec_machine.specs.Weights.{remaining, statement_weight, weight}
 use Rattle.ec_machine.proofs.Moves.{lifted, pushed, stands_by}
@@ -113,6 +113,10 @@ remaining_less t t' (Ok f) m h = less (t - m.turns) (t' - m.turns) (weight m.fra
 
 pub if_some : {A : Type 0} (r : Result (Option A) Stop) (x : A) (P : A → Type 0) → r ≡ Ok (Some x) → IfOk r (λ f. IfSome f P) → P x
 if_some r x P p h = subst (λ r. IfOk r (λ f. IfSome f P)) p h
+
+pub some_as : {A : Type 0} (r : Option A) (P Q : A → Type 0) → ((x : A) → P x → Q x) → IfSome r P → IfSome r Q
+some_as (Some x) P Q f h = f x h
+some_as None P Q f h = h
 
 module _ (r : Result Asked Stop) (old new : Memory) (o : Res) (if_so if_not : State → Res) (t : State) (h : Asks r old new o if_so if_not t) where
   pub asks_holds : r ≡ Ok asked.Holds → o ≡ if_so t
@@ -226,11 +230,6 @@ test_none knowing w c test behind x t p = subst (λ z. tested knowing w c z behi
 
 pub behind_none : (knowing : Knowing) (w : World) (c : Context) (test behind : Option Exp) (x : Stm) (t : State) → behind ≡ None → again knowing w c test behind x t ≡ tested knowing w c test behind x t
 behind_none knowing w c test behind x t p = subst (λ z. again knowing w c test z x t ≡ tested knowing w c test z x t) (sym p) refl
-
-pub passed_through : (knowing : Knowing) (w : World) (around : Knowing → World → Res → Res) (go : Knowing → World → ValueData → State → Res) → ((knowing : Knowing) (w : World) (e : Ending) (s : State) → around knowing w (over e s) ≡ over e s)
-    → (x : Stop) (s : State) (o : Res) → Stops x s o → Stops x s (around knowing w (on_value o (go knowing w)))
-passed_through knowing w around go h (stop.Over z) s o i = ap (λ o. around knowing w (on_value o (go knowing w))) i ∙ h knowing w (ending_view z) s
-passed_through knowing w around go h stop.OutOfMemory s o i = tt
 
 -- an argument whose value waits, and one that ends the run
 pub keeps_on : (p : Plain) (count : ℕ) (old new : Machine) (r : Result ℕ Stop) (more : ℕ) → r ≡ Ok more → Keeps p count old r new → Keeps p count old (Ok more) new

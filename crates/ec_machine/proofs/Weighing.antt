@@ -189,6 +189,9 @@ pub err_exit : (t n : ℕ) (r : Result Focus Stop) (m : Machine) (P : Stop → T
 err_exit t n (Ok f) m P h = absurd h
 err_exit t n (Err x) m P h = err_near t n x m
 
+pub err_is_near : (t n : ℕ) (r : Result Focus Stop) (m : Machine) (x : Stop) → r ≡ Err x → remaining t r m ≤ n
+err_is_near t n r m x p = subst (λ r. remaining t r m ≤ n) (sym p) (err_near t n x m)
+
 pub err_none : (t : ℕ) (r : Result Focus Stop) (m : Machine) (P : Stop → Type 0) → IsErrAnd r P → remaining t r m ≡ 0
 err_none t (Ok f) m P h = absurd h
 err_none t (Err x) m P h = remaining_err t x m
@@ -212,7 +215,7 @@ some_weight : (g : Frame) → 1 ≤ frame_weight g
 some_weight (frame.Steps line xs) = omega arith
 some_weight (frame.Right line step v old xs) = omega arith
 some_weight (frame.Arguments line callee n es xs) = omega arith
-some_weight (frame.Call line used otherwise xs first) = omega arith
+some_weight (frame.Call x) = omega arith
 some_weight (frame.Called line n xs) = omega arith
 some_weight frame.Do = omega arith
 some_weight frame.Give = omega arith

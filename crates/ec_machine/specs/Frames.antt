@@ -2,6 +2,7 @@
 use Rattle.std.specs.Prelude.{◌≡◌, ℕ, ◌-◌, List, [], ◌∷◌, ◌++◌, length, take, drop, map, Option, Some, Bool, true, false}
 use Rattle.std.specs.Option.{option_map}
 use Rattle.ec_bytes.specs.declared.scalar.address.Ptr.{Ptr}
+use Rattle.ec_code.specs.declared.expression.FullStep.{FullStep}
 use Rattle.ec_code.specs.declared.statement.Loop.{Loop, out-Loop}
 use Rattle.ec_code.specs.Views.{expression_view, expressions_view, full_step_view, statement_view, statements_view}
 use Rattle.ec_evaluation.specs.Evaluate.{Context, World, Step as Knowing, calls, turn_of, eval, collect}
@@ -26,6 +27,7 @@ use Rattle.ec_machine.specs.declared.frame.Focus.{Focus}
 use Rattle.ec_machine.specs.declared.frame.Focus.TheVariants as focus
 use Rattle.ec_machine.specs.declared.frame.Frame.{Frame}
 use Rattle.ec_machine.specs.declared.frame.Frame.TheVariants as frame
+use Rattle.ec_machine.specs.declared.frame.Way.{Way}
 use Rattle.ec_machine.specs.declared.scope.Scope.{Scope}
 
 -- ---- where a frame stands
@@ -82,10 +84,25 @@ received knowing w c (callee.Known f) vs t =
 received knowing w c (callee.Library n) vs t = without_answer (knowing w c (library n vs) t)
 received knowing w c callee.Object vs t = on t
 
+-- behind steps
+abbrev pub behind_by : Context → List FullStep → Knowing → World → Res → Res
+behind_by c xs knowing w o = followed knowing w c (map full_step_view xs) o
+
+-- ---- ways out of functions
+
+abbrev pub outside : Way → Env → Env
+outside x e = record e { scope = cut x.height x.count e.scope; first = x.first }
+
+-- what the call gives, from what the body led to
+abbrev pub left_by : Way → Res → Res
+left_by x o =
+    answered x.line.0 x.used
+    (function_end (option_map word_view x.function.now.otherwise) (closing x.mark o))
+
 -- where the frames below stand
 abbrev pub below : Env → Frame → Env
 below e (frame.Arguments line callee n es xs) = record e { values = without_last n e.values }
-below e (frame.Call line used otherwise xs first) = record e { first = first }
+below e (frame.Call x) = outside x e
 below e (frame.Called line n xs) = record e { values = without_last n e.values }
 below e (frame.Close mark height count) = record e { scope = cut height count e.scope }
 below e f = e
@@ -95,15 +112,15 @@ abbrev pub plug : Knowing → World → Env → Frame → Res → Res
 plug knowing w e (frame.Steps line xs) o =
     followed knowing w (here e line) (map full_step_view xs.now) o
 plug knowing w e (frame.Right line step v old xs) o =
-    followed knowing w (here e line) (map full_step_view xs.now)
-    (on_value o (both_on line.0 step (word_view v) (word_view old)))
+    behind_by (here e line) xs.now knowing w
+    (on_value o (both_on line.0 step.now (word_view v) (word_view old)))
 plug knowing w e (frame.Arguments line callee n es xs) o =
     followed knowing w (here e line) (map full_step_view xs.now) (on_value o (λ v t.
     collect knowing w (here e line) (waiting n e ++ v ∷ [])
     (expressions_view es.now) t (received knowing w (here e line) callee)))
-plug knowing w e (frame.Call line used otherwise xs first) o =
-    followed knowing w (here (record e { first = first }) line) (map full_step_view xs.now)
-    (answered line.0 used (function_end (option_map word_view otherwise) o))
+plug knowing w e (frame.Call x) o =
+    behind_by (here (outside x e) x.line) x.steps.now knowing w
+    (left_by x (settle w (here e x.line) (statements_view x.function.now.body) o))
 plug knowing w e (frame.Called line n xs) o =
     followed knowing w (here e line) (map full_step_view xs.now) o
 plug knowing w e frame.Do o = on_value o (λ v t. on t)

@@ -1,26 +1,21 @@
 -- What is done on the spot, where no frame is needed: from a memory and a line to others.
-use Rattle.std.specs.Prelude.{◌≡◌, ℕ, ◌<◌, ◌≤◌, Bool, true, false, List, [], ◌∷◌, ◌++◌, map, Option, Some, None, Result, Ok, Err}
+use Rattle.std.specs.Prelude.{◌≡◌, ℕ, ◌<◌, ◌≤◌, Bool, true, false, List, [], ◌∷◌, ◌++◌, Option, Some, None, Result, Ok, Err}
 use Rattle.std.specs.Borrow.{Bor}
 use Rattle.ec_code.specs.declared.expression.Plain.{Plain}
 use Rattle.ec_code.specs.declared.program.Function.{Function}
 use Rattle.ec_code.specs.declared.statement.Loop.{Loop}
 use Rattle.ec_code.specs.declared.statement.Statement.{Statement}
 use Rattle.ec_code.specs.declared.expression.Expression.{Expression}
-use Rattle.ec_code.specs.declared.expression.FullStep.{FullStep}
-use Rattle.ec_code.specs.Views.{expressions_view, full_step_view, plain_view}
-use Rattle.ec_evaluation.specs.Evaluate.{Context, World, Step as Knowing, turn_of, eval, collect}
+use Rattle.ec_code.specs.Views.{expressions_view, plain_view}
+use Rattle.ec_evaluation.specs.Evaluate.{World, Step as Knowing, turn_of, eval, collect}
 use Rattle.ec_evaluation.specs.Execute.{again, run, tested}
-use Rattle.ec_evaluation.specs.Results.{Res, value, on, back, over, on_value, on_done, after_body}
-use Rattle.ec_evaluation.specs.State.{Ending, State}
+use Rattle.ec_evaluation.specs.Results.{Res, value, on, back, on_value, on_done, after_body}
+use Rattle.ec_evaluation.specs.State.{State}
 use Rattle.ec_objects.specs.Memory.{Memory, ValueData}
-use Rattle.ec_plain.specs.Steps.{followed}
 use Rattle.ec_values.specs.Words.{word_view}
 use Rattle.ec_values.specs.declared.word.Word.{Word}
-use Rattle.ec_machine.specs.declared.calls.Way.{Way}
 use Rattle.ec_machine.specs.declared.frame.Callee.{Callee}
 use Rattle.ec_machine.specs.declared.frame.Focus.{Focus}
-use Rattle.ec_machine.specs.declared.frame.Frame.{Frame}
-use Rattle.ec_machine.specs.declared.frame.Frame.TheVariants as frame
 use Rattle.ec_machine.specs.declared.labels.Standing.{Standing}
 use Rattle.ec_machine.specs.declared.machine.Machine.{Machine}
 use Rattle.ec_machine.specs.declared.quick.Asked.{Asked}
@@ -30,8 +25,8 @@ use Rattle.ec_machine.specs.declared.quick.Begun.TheVariants as begun
 use Rattle.ec_machine.specs.declared.quick.Done.{Done}
 use Rattle.ec_machine.specs.declared.quick.Done.TheVariants as done
 use Rattle.ec_machine.specs.declared.stop.Stop.{Stop}
-use Rattle.ec_machine.specs.Frames.{Env, behind_of, below, body_of, here, plug, received, test_of, waiting}
-use Rattle.ec_machine.specs.Goes.{Goes, Stops, env_of, taken}
+use Rattle.ec_machine.specs.Frames.{behind_of, body_of, here, received, test_of, waiting}
+use Rattle.ec_machine.specs.Goes.{Goes, Stops, at, env_of, taken}
 use Rattle.ec_machine.specs.Weights.{IsOutside, remaining, statement_weight}
 
 -- an evaluation has this value, or is the end of the run
@@ -92,42 +87,15 @@ Answers (Err e) old new o t = Stops e t o
 -- the value of an argument waits with the others, which were so many: what is done behind it is done with one more
 abbrev pub Keeps : Plain → ℕ → Machine → Result ℕ Stop → Machine → Type 0
 Keeps p count old (Ok more) new =
-    (fs : List Function) (around : Context → Knowing → World → Res → Res)
-    (part : List ValueData → Context → Knowing → World → State → Res)
-    (result : Result Focus Stop) (last : Machine) →
-    Goes fs new (taken more (env_of new))
-    (λ knowing w t. around (here (env_of new) new.line) knowing w
-    (part (waiting more (env_of new)) (here (env_of new) new.line) knowing w t)) result last →
-    Goes fs old (taken count (env_of old))
-    (λ knowing w t. around (here (env_of old) old.line) knowing w
-    (on_value (eval knowing w (here (env_of old) old.line) (plain_view p) t)
-    (λ v u. part (waiting count (env_of old) ++ v ∷ []) (here (env_of old) old.line) knowing w
-    u))) result last
+    (same : taken more (env_of new) ≡ taken count (env_of old))
+    × ((knowing : Knowing) (w : World) (s : State) (go : List ValueData → State → Res)
+    → on_value (eval knowing w (here (env_of old) old.line) (plain_view p) (at s old))
+    (λ v u. go (waiting count (env_of old) ++ v ∷ []) u)
+    ≡ go (waiting more (env_of new)) (at s new))
 Keeps p count old (Err x) new =
-    (fs : List Function) (around : Knowing → World → Res → Res)
-    (go : Knowing → World → ValueData → State → Res) →
-    ((knowing : Knowing) (w : World) (e : Ending) (s : State) →
-    around knowing w (over e s) ≡ over e s) →
-    Goes fs old (taken count (env_of old))
-    (λ knowing w t. around knowing w
-    (on_value (eval knowing w (here (env_of old) old.line) (plain_view p) t) (go knowing w)))
-    (Err x) new
-
--- ---- ways out of functions
-
-abbrev pub call_frame : Way → Frame
-call_frame x = frame.Call x.line x.used x.otherwise x.steps x.first
-
-abbrev pub close_frame : Way → Frame
-close_frame x = frame.Close x.mark x.height x.count
-
-abbrev pub outside : Way → Env → Env
-outside x e = below (below e (close_frame x)) (call_frame x)
-
--- what the call gives, from what the body led to
-abbrev pub leaving : Knowing → World → Env → Way → Res → Res
-leaving knowing w e x o =
-    plug knowing w (below e (close_frame x)) (call_frame x) (plug knowing w e (close_frame x) o)
+    (knowing : Knowing) (w : World) (s : State) (go : ValueData → State → Res)
+    → Stops x (at s new)
+    (on_value (eval knowing w (here (env_of old) old.line) (plain_view p) (at s old)) go)
 
 -- ---- parts of a machine's run
 
@@ -174,12 +142,10 @@ IsNear turns (Ok (Some f)) m n = remaining turns (Ok f) m ≤ n
 IsNear turns (Err x) m n = Unit {0}
 
 -- a call from its further arguments, behind the last values that wait, of which so many are its own
-abbrev pub passing : List FullStep → Callee → List Expression → ℕ → Machine →
-    Knowing → World → State → Res
-passing steps callee arguments count m knowing w t =
-    followed knowing w (here (env_of m) m.line) (map full_step_view steps)
-    (collect knowing w (here (env_of m) m.line) (waiting count (env_of m)) (expressions_view
-    arguments) t (received knowing w (here (env_of m) m.line) callee))
+abbrev pub passing : Callee → List Expression → ℕ → Machine → Knowing → World → State → Res
+passing callee arguments count m knowing w t =
+    collect knowing w (here (env_of m) m.line) (waiting count (env_of m)) (expressions_view
+    arguments) t (received knowing w (here (env_of m) m.line) callee)
 
 -- whether a focus is outside
 abbrev pub TellsOutside : Bool → Focus → Type 0

@@ -112,7 +112,7 @@ frame_weight (frame.Steps line xs) = steps_weight xs.now
 frame_weight (frame.Right line step v old xs) = 1 + steps_weight xs.now
 frame_weight (frame.Arguments line callee n es xs) =
     2 + expressions_weight es.now + steps_weight xs.now
-frame_weight (frame.Call line used otherwise xs first) = 1 + steps_weight xs.now
+frame_weight (frame.Call x) = 1 + steps_weight x.steps.now
 frame_weight (frame.Called line n xs) = steps_weight xs.now
 frame_weight frame.Do = 1
 frame_weight frame.Give = 1
@@ -133,7 +133,7 @@ abbrev pub frame_answer : Frame → ℕ
 frame_answer (frame.Steps line xs) = 0
 frame_answer (frame.Right line step v old xs) = 0
 frame_answer (frame.Arguments line callee n es xs) = 0
-frame_answer (frame.Call line used otherwise xs first) = 0
+frame_answer (frame.Call x) = 1 + statements_weight x.function.now.body
 frame_answer (frame.Called line n xs) = 0
 frame_answer frame.Do = 0
 frame_answer frame.Give = 0

@@ -1,31 +1,33 @@
 //! Frames that are given an answer.
 
-ghost use Rattle.std.specs.Prelude.{◌≡◌, ◌≤◌, ◌+◌, ℕ, List, true, false};
+ghost use Rattle.std.specs.Prelude.{◌≡◌, ◌≤◌, ◌+◌, List, Err, true, false};
 ghost use Rattle.std.specs.Option.{option_map};
 ghost use Rattle.ec_code.specs.declared.program.Function.{Function as FunctionData};
 ghost use Rattle.ec_code.specs.Views.{statement_view, statements_view};
 ghost use Rattle.ec_evaluation.specs.Evaluate.{turn_of};
 ghost use Rattle.ec_evaluation.specs.Execute.{again, look_all, run, run_all, settle};
-ghost use Rattle.ec_evaluation.specs.Results.{after_body, answered, function_end, on, on_done, value as valued};
+ghost use Rattle.ec_evaluation.specs.Results.{after_body, back, on, on_done, value as valued, went};
 ghost use Rattle.ec_resolved.specs.Operations.{is_true};
 ghost use Rattle.ec_values.specs.Words.{word_view};
-ghost use Rattle.ec_machine.specs.Frames.{behind_of, below, body_of, here, led, plug, test_of};
-ghost use Rattle.ec_machine.specs.Goes.{Goes, Returns, env_of};
-ghost use Rattle.ec_machine.specs.declared.machine.Machine.{Machine as MachineData};
-ghost use Rattle.ec_machine.specs.Weights.{statement_weight, again_weight, flow_weight, frame_answer, frame_weight, frames_answer, frames_weight, remaining, statements_weight};
+ghost use Rattle.ec_machine.specs.Frames.{behind_by, behind_of, below, body_of, here, led, left_by, outside, plug, test_of};
+ghost use Rattle.ec_machine.specs.Goes.{Goes, env_of};
+ghost use Rattle.ec_machine.specs.declared.stop.End.TheVariants as ends;
+ghost use Rattle.ec_machine.specs.declared.stop.Stop.TheVariants as stops;
+ghost use Rattle.ec_objects.specs.Memory.{end_to};
+ghost use Rattle.ec_machine.specs.Weights.{statement_weight, again_weight, flow_weight, frame_answer, frame_weight, frames_answer, frames_weight, remaining, statements_weight, steps_weight};
 
 use crate::calls::drop_last;
-use crate::frame::{Flow, Focus, Frame};
+use crate::frame::{Flow, Focus, Frame, Way};
 use crate::labels::holds_any;
 use crate::machine::Machine;
 use crate::statements::gives;
 use crate::stop::{End, Stop};
-use ec_base::{Line, Trap};
 use ec_code::{Function, Loop, Statement};
 use ec_values::Word;
 
 impl<'p> Machine<'p> {
     /// A frame that was taken is given a value.
+    #[inline(always)]
     pub(crate) fn give_value(
         &mut self,
         functions: &'p [Function],
@@ -42,21 +44,21 @@ impl<'p> Machine<'p> {
         match frame {
             Frame::Steps(line, steps) => {
                 self.line = line;
-                self.follow(steps, value)
+                self.go_on(functions, steps, value)
             }
             Frame::Right(line, step, left, old, steps) => {
                 self.line = line;
-                self.follow_right(step, left, old, value, steps)
+                self.go_right(functions, step, left, old, value, steps)
             }
             Frame::Arguments(line, callee, count, rest, steps) => {
                 self.line = line;
                 self.pass_on(functions, callee, count, value, rest, steps)
             }
-            Frame::Call(_, _, _, _, _) => Err(Stop::Over(End::Stuck)),
+            Frame::Call(_) => Err(Stop::Over(End::Stuck)),
             Frame::Called(line, count, steps) => {
                 self.line = line;
                 drop_last(&mut self.values, count);
-                self.follow(steps, value)
+                self.go_on(functions, steps, value)
             }
             Frame::Do => Ok(Focus::Leads(Flow::On)),
             Frame::Give => gives(self.first, Some(value)),
@@ -66,11 +68,11 @@ impl<'p> Machine<'p> {
             }
             Frame::Test(line, inner) => {
                 self.line = line;
-                self.tested(inner, value)
+                self.tested(functions, inner, value)
             }
             Frame::Behind(line, inner) => {
                 self.line = line;
-                self.test(inner)
+                self.test(functions, inner)
             }
             Frame::Body(_, _) => Ok(Focus::Value(value)),
             Frame::Rest(_, _) => Ok(Focus::Value(value)),
@@ -83,9 +85,14 @@ impl<'p> Machine<'p> {
     }
 
     /// A frame that was taken is told what a statement led to.
-    pub(crate) fn give_flow(&mut self, frame: Frame<'p>, flow: Flow) -> Result<Focus<'p>, Stop>
-        ensures goes { (functions : List FunctionData) → Goes functions self.old (below (env_of
-            self.old) frame.entry)
+    #[inline(always)]
+    pub(crate) fn give_flow(
+        &mut self,
+        functions: &'p [Function],
+        frame: Frame<'p>,
+        flow: Flow,
+    ) -> Result<Focus<'p>, Stop>
+        ensures goes { Goes functions.now self.old (below (env_of self.old) frame.entry)
             (λ knowing w t. plug knowing w (env_of self.old) frame.entry (led flow t)) result
             self.new }
         ensures turns { self.new.turns ≤ self.old.turns }
@@ -102,24 +109,14 @@ impl<'p> Machine<'p> {
                 drop_last(&mut self.values, count);
                 Ok(Focus::Leads(flow))
             }
-            Frame::Call(line, used, otherwise, steps, first) => {
-                self.line = line;
-                self.first = first;
-                match steps {
-                    [] => returned(line, used, otherwise, flow),
-                    _ => {
-                        self.frames.push(Frame::Steps(line, steps))?;
-                        returned(line, used, otherwise, flow)
-                    }
-                }
-            }
+            Frame::Call(way) => self.leave_by(functions, way, flow),
             Frame::Body(line, inner) => {
                 self.line = line;
-                self.after_body(inner, flow)
+                self.after_body(functions, inner, flow)
             }
             Frame::Rest(line, statements) => {
                 self.line = line;
-                self.rest(statements, flow)
+                self.rest(functions, statements, flow)
             }
             Frame::Settle(line, statements) => {
                 self.line = line;
@@ -138,6 +135,90 @@ impl<'p> Machine<'p> {
             Frame::Test(_, _) => Ok(Focus::Leads(flow)),
             Frame::Behind(_, _) => Ok(Focus::Leads(flow)),
         }
+    }
+
+    /// The body of a function led to this.
+    #[inline(always)]
+    fn leave_by(
+        &mut self,
+        functions: &'p [Function],
+        way: Way<'p>,
+        flow: Flow,
+    ) -> Result<Focus<'p>, Stop>
+        ensures goes { Goes functions.now self.old (outside way.entry (env_of self.old))
+            (λ knowing w t. behind_by (here (outside way.entry (env_of self.old)) way.entry.line)
+            way.entry.steps.now knowing w (left_by way.entry (settle w (here (env_of self.old)
+            way.entry.line) (statements_view
+            way.entry.function.now.body) (led flow t)))) result self.new }
+        ensures turns { self.new.turns ≤ self.old.turns }
+        ensures nears { remaining self.old.turns result self.new ≤
+            1 + frames_weight self.old.frames + steps_weight way.entry.steps.now + flow_weight flow
+            (1 + statements_weight way.entry.function.now.body + frames_answer self.old.frames) }
+    {
+        match flow {
+            Flow::On => self.go_out(functions, way, way.function.otherwise),
+            Flow::Back(value) => self.go_out(functions, way, value),
+            Flow::Went(label) => self.go_in(way, label),
+            Flow::Broke => self.go_astray(way),
+            Flow::Continued => self.go_astray(way),
+        }
+    }
+
+    /// A function ended, with a value or without one.
+    #[inline(always)]
+    fn go_out(
+        &mut self,
+        functions: &'p [Function],
+        way: Way<'p>,
+        value: Option<Word>,
+    ) -> Result<Focus<'p>, Stop>
+        ensures goes { Goes functions.now self.old (outside way.entry (env_of self.old))
+            (λ knowing w t. behind_by (here (outside way.entry (env_of self.old)) way.entry.line)
+            way.entry.steps.now knowing w (left_by way.entry (back (option_map word_view value)
+            t))) result self.new }
+        ensures turns { self.new.turns ≤ self.old.turns }
+        ensures nears { remaining self.old.turns result self.new ≤
+            frames_weight self.old.frames + steps_weight way.entry.steps.now }
+    {
+        let mut left = Err(Stop::OutOfMemory);
+        match self.ended(way, value, &mut left).get() {
+            Some(value) => self.go_on(functions, way.steps, value),
+            None => left,
+        }
+    }
+
+    /// A `goto` leads out of the statements of a function's body, which may hold its label.
+    #[inline(never)]
+    fn go_in(&mut self, way: Way<'p>, label: u32) -> Result<Focus<'p>, Stop>
+        ensures goes { (functions : List FunctionData) → Goes functions self.old
+            (outside way.entry (env_of self.old))
+            (λ knowing w t. behind_by (here (outside way.entry (env_of self.old)) way.entry.line)
+            way.entry.steps.now knowing w (left_by way.entry (settle w (here (env_of self.old)
+            way.entry.line) (statements_view
+            way.entry.function.now.body) (went label t)))) result self.new }
+        ensures turns { self.new.turns ≤ self.old.turns }
+        ensures nears { remaining self.old.turns result self.new ≤
+            2 + frames_weight self.old.frames + steps_weight way.entry.steps.now +
+            statements_weight way.entry.function.now.body }
+    {
+        let body = way.function.body.as_slice();
+        if holds_any(label, body) {
+            self.line = way.line;
+            self.frames.push(Frame::Call(way))?;
+            self.look_list(label, body)
+        } else {
+            self.go_astray(way)
+        }
+    }
+
+    /// The body of a function led to what has no meaning.
+    #[inline(never)]
+    fn go_astray(&mut self, way: Way<'p>) -> Result<Focus<'p>, Stop>
+        ensures stops { result ≡ Err (stops.Over ends.Stuck) }
+        ensures ended { self.new ≡ record self.old { store = end_to self.old.store way.entry.mark } }
+    {
+        self.store.end_to(way.mark);
+        Err(Stop::Over(End::Stuck))
     }
 
     /// The statement that a value chooses is run.
@@ -168,8 +249,13 @@ impl<'p> Machine<'p> {
 
     /// The test of a loop has this value.
     #[tactic(auto, using(crate::proofs::Weighing::weights))]
-    pub(crate) fn tested(&mut self, inner: &'p Loop, value: Word) -> Result<Focus<'p>, Stop>
-        ensures goes { (functions : List FunctionData) → Goes functions self.old (env_of self.old)
+    pub(crate) fn tested(
+        &mut self,
+        functions: &'p [Function],
+        inner: &'p Loop,
+        value: Word,
+    ) -> Result<Focus<'p>, Stop>
+        ensures goes { Goes functions.now self.old (env_of self.old)
             (λ knowing w t. elim (is_true (word_view value)) [
               | true ↦ w (turn_of (here (env_of self.old) self.old.line) (test_of inner.now)
                   (behind_of inner.now) (body_of inner.now)) t
@@ -180,15 +266,20 @@ impl<'p> Machine<'p> {
             1 + frames_weight self.old.frames }
     {
         if value.is_true() {
-            self.turn(inner)
+            self.turn(functions, inner)
         } else {
             Ok(Focus::Leads(Flow::On))
         }
     }
 
     /// The body of a loop is done.
-    fn after_body(&mut self, inner: &'p Loop, flow: Flow) -> Result<Focus<'p>, Stop>
-        ensures goes { (functions : List FunctionData) → Goes functions self.old (env_of self.old)
+    fn after_body(
+        &mut self,
+        functions: &'p [Function],
+        inner: &'p Loop,
+        flow: Flow,
+    ) -> Result<Focus<'p>, Stop>
+        ensures goes { Goes functions.now self.old (env_of self.old)
             (λ knowing w t. after_body (led flow t) (λ u. again knowing w (here (env_of self.old)
             self.old.line) (test_of inner.now) (behind_of inner.now) (body_of inner.now) u))
             result self.new }
@@ -198,8 +289,8 @@ impl<'p> Machine<'p> {
             (frames_answer self.old.frames) }
     {
         match flow {
-            Flow::On => self.again(inner),
-            Flow::Continued => self.again(inner),
+            Flow::On => self.again(functions, inner),
+            Flow::Continued => self.again(functions, inner),
             Flow::Broke => Ok(Focus::Leads(Flow::On)),
             Flow::Went(_) => Ok(Focus::Leads(flow)),
             Flow::Back(_) => Ok(Focus::Leads(flow)),
@@ -207,8 +298,13 @@ impl<'p> Machine<'p> {
     }
 
     /// A statement before these is done.
-    fn rest(&mut self, statements: &'p [Statement], flow: Flow) -> Result<Focus<'p>, Stop>
-        ensures goes { (functions : List FunctionData) → Goes functions self.old (env_of self.old)
+    fn rest(
+        &mut self,
+        functions: &'p [Function],
+        statements: &'p [Statement],
+        flow: Flow,
+    ) -> Result<Focus<'p>, Stop>
+        ensures goes { Goes functions.now self.old (env_of self.old)
             (λ knowing w t. on_done (led flow t) (λ u. run_all knowing w (here (env_of self.old)
             self.old.line) (statements_view statements.now) u)) result self.new }
         ensures turns { self.new.turns ≤ self.old.turns }
@@ -217,7 +313,7 @@ impl<'p> Machine<'p> {
             (frames_answer self.old.frames) }
     {
         match flow {
-            Flow::On => self.list(statements),
+            Flow::On => self.list(functions, statements),
             Flow::Continued => Ok(Focus::Leads(flow)),
             Flow::Broke => Ok(Focus::Leads(flow)),
             Flow::Went(_) => Ok(Focus::Leads(flow)),
@@ -263,32 +359,5 @@ impl<'p> Machine<'p> {
     {
         self.frames.push(Frame::Settle(self.line, statements))?;
         self.look_list(label, statements)
-    }
-}
-
-/// What a call gives, from what the function led to.
-#[tactic(auto, using(crate::proofs::Weighing::weights))]
-fn returned<'p>(
-    line: Line,
-    used: bool,
-    otherwise: Option<Word>,
-    flow: Flow,
-) -> Result<Focus<'p>, Stop>
-    ensures gives { Returns result (λ s. answered line.0 used (function_end (option_map word_view
-        otherwise) (led flow s))) }
-    ensures nears { (turns : ℕ) (m : MachineData) → remaining turns result m ≤
-        1 + frames_weight m.frames }
-{
-    let value = match flow {
-        Flow::On => otherwise,
-        Flow::Back(value) => value,
-        Flow::Broke => return Err(Stop::Over(End::Stuck)),
-        Flow::Continued => return Err(Stop::Over(End::Stuck)),
-        Flow::Went(_) => return Err(Stop::Over(End::Stuck)),
-    };
-    match value {
-        Some(value) => Ok(Focus::Value(value)),
-        None if used => Err(Stop::Over(End::Trapped(Trap::NoValue, line))),
-        None => Ok(Focus::Value(Word::Signed(0))),
     }
 }

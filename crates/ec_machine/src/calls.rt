@@ -1,35 +1,38 @@
 //! Calls.
 
-ghost use Rattle.std.specs.Prelude.{◌≡◌, ◌≤◌, ◌+◌, ℕ, List, map, reverse, Some, slice_get, OnOk, false};
+ghost use Rattle.std.specs.Prelude.{◌≡◌, ◌≤◌, ◌+◌, ℕ, List, map, Some, slice_get, false};
 ghost use Rattle.std.specs.Option.{option_copied, option_map};
 ghost use Rattle.ec_code.specs.declared.program.Function.{Function as FunctionData};
 ghost use Rattle.ec_code.specs.Views.{expression_view, full_step_view, function_view, statement_view, statements_view};
 ghost use Rattle.ec_evaluation.specs.Evaluate.{World, Step as Knowing, calls, eval};
 ghost use Rattle.ec_evaluation.specs.Execute.{called, returning, run, run_all, settle};
-ghost use Rattle.ec_evaluation.specs.Results.{Res, answered, back, done_there, on, on_done, on_value, returned, without_answer};
+ghost use Rattle.ec_evaluation.specs.Results.{Res, answered, back, done_there, on, on_done, on_value, or_no_value, returned, without_answer};
 ghost use Rattle.ec_evaluation.specs.State.{State};
-ghost use Rattle.ec_formats.specs.Known.{known_view};
-ghost use Rattle.ec_functions.specs.Functions.{effect_of};
+ghost use Rattle.ec_formats.specs.Known.{channel_view, known_view};
+ghost use Rattle.ec_functions.specs.Functions.{effect_of, puts_bytes};
+ghost use Rattle.ec_objects.specs.Memory.{end_to};
 ghost use Rattle.ec_plain.specs.Answered.{at, context};
 ghost use Rattle.ec_plain.specs.Steps.{followed};
 ghost use Rattle.ec_resolved.specs.Resolved.{library};
 ghost use Rattle.ec_values.specs.Words.{word_view};
-ghost use Rattle.ec_machine.specs.Frames.{Env, here, last_of, objects_of, received, resume, waiting, without_last};
+ghost use Rattle.ec_machine.specs.Found.{Finds, LeavesNear, found_view};
+ghost use Rattle.ec_machine.specs.Frames.{behind_by, cut, here, last_of, left_by, objects_of, outside, received, waiting, without_last};
 ghost use Rattle.ec_machine.specs.Goes.{Goes, env_of, taken};
-ghost use Rattle.ec_machine.specs.Quick.{Answers, leaving, outside};
+ghost use Rattle.ec_machine.specs.Quick.{Answers};
 ghost use Rattle.ec_machine.specs.Weights.{frames_weight, remaining, steps_weight};
 
-use crate::frame::{Callee, Flow, Focus, Frame};
+use crate::found::{Found, waits};
+use crate::frame::{Callee, Flow, Focus, Frame, Way};
 use crate::machine::Machine;
 use crate::making::{make_locals, take_turn};
 use crate::quick::{compute, quick_list};
 use crate::scope::Scope;
 use crate::stop::{End, Stop};
-use ec_base::{Line, List, OutOfMemory};
+use ec_base::{Line, List, Trap};
 use ec_code::{Expression, FullStep, Function, Statement};
 use ec_formats::Known;
 use ec_memory::Store;
-use ec_stdlib::{Refusal, call as call_known};
+use ec_stdlib::{Answer, Refusal, call as call_known};
 use ec_values::Word;
 
 /// The last values.
@@ -48,43 +51,33 @@ pub(crate) fn drop_last(values: &mut List<Word>, count: usize)
     values.truncate(rest);
 }
 
-/// How a function is left: on which line, whether its value is used, what it gives where its body ends, the steps behind the
-/// call, whether the function that called is the first `main`, and what a frame `Close` says of its objects.
-#[derive(Clone, Copy)]
-pub(crate) struct Way<'p> {
-    line: Line,
-    used: bool,
-    otherwise: Option<Word>,
-    steps: &'p [FullStep],
-    first: bool,
-    mark: u32,
-    height: usize,
-    count: usize,
-}
-
 impl<'p> Machine<'p> {
     /// What becomes of the last values, which are all of those that are collected.
+    #[inline(always)]
     pub(crate) fn receive(
         &mut self,
         functions: &'p [Function],
         callee: Callee<'p>,
         count: usize,
         steps: &'p [FullStep],
-    ) -> Result<Focus<'p>, Stop>
-        ensures goes { Goes functions.now self.old (taken count (env_of self.old))
-            (λ knowing w t. followed knowing w (here (env_of self.old) self.old.line) (map
-            full_step_view steps.now)
-            (received knowing w (here (env_of self.old) self.old.line) callee.entry
-            (waiting count (env_of self.old)) t)) result self.new }
+        left: &mut Result<Focus<'p>, Stop>,
+    ) -> Found
+        ensures finds { Finds functions.now self.old (taken count (env_of self.old)) self.old.line
+            (behind_by (here (env_of self.old) self.old.line) steps.now)
+            (λ knowing w t. received knowing w (here (env_of self.old) self.old.line) callee.entry
+            (waiting count (env_of self.old)) t)
+            (found_view result) left.new self.new }
         ensures turns { self.new.turns ≤ self.old.turns }
-        ensures nears { remaining self.old.turns result self.new ≤
-            2 + frames_weight self.old.frames + steps_weight steps.now }
+        ensures nears { LeavesNear self.old.turns (found_view result) left.new self.new
+            (2 + frames_weight self.old.frames + steps_weight steps.now) }
     {
         match callee {
-            Callee::Function(number, used) => self.call(functions, number, used, count, steps),
-            Callee::Known(known) => self.know(known, count, steps),
-            Callee::Library(number) => self.call_library(number, count, steps),
-            Callee::Object => self.fill(count),
+            Callee::Function(number, used) => {
+                self.call(functions, number, used, count, steps, left)
+            }
+            Callee::Known(known) => self.know(known, count, steps, left),
+            Callee::Library(number) => waits(left, self.call_library(number, count, steps)),
+            Callee::Object => waits(left, self.fill(count)),
         }
     }
 
@@ -97,8 +90,7 @@ impl<'p> Machine<'p> {
     ) -> Result<Focus<'p>, Stop>
         ensures goes { (functions : List FunctionData) → Goes functions self.old (taken count
             (env_of self.old))
-            (λ knowing w t. followed knowing w (here (env_of self.old) self.old.line) (map
-            full_step_view steps.now)
+            (λ knowing w t. behind_by (here (env_of self.old) self.old.line) steps.now knowing w
             (without_answer (knowing w (here (env_of self.old) self.old.line)
             (library number (waiting count (env_of self.old))) t))) result self.new }
         ensures turns { self.new.turns ≤ self.old.turns }
@@ -123,21 +115,23 @@ impl<'p> Machine<'p> {
     }
 
     /// A known function is called with the last values.
+    #[inline(never)]
     fn know(
         &mut self,
         known: &Known,
         count: usize,
         steps: &'p [FullStep],
-    ) -> Result<Focus<'p>, Stop>
-        ensures goes { (functions : List FunctionData) → Goes functions self.old (taken count
-            (env_of self.old))
-            (λ knowing w t. followed knowing w (here (env_of self.old) self.old.line) (map
-            full_step_view steps.now)
-            (done_there self.old.line.0 (effect_of (known_view known.now) t.memory (waiting count
-            (env_of self.old))) t)) result self.new }
+        left: &mut Result<Focus<'p>, Stop>,
+    ) -> Found
+        ensures finds { (functions : List FunctionData) → Finds functions self.old (taken count
+            (env_of self.old)) self.old.line
+            (behind_by (here (env_of self.old) self.old.line) steps.now)
+            (λ knowing w t. done_there self.old.line.0 (effect_of (known_view known.now) t.memory
+            (waiting count (env_of self.old))) t)
+            (found_view result) left.new self.new }
         ensures turns { self.new.turns ≤ self.old.turns }
-        ensures nears { remaining self.old.turns result self.new ≤
-            2 + frames_weight self.old.frames + steps_weight steps.now }
+        ensures nears { LeavesNear self.old.turns (found_view result) left.new self.new
+            (2 + frames_weight self.old.frames + steps_weight steps.now) }
     {
         match call_known(
             known,
@@ -147,17 +141,37 @@ impl<'p> Machine<'p> {
         ) {
             Ok(answer) => {
                 drop_last(&mut self.values, count);
-                self.frames.push(Frame::Steps(self.line, steps))?;
-                Ok(Focus::Puts(answer.channel, answer.value))
+                if self.text.is_empty() {
+                    Found::value(value_of(answer.value))
+                } else {
+                    waits(left, self.put(answer, steps))
+                }
             }
-            Err(Refusal::Trap(trap)) => Err(Stop::Over(End::Trapped(trap, self.line))),
-            Err(Refusal::Exit(status)) => Err(Stop::Over(End::Exited(status))),
-            Err(Refusal::Misfit) => Err(Stop::Over(End::Stuck)),
-            Err(Refusal::OutOfMemory) => Err(Stop::OutOfMemory),
+            Err(Refusal::Trap(trap)) => {
+                waits(left, Err(Stop::Over(End::Trapped(trap, self.line))))
+            }
+            Err(Refusal::Exit(status)) => waits(left, Err(Stop::Over(End::Exited(status)))),
+            Err(Refusal::Misfit) => waits(left, Err(Stop::Over(End::Stuck))),
+            Err(Refusal::OutOfMemory) => waits(left, Err(Stop::OutOfMemory)),
         }
     }
 
+    /// A known function put bytes, which go out before the steps behind the call are taken.
+    fn put(&mut self, answer: Answer, steps: &'p [FullStep]) -> Result<Focus<'p>, Stop>
+        ensures goes { (functions : List FunctionData) → Goes functions self.old (env_of self.old)
+            (λ knowing w t. behind_by (here (env_of self.old) self.old.line) steps.now knowing w
+            (done_there self.old.line.0 (puts_bytes (channel_view answer.channel) (option_map
+            word_view answer.value) t.memory self.old.text) t)) result self.new }
+        ensures turns { self.new.turns ≤ self.old.turns }
+        ensures nears { remaining self.old.turns result self.new ≤
+            2 + frames_weight self.old.frames + steps_weight steps.now }
+    {
+        self.frames.push(Frame::Steps(self.line, steps))?;
+        Ok(Focus::Puts(answer.channel, answer.value))
+    }
+
     /// A function is called with the last values.
+    #[inline(always)]
     fn call(
         &mut self,
         functions: &'p [Function],
@@ -165,22 +179,25 @@ impl<'p> Machine<'p> {
         used: bool,
         count: usize,
         steps: &'p [FullStep],
-    ) -> Result<Focus<'p>, Stop>
-        ensures goes { Goes functions.now self.old (taken count (env_of self.old))
-            (λ knowing w t. followed knowing w (here (env_of self.old) self.old.line) (map
-            full_step_view steps.now)
-            (answered self.old.line.0 used (w (calls self.old.line.0 number (waiting count (env_of
-            self.old))) t))) result self.new }
+        left: &mut Result<Focus<'p>, Stop>,
+    ) -> Found
+        ensures finds { Finds functions.now self.old (taken count (env_of self.old)) self.old.line
+            (behind_by (here (env_of self.old) self.old.line) steps.now)
+            (λ knowing w t. answered self.old.line.0 used (w (calls self.old.line.0 number (waiting
+            count (env_of self.old))) t))
+            (found_view result) left.new self.new }
         ensures turns { self.new.turns ≤ self.old.turns }
-        ensures nears { remaining self.old.turns result self.new ≡ 0 }
+        ensures nears { LeavesNear self.old.turns (found_view result) left.new self.new
+            (0) }
     {
         match take_turn(&mut self.turns) {
-            Ok(()) => self.start(functions, number, used, count, steps),
-            Err(stop) => Err(stop),
+            Ok(()) => self.start(functions, number, used, count, steps, left),
+            Err(stop) => waits(left, Err(stop)),
         }
     }
 
     /// A function is called whose turn is taken.
+    #[inline(always)]
     fn start(
         &mut self,
         functions: &'p [Function],
@@ -188,35 +205,39 @@ impl<'p> Machine<'p> {
         used: bool,
         count: usize,
         steps: &'p [FullStep],
-    ) -> Result<Focus<'p>, Stop>
-        ensures goes { (all : List FunctionData) → Goes all self.old (taken count (env_of self.old))
-            (λ knowing w t. followed knowing w (here (env_of self.old) self.old.line) (map
-            full_step_view steps.now)
-            (answered self.old.line.0 used (called knowing w self.old.line.0 (slice_get (map
-            function_view functions.now) number) (waiting count (env_of self.old)) t))) result
-            self.new }
+        left: &mut Result<Focus<'p>, Stop>,
+    ) -> Found
+        ensures finds { (all : List FunctionData) → Finds all self.old (taken count (env_of
+            self.old)) self.old.line
+            (behind_by (here (env_of self.old) self.old.line) steps.now)
+            (λ knowing w t. answered self.old.line.0 used (called knowing w self.old.line.0
+            (slice_get
+            (map function_view functions.now) number) (waiting count (env_of self.old)) t))
+            (found_view result) left.new self.new }
         ensures turns { self.new.turns ≤ self.old.turns }
     {
         match function_at(functions, number) {
-            Some(function) => self.begin(function, used, count, steps),
-            None => Err(Stop::Over(End::Stuck)),
+            Some(function) => self.begin(function, used, count, steps, left),
+            None => waits(left, Err(Stop::Over(End::Stuck))),
         }
     }
 
     /// A function is begun with the last values. Its turn is taken.
+    #[inline(always)]
     fn begin(
         &mut self,
         function: &'p Function,
         used: bool,
         count: usize,
         steps: &'p [FullStep],
-    ) -> Result<Focus<'p>, Stop>
-        ensures goes { (functions : List FunctionData) → Goes functions self.old (taken count
-            (env_of self.old))
-            (λ knowing w t. followed knowing w (here (env_of self.old) self.old.line) (map
-            full_step_view steps.now)
-            (answered self.old.line.0 used (called knowing w self.old.line.0 (Some
-            (function_view function.now)) (waiting count (env_of self.old)) t))) result self.new }
+        left: &mut Result<Focus<'p>, Stop>,
+    ) -> Found
+        ensures finds { (functions : List FunctionData) → Finds functions self.old (taken count
+            (env_of self.old)) self.old.line
+            (behind_by (here (env_of self.old) self.old.line) steps.now)
+            (λ knowing w t. answered self.old.line.0 used (called knowing w self.old.line.0 (Some
+            (function_view function.now)) (waiting count (env_of self.old)) t))
+            (found_view result) left.new self.new }
         ensures turns { self.new.turns ≤ self.old.turns }
     {
         let mark = self.store.mark();
@@ -231,42 +252,43 @@ impl<'p> Machine<'p> {
             values,
         ) {
             Ok(()) => (),
-            Err(stop) => return Err(stop),
+            Err(stop) => return waits(left, Err(stop)),
         }
         drop_last(&mut self.values, count);
         let way = Way {
             line: self.line,
             used,
-            otherwise: function.otherwise,
-            steps,
             first: self.first,
             mark,
             height,
             count: saved,
+            function,
+            steps,
         };
         self.first = false;
-        self.in_body(way, function.body.as_slice())
+        self.in_body(way, left)
     }
 
     /// The body of a function is run. What of it needs no frame is done here.
     #[inline(always)]
-    fn in_body(&mut self, way: Way<'p>, body: &'p [Statement]) -> Result<Focus<'p>, Stop>
+    fn in_body(&mut self, way: Way<'p>, left: &mut Result<Focus<'p>, Stop>) -> Found
         requires not_first { self.old.first ≡ false }
         requires same_line { way.line ≡ self.old.line }
-        ensures goes { (functions : List FunctionData) → Goes functions self.old (outside way.entry
-            (env_of self.old))
-            (λ knowing w t. leaving knowing w (env_of self.old) way.entry (settle w (here (env_of
-            self.old) way.entry.line) (statements_view body.now) (run_all knowing w (here (env_of
-            self.old) self.old.line) (statements_view body.now) t))) result self.new }
+        ensures finds { (functions : List FunctionData) → Finds functions self.old
+            (outside way.entry (env_of self.old)) way.entry.line
+            (behind_by (here (outside way.entry (env_of self.old)) way.entry.line)
+            way.entry.steps.now)
+            (λ knowing w t. left_by way.entry (settle w (here (env_of self.old) way.entry.line)
+            (statements_view way.entry.function.now.body) (run_all knowing w (here (env_of
+            self.old) self.old.line) (statements_view way.entry.function.now.body) t)))
+            (found_view result) left.new self.new }
         ensures turns { self.new.turns ≤ self.old.turns }
     {
+        let body = way.function.body.as_slice();
         match quick_list(&mut self.store, &self.scope, &mut self.line, body) {
-            Ok(None) => {
-                stay(&mut self.frames, way, body)?;
-                Ok(Focus::Leads(Flow::On))
-            }
-            Ok(Some(found)) => self.in_statement(way, body, found.first, found.rest),
-            Err(stop) => Err(stop),
+            Ok(None) => self.ended(way, way.function.otherwise, left),
+            Ok(Some(found)) => self.in_statement(way, found.first, found.rest, left),
+            Err(stop) => waits(left, Err(stop)),
         }
     }
 
@@ -275,62 +297,106 @@ impl<'p> Machine<'p> {
     fn in_statement(
         &mut self,
         way: Way<'p>,
-        body: &'p [Statement],
         first: &'p Statement,
         rest: &'p [Statement],
-    ) -> Result<Focus<'p>, Stop>
+        left: &mut Result<Focus<'p>, Stop>,
+    ) -> Found
         requires not_first { self.old.first ≡ false }
-        ensures goes { (functions : List FunctionData) → Goes functions self.old (outside way.entry
-            (env_of self.old))
-            (λ knowing w t. leaving knowing w (env_of self.old) way.entry (settle w (here (env_of
-            self.old) way.entry.line) (statements_view body.now) (on_done (run knowing w (here
-            (env_of self.old) self.old.line) (statement_view first.now) t) (λ u. run_all knowing w (here
-            (env_of self.old) way.entry.line) (statements_view rest.now) u)))) result self.new }
+        ensures finds { (functions : List FunctionData) → Finds functions self.old
+            (outside way.entry (env_of self.old)) way.entry.line
+            (behind_by (here (outside way.entry (env_of self.old)) way.entry.line)
+            way.entry.steps.now)
+            (λ knowing w t. left_by way.entry (settle w (here (env_of self.old) way.entry.line)
+            (statements_view way.entry.function.now.body) (on_done (run knowing w (here (env_of
+            self.old) self.old.line) (statement_view first.now) t) (λ u. run_all knowing w (here
+            (env_of self.old) way.entry.line) (statements_view rest.now) u))))
+            (found_view result) left.new self.new }
         ensures turns { self.new.turns ≤ self.old.turns }
     {
         match answer(&mut self.store, &self.scope, self.line, first) {
-            Ok(Some(value)) => self.leave(way, value),
-            Ok(None) => {
-                stay(&mut self.frames, way, body)?;
-                self.left_in(way.line, first, rest)
+            Ok(Some(value)) => {
+                self.leave(way);
+                Found::value(value)
             }
-            Err(stop) => Err(stop),
+            Ok(None) => waits(left, self.stay(way, first, rest)),
+            Err(stop) => waits(left, Err(stop)),
         }
     }
 
-    /// A function is left with a value.
+    /// The way out of a function waits in a frame.
     #[inline(always)]
-    fn leave(&mut self, way: Way<'p>, value: Word) -> Result<Focus<'p>, Stop>
-        ensures goes { (functions : List FunctionData) → Goes functions self.old (outside way.entry
-            (env_of self.old))
-            (λ knowing w t. leaving knowing w (env_of self.old) way.entry (back (Some (word_view
-            value)) t)) result self.new }
-        ensures turns { self.new.turns ≤ self.old.turns }
+    fn stay(
+        &mut self,
+        way: Way<'p>,
+        first: &'p Statement,
+        rest: &'p [Statement],
+    ) -> Result<Focus<'p>, Stop>
+        ensures goes { (functions : List FunctionData) → Goes functions self.old
+            (outside way.entry (env_of self.old))
+            (λ knowing w t. behind_by (here (outside way.entry (env_of self.old)) way.entry.line)
+            way.entry.steps.now knowing w (left_by way.entry (settle w (here (env_of self.old)
+            way.entry.line) (statements_view
+            way.entry.function.now.body) (on_done (run knowing w (here (env_of self.old)
+            self.old.line) (statement_view first.now) t) (λ u. run_all knowing w (here (env_of
+            self.old) way.entry.line) (statements_view rest.now) u))))) result self.new }
+        ensures turns { self.new.turns ≡ self.old.turns }
+    {
+        self.frames.push(Frame::Call(way))?;
+        match rest {
+            [] => Ok(Focus::Runs(first)),
+            _ => {
+                self.frames.push(Frame::Rest(way.line, rest))?;
+                Ok(Focus::Runs(first))
+            }
+        }
+    }
+
+    /// A function ended, with a value or without one.
+    #[inline(always)]
+    pub(crate) fn ended(
+        &mut self,
+        way: Way<'p>,
+        value: Option<Word>,
+        left: &mut Result<Focus<'p>, Stop>,
+    ) -> Found
+        ensures finds { (functions : List FunctionData) → Finds functions self.old
+            (outside way.entry (env_of self.old)) way.entry.line
+            (behind_by (here (outside way.entry (env_of self.old)) way.entry.line)
+            way.entry.steps.now)
+            (λ knowing w t. left_by way.entry (back (option_map word_view value) t))
+            (found_view result) left.new self.new }
+        ensures turns { self.new.turns ≡ self.old.turns }
+        ensures stops { LeavesNear self.old.turns (found_view result) left.new self.new 0 }
+    {
+        self.leave(way);
+        match value {
+            Some(value) => Found::value(value),
+            None => {
+                if way.used {
+                    let end = End::Trapped(Trap::NoValue, way.line);
+                    waits(left, Err(Stop::Over(end)))
+                } else {
+                    Found::Signed(0)
+                }
+            }
+        }
+    }
+
+    /// A function is left.
+    #[inline(always)]
+    fn leave(&mut self, way: Way<'p>)
+        ensures left { self.new ≡ record self.old {
+          store = end_to self.old.store way.entry.mark;
+          scope = cut way.entry.height way.entry.count self.old.scope;
+          first = way.entry.first;
+          line = way.entry.line;
+        } }
     {
         self.store.end_to(way.mark);
         self.scope.cut(way.height, way.count);
         self.first = way.first;
         self.line = way.line;
-        self.follow(way.steps, value)
     }
-}
-
-/// The way out of a function waits, in frames.
-#[inline(always)]
-fn stay<'p>(
-    frames: &mut List<Frame<'p>>,
-    way: Way<'p>,
-    body: &'p [Statement],
-) -> Result<(), OutOfMemory>
-    ensures stays { OnOk result ((knowing : Knowing) (w : World) (e : Env) (o : Res) → resume
-        knowing w (outside way.entry e) (reverse frames.old) (leaving knowing w e way.entry (settle w
-        (here e way.entry.line) (statements_view body.now) o))
-        ≡ resume knowing w e (reverse frames.new) o) }
-{
-    frames.push(Frame::Call(way.line, way.used, way.otherwise, way.steps, way.first))?;
-    frames.push(Frame::Close(way.mark, way.height, way.count))?;
-    frames.push(Frame::Settle(way.line, body))?;
-    Ok(())
 }
 
 /// The value of a `return` of an expression without calls.
@@ -390,6 +456,17 @@ fn answer_by(
             Err(stop) => Err(stop),
         },
         Expression::Full(_) => Ok(None),
+    }
+}
+
+/// The value of a call. Nothing reads that of one without a value.
+#[inline(always)]
+fn value_of(value: Option<Word>) -> Word
+    ensures { word_view result ≡ or_no_value (option_map word_view value) }
+{
+    match value {
+        Some(value) => value,
+        None => Word::Signed(0),
     }
 }
 

@@ -2,16 +2,18 @@
 
 ghost use Rattle.std.specs.Prelude.{◌≡◌, ◌≤◌, ◌+◌, ◌∷◌, ◌++◌, [], ℕ, List, map};
 ghost use Rattle.ec_code.specs.declared.program.Function.{Function as FunctionData};
-ghost use Rattle.ec_code.specs.Views.{expression_view, expressions_view, full_step_view, full_view, plain_view};
+ghost use Rattle.ec_code.specs.Views.{expression_view, expressions_view, full_step_view, full_view, head_view, plain_view};
 ghost use Rattle.ec_evaluation.specs.Evaluate.{collect, eval};
-ghost use Rattle.ec_evaluation.specs.Results.{on_value, value as valued};
-ghost use Rattle.ec_plain.specs.Steps.{both_on, followed, one_on, two_on};
+ghost use Rattle.ec_evaluation.specs.Results.{on, on_value, value as valued};
+ghost use Rattle.ec_plain.specs.Steps.{both_on, followed, one_on, step_on, two_on};
 ghost use Rattle.ec_values.specs.Words.{word_view};
-ghost use Rattle.ec_machine.specs.Frames.{here, received, waiting};
+ghost use Rattle.ec_machine.specs.Found.{Finds, FindsAlone, LeavesNear, found_view};
+ghost use Rattle.ec_machine.specs.Frames.{behind_by, here, received, waiting};
 ghost use Rattle.ec_machine.specs.Goes.{Goes, env_of, taken};
-ghost use Rattle.ec_machine.specs.Quick.{Keeps};
-ghost use Rattle.ec_machine.specs.Weights.{expression_weight, expressions_weight, frames_weight, full_step_weight, full_weight, remaining, steps_weight};
+ghost use Rattle.ec_machine.specs.Quick.{Keeps, passing};
+ghost use Rattle.ec_machine.specs.Weights.{expression_weight, expressions_weight, frames_weight, full_step_weight, full_weight, head_weight, remaining, steps_weight};
 
+use crate::found::{Found, waits};
 use crate::frame::{Callee, Focus, Frame};
 use crate::machine::Machine;
 use crate::making::stopped;
@@ -42,6 +44,7 @@ impl<'p> Machine<'p> {
     }
 
     /// An expression without calls is evaluated.
+    #[inline(never)]
     fn plain(&mut self, plain: &Plain) -> Result<Focus<'p>, Stop>
         ensures goes { (functions : List FunctionData) → Goes functions self.old (env_of self.old)
             (λ knowing w t. eval knowing w (here (env_of self.old) self.old.line) (plain_view
@@ -56,7 +59,7 @@ impl<'p> Machine<'p> {
         }
     }
 
-    /// An expression that holds a call is begun.
+    /// An expression that holds a call is evaluated.
     fn full(&mut self, functions: &'p [Function], full: &'p Full) -> Result<Focus<'p>, Stop>
         ensures goes { Goes functions.now self.old (env_of self.old)
             (λ knowing w t. eval knowing w (here (env_of self.old) self.old.line) (full_view
@@ -65,63 +68,110 @@ impl<'p> Machine<'p> {
         ensures nears { remaining self.old.turns result self.new ≤
             frames_weight self.old.frames + full_weight full.now }
     {
+        let mut left = Err(Stop::OutOfMemory);
+        match self.value_of(functions, full, &mut left).get() {
+            Some(value) => Ok(Focus::Value(value)),
+            None => left,
+        }
+    }
+
+    /// The value of an expression that holds a call, where it is found on the spot.
+    #[inline(never)]
+    pub(crate) fn value_of(
+        &mut self,
+        functions: &'p [Function],
+        full: &'p Full,
+        left: &mut Result<Focus<'p>, Stop>,
+    ) -> Found
+        ensures finds { Finds functions.now self.old (env_of self.old) self.old.line
+            (λ knowing w o. o)
+            (λ knowing w t. eval knowing w (here (env_of self.old) self.old.line) (full_view
+            full.now) t) (found_view result) left.new self.new }
+        ensures turns { self.new.turns ≤ self.old.turns }
+        ensures nears { LeavesNear self.old.turns (found_view result) left.new self.new
+            (frames_weight self.old.frames + full_weight full.now) }
+    {
         let steps = full.steps.as_slice();
-        match &full.head {
-            Head::Begun(plain) => self.begun(plain, steps),
+        match self.begun(functions, &full.head, steps, left).get() {
+            Some(value) => self.follow(functions, steps, value, left),
+            None => Found::Waits,
+        }
+    }
+
+    /// Where an expression begins that holds a call. These steps are behind it.
+    #[inline(always)]
+    fn begun(
+        &mut self,
+        functions: &'p [Function],
+        head: &'p Head,
+        steps: &'p [FullStep],
+        left: &mut Result<Focus<'p>, Stop>,
+    ) -> Found
+        ensures finds { Finds functions.now self.old (env_of self.old) self.old.line
+            (behind_by (here (env_of self.old) self.old.line) steps.now)
+            (λ knowing w t. eval knowing w (here (env_of self.old) self.old.line) (head_view
+            head.now) t) (found_view result) left.new self.new }
+        ensures turns { self.new.turns ≤ self.old.turns }
+        ensures nears { LeavesNear self.old.turns (found_view result) left.new self.new
+            (frames_weight self.old.frames + head_weight head.now + steps_weight steps.now) }
+    {
+        match head {
+            Head::Begun(plain) => self.at_first(plain, left),
             Head::Call(function, used, arguments) => {
                 let callee = Callee::Function(*function, *used);
-                self.pass_all(functions, callee, arguments.as_slice(), steps)
+                self.pass(functions, callee, 0, arguments.as_slice(), steps, left)
             }
             Head::Known(known, arguments) => {
-                self.pass_all(functions, Callee::Known(known), arguments.as_slice(), steps)
+                let callee = Callee::Known(known);
+                self.pass(functions, callee, 0, arguments.as_slice(), steps, left)
             }
             Head::LibraryCall(number, pointers) => {
                 let callee = Callee::Library(*number);
-                self.pass_all(functions, callee, pointers.as_slice(), steps)
+                self.pass(functions, callee, 0, pointers.as_slice(), steps, left)
             }
         }
     }
 
-    /// An expression without calls is evaluated, behind which these steps are taken.
-    fn begun(&mut self, plain: &Plain, steps: &'p [FullStep]) -> Result<Focus<'p>, Stop>
-        ensures goes { (functions : List FunctionData) → Goes functions self.old (env_of self.old)
-            (λ knowing w t. followed knowing w (here (env_of self.old) self.old.line) (map
-            full_step_view steps.now)
-            (eval knowing w (here (env_of self.old) self.old.line) (plain_view plain.now)
-            t)) result self.new }
-        ensures turns { self.new.turns ≤ self.old.turns }
-        ensures nears { remaining self.old.turns result self.new ≤
-            1 + frames_weight self.old.frames + steps_weight steps.now }
+    /// An expression without calls is evaluated, where one begins that holds a call.
+    #[inline(always)]
+    fn at_first(&mut self, plain: &Plain, left: &mut Result<Focus<'p>, Stop>) -> Found
+        ensures finds { FindsAlone self.old (λ knowing w t. eval knowing w (here (env_of self.old)
+            self.old.line) (plain_view
+            plain.now) t) (found_view result) left.new self.new }
+        ensures turns { self.new.turns ≡ self.old.turns }
     {
         match evaluate(&mut self.store, self.scope.objects(), plain).get() {
-            Ok(value) => self.follow(steps, value),
-            Err(why) => Err(stopped(self.line, why)),
+            Ok(value) => Found::value(value),
+            Err(why) => waits(left, Err(stopped(self.line, why))),
         }
     }
 
-    /// All arguments of a call are evaluated.
+    /// All values of an object are stored that is initialized.
     pub(crate) fn pass_all(
         &mut self,
         functions: &'p [Function],
-        callee: Callee<'p>,
-        arguments: &'p [Expression],
-        steps: &'p [FullStep],
+        values: &'p [Expression],
     ) -> Result<Focus<'p>, Stop>
         ensures goes { Goes functions.now self.old (env_of self.old)
-            (λ knowing w t. followed knowing w (here (env_of self.old) self.old.line) (map
-            full_step_view steps.now)
-            (collect knowing w (here (env_of self.old) self.old.line) [] (expressions_view
-            arguments.now) t
-            (received knowing w (here (env_of self.old) self.old.line) callee.entry))) result self.new }
+            (λ knowing w t. collect knowing w (here (env_of self.old) self.old.line) []
+            (expressions_view
+            values.now) t (λ vs u. on u)) result self.new }
         ensures turns { self.new.turns ≤ self.old.turns }
         ensures nears { remaining self.old.turns result self.new ≤
-            2 + frames_weight self.old.frames + expressions_weight arguments.now + steps_weight
-            steps.now }
+            3 + frames_weight self.old.frames + expressions_weight values.now }
     {
-        self.pass(functions, callee, 0, arguments, steps)
+        let mut left = Err(Stop::OutOfMemory);
+        match self
+            .pass(functions, Callee::Object, 0, values, &[], &mut left)
+            .get()
+        {
+            Some(value) => Ok(Focus::Value(value)),
+            None => left,
+        }
     }
 
     /// The further arguments of a call are evaluated, behind the last values that wait, of which so many are its own.
+    #[inline(never)]
     fn pass(
         &mut self,
         functions: &'p [Function],
@@ -129,33 +179,34 @@ impl<'p> Machine<'p> {
         count: usize,
         arguments: &'p [Expression],
         steps: &'p [FullStep],
-    ) -> Result<Focus<'p>, Stop>
-        ensures goes { Goes functions.now self.old (taken count (env_of self.old))
-            (λ knowing w t. followed knowing w (here (env_of self.old) self.old.line) (map
-            full_step_view steps.now)
-            (collect knowing w (here (env_of self.old) self.old.line) (waiting count (env_of
-            self.old)) (expressions_view arguments.now) t
-            (received knowing w (here (env_of self.old) self.old.line) callee.entry))) result self.new }
+        left: &mut Result<Focus<'p>, Stop>,
+    ) -> Found
+        ensures finds { Finds functions.now self.old (taken count (env_of self.old)) self.old.line
+            (behind_by (here (env_of self.old) self.old.line) steps.now)
+            (passing callee.entry arguments.now count self.old)
+            (found_view result) left.new self.new }
         ensures turns { self.new.turns ≤ self.old.turns }
-        ensures nears { remaining self.old.turns result self.new ≤
-            2 + frames_weight self.old.frames + expressions_weight arguments.now + steps_weight
-            steps.now }
+        ensures nears { LeavesNear self.old.turns (found_view result) left.new self.new
+            (2 + frames_weight self.old.frames + expressions_weight arguments.now + steps_weight
+            steps.now) }
     {
         let mut count = count;
-        let mut left = arguments;
-        while let [first, rest @ ..] = left {
+        let mut further = arguments;
+        while let [first, rest @ ..] = further {
             match first {
                 Expression::Plain(plain) => match self.keep(count, plain) {
                     Ok(more) => {
                         count = more;
-                        left = rest;
+                        further = rest;
                     }
-                    Err(stop) => return Err(stop),
+                    Err(stop) => return waits(left, Err(stop)),
                 },
-                Expression::Full(_) => return self.call_for(callee, count, first, rest, steps),
+                Expression::Full(_) => {
+                    return waits(left, self.call_for(callee, count, first, rest, steps));
+                }
             }
         }
-        self.receive(functions, callee, count, steps)
+        self.receive(functions, callee, count, steps, left)
     }
 
     /// An argument is evaluated, and these further ones wait for it.
@@ -207,7 +258,6 @@ impl<'p> Machine<'p> {
     }
 
     /// An argument has this value, and the further ones are evaluated.
-    #[tactic(auto, using(crate::proofs::Weighing::weights))]
     pub(crate) fn pass_on(
         &mut self,
         functions: &'p [Function],
@@ -218,11 +268,11 @@ impl<'p> Machine<'p> {
         steps: &'p [FullStep],
     ) -> Result<Focus<'p>, Stop>
         ensures goes { Goes functions.now self.old (taken count (env_of self.old))
-            (λ knowing w t. followed knowing w (here (env_of self.old) self.old.line) (map
-            full_step_view steps.now)
+            (λ knowing w t. behind_by (here (env_of self.old) self.old.line) steps.now knowing w
             (collect knowing w (here (env_of self.old) self.old.line) (waiting count (env_of
             self.old) ++ word_view value ∷ []) (expressions_view arguments.now) t
-            (received knowing w (here (env_of self.old) self.old.line) callee.entry))) result self.new }
+            (received knowing w (here (env_of self.old) self.old.line) callee.entry))) result
+            self.new }
         ensures turns { self.new.turns ≤ self.old.turns }
         ensures nears { remaining self.old.turns result self.new ≤
             2 + frames_weight self.old.frames + expressions_weight arguments.now + steps_weight
@@ -232,136 +282,233 @@ impl<'p> Machine<'p> {
             return Err(Stop::OutOfMemory);
         };
         self.values.push(value)?;
-        self.pass(functions, callee, more, arguments, steps)
+        let mut left = Err(Stop::OutOfMemory);
+        match self
+            .pass(functions, callee, more, arguments, steps, &mut left)
+            .get()
+        {
+            Some(value) => self.go_on(functions, steps, value),
+            None => left,
+        }
     }
 
-    /// The steps behind a value are taken, the first of them here.
-    pub(crate) fn follow(&mut self, steps: &'p [FullStep], value: Word) -> Result<Focus<'p>, Stop>
-        ensures goes { (functions : List FunctionData) → Goes functions self.old (env_of self.old)
-            (λ knowing w t. followed knowing w (here (env_of self.old) self.old.line) (map
-            full_step_view steps.now) (valued (word_view value) t)) result self.new }
+    /// The steps behind a value are taken.
+    pub(crate) fn go_on(
+        &mut self,
+        functions: &'p [Function],
+        steps: &'p [FullStep],
+        value: Word,
+    ) -> Result<Focus<'p>, Stop>
+        ensures goes { Goes functions.now self.old (env_of self.old)
+            (λ knowing w t. behind_by (here (env_of self.old) self.old.line) steps.now knowing w
+            (valued (word_view value) t)) result self.new }
         ensures turns { self.new.turns ≤ self.old.turns }
         ensures nears { remaining self.old.turns result self.new ≤
             frames_weight self.old.frames + steps_weight steps.now }
     {
-        match steps {
-            [] => Ok(Focus::Value(value)),
-            [first, rest @ ..] => self.follow_first(first, rest, value),
+        let mut left = Err(Stop::OutOfMemory);
+        match self.follow(functions, steps, value, &mut left).get() {
+            Some(value) => Ok(Focus::Value(value)),
+            None => left,
         }
     }
 
-    /// The steps behind a value wait, where there are any.
-    fn wait(&mut self, steps: &'p [FullStep], value: Word) -> Result<Focus<'p>, Stop>
-        ensures goes { (functions : List FunctionData) → Goes functions self.old (env_of self.old)
-            (λ knowing w t. followed knowing w (here (env_of self.old) self.old.line) (map
-            full_step_view steps.now) (valued (word_view value) t)) result self.new }
-        ensures turns { self.new.turns ≡ self.old.turns }
-        ensures nears { remaining self.old.turns result self.new ≤
-            1 + frames_weight self.old.frames + steps_weight steps.now }
+    /// What the steps behind a value make of it, where that is found on the spot.
+    #[inline(never)]
+    fn follow(
+        &mut self,
+        functions: &'p [Function],
+        steps: &'p [FullStep],
+        value: Word,
+        left: &mut Result<Focus<'p>, Stop>,
+    ) -> Found
+        ensures finds { Finds functions.now self.old (env_of self.old) self.old.line
+            (λ knowing w o. o)
+            (λ knowing w t. behind_by (here (env_of self.old) self.old.line) steps.now knowing w
+            (valued (word_view value) t)) (found_view result) left.new self.new }
+        ensures turns { self.new.turns ≤ self.old.turns }
+        ensures nears { LeavesNear self.old.turns (found_view result) left.new self.new
+            (frames_weight self.old.frames + steps_weight steps.now) }
     {
-        match steps {
-            [] => Ok(Focus::Value(value)),
-            _ => {
-                self.frames.push(Frame::Steps(self.line, steps))?;
-                Ok(Focus::Value(value))
+        let mut value = value;
+        let mut further = steps;
+        while let [first, rest @ ..] = further {
+            match self.follow_first(functions, first, rest, value, left).get() {
+                Some(next) => {
+                    value = next;
+                    further = rest;
+                }
+                None => return Found::Waits,
             }
         }
+        Found::value(value)
     }
 
-    /// A step behind a value is taken, and others wait behind it.
+    /// A step behind a value is taken, and others are behind it.
+    #[inline(always)]
     fn follow_first(
         &mut self,
+        functions: &'p [Function],
         first: &'p FullStep,
         rest: &'p [FullStep],
         value: Word,
-    ) -> Result<Focus<'p>, Stop>
-        ensures goes { (functions : List FunctionData) → Goes functions self.old (env_of self.old)
-            (λ knowing w t. followed knowing w (here (env_of self.old) self.old.line)
-            (full_step_view first.now ∷ map full_step_view rest.now) (valued (word_view value) t))
-            result self.new }
+        left: &mut Result<Focus<'p>, Stop>,
+    ) -> Found
+        ensures finds { Finds functions.now self.old (env_of self.old) self.old.line
+            (behind_by (here (env_of self.old) self.old.line) rest.now)
+            (λ knowing w t. step_on knowing w (here (env_of self.old) self.old.line)
+            (full_step_view first.now) (word_view value) t)
+            (found_view result) left.new self.new }
         ensures turns { self.new.turns ≤ self.old.turns }
-        ensures nears { remaining self.old.turns result self.new ≤
-            1 + frames_weight self.old.frames + full_step_weight first.now + steps_weight rest.now }
+        ensures nears { LeavesNear self.old.turns (found_view result) left.new self.new
+            (1 + frames_weight self.old.frames + full_step_weight first.now + steps_weight
+            rest.now) }
     {
         match first {
-            FullStep::One(step) => self.follow_one(step, rest, value),
-            FullStep::Two(step, right) => self.follow_two(*step, right, rest, value),
+            FullStep::One(step) => self.follow_one(step, value, left),
+            FullStep::Two(step, right) => {
+                self.follow_two(functions, step, right, rest, value, left)
+            }
         }
     }
 
     /// A step that takes the value alone.
-    fn follow_one(
-        &mut self,
-        step: &Unary,
-        rest: &'p [FullStep],
-        value: Word,
-    ) -> Result<Focus<'p>, Stop>
-        ensures goes { (functions : List FunctionData) → Goes functions self.old (env_of self.old)
-            (λ knowing w t. followed knowing w (here (env_of self.old) self.old.line) (map
-            full_step_view rest.now)
-            (one_on self.old.line.0 step.now (word_view value) t)) result self.new }
-        ensures turns { self.new.turns ≤ self.old.turns }
-        ensures nears { remaining self.old.turns result self.new ≤
-            1 + frames_weight self.old.frames + steps_weight rest.now }
+    #[inline(never)]
+    fn follow_one(&mut self, step: &Unary, value: Word, left: &mut Result<Focus<'p>, Stop>) -> Found
+        ensures finds { FindsAlone self.old
+            (λ knowing w t. one_on self.old.line.0 step.now (word_view value) t)
+            (found_view result) left.new self.new }
+        ensures turns { self.new.turns ≡ self.old.turns }
     {
         match unary(&mut self.store, step, value).get() {
-            Ok(next) => self.wait(rest, next),
-            Err(why) => Err(stopped(self.line, why)),
+            Ok(next) => Found::value(next),
+            Err(why) => waits(left, Err(stopped(self.line, why))),
         }
     }
 
-    /// A step with another expression is begun.
+    /// A step with another expression, and others are behind it.
+    #[inline(always)]
     fn follow_two(
         &mut self,
-        step: Binary,
+        functions: &'p [Function],
+        step: &'p Binary,
         right: &'p Expression,
         rest: &'p [FullStep],
         value: Word,
-    ) -> Result<Focus<'p>, Stop>
-        ensures goes { (functions : List FunctionData) → Goes functions self.old (env_of self.old)
-            (λ knowing w t. followed knowing w (here (env_of self.old) self.old.line) (map
-            full_step_view rest.now)
-            (two_on knowing w (here (env_of self.old) self.old.line) step (expression_view
-            right.now) (word_view value) t)) result self.new }
+        left: &mut Result<Focus<'p>, Stop>,
+    ) -> Found
+        ensures finds { Finds functions.now self.old (env_of self.old) self.old.line
+            (behind_by (here (env_of self.old) self.old.line) rest.now)
+            (λ knowing w t. two_on knowing w (here (env_of self.old) self.old.line) step.now
+            (expression_view right.now) (word_view value) t)
+            (found_view result) left.new self.new }
         ensures turns { self.new.turns ≤ self.old.turns }
-        ensures nears { remaining self.old.turns result self.new ≤
-            2 + frames_weight self.old.frames + expression_weight right.now +
-            steps_weight rest.now }
+        ensures nears { LeavesNear self.old.turns (found_view result) left.new self.new
+            (2 + frames_weight self.old.frames + expression_weight right.now + steps_weight
+            rest.now) }
     {
-        match prepare(&self.store, step, value) {
-            Ok(Ready::Done(done)) => {
-                self.frames.push(Frame::Steps(self.line, rest))?;
-                Ok(Focus::Value(done))
+        match prepare(&self.store, *step, value) {
+            Ok(Ready::Done(done)) => Found::value(done),
+            Ok(Ready::Waits(old)) => match self
+                .right(functions, step, value, old, right, rest, left)
+                .get()
+            {
+                Some(found) => self.follow_right(step, value, old, found, left),
+                None => Found::Waits,
+            },
+            Err(why) => waits(left, Err(stopped(self.line, why))),
+        }
+    }
+
+    /// The value at the right of a step.
+    #[inline(always)]
+    fn right(
+        &mut self,
+        functions: &'p [Function],
+        step: &'p Binary,
+        value: Word,
+        old: Word,
+        right: &'p Expression,
+        rest: &'p [FullStep],
+        left: &mut Result<Focus<'p>, Stop>,
+    ) -> Found
+        ensures finds { Finds functions.now self.old (env_of self.old) self.old.line
+            (λ knowing w o. behind_by (here (env_of self.old) self.old.line) rest.now knowing w
+            (on_value o (both_on self.old.line.0 step.now (word_view value) (word_view old))))
+            (λ knowing w t. eval knowing w (here (env_of self.old) self.old.line) (expression_view
+            right.now) t) (found_view result) left.new self.new }
+        ensures turns { self.new.turns ≤ self.old.turns }
+        ensures nears { LeavesNear self.old.turns (found_view result) left.new self.new
+            (2 + frames_weight self.old.frames + expression_weight right.now + steps_weight
+            rest.now) }
+    {
+        match right {
+            Expression::Plain(plain) => self.at_first(plain, left),
+            Expression::Full(full) => {
+                let height = self.frames.len();
+                match self
+                    .frames
+                    .push(Frame::Right(self.line, step, value, old, rest))
+                {
+                    Ok(()) => (),
+                    Err(_) => return waits(left, Err(Stop::OutOfMemory)),
+                }
+                match full.steps.as_slice() {
+                    [] => match self.begun(functions, &full.head, &[], left).get() {
+                        Some(found) => {
+                            self.frames.truncate(height);
+                            Found::value(found)
+                        }
+                        None => Found::Waits,
+                    },
+                    _ => waits(left, Ok(Focus::Evaluates(right))),
+                }
             }
-            Ok(Ready::Waits(old)) => {
-                self.frames
-                    .push(Frame::Right(self.line, step, value, old, rest))?;
-                Ok(Focus::Evaluates(right))
-            }
-            Err(why) => Err(stopped(self.line, why)),
         }
     }
 
     /// A step with another expression has the value of that, and is done.
-    pub(crate) fn follow_right(
+    #[inline(always)]
+    fn follow_right(
         &mut self,
-        step: Binary,
-        left: Word,
+        step: &'p Binary,
+        value: Word,
+        old: Word,
+        right: Word,
+        left: &mut Result<Focus<'p>, Stop>,
+    ) -> Found
+        ensures finds { FindsAlone self.old
+            (λ knowing w t. both_on self.old.line.0 step.now (word_view value) (word_view old)
+            (word_view right) t) (found_view result) left.new self.new }
+        ensures turns { self.new.turns ≡ self.old.turns }
+    {
+        match finish(&mut self.store, *step, value, old, right).get() {
+            Ok(next) => Found::value(next),
+            Err(why) => waits(left, Err(stopped(self.line, why))),
+        }
+    }
+
+    /// A step that waited for the value at its right is done, and those behind it are taken.
+    pub(crate) fn go_right(
+        &mut self,
+        functions: &'p [Function],
+        step: &'p Binary,
+        value: Word,
         old: Word,
         right: Word,
         rest: &'p [FullStep],
     ) -> Result<Focus<'p>, Stop>
-        ensures goes { (functions : List FunctionData) → Goes functions self.old (env_of self.old)
-            (λ knowing w t. followed knowing w (here (env_of self.old) self.old.line) (map
-            full_step_view rest.now)
-            (both_on self.old.line.0 step (word_view left) (word_view old) (word_view right) t))
+        ensures goes { Goes functions.now self.old (env_of self.old)
+            (λ knowing w t. behind_by (here (env_of self.old) self.old.line) rest.now knowing w
+            (both_on self.old.line.0 step.now (word_view value) (word_view old) (word_view right)
+            t))
             result self.new }
         ensures turns { self.new.turns ≤ self.old.turns }
         ensures nears { remaining self.old.turns result self.new ≤
-            1 + frames_weight self.old.frames + steps_weight rest.now }
+            frames_weight self.old.frames + steps_weight rest.now }
     {
-        match finish(&mut self.store, step, left, old, right).get() {
-            Ok(next) => self.wait(rest, next),
+        match finish(&mut self.store, *step, value, old, right).get() {
+            Ok(next) => self.go_on(functions, rest, next),
             Err(why) => Err(stopped(self.line, why)),
         }
     }

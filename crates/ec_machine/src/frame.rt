@@ -1,7 +1,7 @@
 //! What the machine looks at, and what waits for its answer.
 
 use ec_base::Line;
-use ec_code::{Binary, Expression, FullStep, Loop, Statement};
+use ec_code::{Binary, Expression, FullStep, Function, Loop, Statement};
 use ec_formats::{Channel, Known};
 use ec_values::Word;
 
@@ -44,18 +44,32 @@ pub enum Focus<'p> {
     Leads(Flow),
 }
 
+/// The way out of a function: the line of its call, whether its value is used, whether the function that called is the
+/// first `main`, the object that was last before the call, how many pointers there were, and how many of them were in
+/// scope; the function, and the steps behind the call.
+#[derive(Clone, Copy)]
+pub struct Way<'p> {
+    pub line: Line,
+    pub used: bool,
+    pub first: bool,
+    pub mark: u32,
+    pub height: usize,
+    pub count: usize,
+    pub function: &'p Function,
+    pub steps: &'p [FullStep],
+}
+
 /// What waits for an answer, with the line that it goes on at.
 #[derive(Clone, Copy)]
 pub enum Frame<'p> {
     /// The steps behind a value.
     Steps(Line, &'p [FullStep]),
     /// A step with the value at its left and the old value of its place, for the value at its right.
-    Right(Line, Binary, Word, Word, &'p [FullStep]),
+    Right(Line, &'p Binary, Word, Word, &'p [FullStep]),
     /// The number of arguments so far, and the further ones.
     Arguments(Line, Callee<'p>, usize, &'p [Expression], &'p [FullStep]),
-    /// A call: whether its value is used, what it gives where the body ends, and whether the function that called is the
-    /// first `main`.
-    Call(Line, bool, Option<Word>, &'p [FullStep], bool),
+    /// The body of a function that was called, which answers a `goto`.
+    Call(Way<'p>),
     /// A call of the library, and how many values are those of its pointers.
     Called(Line, usize, &'p [FullStep]),
     /// An expression as a statement.
@@ -73,7 +87,7 @@ pub enum Frame<'p> {
     Rest(Line, &'p [Statement]),
     /// The statements of a block, which answers a `goto`.
     Settle(Line, &'p [Statement]),
-    /// The end of a block or a function: the object that was last before it, how many pointers there were, and how many of
+    /// The end of a block: the object that was last before it, how many pointers there were, and how many of
     /// them were in scope.
     Close(u32, usize, usize),
 }

@@ -5,6 +5,7 @@
 mod answers;
 mod calls;
 mod expressions;
+mod found;
 mod frame;
 mod labels;
 mod loops;
@@ -19,7 +20,7 @@ mod stop;
 
 pub use calls::last;
 pub use ec_plain;
-pub use frame::{Callee, Flow, Focus, Frame};
+pub use frame::{Callee, Flow, Focus, Frame, Way};
 pub use labels::{holds, holds_any};
 pub use machine::Machine;
 pub use scope::Scope;

@@ -1,12 +1,14 @@
 //! Lists of statements, blocks and loops.
 
-ghost use Rattle.std.specs.Prelude.{◌≡◌, ◌≤◌, ◌<◌, ◌+◌, ℕ, List, map, OnOk};
+ghost use Rattle.std.specs.Prelude.{◌≡◌, ◌≤◌, ◌<◌, ◌+◌, ℕ, List, map, IfSome, OnOk};
+ghost use Rattle.ec_resolved.specs.Resolved.{evaluate as evaluated};
 ghost use Rattle.ec_code.specs.declared.program.Function.{Function as FunctionData};
-ghost use Rattle.ec_code.specs.Views.{expression_view, size_view, statement_view, statements_view};
-ghost use Rattle.ec_evaluation.specs.Evaluate.{Context, World, Step as Knowing, turn_of};
+ghost use Rattle.ec_code.specs.Views.{expression_view, full_view, size_view, statement_view, statements_view};
+ghost use Rattle.ec_evaluation.specs.Evaluate.{Context, World, Step as Knowing, eval, turn_of};
 ghost use Rattle.ec_evaluation.specs.Execute.{again, enter, look_all, run, run_all, tested};
-ghost use Rattle.ec_evaluation.specs.Results.{Res, on_done};
+ghost use Rattle.ec_evaluation.specs.Results.{Res, after_body, on, on_done, on_value};
 ghost use Rattle.ec_evaluation.specs.State.{State};
+ghost use Rattle.ec_machine.specs.Found.{StandsAt};
 ghost use Rattle.ec_machine.specs.Frames.{behind_of, body_of, evaluated_for, here, test_of};
 ghost use Rattle.ec_machine.specs.Goes.{Enters, Goes, at, env_of};
 ghost use Rattle.ec_machine.specs.declared.frame.Frame.TheVariants as frame;
@@ -20,12 +22,16 @@ use crate::making::{make_objects, no_room, take_turn};
 use crate::quick::{Asked, Done, ask, pass_over, quick, quick_list};
 use crate::stop::Stop;
 use ec_base::Line;
-use ec_code::{Expression, Loop, ObjectSize, Statement};
+use ec_code::{Expression, Full, Function, Loop, ObjectSize, Statement};
 
 impl<'p> Machine<'p> {
     /// Statements are run, one after the other.
-    pub(crate) fn list(&mut self, statements: &'p [Statement]) -> Result<Focus<'p>, Stop>
-        ensures goes { (functions : List FunctionData) → Goes functions self.old (env_of self.old)
+    pub(crate) fn list(
+        &mut self,
+        functions: &'p [Function],
+        statements: &'p [Statement],
+    ) -> Result<Focus<'p>, Stop>
+        ensures goes { Goes functions.now self.old (env_of self.old)
             (λ knowing w t. run_all knowing w (here (env_of self.old) self.old.line)
             (statements_view statements.now) t) result self.new }
         ensures turns { self.new.turns ≤ self.old.turns }
@@ -35,19 +41,20 @@ impl<'p> Machine<'p> {
         let line = self.line;
         match quick_list(&mut self.store, &self.scope, &mut self.line, statements) {
             Ok(None) => Ok(Focus::Leads(Flow::On)),
-            Ok(Some(found)) => self.left_in(line, found.first, found.rest),
+            Ok(Some(found)) => self.left_in(functions, line, found.first, found.rest),
             Err(stop) => Err(stop),
         }
     }
 
     /// What is left of a statement is begun. These stand behind it, on this line.
-    pub(crate) fn left_in(
+    fn left_in(
         &mut self,
+        functions: &'p [Function],
         line: Line,
         first: &'p Statement,
         rest: &'p [Statement],
     ) -> Result<Focus<'p>, Stop>
-        ensures goes { (functions : List FunctionData) → Goes functions self.old (env_of self.old)
+        ensures goes { Goes functions.now self.old (env_of self.old)
             (λ knowing w t. on_done (run knowing w (here (env_of self.old) self.old.line)
             (statement_view first.now) t) (λ u. run_all knowing w (here (env_of self.old) line)
             (statements_view rest.now) u)) result self.new }
@@ -57,10 +64,10 @@ impl<'p> Machine<'p> {
             rest.now }
     {
         match rest {
-            [] => self.left(first),
+            [] => self.left(functions, first),
             _ => {
                 self.frames.push(Frame::Rest(line, rest))?;
-                self.left(first)
+                self.left(functions, first)
             }
         }
     }
@@ -115,23 +122,31 @@ impl<'p> Machine<'p> {
     }
 
     /// The body of a loop is run once more, and costs a turn.
-    pub(crate) fn turn(&mut self, inner: &'p Loop) -> Result<Focus<'p>, Stop>
-        ensures goes { (functions : List FunctionData) → Goes functions self.old (env_of self.old)
+    pub(crate) fn turn(
+        &mut self,
+        functions: &'p [Function],
+        inner: &'p Loop,
+    ) -> Result<Focus<'p>, Stop>
+        ensures goes { Goes functions.now self.old (env_of self.old)
             (λ knowing w t. w (turn_of (here (env_of self.old) self.old.line) (test_of inner.now)
             (behind_of inner.now) (body_of inner.now)) t) result self.new }
         ensures turns { self.new.turns ≤ self.old.turns }
         ensures nears { remaining self.old.turns result self.new ≡ 0 }
     {
-        match self.round(inner) {
-            Ok(None) => self.test(inner),
+        match self.round(functions, inner) {
+            Ok(None) => self.test(functions, inner),
             Ok(Some(focus)) => Ok(focus),
             Err(stop) => Err(stop),
         }
     }
 
     /// A loop from its test. Turns that need no frame are taken here.
-    pub(crate) fn test(&mut self, inner: &'p Loop) -> Result<Focus<'p>, Stop>
-        ensures goes { (functions : List FunctionData) → Goes functions self.old (env_of self.old)
+    pub(crate) fn test(
+        &mut self,
+        functions: &'p [Function],
+        inner: &'p Loop,
+    ) -> Result<Focus<'p>, Stop>
+        ensures goes { Goes functions.now self.old (env_of self.old)
             (λ knowing w t. tested knowing w (here (env_of self.old) self.old.line) (test_of
             inner.now) (behind_of inner.now) (body_of inner.now) t) result self.new }
         ensures turns { self.new.turns ≤ self.old.turns }
@@ -144,7 +159,7 @@ impl<'p> Machine<'p> {
                 Ok(Some(focus)) => return Ok(focus),
                 Err(stop) => return Err(stop),
             }
-            match self.round(inner) {
+            match self.round(functions, inner) {
                 Ok(None) => (),
                 Ok(Some(focus)) => return Ok(focus),
                 Err(stop) => return Err(stop),
@@ -153,8 +168,12 @@ impl<'p> Machine<'p> {
     }
 
     /// A loop behind its body.
-    pub(crate) fn again(&mut self, inner: &'p Loop) -> Result<Focus<'p>, Stop>
-        ensures goes { (functions : List FunctionData) → Goes functions self.old (env_of self.old)
+    pub(crate) fn again(
+        &mut self,
+        functions: &'p [Function],
+        inner: &'p Loop,
+    ) -> Result<Focus<'p>, Stop>
+        ensures goes { Goes functions.now self.old (env_of self.old)
             (λ knowing w t. again knowing w (here (env_of self.old) self.old.line) (test_of
             inner.now) (behind_of inner.now) (body_of inner.now) t) result self.new }
         ensures turns { self.new.turns ≤ self.old.turns }
@@ -162,7 +181,7 @@ impl<'p> Machine<'p> {
             1 + frames_weight self.old.frames + again_weight inner.now }
     {
         match self.behind(inner) {
-            Ok(None) => self.test(inner),
+            Ok(None) => self.test(functions, inner),
             Ok(Some(focus)) => Ok(focus),
             Err(stop) => Err(stop),
         }
@@ -206,24 +225,32 @@ impl<'p> Machine<'p> {
 
     /// A turn of a loop. Where it needs no frame the loop stands at its test again.
     #[inline(always)]
-    fn round(&mut self, inner: &'p Loop) -> Result<Option<Focus<'p>>, Stop>
-        ensures goes { (functions : List FunctionData) → Onward functions self.old (turning
+    fn round(
+        &mut self,
+        functions: &'p [Function],
+        inner: &'p Loop,
+    ) -> Result<Option<Focus<'p>>, Stop>
+        ensures goes { Onward functions.now self.old (turning
             inner.now) result self.new (testing inner.now) }
         ensures fewer { OnOk result (self.new.turns < self.old.turns) }
         ensures turns { self.new.turns ≤ self.old.turns }
     {
         match take_turn(&mut self.turns) {
-            Ok(()) => self.body(inner),
+            Ok(()) => self.body(functions, inner),
             Err(stop) => Err(stop),
         }
     }
 
     /// The body of a loop, and what is evaluated behind it. Where this needs no frame the loop stands at its test.
     #[inline(always)]
-    fn body(&mut self, inner: &'p Loop) -> Result<Option<Focus<'p>>, Stop>
-        ensures goes { (functions : List FunctionData) → Onward functions self.old (bodily
+    fn body(
+        &mut self,
+        functions: &'p [Function],
+        inner: &'p Loop,
+    ) -> Result<Option<Focus<'p>>, Stop>
+        ensures goes { Onward functions.now self.old (bodily
             inner.now) result self.new (testing inner.now) }
-        ensures turns { self.new.turns ≡ self.old.turns }
+        ensures turns { self.new.turns ≤ self.old.turns }
     {
         let line = self.line;
         match quick(&mut self.store, &self.scope, &mut self.line, &inner.body) {
@@ -231,10 +258,61 @@ impl<'p> Machine<'p> {
                 self.line = line;
                 self.behind(inner)
             }
-            Ok(Some(left)) => {
+            Ok(Some(left)) => self.body_from(functions, inner, line, left),
+            Err(stop) => Err(stop),
+        }
+    }
+
+    /// What is left of the body of a loop, which began on this line, and what is evaluated behind it.
+    #[inline(always)]
+    fn body_from(
+        &mut self,
+        functions: &'p [Function],
+        inner: &'p Loop,
+        line: Line,
+        left: &'p Statement,
+    ) -> Result<Option<Focus<'p>>, Stop>
+        ensures goes { Onward functions.now self.old
+            (λ m knowing w t. after_body (run knowing w (here (env_of m) m.line) (statement_view
+            left.now) t) (λ u. again knowing w (here (env_of m) line) (test_of inner.now)
+            (behind_of inner.now) (body_of inner.now) u)) result self.new (testing inner.now) }
+        ensures turns { self.new.turns ≤ self.old.turns }
+    {
+        match call_of(left) {
+            Some(full) => self.body_call(functions, inner, line, full),
+            None => {
                 self.frames.push(Frame::Body(line, inner))?;
                 Ok(Some(Focus::Runs(left)))
             }
+        }
+    }
+
+    /// What is left of the body of a loop, which began on this line, is an expression that holds a call.
+    #[inline(always)]
+    fn body_call(
+        &mut self,
+        functions: &'p [Function],
+        inner: &'p Loop,
+        line: Line,
+        full: &'p Full,
+    ) -> Result<Option<Focus<'p>>, Stop>
+        ensures goes { Onward functions.now self.old
+            (λ m knowing w t. after_body (on_value (eval knowing w (here (env_of m) m.line)
+            (full_view full.now) t) (λ v u. on u)) (λ u. again knowing w (here (env_of m) line)
+            (test_of inner.now) (behind_of inner.now) (body_of inner.now) u))
+            result self.new (testing inner.now) }
+        ensures turns { self.new.turns ≤ self.old.turns }
+    {
+        let height = self.frames.len();
+        self.frames.push(Frame::Body(line, inner))?;
+        let mut left = Err(Stop::OutOfMemory);
+        match self.does(functions, full, &mut left) {
+            Ok(Done::All) => {
+                self.frames.truncate(height);
+                self.line = line;
+                self.behind(inner)
+            }
+            Ok(Done::Nothing) => standing(left),
             Err(stop) => Err(stop),
         }
     }
@@ -276,5 +354,38 @@ impl<'p> Machine<'p> {
             }
             Err(stop) => Err(stop),
         }
+    }
+}
+
+/// What the machine stands at.
+#[inline(always)]
+fn standing<'p>(left: Result<Focus<'p>, Stop>) -> Result<Option<Focus<'p>>, Stop>
+    ensures { StandsAt left.entry result }
+{
+    match left {
+        Ok(focus) => Ok(Some(focus)),
+        Err(stop) => Err(stop),
+    }
+}
+
+/// The expression that a statement is, where it holds a call.
+#[inline(always)]
+fn call_of(statement: &Statement) -> Option<&Full>
+    ensures { IfSome result (λ full. statement_view statement.now ≡ evaluated (full_view full.now)) }
+{
+    match statement {
+        Statement::Evaluate(expression) => full_of(expression),
+        _ => None,
+    }
+}
+
+/// An expression that holds a call.
+#[inline(always)]
+fn full_of(expression: &Expression) -> Option<&Full>
+    ensures { IfSome result (λ full. expression_view expression.now ≡ full_view full.now) }
+{
+    match expression {
+        Expression::Plain(_) => None,
+        Expression::Full(full) => Some(full),
     }
 }

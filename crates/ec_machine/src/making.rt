@@ -65,6 +65,7 @@ pub fn place(scope: &Scope, slot: u32) -> Option<Ptr>
 }
 
 /// Makes an object, and puts it behind the others.
+#[inline(always)]
 pub fn make_object(store: &mut Store, scope: &mut Scope, size: u64) -> Result<(), MakeStop>
     requires some { 1 ≤ size }
     requires small { size ≤ 2 ^ 24 }
@@ -106,6 +107,7 @@ pub fn make_objects(
 }
 
 /// Makes an object of this type, and puts it behind the others.
+#[inline(always)]
 fn make_parameter(store: &mut Store, scope: &mut Scope, kind: Kind) -> Result<(), MakeStop>
     ensures made { (line : ℕ) (s : State) (go : List ℕ → State → Res) → Makes line result
         (tried line (make store.old (scalar_size (kind_type kind))) (at s store.old) (λ r. go
@@ -117,6 +119,7 @@ fn make_parameter(store: &mut Store, scope: &mut Scope, kind: Kind) -> Result<()
 }
 
 /// Makes an object of the first of these types, if there is one, and puts it behind the others.
+#[inline(always)]
 fn make_first(store: &mut Store, scope: &mut Scope, kinds: &[Kind]) -> Result<(), MakeStop>
     ensures made { (line : ℕ) (s : State) (go : List ℕ → State → Res) (kind : KindData) →
         slice_get kinds.now 0 ≡ Some kind → Makes line result
@@ -132,6 +135,7 @@ fn make_first(store: &mut Store, scope: &mut Scope, kinds: &[Kind]) -> Result<()
 }
 
 /// The first of these types.
+#[inline(always)]
 fn first_kind(kinds: &[Kind]) -> Option<Kind>
     ensures { result ≡ slice_get kinds.now 0 }
 {
@@ -139,6 +143,7 @@ fn first_kind(kinds: &[Kind]) -> Option<Kind>
 }
 
 /// Makes objects of these types, and puts them behind the others.
+#[inline(always)]
 fn make_parameters(store: &mut Store, scope: &mut Scope, kinds: &[Kind]) -> Result<(), MakeStop>
     ensures made { (line : ℕ) (s : State) (go : List ℕ → State → Res) → Makes line result
         (made line (map scalar_size (map kind_type kinds.now)) (scope_view (objects_of scope.old))
@@ -158,6 +163,7 @@ fn make_parameters(store: &mut Store, scope: &mut Scope, kinds: &[Kind]) -> Resu
 }
 
 /// The size of a value of a type.
+#[inline(always)]
 fn size_of(kind: Kind) -> u64
     ensures value { result ≡ scalar_size (kind_type kind) }
     ensures some { 1 ≤ result }
@@ -180,6 +186,7 @@ fn size_of(kind: Kind) -> u64
 }
 
 /// Makes the objects of a function: its parameters with these values, and the objects of its body.
+#[inline(never)]
 pub(crate) fn make_locals(
     store: &mut Store,
     scope: &mut Scope,
@@ -211,6 +218,7 @@ pub(crate) fn make_locals(
 }
 
 /// Stores arguments in parameters of these types, in order.
+#[inline(always)]
 pub fn give_arguments(
     store: &mut Store,
     line: Line,

@@ -8,7 +8,7 @@ ghost use Rattle.ec_evaluation.specs.State.{State};
 ghost use Rattle.ec_evaluation.specs.Whole.{main_run};
 ghost use Rattle.ec_machine.specs.Goes.{Fits, Stands, at, tasks};
 
-use crate::frame::{Focus, Frame};
+use crate::frame::{Flow, Focus, Frame};
 use crate::machine::Machine;
 use crate::making::{make_objects, no_room};
 use crate::scope::Scope;
@@ -60,6 +60,7 @@ impl<'p> Machine<'p> {
         }
         let body = main.body.as_slice();
         self.frames.push(Frame::Settle(Line(1), body))?;
-        self.list(body)
+        self.frames.push(Frame::Rest(Line(1), body))?;
+        Ok(Focus::Leads(Flow::On))
     }
 }

@@ -1,25 +1,27 @@
 //! Statements, run from their start or from a label.
 
-ghost use Rattle.std.specs.Prelude.{◌≡◌, ◌≤◌, ◌+◌, ℕ, List, map};
+ghost use Rattle.std.specs.Prelude.{◌≡◌, ◌≤◌, ◌+◌, ℕ, List, map, IfOk};
 ghost use Rattle.std.specs.Option.{option_map};
 ghost use Rattle.ec_code.specs.declared.program.Function.{Function as FunctionData};
-ghost use Rattle.ec_code.specs.Views.{expression_view, expressions_view, loop_view, plain_view, size_view, statement_view, statements_view};
+ghost use Rattle.ec_code.specs.Views.{expression_view, expressions_view, full_view, loop_view, plain_view, size_view, statement_view, statements_view};
+ghost use Rattle.ec_evaluation.specs.Evaluate.{eval};
 ghost use Rattle.ec_evaluation.specs.Execute.{declared, enter, initialized, look, look_all, returning, run, run_all};
-ghost use Rattle.ec_evaluation.specs.Results.{returned, turn, went};
+ghost use Rattle.ec_evaluation.specs.Results.{on, on_value, returned, turn, went};
 ghost use Rattle.ec_values.specs.Words.{word_view};
+ghost use Rattle.ec_machine.specs.Found.{Does, DoesNear};
 ghost use Rattle.ec_machine.specs.Frames.{evaluated_for, here};
 ghost use Rattle.ec_machine.specs.Goes.{EndsWith, Goes, Returns, env_of};
 ghost use Rattle.ec_machine.specs.declared.frame.Frame.TheVariants as frame;
 ghost use Rattle.ec_machine.specs.declared.machine.Machine.{Machine as MachineData};
-ghost use Rattle.ec_machine.specs.Weights.{expression_weight, expressions_weight, frames_weight, remaining, optional_weight, statement_weight, statements_weight, test_weight};
+ghost use Rattle.ec_machine.specs.Weights.{expression_weight, expressions_weight, frames_weight, full_weight, remaining, optional_weight, statement_weight, statements_weight, test_weight};
 
-use crate::frame::{Callee, Flow, Focus, Frame};
+use crate::frame::{Flow, Focus, Frame};
 use crate::labels::holds;
 use crate::machine::Machine;
 use crate::making::{place, stopped, take_turn};
-use crate::quick::quick;
+use crate::quick::{Done, quick};
 use crate::stop::{End, Stop};
-use ec_code::{Expression, Function, Loop, ObjectSize, Plain, Statement};
+use ec_code::{Expression, Full, Function, Loop, ObjectSize, Plain, Statement};
 use ec_plain::evaluate;
 use ec_values::Word;
 
@@ -40,22 +42,24 @@ impl<'p> Machine<'p> {
         match statement {
             Statement::OnLine(line, inner) => {
                 self.line = *line;
-                self.on_line(inner.get())
+                self.on_line(functions, inner.get())
             }
             Statement::Nothing => Ok(Focus::Leads(Flow::On)),
-            Statement::Evaluate(expression) => self.effect(expression),
+            Statement::Evaluate(expression) => self.effect(functions, expression),
             Statement::Declare(slot, size) => self.declare(*slot, *size),
             Statement::Initialize(slot, size, values) => {
                 self.initialize(functions, *slot, *size, values.as_slice())
             }
-            Statement::Block(sizes, body) => { self.run_block(sizes.as_slice(), body.as_slice()) }
+            Statement::Block(sizes, body) => {
+                self.run_block(functions, sizes.as_slice(), body.as_slice())
+            }
             Statement::Choose(test, first, second) => {
                 self.branch(test, first.get(), second.get())
             }
-            Statement::Loop(inner) => { self.run_loop(inner.get()) }
+            Statement::Loop(inner) => self.run_loop(functions, inner.get()),
             Statement::Leave => Ok(Focus::Leads(Flow::Broke)),
             Statement::Next => Ok(Focus::Leads(Flow::Continued)),
-            Statement::Return(value) => self.run_return(value),
+            Statement::Return(value) => self.run_return(functions, value),
             Statement::Goto(label) => self.jump(*label),
             Statement::Label(_, inner) => Ok(Focus::Runs(inner.get())),
             Statement::Embedded(_) => Err(Stop::Over(End::Stuck)),
@@ -63,8 +67,12 @@ impl<'p> Machine<'p> {
     }
 
     /// A statement on a line is begun. What of it needs no frame is done here.
-    fn on_line(&mut self, statement: &'p Statement) -> Result<Focus<'p>, Stop>
-        ensures goes { (functions : List FunctionData) → Goes functions self.old (env_of self.old)
+    fn on_line(
+        &mut self,
+        functions: &'p [Function],
+        statement: &'p Statement,
+    ) -> Result<Focus<'p>, Stop>
+        ensures goes { Goes functions.now self.old (env_of self.old)
             (λ knowing w t. run knowing w (here (env_of self.old) self.old.line)
             (statement_view statement.now) t) result self.new }
         ensures turns { self.new.turns ≤ self.old.turns }
@@ -73,14 +81,18 @@ impl<'p> Machine<'p> {
     {
         match quick(&mut self.store, &self.scope, &mut self.line, statement) {
             Ok(None) => Ok(Focus::Leads(Flow::On)),
-            Ok(Some(left)) => self.left(left),
+            Ok(Some(left)) => self.left(functions, left),
             Err(stop) => Err(stop),
         }
     }
 
     /// What is left of a statement is begun.
-    pub(crate) fn left(&mut self, statement: &'p Statement) -> Result<Focus<'p>, Stop>
-        ensures goes { (functions : List FunctionData) → Goes functions self.old (env_of self.old)
+    pub(crate) fn left(
+        &mut self,
+        functions: &'p [Function],
+        statement: &'p Statement,
+    ) -> Result<Focus<'p>, Stop>
+        ensures goes { Goes functions.now self.old (env_of self.old)
             (λ knowing w t. run knowing w (here (env_of self.old) self.old.line)
             (statement_view statement.now) t) result self.new }
         ensures turns { self.new.turns ≤ self.old.turns }
@@ -88,16 +100,20 @@ impl<'p> Machine<'p> {
             1 + frames_weight self.old.frames + statement_weight statement.now }
     {
         match statement {
-            Statement::Evaluate(expression) => self.effect(expression),
-            Statement::Loop(inner) => self.run_loop(inner.get()),
-            Statement::Return(value) => self.run_return(value),
+            Statement::Evaluate(expression) => self.effect(functions, expression),
+            Statement::Loop(inner) => self.run_loop(functions, inner.get()),
+            Statement::Return(value) => self.run_return(functions, value),
             _ => Ok(Focus::Runs(statement)),
         }
     }
 
     /// An expression as a statement.
-    fn effect(&mut self, expression: &'p Expression) -> Result<Focus<'p>, Stop>
-        ensures goes { (functions : List FunctionData) → Goes functions self.old (env_of self.old)
+    fn effect(
+        &mut self,
+        functions: &'p [Function],
+        expression: &'p Expression,
+    ) -> Result<Focus<'p>, Stop>
+        ensures goes { Goes functions.now self.old (env_of self.old)
             (evaluated_for (env_of self.old) self.old.line (expression_view expression.now)
             frame.Do) result self.new }
         ensures turns { self.new.turns ≤ self.old.turns }
@@ -106,10 +122,53 @@ impl<'p> Machine<'p> {
     {
         match expression {
             Expression::Plain(plain) => self.effect_at_once(plain),
-            Expression::Full(_) => {
-                self.frames.push(Frame::Do)?;
-                Ok(Focus::Evaluates(expression))
+            Expression::Full(full) => self.effect_of(functions, full),
+        }
+    }
+
+    /// An expression that holds a call as a statement.
+    #[inline(always)]
+    fn effect_of(&mut self, functions: &'p [Function], full: &'p Full) -> Result<Focus<'p>, Stop>
+        ensures goes { Goes functions.now self.old (env_of self.old)
+            (evaluated_for (env_of self.old) self.old.line (full_view full.now)
+            frame.Do) result self.new }
+        ensures turns { self.new.turns ≤ self.old.turns }
+        ensures nears { remaining self.old.turns result self.new ≤
+            2 + frames_weight self.old.frames + full_weight full.now }
+    {
+        let mut left = Err(Stop::OutOfMemory);
+        match self.does(functions, full, &mut left) {
+            Ok(Done::All) => Ok(Focus::Leads(Flow::On)),
+            Ok(Done::Nothing) => left,
+            Err(stop) => Err(stop),
+        }
+    }
+
+    /// An expression that holds a call is evaluated, and its value isn't used. Where it isn't found on the spot, a frame
+    /// waits.
+    #[inline(always)]
+    pub(crate) fn does(
+        &mut self,
+        functions: &'p [Function],
+        full: &'p Full,
+        left: &mut Result<Focus<'p>, Stop>,
+    ) -> Result<Done, Stop>
+        ensures does { Does functions.now self.old
+            (λ knowing w t. eval knowing w (here (env_of self.old) self.old.line) (full_view
+            full.now) t)
+            (λ knowing w o. on_value o (λ v u. on u)) result left.new self.new }
+        ensures turns { self.new.turns ≤ self.old.turns }
+        ensures nears { IfOk result (λ done. DoesNear self.old.turns done left.new self.new (1 +
+            frames_weight self.old.frames + full_weight full.now)) }
+    {
+        let height = self.frames.len();
+        self.frames.push(Frame::Do)?;
+        match self.value_of(functions, full, left).get() {
+            Some(_) => {
+                self.frames.truncate(height);
+                Ok(Done::All)
             }
+            None => Ok(Done::Nothing),
         }
     }
 
@@ -129,6 +188,7 @@ impl<'p> Machine<'p> {
     }
 
     /// The statement that an expression chooses is run.
+    #[inline(never)]
     fn branch(
         &mut self,
         test: &'p Expression,
@@ -174,8 +234,8 @@ impl<'p> Machine<'p> {
     }
 
     /// `return` of an expression.
-    fn give(&mut self, value: &'p Expression) -> Result<Focus<'p>, Stop>
-        ensures goes { (functions : List FunctionData) → Goes functions self.old (env_of self.old)
+    fn give(&mut self, functions: &'p [Function], value: &'p Expression) -> Result<Focus<'p>, Stop>
+        ensures goes { Goes functions.now self.old (env_of self.old)
             (evaluated_for (env_of self.old) self.old.line (expression_view value.now)
             frame.Give) result self.new }
         ensures turns { self.new.turns ≤ self.old.turns }
@@ -184,10 +244,28 @@ impl<'p> Machine<'p> {
     {
         match value {
             Expression::Plain(plain) => self.give_at_once(plain),
-            Expression::Full(_) => {
-                self.frames.push(Frame::Give)?;
-                Ok(Focus::Evaluates(value))
+            Expression::Full(full) => self.give_full(functions, full),
+        }
+    }
+
+    /// `return` of an expression that holds a call.
+    fn give_full(&mut self, functions: &'p [Function], full: &'p Full) -> Result<Focus<'p>, Stop>
+        ensures goes { Goes functions.now self.old (env_of self.old)
+            (evaluated_for (env_of self.old) self.old.line (full_view full.now)
+            frame.Give) result self.new }
+        ensures turns { self.new.turns ≤ self.old.turns }
+        ensures nears { remaining self.old.turns result self.new ≤
+            2 + frames_weight self.old.frames + full_weight full.now }
+    {
+        let height = self.frames.len();
+        self.frames.push(Frame::Give)?;
+        let mut left = Err(Stop::OutOfMemory);
+        match self.value_of(functions, full, &mut left).get() {
+            Some(value) => {
+                self.frames.truncate(height);
+                gives(self.first, Some(value))
             }
+            None => left,
         }
     }
 
@@ -207,6 +285,7 @@ impl<'p> Machine<'p> {
     }
 
     /// A statement that holds a label is run from there.
+    #[inline(never)]
     pub(crate) fn look(&mut self, label: u32, statement: &'p Statement) -> Result<Focus<'p>, Stop>
         ensures goes { (functions : List FunctionData) → Goes functions self.old (env_of self.old)
             (λ knowing w t. look knowing w label (here (env_of self.old) self.old.line)
@@ -256,12 +335,14 @@ impl<'p> Machine<'p> {
     }
 
     /// A block is run.
+    #[inline(never)]
     fn run_block(
         &mut self,
+        functions: &'p [Function],
         sizes: &'p [ObjectSize],
         body: &'p [Statement],
     ) -> Result<Focus<'p>, Stop>
-        ensures goes { (functions : List FunctionData) → Goes functions self.old (env_of self.old)
+        ensures goes { Goes functions.now self.old (env_of self.old)
             (λ knowing w t. enter w (here (env_of self.old) self.old.line) (map size_view sizes.now)
             (statements_view body.now) (λ d u. run_all knowing w d (statements_view
             body.now) u) t) result self.new }
@@ -270,7 +351,7 @@ impl<'p> Machine<'p> {
             3 + frames_weight self.old.frames + statements_weight body.now }
     {
         match self.enter(sizes, body) {
-            Ok(()) => self.list(body),
+            Ok(()) => self.list(functions, body),
             Err(stop) => Err(stop),
         }
     }
@@ -297,8 +378,8 @@ impl<'p> Machine<'p> {
     }
 
     /// A loop is reached. Its first body is tested for, or costs a turn at once.
-    fn run_loop(&mut self, inner: &'p Loop) -> Result<Focus<'p>, Stop>
-        ensures goes { (functions : List FunctionData) → Goes functions self.old (env_of self.old)
+    fn run_loop(&mut self, functions: &'p [Function], inner: &'p Loop) -> Result<Focus<'p>, Stop>
+        ensures goes { Goes functions.now self.old (env_of self.old)
             (λ knowing w t. run knowing w (here (env_of self.old) self.old.line) (loop_view
             inner.now) t) result self.new }
         ensures turns { self.new.turns ≤ self.old.turns }
@@ -306,15 +387,19 @@ impl<'p> Machine<'p> {
             1 + frames_weight self.old.frames + test_weight inner.now }
     {
         if inner.tested {
-            self.test(inner)
+            self.test(functions, inner)
         } else {
-            self.turn(inner)
+            self.turn(functions, inner)
         }
     }
 
     /// `return` is reached, with a value or without one.
-    fn run_return(&mut self, value: &'p Option<Expression>) -> Result<Focus<'p>, Stop>
-        ensures goes { (functions : List FunctionData) → Goes functions self.old (env_of self.old)
+    fn run_return(
+        &mut self,
+        functions: &'p [Function],
+        value: &'p Option<Expression>,
+    ) -> Result<Focus<'p>, Stop>
+        ensures goes { Goes functions.now self.old (env_of self.old)
             (λ knowing w t. returning knowing w (here (env_of self.old) self.old.line) (option_map
             expression_view value.now) t) result self.new }
         ensures turns { self.new.turns ≤ self.old.turns }
@@ -323,11 +408,12 @@ impl<'p> Machine<'p> {
     {
         match value {
             None => gives(self.first, None),
-            Some(value) => self.give(value),
+            Some(value) => self.give(functions, value),
         }
     }
 
     /// A `goto` is reached, and costs a turn.
+    #[inline(never)]
     fn jump(&mut self, label: u32) -> Result<Focus<'p>, Stop>
         ensures goes { (functions : List FunctionData) → Goes functions self.old (env_of self.old)
             (λ knowing w t. turn t (λ u. went label u)) result self.new }
@@ -341,6 +427,7 @@ impl<'p> Machine<'p> {
     }
 
     /// A declaration without an initializer is reached.
+    #[inline(never)]
     fn declare(&mut self, slot: u32, size: u64) -> Result<Focus<'p>, Stop>
         ensures goes { (functions : List FunctionData) → Goes functions self.old (env_of self.old)
             (λ knowing w t. declared (here (env_of self.old) self.old.line) slot size t) result
@@ -359,6 +446,7 @@ impl<'p> Machine<'p> {
     }
 
     /// A declaration with an initializer is reached.
+    #[inline(never)]
     fn initialize(
         &mut self,
         functions: &'p [Function],
@@ -375,7 +463,7 @@ impl<'p> Machine<'p> {
     {
         match place(&self.scope, slot) {
             Some(ptr) => match self.store.fill(ptr, size, 0) {
-                Ok(()) => self.pass_all(functions, Callee::Object, values, &[]),
+                Ok(()) => self.pass_all(functions, values),
                 Err(trap) => Err(Stop::Over(End::Trapped(trap, self.line))),
             },
             None => Err(Stop::Over(End::Stuck)),

@@ -1,6 +1,6 @@
 //! Single steps.
 
-ghost use Rattle.std.specs.Prelude.{◌≡◌, ◌≤◌, ◌+◌, ℕ, List, map};
+ghost use Rattle.std.specs.Prelude.{◌≡◌, ◌≤◌, ◌<◌, ◌+◌, ◌⊎◌, ℕ, List, map, IfOk};
 ghost use Rattle.std.specs.Option.{option_map};
 ghost use Rattle.ec_code.specs.declared.program.Function.{Function as FunctionData};
 ghost use Rattle.ec_evaluation.specs.Results.{finished, value as valued};
@@ -31,6 +31,32 @@ impl<'p> Machine<'p> {
         if is_outside(focus) {
             return Ok(focus);
         }
+        let mut focus = focus;
+        loop {
+            match self.part(functions, focus) {
+                Ok(next) => {
+                    if is_outside(next) {
+                        return Ok(next);
+                    }
+                    focus = next;
+                }
+                Err(stop) => return Err(stop),
+            }
+        }
+    }
+
+    /// A part of a run, up to a turn at most.
+    #[inline(always)]
+    fn part(&mut self, functions: &'p [Function], focus: Focus<'p>) -> Result<Focus<'p>, Stop>
+        requires { IsOutside focus → ⊥ }
+        ensures goes { Goes functions.now self.old (env_of self.old)
+            (λ knowing w t. denote knowing w (env_of self.old) self.old.line self.old.text
+            focus.entry t) result self.new }
+        ensures turns { self.new.turns ≤ self.old.turns }
+        ensures nears { remaining self.old.turns result self.new ≤
+            weight self.old.frames focus.entry }
+        ensures done { IfOk result (λ next. IsOutside next ⊎ (self.new.turns < self.old.turns)) }
+    {
         let turns = self.turns;
         let mut focus = focus;
         loop {
@@ -64,13 +90,14 @@ impl<'p> Machine<'p> {
             Focus::Looks(label, statement) => self.look(label, statement),
             Focus::Evaluates(expression) => self.evaluate(functions, expression),
             Focus::Value(value) => self.hand_value(functions, value),
-            Focus::Leads(flow) => self.hand_flow(flow),
+            Focus::Leads(flow) => self.hand_flow(functions, flow),
             Focus::Puts(_, _) => Ok(focus),
             Focus::Calls(_, _) => Ok(focus),
         }
     }
 
     /// The innermost frame is given a value.
+    #[inline(always)]
     fn hand_value(&mut self, functions: &'p [Function], value: Word) -> Result<Focus<'p>, Stop>
         ensures goes { Goes functions.now self.old (env_of self.old)
             (λ knowing w t. valued (word_view value) t) result self.new }
@@ -84,15 +111,16 @@ impl<'p> Machine<'p> {
     }
 
     /// The innermost frame is told what a statement led to.
-    fn hand_flow(&mut self, flow: Flow) -> Result<Focus<'p>, Stop>
-        ensures goes { (functions : List FunctionData) → Goes functions self.old (env_of self.old)
+    #[inline(always)]
+    fn hand_flow(&mut self, functions: &'p [Function], flow: Flow) -> Result<Focus<'p>, Stop>
+        ensures goes { Goes functions.now self.old (env_of self.old)
             (λ knowing w t. led flow t) result self.new }
         ensures turns { self.new.turns ≤ self.old.turns }
         ensures nears { remaining self.old.turns result self.new ≤
             frames_weight self.old.frames + flow_weight flow (frames_answer self.old.frames) }
     {
         match self.frames.pop() {
-            Some(frame) => self.give_flow(frame, flow),
+            Some(frame) => self.give_flow(functions, frame, flow),
             None => Err(Stop::Over(finish(self.otherwise, flow))),
         }
     }

@@ -22,7 +22,7 @@ returns-in-Value-clause-goes c =
 
 pub returns-in-Leads-clause-goes : goal.returns-in-Leads-clause-goes
 returns-in-Leads-clause-goes c =
-    focus_as c.args.functions.now c.args.self.now c.hand_flow.new.self c.args.focus (focus.Leads c.in-Leads.flow) c.hand_flow.result c.in-Leads.is (c.hand_flow.ensures.goes c.args.functions.now)
+    focus_as c.args.functions.now c.args.self.now c.hand_flow.new.self c.args.focus (focus.Leads c.in-Leads.flow) c.hand_flow.result c.in-Leads.is c.hand_flow.ensures.goes
 
 pub returns-in-Runs-clause-nears : goal.returns-in-Runs-clause-nears
 returns-in-Runs-clause-nears c = λ _. omega (arith, c.run.ensures.nears, ap (λ f. focus_weight f c.args.self.now.frames) c.in-Runs.is)

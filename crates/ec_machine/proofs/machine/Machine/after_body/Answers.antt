@@ -9,22 +9,24 @@ use Rattle.ec_machine.proofs.Weighing.{nearer}
 use Rattle.ec_machine.proofs.machine.Machine.after_body.Goals as goal
 
 pub returns-in-On-clause-goes : goal.returns-in-On-clause-goes
-returns-in-On-clause-goes c = λ fs knowing fits k s l.
+returns-in-On-clause-goes c = λ knowing fits k s l.
+    let fs = c.args.functions.now in
     let e = env_of c.args.self.now in
     let d = here e c.args.self.now.line in
     let i = c.args.inner.now in
     stands_by knowing (tasks knowing fs k) s c.again.new.self c.again.result _ _
     (ap (λ f. resume knowing (tasks knowing fs k) e (reverse c.args.self.now.frames) (after_body (led f (at s c.args.self.now)) (λ u. again knowing (tasks knowing fs k) d (test_of i) (behind_of i) (body_of i) u))) c.in-On.is)
-    (c.again.ensures.goes fs knowing fits k s l)
+    (c.again.ensures.goes knowing fits k s l)
 
 pub returns-in-Continued-clause-goes : goal.returns-in-Continued-clause-goes
-returns-in-Continued-clause-goes c = λ fs knowing fits k s l.
+returns-in-Continued-clause-goes c = λ knowing fits k s l.
+    let fs = c.args.functions.now in
     let e = env_of c.args.self.now in
     let d = here e c.args.self.now.line in
     let i = c.args.inner.now in
     stands_by knowing (tasks knowing fs k) s c.again-in-Continued.new.self c.again-in-Continued.result _ _
     (ap (λ f. resume knowing (tasks knowing fs k) e (reverse c.args.self.now.frames) (after_body (led f (at s c.args.self.now)) (λ u. again knowing (tasks knowing fs k) d (test_of i) (behind_of i) (body_of i) u))) c.in-Continued.is)
-    (c.again-in-Continued.ensures.goes fs knowing fits k s l)
+    (c.again-in-Continued.ensures.goes knowing fits k s l)
 
 pub returns-in-On-clause-nears : goal.returns-in-On-clause-nears
 returns-in-On-clause-nears c = omega (arith, c.again.ensures.nears)

@@ -6,19 +6,22 @@ use Rattle.ec_machine.proofs.Weighing.{err_near}
 use Rattle.ec_machine.proofs.machine.Machine.again.Goals as goal
 
 pub returns-in-Ok-None-clause-goes : goal.returns-in-Ok-None-clause-goes
-returns-in-Ok-None-clause-goes c = λ fs.
+returns-in-Ok-None-clause-goes c =
+    let fs = c.args.functions.now in
     let m = c.args.self.now in
     let i = c.args.inner.now in
-    onward_none fs m (behind_body i) (testing i) c.behind.result c.behind.new.self (c.behind.ensures.goes fs) (cc (c.in-Ok-None.is, c.in-Ok-None.field-0-is)) c.test.result c.test.new.self (c.test.ensures.goes fs)
+    onward_none fs m (behind_body i) (testing i) c.behind.result c.behind.new.self (c.behind.ensures.goes fs) (cc (c.in-Ok-None.is, c.in-Ok-None.field-0-is)) c.test.result c.test.new.self c.test.ensures.goes
 
 pub returns-in-Ok-Some-clause-goes : goal.returns-in-Ok-Some-clause-goes
-returns-in-Ok-Some-clause-goes c = λ fs.
+returns-in-Ok-Some-clause-goes c =
+    let fs = c.args.functions.now in
     let m = c.args.self.now in
     let i = c.args.inner.now in
     onward_some fs m (behind_body i) (testing i) c.behind.result c.behind.new.self (c.behind.ensures.goes fs) c.in-Ok-Some.focus (cc (c.in-Ok-Some.is, c.in-Ok-Some.field-0-is))
 
 pub returns-in-Err-clause-goes : goal.returns-in-Err-clause-goes
-returns-in-Err-clause-goes c = λ fs.
+returns-in-Err-clause-goes c =
+    let fs = c.args.functions.now in
     let m = c.args.self.now in
     let i = c.args.inner.now in
     onward_stops fs m (behind_body i) (testing i) c.behind.result c.behind.new.self (c.behind.ensures.goes fs) c.in-Err.stop c.in-Err.is

@@ -2,13 +2,13 @@ use Rattle.std.proofs.Common.{◌≡◌, ◌∙◌, ap, sym, map, refl, ℕ, Lis
 use Rattle.std.specs.Prelude.{reverse}
 use Rattle.ec_code.specs.Views.{function_view, size_view, statements_view}
 use Rattle.ec_evaluation.specs.Execute.{body_run, in_function, run_all, settle}
-use Rattle.ec_evaluation.specs.Results.{Res, finished, made}
+use Rattle.ec_evaluation.specs.Results.{Res, finished, made, on}
 use Rattle.ec_evaluation.specs.State.{State}
 use Rattle.ec_plain.specs.Answered.{scope_view}
 use Rattle.ec_machine.specs.declared.machine.Machine.{Machine}
 use Rattle.ec_machine.specs.Frames.{last_of, objects_of, resume}
 use Rattle.ec_machine.specs.Goes.{at, env_of, tasks}
-use Rattle.ec_machine.proofs.Moves.{no_objects, pushed_first, stands_by}
+use Rattle.ec_machine.proofs.Moves.{no_objects, pushed, pushed_first}
 use Rattle.ec_machine.proofs.Objects.{no_room_stops}
 use Rattle.ec_machine.proofs.Parts.{stops_through}
 use Rattle.ec_machine.proofs.Turns.{stops_by}
@@ -41,10 +41,9 @@ returns-clause-stands c = λ fs knowing fits k s l.
     let none : scope_view (objects_of m.scope) ≡ [] = ap (λ i. scope_view (last_of i m.scope.pointers)) c.requires.no_objects ∙ ap scope_view (no_objects m.scope.pointers) in
     let b = c.as_slice-body.result in
     let o : Res = run_all knowing w d (statements_view b.now) (at s n) in
-    stands_by knowing w s c.list.new.self c.list.result _ _
-    (ap (λ os. finished f.otherwise (made 1 f.objects os (at s m) next)) (sym none)
+    ap (λ os. finished f.otherwise (made 1 f.objects os (at s m) next)) (sym none)
     ∙ ap (λ xs. finished f.otherwise (made 1 (map size_view xs) (scope_view (objects_of m.scope)) (at s m) next)) (sym c.as_slice.ensures)
     ∙ ap (finished f.otherwise) (c.in-Ok.ensures.made 1 (record s { turns = m.turns }) next)
     ∙ ap (λ z. finished f.otherwise (settle w d (statements_view z) (run_all knowing w d (statements_view z) (at s n)))) (sym c.as_slice-body.ensures)
-    ∙ ap (λ z. resume knowing w (env_of n) (reverse z) o) (sym (pushed_first _ _ _ c.in_ok-push.ensures.ok c.requires.no_frames)))
-    (c.list.ensures.goes fs knowing fits k s l)
+    ∙ ap (λ z. resume knowing w (env_of n) (reverse z) o) (sym (pushed_first _ _ _ c.in_ok-push.ensures.ok c.requires.no_frames))
+    ∙ pushed knowing w (env_of n) c.push.new.self c.push-2.new.self _ (on (at s n)) c.in_ok-push-2.ensures.ok

@@ -1,42 +1,41 @@
-use Rattle.std.proofs.Common.{◌∷◌, map, arith, ap, ◌∙◌}
+use Rattle.std.proofs.Common.{◌∙◌, ap, arith, map}
 use Rattle.ec_code.specs.Views.{expression_view, full_step_view}
-use Rattle.ec_evaluation.specs.Results.{value}
-use Rattle.ec_plain.specs.Steps.{followed, one_on, two_on}
+use Rattle.ec_plain.specs.Steps.{one_on, step_on, two_on}
+use Rattle.ec_plain.proofs.Walks.{followed_over}
 use Rattle.ec_values.specs.Words.{word_view}
-use Rattle.ec_machine.specs.Frames.{here}
+use Rattle.ec_machine.specs.Found.{found_view}
+use Rattle.ec_machine.specs.Frames.{behind_by, here}
 use Rattle.ec_machine.specs.Goes.{env_of}
-use Rattle.ec_machine.proofs.Moves.{goes_as}
-use Rattle.ec_machine.proofs.Parts.{first_One, first_Two}
 use Rattle.ec_machine.specs.Weights.{full_step_weight}
+use Rattle.ec_machine.proofs.Finding.{alone_finds, alone_near, finds_as, leaves_as}
+use Rattle.ec_machine.proofs.Views.{view-One, view-Two}
 use Rattle.ec_machine.proofs.Weighing.{weight-Two}
 use Rattle.ec_machine.proofs.machine.Machine.follow_first.Goals as goal
 
-pub returns-in-One-clause-goes : goal.returns-in-One-clause-goes
-returns-in-One-clause-goes c = λ fs.
+pub returns-in-One-clause-finds : goal.returns-in-One-clause-finds
+returns-in-One-clause-finds c =
+    let fs = c.args.functions.now in
     let m = c.args.self.now in
     let d = here (env_of m) m.line in
-    let xs = map full_step_view c.args.rest.now in
+    let xs = c.args.rest.now in
     let v = word_view c.args.value in
-    goes_as fs m c.follow_one.new.self (env_of m) c.follow_one.result
-    (λ knowing w t. followed knowing w d (full_step_view c.args.first.now ∷ xs) (value v t))
-    (λ knowing w t. followed knowing w d xs (one_on m.line.0 c.in-One.step v t))
-    (λ knowing w t. first_One knowing w d t c.args.first.now xs v c.in-One.step c.in-One.is)
-    (c.follow_one.ensures.goes fs)
+    finds_as fs m c.follow_one.new.self (env_of m) m.line (behind_by d xs) (λ knowing w t. step_on knowing w d (full_step_view c.args.first.now) v t) (λ knowing w t. one_on m.line.0 c.in-One.step v t) (found_view c.follow_one.result) c.follow_one.new.left
+    (λ knowing w t. ap (λ z. step_on knowing w d z v t) (ap full_step_view c.in-One.is ∙ view-One c.in-One.step))
+    (alone_finds fs m c.follow_one.new.self (behind_by d xs) (λ knowing w t. one_on m.line.0 c.in-One.step v t) (found_view c.follow_one.result) c.follow_one.new.left (λ knowing w e s. followed_over knowing w d (map full_step_view xs) e s) c.follow_one.ensures.finds)
 
-pub returns-in-Two-clause-goes : goal.returns-in-Two-clause-goes
-returns-in-Two-clause-goes c = λ fs.
+pub returns-in-Two-clause-finds : goal.returns-in-Two-clause-finds
+returns-in-Two-clause-finds c =
+    let fs = c.args.functions.now in
     let m = c.args.self.now in
     let d = here (env_of m) m.line in
-    let xs = map full_step_view c.args.rest.now in
+    let xs = c.args.rest.now in
     let v = word_view c.args.value in
-    goes_as fs m c.follow_two.new.self (env_of m) c.follow_two.result
-    (λ knowing w t. followed knowing w d (full_step_view c.args.first.now ∷ xs) (value v t))
-    (λ knowing w t. followed knowing w d xs (two_on knowing w d c.in-Two.step (expression_view c.in-Two.right) v t))
-    (λ knowing w t. first_Two knowing w d t c.args.first.now xs v c.in-Two.step c.in-Two.right c.in-Two.is)
-    (c.follow_two.ensures.goes fs)
+    finds_as fs m c.follow_two.new.self (env_of m) m.line (behind_by d xs) (λ knowing w t. step_on knowing w d (full_step_view c.args.first.now) v t) (λ knowing w t. two_on knowing w d c.in-Two.step (expression_view c.in-Two.right) v t) (found_view c.follow_two.result) c.follow_two.new.left
+    (λ knowing w t. ap (λ z. step_on knowing w d z v t) (ap full_step_view c.in-Two.is ∙ view-Two c.in-Two.step c.in-Two.right))
+    c.follow_two.ensures.finds
 
 pub returns-in-One-clause-nears : goal.returns-in-One-clause-nears
-returns-in-One-clause-nears c = omega (arith, c.follow_one.ensures.nears)
+returns-in-One-clause-nears c = alone_near c.args.self.now.turns _ c.args.self.now c.follow_one.new.self (λ knowing w t. one_on c.args.self.now.line.0 c.in-One.step (word_view c.args.value) t) (found_view c.follow_one.result) c.follow_one.new.left c.follow_one.ensures.finds
 
 pub returns-in-Two-clause-nears : goal.returns-in-Two-clause-nears
-returns-in-Two-clause-nears c = omega (arith, c.follow_two.ensures.nears, ap full_step_weight c.in-Two.is ∙ weight-Two _ _)
+returns-in-Two-clause-nears c = leaves_as c.args.self.now.turns c.args.self.now.turns _ _ (found_view c.follow_two.result) c.follow_two.new.left c.follow_two.new.self (omega arith) (omega (arith, ap full_step_weight c.in-Two.is ∙ weight-Two _ _)) c.follow_two.ensures.nears

@@ -1,39 +1,24 @@
-use Rattle.std.proofs.Common.{◌∙◌, ap, sym, map, arith}
-use Rattle.std.specs.Prelude.{reverse}
-use Rattle.ec_code.specs.Views.{full_step_view}
+use Rattle.std.proofs.Common.{◌∙◌, ap, refl, sym}
 use Rattle.ec_plain.specs.Answered.{answered, ending_of}
-use Rattle.ec_plain.specs.Steps.{followed, one_on}
-use Rattle.ec_plain.proofs.Walks.{followed_over}
+use Rattle.ec_plain.specs.Steps.{one_on}
 use Rattle.ec_values.specs.Words.{word_view}
-use Rattle.ec_machine.specs.Frames.{here, resume}
-use Rattle.ec_machine.specs.Goes.{at, env_of, tasks}
-use Rattle.ec_machine.proofs.Moves.{over_stops, stands_by}
-use Rattle.ec_machine.proofs.Weighing.{err_near}
+use Rattle.ec_machine.specs.Found.{found_view}
+use Rattle.ec_machine.specs.Goes.{at}
+use Rattle.ec_machine.proofs.Finding.{alone_stop, alone_value}
+use Rattle.ec_machine.proofs.Quickly.{stops_over}
 use Rattle.ec_machine.proofs.machine.Machine.follow_one.Goals as goal
 
-pub returns-in-Ok-clause-goes : goal.returns-in-Ok-clause-goes
-returns-in-Ok-clause-goes c = λ fs knowing fits k s l.
-    let w = tasks knowing fs k in
+pub returns-in-Ok-clause-finds : goal.returns-in-Ok-clause-finds
+returns-in-Ok-clause-finds c =
     let m = c.args.self.now in
-    let d = here (env_of m) m.line in
-    let t = at s (record m { store = c.unary.new.store }) in
-    stands_by knowing w s c.wait.new.self c.wait.result _ _
-    (ap (λ o. resume knowing w (env_of m) (reverse m.frames) (followed knowing w d (map full_step_view c.args.rest.now) o))
-    (c.unary.ensures m.line.0 (at s m) ∙ ap (λ r. answered m.line.0 r t) (sym c.get.ensures ∙ c.in-Ok.is)))
-    (c.wait.ensures.goes fs knowing fits k s l)
+    let n = record m { store = c.unary.new.store } in
+    alone_value m n (λ knowing w t. one_on m.line.0 c.args.step.now (word_view c.args.value) t) (found_view c.value.result) c.args.left.now c.in-Ok.next c.value.ensures (record { frames = refl; env = refl; same_line = refl })
+    (λ knowing w s. c.unary.ensures m.line.0 (at s m) ∙ ap (λ r. answered m.line.0 r (at s n)) (sym c.get.ensures ∙ c.in-Ok.is))
 
-pub returns-in-Err-clause-goes : goal.returns-in-Err-clause-goes
-returns-in-Err-clause-goes c = λ fs knowing fits k s l.
-    let w = tasks knowing fs k in
+pub returns-in-Err-clause-finds : goal.returns-in-Err-clause-finds
+returns-in-Err-clause-finds c =
     let m = c.args.self.now in
-    let d = here (env_of m) m.line in
-    let t = at s (record m { store = c.unary.new.store }) in
-    over_stops knowing w (env_of m) (reverse m.frames) t c.stopped.result (ending_of m.line.0 c.in-Err.why) (followed knowing w d (map full_step_view c.args.rest.now) (one_on m.line.0 c.args.step.now (word_view c.args.value) (at s m))) c.stopped.ensures
-    (ap (followed knowing w d (map full_step_view c.args.rest.now)) (c.unary.ensures m.line.0 (at s m) ∙ ap (λ r. answered m.line.0 r t) (sym c.get.ensures ∙ c.in-Err.is))
-    ∙ followed_over knowing w d (map full_step_view c.args.rest.now) (ending_of m.line.0 c.in-Err.why) t)
-
-pub returns-in-Ok-clause-nears : goal.returns-in-Ok-clause-nears
-returns-in-Ok-clause-nears c = omega (arith, c.wait.ensures.nears)
-
-pub returns-in-Err-clause-nears : goal.returns-in-Err-clause-nears
-returns-in-Err-clause-nears c = err_near _ _ _ _
+    let n = record m { store = c.unary.new.store } in
+    alone_stop m n (λ knowing w t. one_on m.line.0 c.args.step.now (word_view c.args.value) t) (found_view c.waits.result) c.waits.new.left c.stopped.result c.waits.ensures.none c.waits.ensures.left
+    (λ knowing w s. stops_over c.stopped.result (ending_of m.line.0 c.in-Err.why) (at s n) _ c.stopped.ensures
+    (c.unary.ensures m.line.0 (at s m) ∙ ap (λ r. answered m.line.0 r (at s n)) (sym c.get.ensures ∙ c.in-Err.is)))

@@ -1,18 +1,18 @@
 use Rattle.std.proofs.Common.{◌∙◌, ap, arith, Some}
-use Rattle.ec_code.specs.Views.{expression_view, plain_view}
+use Rattle.ec_code.specs.Views.{full_view, plain_view}
 use Rattle.ec_evaluation.specs.Evaluate.{eval}
 use Rattle.ec_evaluation.specs.Results.{on_value, returned}
 use Rattle.ec_machine.specs.Frames.{here}
-use Rattle.ec_machine.specs.Goes.{at, env_of, tasks}
-use Rattle.ec_machine.specs.declared.frame.Frame.TheVariants as frame
+use Rattle.ec_machine.specs.Goes.{env_of}
 use Rattle.ec_machine.specs.Weights.{expression_weight}
-use Rattle.ec_machine.proofs.Evaluating.{to_Plain}
-use Rattle.ec_machine.proofs.Moves.{goes_as, pushed}
-use Rattle.ec_machine.proofs.Weighing.{err_exit, pushes, weight-Plain}
+use Rattle.ec_machine.proofs.Evaluating.{to_Full, to_Plain}
+use Rattle.ec_machine.proofs.Moves.{goes_as}
+use Rattle.ec_machine.proofs.Weighing.{weight-Full, weight-Plain}
 use Rattle.ec_machine.proofs.machine.Machine.give.Goals as goal
 
 pub returns-in-Plain-clause-goes : goal.returns-in-Plain-clause-goes
-returns-in-Plain-clause-goes c = λ fs.
+returns-in-Plain-clause-goes c =
+    let fs = c.args.functions.now in
     let m = c.args.self.now in
     let d = here (env_of m) m.line in
     goes_as fs m c.give_at_once.new.self (env_of m) c.give_at_once.result _
@@ -20,16 +20,18 @@ returns-in-Plain-clause-goes c = λ fs.
     (λ knowing w t. ap (λ o. on_value o (λ v u. returned m.first (Some v) u)) (to_Plain knowing w d t c.args.value.now c.in-Plain.plain c.in-Plain.is))
     (c.give_at_once.ensures.goes fs)
 
-pub returns-in_ok-push-in-Full-clause-goes : goal.returns-in_ok-push-in-Full-clause-goes
-returns-in_ok-push-in-Full-clause-goes c = λ fs knowing fits k s l.
+pub returns-in-Full-clause-goes : goal.returns-in-Full-clause-goes
+returns-in-Full-clause-goes c =
+    let fs = c.args.functions.now in
     let m = c.args.self.now in
-    pushed knowing (tasks knowing fs k) (env_of m) m.frames c.push.new.self frame.Give (eval knowing (tasks knowing fs k) (here (env_of m) m.line) (expression_view c.args.value.now) (at s m)) c.in_ok-push-in-Full.ensures.ok
+    let d = here (env_of m) m.line in
+    goes_as fs m c.give_full.new.self (env_of m) c.give_full.result _
+    (λ knowing w t. on_value (eval knowing w d (full_view c.in-Full.full) t) (λ v u. returned m.first (Some v) u))
+    (λ knowing w t. ap (λ o. on_value o (λ v u. returned m.first (Some v) u)) (to_Full knowing w d t c.args.value.now c.in-Full.full c.in-Full.is))
+    c.give_full.ensures.goes
 
 pub returns-in-Plain-clause-nears : goal.returns-in-Plain-clause-nears
 returns-in-Plain-clause-nears c = omega (arith, c.give_at_once.ensures.nears, ap expression_weight c.in-Plain.is ∙ weight-Plain _)
 
-pub returns-in_ok-push-in-Full-clause-nears : goal.returns-in_ok-push-in-Full-clause-nears
-returns-in_ok-push-in-Full-clause-nears c = pushes _ _ _ _ _ _ c.in_ok-push-in-Full.ensures.ok (omega arith)
-
-pub returns-in_err-push-in-Full-clause-nears : goal.returns-in_err-push-in-Full-clause-nears
-returns-in_err-push-in-Full-clause-nears c = err_exit _ _ _ _ _ c.from_residual.ensures.1
+pub returns-in-Full-clause-nears : goal.returns-in-Full-clause-nears
+returns-in-Full-clause-nears c = omega (arith, c.give_full.ensures.nears, ap expression_weight c.in-Full.is ∙ weight-Full _)

@@ -1,22 +1,21 @@
 use Rattle.std.proofs.Common.{◌∙◌, ap, sym, map, [], ◌∷◌, ◌++◌, arith, ◌+◌}
 use Rattle.std.specs.Prelude.{reverse}
-use Rattle.std.specs.Option.{option_map}
 use Rattle.ec_code.specs.Views.{expressions_view, full_step_view}
 use Rattle.ec_evaluation.specs.Evaluate.{collect}
-use Rattle.ec_evaluation.specs.Results.{answered, function_end}
-use Rattle.ec_plain.specs.Steps.{followed, both_on}
+use Rattle.ec_plain.specs.Steps.{both_on}
 use Rattle.ec_values.specs.Words.{word_view}
 use Rattle.ec_machine.specs.declared.frame.Frame.TheVariants as frame
 use Rattle.ec_machine.specs.Frames.{below, cut, here, led, plug, received, resume, waiting, without_last}
 use Rattle.ec_machine.specs.Goes.{at, env_of, tasks}
-use Rattle.ec_machine.proofs.Moves.{closing_led, followed_led, led_passes, pushed, returns_stand, right_led, stands_by}
-use Rattle.ec_machine.proofs.Parts.{given_as, none_left}
-use Rattle.ec_machine.specs.Weights.{frames_weight, frames_answer}
-use Rattle.ec_machine.proofs.Weighing.{flow_given, passes_on, pushed_weight, err_exit, flow_more}
+use Rattle.ec_machine.proofs.Moves.{closing_led, followed_led, led_passes, right_led}
+use Rattle.ec_machine.proofs.Parts.{given_as}
+use Rattle.ec_machine.specs.Weights.{frames_answer}
+use Rattle.ec_machine.proofs.Weighing.{flow_given, passes_on, flow_more}
 use Rattle.ec_machine.proofs.machine.Machine.give_flow.Goals as goal
 
 pub returns-in-Arguments-clause-goes : goal.returns-in-Arguments-clause-goes
-returns-in-Arguments-clause-goes c = λ fs knowing fits k s l.
+returns-in-Arguments-clause-goes c = λ knowing fits k s l.
+    let fs = c.args.functions.now in
     let w = tasks knowing fs k in
     let m = c.args.self.now in
     ap (λ f. resume knowing w (below (env_of m) f) (reverse m.frames) (plug knowing w (env_of m) f (led c.args.flow (at s m)))) c.in-Arguments.is
@@ -24,56 +23,45 @@ returns-in-Arguments-clause-goes c = λ fs knowing fits k s l.
     ∙ ap (λ v. resume knowing w (record (env_of m) { values = v }) (reverse m.frames) (led c.args.flow (at s m))) (sym c.drop_last.ensures)
 
 pub returns-in-Called-clause-goes : goal.returns-in-Called-clause-goes
-returns-in-Called-clause-goes c = λ fs knowing fits k s l.
+returns-in-Called-clause-goes c = λ knowing fits k s l.
+    let fs = c.args.functions.now in
     let w = tasks knowing fs k in
     let m = c.args.self.now in
     ap (λ f. resume knowing w (below (env_of m) f) (reverse m.frames) (plug knowing w (env_of m) f (led c.args.flow (at s m)))) c.in-Called.is
     ∙ ap (resume knowing w (record (env_of m) { values = without_last c.in-Called.count m.values }) (reverse m.frames)) (followed_led knowing w (here (env_of m) c.in-Called.field-0) (map full_step_view c.in-Called.field-2.now) c.args.flow (at s m))
     ∙ ap (λ v. resume knowing w (record (env_of m) { values = v }) (reverse m.frames) (led c.args.flow (at s m))) (sym c.drop_last-in-Called.ensures)
 
-pub returns-in-empty-clause-goes : goal.returns-in-empty-clause-goes
-returns-in-empty-clause-goes c = λ fs knowing fits k s l.
-    let w = tasks knowing fs k in
+pub returns-in-Call-clause-goes : goal.returns-in-Call-clause-goes
+returns-in-Call-clause-goes c =
+    let fs = c.args.functions.now in
     let m = c.args.self.now in
-    let e = record (env_of m) { first = c.in-Call.first } in
-    let n = record m { line = c.in-Call.line; first = c.in-Call.first } in
-    let o = answered c.in-Call.line.0 c.in-Call.used (function_end (option_map word_view c.in-Call.otherwise) (led c.args.flow (at s m))) in
-    stands_by knowing w s n c.returned.result _ _
-    (ap (λ f. resume knowing w (below (env_of m) f) (reverse m.frames) (plug knowing w (env_of m) f (led c.args.flow (at s m)))) c.in-Call.is
-    ∙ ap (λ xs. resume knowing w e (reverse m.frames) (followed knowing w (here e c.in-Call.line) (map full_step_view xs) o)) (none_left c.in-Call.steps.now c.in-empty.len_below))
-    (returns_stand knowing w s n c.returned.result (λ t. answered c.in-Call.line.0 c.in-Call.used (function_end (option_map word_view c.in-Call.otherwise) (led c.args.flow t))) c.returned.ensures.gives)
-
-pub returns-in_ok-push-in_default-clause-goes : goal.returns-in_ok-push-in_default-clause-goes
-returns-in_ok-push-in_default-clause-goes c = λ fs knowing fits k s l.
-    let w = tasks knowing fs k in
-    let m = c.args.self.now in
-    let e = record (env_of m) { first = c.in-Call.first } in
-    let n = record m { line = c.in-Call.line; first = c.in-Call.first; frames = c.push.new.self } in
-    stands_by knowing w s n c.returned-in_default.result _ _
-    (ap (λ f. resume knowing w (below (env_of m) f) (reverse m.frames) (plug knowing w (env_of m) f (led c.args.flow (at s m)))) c.in-Call.is
-    ∙ pushed knowing w e m.frames c.push.new.self (frame.Steps c.in-Call.line c.in-Call.steps) (answered c.in-Call.line.0 c.in-Call.used (function_end (option_map word_view c.in-Call.otherwise) (led c.args.flow (at s m)))) c.in_ok-push-in_default.ensures.ok)
-    (returns_stand knowing w s n c.returned-in_default.result (λ t. answered c.in-Call.line.0 c.in-Call.used (function_end (option_map word_view c.in-Call.otherwise) (led c.args.flow t))) c.returned-in_default.ensures.gives)
+    given_as fs m c.leave_by.new.self (env_of m) c.args.frame (frame.Call c.in-Call.way) c.leave_by.result (λ t. led c.args.flow t) c.in-Call.is
+    c.leave_by.ensures.goes
 
 pub returns-in-Body-clause-goes : goal.returns-in-Body-clause-goes
-returns-in-Body-clause-goes c = λ fs.
+returns-in-Body-clause-goes c =
+    let fs = c.args.functions.now in
     let m = c.args.self.now in
     given_as fs m c.after_body.new.self (env_of m) c.args.frame (frame.Body c.in-Body.line c.in-Body.inner) c.after_body.result (λ t. led c.args.flow t) c.in-Body.is
-    (c.after_body.ensures.goes fs)
+    c.after_body.ensures.goes
 
 pub returns-in-Rest-clause-goes : goal.returns-in-Rest-clause-goes
-returns-in-Rest-clause-goes c = λ fs.
+returns-in-Rest-clause-goes c =
+    let fs = c.args.functions.now in
     let m = c.args.self.now in
     given_as fs m c.rest.new.self (env_of m) c.args.frame (frame.Rest c.in-Rest.line c.in-Rest.statements) c.rest.result (λ t. led c.args.flow t) c.in-Rest.is
-    (c.rest.ensures.goes fs)
+    c.rest.ensures.goes
 
 pub returns-in-Settle-clause-goes : goal.returns-in-Settle-clause-goes
-returns-in-Settle-clause-goes c = λ fs.
+returns-in-Settle-clause-goes c =
+    let fs = c.args.functions.now in
     let m = c.args.self.now in
     given_as fs m c.settle.new.self (env_of m) c.args.frame (frame.Settle c.in-Settle.line c.in-Settle.statements) c.settle.result (λ t. led c.args.flow t) c.in-Settle.is
     (c.settle.ensures.goes fs)
 
 pub returns-in-Close-clause-goes : goal.returns-in-Close-clause-goes
-returns-in-Close-clause-goes c = λ fs knowing fits k s l.
+returns-in-Close-clause-goes c = λ knowing fits k s l.
+    let fs = c.args.functions.now in
     let w = tasks knowing fs k in
     let m = c.args.self.now in
     ap (λ f. resume knowing w (below (env_of m) f) (reverse m.frames) (plug knowing w (env_of m) f (led c.args.flow (at s m)))) c.in-Close.is
@@ -81,49 +69,56 @@ returns-in-Close-clause-goes c = λ fs knowing fits k s l.
     ∙ (λ i. resume knowing w (record (env_of m) { scope = sym c.cut.ensures i }) (reverse m.frames) (led c.args.flow (at s (record m { store = sym c.end_to.ensures i }))))
 
 pub returns-in-Steps-clause-goes : goal.returns-in-Steps-clause-goes
-returns-in-Steps-clause-goes c = λ fs knowing fits k s l.
+returns-in-Steps-clause-goes c = λ knowing fits k s l.
+    let fs = c.args.functions.now in
     let w = tasks knowing fs k in
     let m = c.args.self.now in
     ap (λ f. resume knowing w (below (env_of m) f) (reverse m.frames) (plug knowing w (env_of m) f (led c.args.flow (at s m)))) c.in-Steps.is
     ∙ ap (resume knowing w (env_of m) (reverse m.frames)) (followed_led knowing w (here (env_of m) c.in-Steps.field-0) (map full_step_view c.in-Steps.field-1.now) c.args.flow (at s m))
 
 pub returns-in-Right-clause-goes : goal.returns-in-Right-clause-goes
-returns-in-Right-clause-goes c = λ fs knowing fits k s l.
+returns-in-Right-clause-goes c = λ knowing fits k s l.
+    let fs = c.args.functions.now in
     let w = tasks knowing fs k in
     let m = c.args.self.now in
     ap (λ f. resume knowing w (below (env_of m) f) (reverse m.frames) (plug knowing w (env_of m) f (led c.args.flow (at s m)))) c.in-Right.is
-    ∙ ap (resume knowing w (env_of m) (reverse m.frames)) (right_led knowing w (here (env_of m) c.in-Right.field-0) (map full_step_view c.in-Right.field-4.now) (both_on c.in-Right.field-0.0 c.in-Right.field-1 (word_view c.in-Right.field-2) (word_view c.in-Right.field-3)) c.args.flow (at s m))
+    ∙ ap (resume knowing w (env_of m) (reverse m.frames)) (right_led knowing w (here (env_of m) c.in-Right.field-0) (map full_step_view c.in-Right.field-4.now) (both_on c.in-Right.field-0.0 c.in-Right.field-1.now (word_view c.in-Right.field-2) (word_view c.in-Right.field-3)) c.args.flow (at s m))
 
 pub returns-in-Do-clause-goes : goal.returns-in-Do-clause-goes
-returns-in-Do-clause-goes c = λ fs knowing fits k s l.
+returns-in-Do-clause-goes c = λ knowing fits k s l.
+    let fs = c.args.functions.now in
     let w = tasks knowing fs k in
     let m = c.args.self.now in
     ap (λ f. resume knowing w (below (env_of m) f) (reverse m.frames) (plug knowing w (env_of m) f (led c.args.flow (at s m)))) c.in-Do.is
     ∙ ap (resume knowing w (env_of m) (reverse m.frames)) (led_passes c.args.flow (at s m) _)
 
 pub returns-in-Give-clause-goes : goal.returns-in-Give-clause-goes
-returns-in-Give-clause-goes c = λ fs knowing fits k s l.
+returns-in-Give-clause-goes c = λ knowing fits k s l.
+    let fs = c.args.functions.now in
     let w = tasks knowing fs k in
     let m = c.args.self.now in
     ap (λ f. resume knowing w (below (env_of m) f) (reverse m.frames) (plug knowing w (env_of m) f (led c.args.flow (at s m)))) c.in-Give.is
     ∙ ap (resume knowing w (env_of m) (reverse m.frames)) (led_passes c.args.flow (at s m) _)
 
 pub returns-in-Choose-clause-goes : goal.returns-in-Choose-clause-goes
-returns-in-Choose-clause-goes c = λ fs knowing fits k s l.
+returns-in-Choose-clause-goes c = λ knowing fits k s l.
+    let fs = c.args.functions.now in
     let w = tasks knowing fs k in
     let m = c.args.self.now in
     ap (λ f. resume knowing w (below (env_of m) f) (reverse m.frames) (plug knowing w (env_of m) f (led c.args.flow (at s m)))) c.in-Choose.is
     ∙ ap (resume knowing w (env_of m) (reverse m.frames)) (led_passes c.args.flow (at s m) _)
 
 pub returns-in-Test-clause-goes : goal.returns-in-Test-clause-goes
-returns-in-Test-clause-goes c = λ fs knowing fits k s l.
+returns-in-Test-clause-goes c = λ knowing fits k s l.
+    let fs = c.args.functions.now in
     let w = tasks knowing fs k in
     let m = c.args.self.now in
     ap (λ f. resume knowing w (below (env_of m) f) (reverse m.frames) (plug knowing w (env_of m) f (led c.args.flow (at s m)))) c.in-Test.is
     ∙ ap (resume knowing w (env_of m) (reverse m.frames)) (led_passes c.args.flow (at s m) _)
 
 pub returns-in-Behind-clause-goes : goal.returns-in-Behind-clause-goes
-returns-in-Behind-clause-goes c = λ fs knowing fits k s l.
+returns-in-Behind-clause-goes c = λ knowing fits k s l.
+    let fs = c.args.functions.now in
     let w = tasks knowing fs k in
     let m = c.args.self.now in
     ap (λ f. resume knowing w (below (env_of m) f) (reverse m.frames) (plug knowing w (env_of m) f (led c.args.flow (at s m)))) c.in-Behind.is
@@ -135,11 +130,8 @@ returns-in-Arguments-clause-nears c = passes_on _ _ _ _
 pub returns-in-Called-clause-nears : goal.returns-in-Called-clause-nears
 returns-in-Called-clause-nears c = passes_on _ _ _ _
 
-pub returns-in_ok-push-in_default-clause-nears : goal.returns-in_ok-push-in_default-clause-nears
-returns-in_ok-push-in_default-clause-nears c = flow_given c.args.self.now.frames c.args.flow c.args.frame _ _ c.in-Call.is (omega (arith, c.returned-in_default.ensures.nears c.args.self.now.turns (record c.args.self.now { line = c.in-Call.line; first = c.in-Call.first; frames = c.push.new.self }), ap frames_weight c.in_ok-push-in_default.ensures.ok, pushed_weight c.args.self.now.frames (frame.Steps c.in-Call.line c.in-Call.steps)))
-
-pub returns-in-empty-clause-nears : goal.returns-in-empty-clause-nears
-returns-in-empty-clause-nears c = flow_given c.args.self.now.frames c.args.flow c.args.frame _ _ c.in-Call.is (omega (arith, c.returned.ensures.nears c.args.self.now.turns (record c.args.self.now { line = c.in-Call.line; first = c.in-Call.first })))
+pub returns-in-Call-clause-nears : goal.returns-in-Call-clause-nears
+returns-in-Call-clause-nears c = flow_given c.args.self.now.frames c.args.flow c.args.frame _ _ c.in-Call.is (omega (arith, c.leave_by.ensures.nears))
 
 pub returns-in-Body-clause-nears : goal.returns-in-Body-clause-nears
 returns-in-Body-clause-nears c = flow_given c.args.self.now.frames c.args.flow c.args.frame _ _ c.in-Body.is (omega (arith, c.after_body.ensures.nears, flow_more c.args.flow (frames_answer c.args.self.now.frames) (0 + frames_answer c.args.self.now.frames) (omega arith)))
@@ -173,6 +165,3 @@ returns-in-Test-clause-nears c = passes_on _ _ _ _
 
 pub returns-in-Behind-clause-nears : goal.returns-in-Behind-clause-nears
 returns-in-Behind-clause-nears c = passes_on _ _ _ _
-
-pub returns-in_err-push-in_default-clause-nears : goal.returns-in_err-push-in_default-clause-nears
-returns-in_err-push-in_default-clause-nears c = err_exit _ _ _ _ _ c.from_residual.ensures.1

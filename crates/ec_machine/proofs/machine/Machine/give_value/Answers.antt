@@ -7,7 +7,7 @@ use Rattle.ec_plain.specs.Steps.{followed}
 use Rattle.ec_plain.proofs.Walks.{followed_over}
 use Rattle.ec_values.specs.Words.{word_view}
 use Rattle.ec_machine.specs.declared.frame.Frame.TheVariants as frame
-use Rattle.ec_machine.specs.Frames.{below, here, plug, resume}
+use Rattle.ec_machine.specs.Frames.{below, here, outside, plug, resume}
 use Rattle.ec_machine.specs.Goes.{Goes, at, env_of, tasks}
 use Rattle.ec_machine.proofs.Moves.{resume_over, returns_stand, stands_by}
 use Rattle.ec_machine.proofs.Parts.{given_as}
@@ -18,15 +18,15 @@ pub returns-in-Steps-clause-goes : goal.returns-in-Steps-clause-goes
 returns-in-Steps-clause-goes c =
     let fs = c.args.functions.now in
     let m = c.args.self.now in
-    given_as fs m c.follow.new.self (env_of m) c.args.frame (frame.Steps c.in-Steps.line c.in-Steps.steps) c.follow.result (λ t. value (word_view c.args.value) t) c.in-Steps.is
-    (c.follow.ensures.goes fs)
+    given_as fs m c.go_on.new.self (env_of m) c.args.frame (frame.Steps c.in-Steps.line c.in-Steps.steps) c.go_on.result (λ t. value (word_view c.args.value) t) c.in-Steps.is
+    c.go_on.ensures.goes
 
 pub returns-in-Right-clause-goes : goal.returns-in-Right-clause-goes
 returns-in-Right-clause-goes c =
     let fs = c.args.functions.now in
     let m = c.args.self.now in
-    given_as fs m c.follow_right.new.self (env_of m) c.args.frame (frame.Right c.in-Right.line c.in-Right.step c.in-Right.left c.in-Right.old c.in-Right.steps) c.follow_right.result (λ t. value (word_view c.args.value) t) c.in-Right.is
-    (c.follow_right.ensures.goes fs)
+    given_as fs m c.go_right.new.self (env_of m) c.args.frame (frame.Right c.in-Right.line c.in-Right.step c.in-Right.left c.in-Right.old c.in-Right.steps) c.go_right.result (λ t. value (word_view c.args.value) t) c.in-Right.is
+    c.go_right.ensures.goes
 
 pub returns-in-Arguments-clause-goes : goal.returns-in-Arguments-clause-goes
 returns-in-Arguments-clause-goes c =
@@ -39,9 +39,10 @@ pub returns-in-Call-clause-goes : goal.returns-in-Call-clause-goes
 returns-in-Call-clause-goes c = λ knowing fits k s l.
     let w = tasks knowing c.args.functions.now k in
     let m = c.args.self.now in
-    let e = record (env_of m) { first = c.in-Call.field-4 } in
+    let x = c.in-Call.field-0 in
+    let e = outside x (env_of m) in
     ap (λ f. resume knowing w (below (env_of m) f) (reverse m.frames) (plug knowing w (env_of m) f (value (word_view c.args.value) (at s m)))) c.in-Call.is
-    ∙ ap (resume knowing w e (reverse m.frames)) (followed_over knowing w (here e c.in-Call.field-0) (map full_step_view c.in-Call.field-3.now) stuck (at s m))
+    ∙ ap (resume knowing w e (reverse m.frames)) (followed_over knowing w (here e x.line) (map full_step_view x.steps.now) stuck (at s m))
     ∙ resume_over knowing w e (reverse m.frames) stuck (at s m)
 
 pub returns-in-Called-clause-goes : goal.returns-in-Called-clause-goes
@@ -49,9 +50,9 @@ returns-in-Called-clause-goes c =
     let fs = c.args.functions.now in
     let m = c.args.self.now in
     let l = c.in-Called.line in
-    given_as fs m c.follow-in-Called.new.self (env_of m) c.args.frame (frame.Called l c.in-Called.count c.in-Called.steps) c.follow-in-Called.result (λ t. value (word_view c.args.value) t) c.in-Called.is
-    (subst (λ vs. Goes fs m (record (env_of m) { values = vs }) (λ knowing w t. followed knowing w (here (env_of m) l) (map full_step_view c.in-Called.steps.now) (value (word_view c.args.value) t)) c.follow-in-Called.result c.follow-in-Called.new.self)
-    c.drop_last.ensures (c.follow-in-Called.ensures.goes fs))
+    given_as fs m c.go_on-in-Called.new.self (env_of m) c.args.frame (frame.Called l c.in-Called.count c.in-Called.steps) c.go_on-in-Called.result (λ t. value (word_view c.args.value) t) c.in-Called.is
+    (subst (λ vs. Goes fs m (record (env_of m) { values = vs }) (λ knowing w t. followed knowing w (here (env_of m) l) (map full_step_view c.in-Called.steps.now) (value (word_view c.args.value) t)) c.go_on-in-Called.result c.go_on-in-Called.new.self)
+    c.drop_last.ensures c.go_on-in-Called.ensures.goes)
 
 pub returns-in-Do-clause-goes : goal.returns-in-Do-clause-goes
 returns-in-Do-clause-goes c = λ knowing fits k s l.
@@ -79,14 +80,14 @@ returns-in-Test-clause-goes c =
     let fs = c.args.functions.now in
     let m = c.args.self.now in
     given_as fs m c.tested.new.self (env_of m) c.args.frame (frame.Test c.in-Test.line c.in-Test.inner) c.tested.result (λ t. value (word_view c.args.value) t) c.in-Test.is
-    (c.tested.ensures.goes fs)
+    c.tested.ensures.goes
 
 pub returns-in-Behind-clause-goes : goal.returns-in-Behind-clause-goes
 returns-in-Behind-clause-goes c =
     let fs = c.args.functions.now in
     let m = c.args.self.now in
     given_as fs m c.test.new.self (env_of m) c.args.frame (frame.Behind c.in-Behind.line c.in-Behind.inner) c.test.result (λ t. value (word_view c.args.value) t) c.in-Behind.is
-    (c.test.ensures.goes fs)
+    c.test.ensures.goes
 
 pub returns-in-Body-clause-goes : goal.returns-in-Body-clause-goes
 returns-in-Body-clause-goes c = λ knowing fits k s l.
@@ -114,10 +115,10 @@ returns-in-Close-clause-goes c = λ knowing fits k s l.
     ∙ ap (λ sc. resume knowing w (record (env_of m) { scope = sc }) (reverse m.frames) (value (word_view c.args.value) (at s m))) (sym c.cut.ensures)
 
 pub returns-in-Steps-clause-nears : goal.returns-in-Steps-clause-nears
-returns-in-Steps-clause-nears c = value_given c.args.self.now.frames c.args.frame _ _ c.in-Steps.is (omega (arith, c.follow.ensures.nears))
+returns-in-Steps-clause-nears c = value_given c.args.self.now.frames c.args.frame _ _ c.in-Steps.is (omega (arith, c.go_on.ensures.nears))
 
 pub returns-in-Right-clause-nears : goal.returns-in-Right-clause-nears
-returns-in-Right-clause-nears c = value_given c.args.self.now.frames c.args.frame _ _ c.in-Right.is (omega (arith, c.follow_right.ensures.nears))
+returns-in-Right-clause-nears c = value_given c.args.self.now.frames c.args.frame _ _ c.in-Right.is (omega (arith, c.go_right.ensures.nears))
 
 pub returns-in-Arguments-clause-nears : goal.returns-in-Arguments-clause-nears
 returns-in-Arguments-clause-nears c = value_given c.args.self.now.frames c.args.frame _ _ c.in-Arguments.is (omega (arith, c.pass_on.ensures.nears))
@@ -126,7 +127,7 @@ pub returns-in-Call-clause-nears : goal.returns-in-Call-clause-nears
 returns-in-Call-clause-nears c = err_near _ _ _ _
 
 pub returns-in-Called-clause-nears : goal.returns-in-Called-clause-nears
-returns-in-Called-clause-nears c = value_given c.args.self.now.frames c.args.frame _ _ c.in-Called.is (omega (arith, c.follow-in-Called.ensures.nears))
+returns-in-Called-clause-nears c = value_given c.args.self.now.frames c.args.frame _ _ c.in-Called.is (omega (arith, c.go_on-in-Called.ensures.nears))
 
 pub returns-in-Do-clause-nears : goal.returns-in-Do-clause-nears
 returns-in-Do-clause-nears c = value_given c.args.self.now.frames c.args.frame _ _ c.in-Do.is (nearer _ _ _ _ (omega arith))

@@ -8,15 +8,17 @@ use Rattle.ec_machine.proofs.Weighing.{err_near, pushed_flow, pushed_weight}
 use Rattle.ec_machine.proofs.machine.Machine.hand_flow.Goals as goal
 
 pub returns-in-Some-clause-goes : goal.returns-in-Some-clause-goes
-returns-in-Some-clause-goes c = λ fs knowing fits k s l.
+returns-in-Some-clause-goes c = λ knowing fits k s l.
+    let fs = c.args.functions.now in
     let w = tasks knowing fs k in
     let m = c.args.self.now in
     stands_by knowing w s c.give_flow.new.self c.give_flow.result _ _
     (sym (pushed knowing w (env_of m) c.pop.new.self m.frames c.in-Some.frame (led c.args.flow (at s m)) c.in-Some.ensures))
-    (c.give_flow.ensures.goes fs knowing fits k s l)
+    (c.give_flow.ensures.goes knowing fits k s l)
 
 pub returns-in-None-clause-goes : goal.returns-in-None-clause-goes
-returns-in-None-clause-goes c = λ fs knowing fits k s l.
+returns-in-None-clause-goes c = λ knowing fits k s l.
+    let fs = c.args.functions.now in
     let w = tasks knowing fs k in
     let m = c.args.self.now in
     ap (λ fs. resume knowing w (env_of m) (reverse fs) (led c.args.flow (at s m))) c.in-None.ensures.0

@@ -11,7 +11,8 @@ use Rattle.ec_machine.proofs.Weighing.{err_near, nearer}
 use Rattle.ec_machine.proofs.machine.Machine.list.Goals as goal
 
 pub returns-in-Ok-None-clause-goes : goal.returns-in-Ok-None-clause-goes
-returns-in-Ok-None-clause-goes c = λ fs knowing fits k s l.
+returns-in-Ok-None-clause-goes c = λ knowing fits k s l.
+    let fs = c.args.functions.now in
     let w = tasks knowing fs k in
     let m = c.args.self.now in
     let n = record m { store = c.quick_list.new.store; line = c.quick_list.new.line } in
@@ -19,17 +20,19 @@ returns-in-Ok-None-clause-goes c = λ fs knowing fits k s l.
     (list_none c.quick_list.result (run_all knowing w (here (env_of m) m.line) (statements_view c.args.statements.now) (at s m)) (λ x. run knowing w (here (env_of m) n.line) (statement_view x) (at s n)) (λ xs u. run_all knowing w (here (env_of m) m.line) (statements_view xs) u) (at s n) (c.quick_list.ensures.leaves knowing w m.first (at s m)) (cc (c.in-Ok-None.is, c.in-Ok-None.field-0-is)))
 
 pub returns-in-Ok-Some-clause-goes : goal.returns-in-Ok-Some-clause-goes
-returns-in-Ok-Some-clause-goes c = λ fs.
+returns-in-Ok-Some-clause-goes c =
+    let fs = c.args.functions.now in
     let m = c.args.self.now in
     let n = record m { store = c.quick_list.new.store; line = c.quick_list.new.line } in
     let x = c.in-Ok-Some.found in
     came fs m (env_of m) (λ knowing w t. run_all knowing w (here (env_of m) m.line) (statements_view c.args.statements.now) t) n
     (λ knowing w t. on_done (run knowing w (here (env_of m) n.line) (statement_view x.first.now) t) (λ u. run_all knowing w (here (env_of m) m.line) (statements_view x.rest.now) u)) refl (omega arith)
     (λ knowing fits k s l. let w = tasks knowing fs k in list_some c.quick_list.result (run_all knowing w (here (env_of m) m.line) (statements_view c.args.statements.now) (at s m)) (λ x. run knowing w (here (env_of m) n.line) (statement_view x) (at s n)) (λ xs u. run_all knowing w (here (env_of m) m.line) (statements_view xs) u) (at s n) (c.quick_list.ensures.leaves knowing w m.first (at s m)) x (cc (c.in-Ok-Some.is, c.in-Ok-Some.field-0-is)))
-    c.left_in.result c.left_in.new.self (c.left_in.ensures.goes fs)
+    c.left_in.result c.left_in.new.self c.left_in.ensures.goes
 
 pub returns-in-Err-clause-goes : goal.returns-in-Err-clause-goes
-returns-in-Err-clause-goes c = λ fs.
+returns-in-Err-clause-goes c =
+    let fs = c.args.functions.now in
     let m = c.args.self.now in
     let n = record m { store = c.quick_list.new.store; line = c.quick_list.new.line } in
     halted fs m (env_of m) (λ knowing w t. run_all knowing w (here (env_of m) m.line) (statements_view c.args.statements.now) t) n c.in-Err.stop

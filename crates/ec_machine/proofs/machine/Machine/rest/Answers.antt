@@ -9,7 +9,8 @@ use Rattle.ec_machine.proofs.Weighing.{nearer}
 use Rattle.ec_machine.proofs.machine.Machine.rest.Goals as goal
 
 pub returns-in-On-clause-goes : goal.returns-in-On-clause-goes
-returns-in-On-clause-goes c = λ fs.
+returns-in-On-clause-goes c =
+    let fs = c.args.functions.now in
     let m = c.args.self.now in
     let d = here (env_of m) m.line in
     let xs = statements_view c.args.statements.now in
@@ -17,7 +18,7 @@ returns-in-On-clause-goes c = λ fs.
     (λ knowing w t. on_done (led c.args.flow t) (λ u. run_all knowing w d xs u))
     (λ knowing w t. run_all knowing w d xs t)
     (λ knowing w t. ap (λ f. on_done (led f t) (λ u. run_all knowing w d xs u)) c.in-On.is)
-    (c.list.ensures.goes fs)
+    c.list.ensures.goes
 
 pub returns-in-On-clause-nears : goal.returns-in-On-clause-nears
 returns-in-On-clause-nears c = omega (arith, c.list.ensures.nears)

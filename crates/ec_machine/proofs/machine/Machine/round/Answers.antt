@@ -10,17 +10,19 @@ use Rattle.ec_machine.proofs.Turns.{begins, stops_by}
 use Rattle.ec_machine.proofs.machine.Machine.round.Goals as goal
 
 pub returns-in-Ok-clause-goes : goal.returns-in-Ok-clause-goes
-returns-in-Ok-clause-goes c = λ fs.
+returns-in-Ok-clause-goes c =
+    let fs = c.args.functions.now in
     let m = c.args.self.now in
     let n = record m { turns = c.take_turn.new.turns } in
     let i = c.args.inner.now in
     let t : Task = turn_of (here (env_of m) m.line) (test_of i) (behind_of i) (body_of i) in
     onward_came fs m n (turning i) (bodily i) (testing i) refl refl (omega (arith, c.in-Ok.ensures.fewer))
     (λ knowing fits k s l. begins knowing fits fs k s m t l ∙ c.in-Ok.ensures.turn (at s m) (λ u. act knowing (map function_view fs) (tasks knowing fs k) t u))
-    c.body.result c.body.new.self (c.body.ensures.goes fs)
+    c.body.result c.body.new.self c.body.ensures.goes
 
 pub returns-in-Err-clause-goes : goal.returns-in-Err-clause-goes
-returns-in-Err-clause-goes c = λ fs.
+returns-in-Err-clause-goes c =
+    let fs = c.args.functions.now in
     let m = c.args.self.now in
     let n = record m { turns = c.take_turn.new.turns } in
     let i = c.args.inner.now in

@@ -21,7 +21,7 @@ returns-in-OnLine-clause-goes c =
     let m = c.args.self.now in
     goes_as fs m c.on_line.new.self (env_of m) c.on_line.result _ (λ knowing w t. run knowing w (here (env_of m) c.in-OnLine.line) (statement_view c.get.result.now) t)
     (λ knowing w t. to_OnLine knowing w (env_of m) t m.line c.args.statement.now c.in-OnLine.line c.in-OnLine.inner c.get.result.now c.in-OnLine.is c.get.ensures)
-    (c.on_line.ensures.goes fs)
+    c.on_line.ensures.goes
 
 pub returns-in-Nothing-clause-goes : goal.returns-in-Nothing-clause-goes
 returns-in-Nothing-clause-goes c = λ knowing fits k s l.
@@ -35,7 +35,7 @@ returns-in-Evaluate-clause-goes c =
     let m = c.args.self.now in
     goes_as fs m c.effect.new.self (env_of m) c.effect.result _ (λ knowing w t. on_value (eval knowing w (here (env_of m) m.line) (expression_view c.in-Evaluate.expression) t) (λ v u. on u))
     (λ knowing w t. to_Evaluate knowing w (env_of m) t m.line c.args.statement.now c.in-Evaluate.expression c.in-Evaluate.is)
-    (c.effect.ensures.goes fs)
+    c.effect.ensures.goes
 
 pub returns-in-Declare-clause-goes : goal.returns-in-Declare-clause-goes
 returns-in-Declare-clause-goes c =
@@ -64,7 +64,7 @@ returns-in-Block-clause-goes c =
     let body = c.as_slice-in-Block-2.result.now in
     goes_as fs m c.run_block.new.self (env_of m) c.run_block.result _ (λ knowing w t. enter w d (map size_view sizes) (statements_view body) (λ d u. run_all knowing w d (statements_view body) u) t)
     (λ knowing w t. to_Block knowing w (env_of m) t m.line c.args.statement.now c.in-Block.sizes sizes c.in-Block.body body c.in-Block.is c.as_slice-in-Block.ensures c.as_slice-in-Block-2.ensures)
-    (c.run_block.ensures.goes fs)
+    c.run_block.ensures.goes
 
 pub returns-in-Choose-clause-goes : goal.returns-in-Choose-clause-goes
 returns-in-Choose-clause-goes c =
@@ -83,7 +83,7 @@ returns-in-Loop-clause-goes c =
     let d = here (env_of m) m.line in
     goes_as fs m c.run_loop.new.self (env_of m) c.run_loop.result _ (λ knowing w t. run knowing w d (loop_view c.get-in-Loop.result.now) t)
     (λ knowing w t. to_Loop knowing w (env_of m) t m.line c.args.statement.now c.in-Loop.inner c.get-in-Loop.result.now c.in-Loop.is c.get-in-Loop.ensures)
-    (c.run_loop.ensures.goes fs)
+    c.run_loop.ensures.goes
 
 pub returns-in-Leave-clause-goes : goal.returns-in-Leave-clause-goes
 returns-in-Leave-clause-goes c = λ knowing fits k s l.
@@ -104,7 +104,7 @@ returns-in-Return-clause-goes c =
     let d = here (env_of m) m.line in
     goes_as fs m c.run_return.new.self (env_of m) c.run_return.result _ (λ knowing w t. returning knowing w d (option_map expression_view c.in-Return.value) t)
     (λ knowing w t. to_Return knowing w (env_of m) t m.line c.args.statement.now c.in-Return.value c.in-Return.is)
-    (c.run_return.ensures.goes fs)
+    c.run_return.ensures.goes
 
 pub returns-in-Goto-clause-goes : goal.returns-in-Goto-clause-goes
 returns-in-Goto-clause-goes c =

@@ -10,13 +10,15 @@ use Rattle.ec_machine.proofs.Weighing.{err_near}
 use Rattle.ec_machine.proofs.machine.Machine.run_block.Goals as goal
 
 pub returns-in-Ok-clause-goes : goal.returns-in-Ok-clause-goes
-returns-in-Ok-clause-goes c = λ fs knowing fits k s l.
+returns-in-Ok-clause-goes c = λ knowing fits k s l.
+    let fs = c.args.functions.now in
     stands_by knowing (tasks knowing fs k) s c.list.new.self c.list.result _ _
     (c.in-Ok.ensures.enters knowing (tasks knowing fs k) s (λ d u. run_all knowing (tasks knowing fs k) d (statements_view c.args.body.now) u))
-    (c.list.ensures.goes fs knowing fits k s (omega (arith, l, c.in-Ok.ensures.turns)))
+    (c.list.ensures.goes knowing fits k s (omega (arith, l, c.in-Ok.ensures.turns)))
 
 pub returns-in-Err-clause-goes : goal.returns-in-Err-clause-goes
-returns-in-Err-clause-goes c = λ fs knowing fits k s l.
+returns-in-Err-clause-goes c = λ knowing fits k s l.
+    let fs = c.args.functions.now in
     let m = c.args.self.now in
     lifted knowing (tasks knowing fs k) (env_of m) (reverse m.frames) (at s c.enter.new.self) c.in-Err.stop
     (enter (tasks knowing fs k) (here (env_of m) m.line) (map size_view c.args.sizes.now) (statements_view c.args.body.now) (λ d u. run_all knowing (tasks knowing fs k) d (statements_view c.args.body.now) u) (at s m))

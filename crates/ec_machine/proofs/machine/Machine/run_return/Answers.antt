@@ -12,7 +12,8 @@ use Rattle.ec_machine.specs.Weights.{optional_weight}
 use Rattle.ec_machine.proofs.machine.Machine.run_return.Goals as goal
 
 pub returns-in-None-clause-goes : goal.returns-in-None-clause-goes
-returns-in-None-clause-goes c = λ fs knowing fits k s l.
+returns-in-None-clause-goes c = λ knowing fits k s l.
+    let fs = c.args.functions.now in
     let w = tasks knowing fs k in
     let m = c.args.self.now in
     let d = here (env_of m) m.line in
@@ -21,13 +22,14 @@ returns-in-None-clause-goes c = λ fs knowing fits k s l.
     (returns_stand knowing w s m c.gives.result (λ t. returned m.first None t) c.gives.ensures.gives)
 
 pub returns-in-Some-clause-goes : goal.returns-in-Some-clause-goes
-returns-in-Some-clause-goes c = λ fs.
+returns-in-Some-clause-goes c =
+    let fs = c.args.functions.now in
     let m = c.args.self.now in
     let d = here (env_of m) m.line in
     goes_as fs m c.give.new.self (env_of m) c.give.result _
     (λ knowing w t. on_value (eval knowing w d (expression_view c.in-Some.value) t) (λ v u. returned m.first (Some v) u))
     (λ knowing w t. ap (λ v. returning knowing w d (option_map expression_view v) t) c.in-Some.is)
-    (c.give.ensures.goes fs)
+    c.give.ensures.goes
 
 pub returns-in-None-clause-nears : goal.returns-in-None-clause-nears
 returns-in-None-clause-nears c = omega (arith, c.gives.ensures.nears c.args.self.now.turns c.args.self.now)

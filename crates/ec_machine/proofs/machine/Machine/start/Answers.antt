@@ -1,34 +1,34 @@
-use Rattle.std.proofs.Common.{◌∙◌, ap, sym, map, Some}
-use Rattle.std.specs.Prelude.{reverse}
+use Rattle.std.proofs.Common.{ap, map, sym, Some}
 use Rattle.ec_code.specs.Views.{full_step_view, function_view}
 use Rattle.ec_evaluation.specs.Execute.{called}
 use Rattle.ec_evaluation.specs.Results.{answered}
-use Rattle.ec_evaluation.specs.State.{stuck}
-use Rattle.ec_plain.specs.Steps.{followed}
+use Rattle.std.specs.Prelude.{slice_get}
 use Rattle.ec_plain.proofs.Walks.{followed_over}
-use Rattle.ec_machine.specs.Frames.{here, resume, waiting}
+use Rattle.ec_machine.specs.declared.stop.End.TheVariants as ends
+use Rattle.ec_machine.specs.declared.stop.Stop.TheVariants as stop
+use Rattle.ec_machine.specs.Found.{found_view}
+use Rattle.ec_machine.specs.Frames.{behind_by, here, waiting}
 use Rattle.ec_machine.specs.Goes.{at, env_of, taken, tasks}
-use Rattle.ec_machine.proofs.Moves.{goes_as, resume_over}
+use Rattle.ec_machine.proofs.Finding.{finds_as, finds_stop}
 use Rattle.ec_machine.proofs.machine.Machine.start.Goals as goal
 
-pub returns-in-Some-clause-goes : goal.returns-in-Some-clause-goes
-returns-in-Some-clause-goes c = λ fs.
+pub returns-in-Some-clause-finds : goal.returns-in-Some-clause-finds
+returns-in-Some-clause-finds c = λ fs.
     let m = c.args.self.now in
     let d = here (env_of m) m.line in
-    let xs = map full_step_view c.args.steps.now in
     let vs = waiting c.args.count (env_of m) in
-    goes_as fs m c.begin.new.self (taken c.args.count (env_of m)) c.begin.result
-    _ (λ knowing w t. followed knowing w d xs (answered m.line.0 c.args.used (called knowing w m.line.0 (Some (function_view c.in-Some.function.now)) vs t)))
-    (λ knowing w t. ap (λ f. followed knowing w d xs (answered m.line.0 c.args.used (called knowing w m.line.0 f vs t))) (sym c.in-Some.ensures))
-    (c.begin.ensures.goes fs)
+    finds_as fs m c.begin.new.self (taken c.args.count (env_of m)) m.line (behind_by d c.args.steps.now)
+    (λ knowing w t. answered m.line.0 c.args.used (called knowing w m.line.0 (slice_get (map function_view c.args.functions.now) c.args.number) vs t))
+    (λ knowing w t. answered m.line.0 c.args.used (called knowing w m.line.0 (Some (function_view c.in-Some.function.now)) vs t)) (found_view c.begin.result) c.begin.new.left
+    (λ knowing w t. ap (λ f. answered m.line.0 c.args.used (called knowing w m.line.0 f vs t)) (sym c.in-Some.ensures))
+    (c.begin.ensures.finds fs)
 
-pub returns-in-None-clause-goes : goal.returns-in-None-clause-goes
-returns-in-None-clause-goes c = λ fs knowing fits k s l.
-    let w = tasks knowing fs k in
+pub returns-in-None-clause-finds : goal.returns-in-None-clause-finds
+returns-in-None-clause-finds c = λ fs.
     let m = c.args.self.now in
     let d = here (env_of m) m.line in
-    let xs = map full_step_view c.args.steps.now in
     let vs = waiting c.args.count (env_of m) in
-    ap (λ f. resume knowing w (taken c.args.count (env_of m)) (reverse m.frames) (followed knowing w d xs (answered m.line.0 c.args.used (called knowing w m.line.0 f vs (at s m))))) (sym c.in-None.ensures)
-    ∙ ap (resume knowing w (taken c.args.count (env_of m)) (reverse m.frames)) (followed_over knowing w d xs stuck (at s m))
-    ∙ resume_over knowing w (taken c.args.count (env_of m)) (reverse m.frames) stuck (at s m)
+    finds_stop fs m m (taken c.args.count (env_of m)) m.line (behind_by d c.args.steps.now)
+    (λ knowing w t. answered m.line.0 c.args.used (called knowing w m.line.0 (slice_get (map function_view c.args.functions.now) c.args.number) vs t)) (found_view c.waits.result) c.waits.new.left (stop.Over ends.Stuck)
+    (λ knowing w e s. followed_over knowing w d (map full_step_view c.args.steps.now) e s) c.waits.ensures.none c.waits.ensures.left
+    (λ knowing fits k s l. ap (λ f. answered m.line.0 c.args.used (called knowing (tasks knowing fs k) m.line.0 f vs (at s m))) (sym c.in-None.ensures))
