@@ -1,4 +1,5 @@
 pub mod ByteTables
+pub mod Lanes
 pub mod Scans
 pub mod Steps
 pub mod Walks

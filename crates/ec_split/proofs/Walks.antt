@@ -1,22 +1,23 @@
 -- One step of each walk from unit to unit, in a text at an index.
-use Rattle.std.proofs.Common.{◌≡◌, ℕ, ◌+◌, ◌-◌, ◌<◌, ◌≤◌, Bool, true, false, not, ◌&&◌, ◌||◌, List, [], ◌∷◌, length, take, drop, map, get_or, refl, sym, ap, ◌∙◌, arith, length-drop, Option, None, Some}
-use Rattle.std.specs.Prelude.{codes, ◌==◌, is_some, if◌then◌else◌}
+use Rattle.std.proofs.Common.{◌≡◌, ℕ, ◌+◌, ◌-◌, ◌<◌, ◌≤◌, Bool, true, false, not, ◌&&◌, ◌||◌, List, [], ◌∷◌, ◌++◌, length, take, drop, map, get_or, refl, sym, ap, ◌∙◌, arith, length-drop, Option, None, Some}
+use Rattle.std.specs.Prelude.{codes, ◌==◌, nat_le, is_some, if◌then◌else◌}
 use Rattle.std.proofs.lemmas.Bool.Decides.{nat_tests}
 use Rattle.ec_ctypes.specs.declared.text.piece.PieceKind.{PieceKind}
 use Rattle.ec_ctypes.specs.declared.text.piece.PieceKind.TheVariants.{Emb, InPlace, SectionStart, SectionEnd}
-use Rattle.ec_language.specs.Letters.{Text, is_blank, is_upper, is_word_byte, is_digit, is_word_start, is_quote, is_sql_word_start, is_not_newline, begins, begins_with, lower, same_text, same_word, skip_blanks}
+use Rattle.ec_language.specs.Letters.{Text, is_blank, is_upper, is_word_byte, is_digit, is_word_start, is_quote, is_sql_word_start, is_sql_word_byte, is_not_newline, begins, begins_with, lower, same_text, same_word, skip_blanks}
 use Rattle.ec_language.specs.Keywords.{declaring_words}
 use Rattle.ec_language.specs.SqlText.{begins_number}
 use Rattle.ec_language.specs.Pieces.{behind_start, starts_piece, is_type_word}
 use Rattle.ec_language.specs.ReadPieces.{Behind, passed, cut, endless, behind_all, comment_end, escaped_end, nested_end, c_end, sql_end, begins_escaped, begins_gap, gap_stop, begins_semicolon, statement_end, statement_kind, statement, c_stop, begins_type, begins_words, braces_behind, begins_end, has_end, Found, found, unended, declaration, embedded, front}
 use Rattle.ec_language.proofs.CWalks.{c_stop_on}
 use Rattle.ec_language.proofs.Classes.{neither}
+use Rattle.ec_language.proofs.Ends.{both}
 use Rattle.ec_language.proofs.SqlWalks.{gap_stop_on, statement_end_on, statement_stop}
 use Rattle.ec_language.proofs.Declarations.{run, has_end_next, has_end_skip, run_next, run_stop}
-use Rattle.ec_split.specs.Places.{word_before, text_behind, ends_mark, kind_behind, is_single}
+use Rattle.ec_split.specs.Places.{word_before, text_behind, ends_mark, kind_behind, is_single, is_plain_word_start, StartsPlainly}
 use Rattle.ec_split.specs.WordTables.{word_in}
 use Rattle.ec_split.proofs.Steps.{at_place, later, same_byte, other_byte}
-use Rattle.ec_split.proofs.WordTables.{looked_up}
+use Rattle.ec_split.proofs.WordTables.{looked_up, holds_among}
 
 -- ---- units
 
@@ -147,6 +148,13 @@ pub start_found : (t : Text) (i j : ℕ) → drop j t ≡ behind_all is_blank (d
     → same_word (take 3 (drop j t)) (codes "SQL") ≡ true → begins is_word_byte (drop (j + 3) t) ≡ false → Some (drop (j + 3) t) ≡ behind_start (drop i t)
 start_found t i j e a b c d = tests_pass (same_word (take 4 (drop i t)) (codes "EXEC")) (begins is_blank (drop (i + 4) t)) (same_word (take 3 (drop j t)) (codes "SQL")) (begins is_word_byte (drop (j + 3) t)) (drop (j + 3) t) a b c d ∙ sym (start_is t i j e)
 
+-- as most people write it
+pub plain_start : (t : Text) (i : ℕ) → StartsPlainly (drop i t) → Some (drop (i + 8) t) ≡ behind_start (drop i t)
+plain_start t i e =
+    let whole : Some (drop 8 (drop i t)) ≡ Some (drop 8 (codes "EXEC SQL " ++ drop 9 (drop i t))) = ap (λ z. Some (drop 8 z)) e in
+    let found : Some (drop 8 (codes "EXEC SQL " ++ drop 9 (drop i t))) ≡ behind_start (codes "EXEC SQL " ++ drop 9 (drop i t)) = refl in
+    ap Some (sym (later 8 i t)) ∙ whole ∙ found ∙ ap behind_start (sym e)
+
 -- ---- what begins no embedded piece
 
 not_e : (b : ℕ) → (b == 69 || b == 101) ≡ false → (lower b == 101) ≡ false
@@ -221,6 +229,41 @@ statement_single t i h e =
     let b = get_or t i 0 in
     let s = drop (i + 1) t in
     statement_next (b ∷ s) s (single_goes_on b s e) (single_unit b s e) ∙ sym (ap statement_end (at_place t i h))
+
+not_true : (x : Bool) → not x ≡ true → x ≡ false
+not_true false e = refl
+not_true true e = absurd (cc)
+
+-- such a byte begins a word, and is no `E`
+pub plain_start_is : (b : ℕ) → is_plain_word_start b ≡ true → (is_sql_word_start b ≡ true) × ((b == 69 || b == 101) ≡ false)
+plain_start_is b e = let h = both (is_sql_word_start b) (not (b == 69 || b == 101)) e in (h.0, not_true (b == 69 || b == 101) h.1)
+
+pub plain_no_escape : (b : ℕ) (s : Text) → is_plain_word_start b ≡ true → begins_escaped (b ∷ s) ≡ false
+plain_no_escape b s e = let n : same_word (b ∷ []) (codes "E") ≡ false = λ i. not_e b (plain_start_is b e).1 i && true in λ i. n i && begins_with (codes "'") s
+
+plain_unit : (b : ℕ) (s r : Text) → is_plain_word_start b ≡ true → r ≡ behind_all is_sql_word_byte s → passed r ≡ sql_end (b ∷ s)
+plain_unit b s r e k =
+    let w = (plain_start_is b e).0 in
+    let n = plain_no_escape b s e in
+    rw (n, w, sql_end) (ap passed k)
+
+plain_goes_on : (b : ℕ) (s : Text) → is_sql_word_start b ≡ true → begins_semicolon (b ∷ s) ≡ false
+plain_goes_on b s e = grind (arith, nat_tests)
+
+pub statement_word : (t : Text) (i j : ℕ) → i < length t → is_plain_word_start (get_or t i 0) ≡ true → drop j t ≡ behind_all is_sql_word_byte (drop (i + 1) t)
+    → statement_end (drop j t) ≡ statement_end (drop i t)
+statement_word t i j h e k =
+    let b = get_or t i 0 in
+    let s = drop (i + 1) t in
+    statement_next (b ∷ s) (drop j t) (plain_goes_on b s (plain_start_is b e).0) (plain_unit b s (drop j t) e k) ∙ sym (ap statement_end (at_place t i h))
+
+pub gap_blank : (t : Text) (i : ℕ) → i < length t → is_blank (get_or t i 0) ≡ true → gap_stop (drop (i + 1) t) ≡ gap_stop (drop i t)
+gap_blank t i h e =
+    let b = get_or t i 0 in
+    let s = drop (i + 1) t in
+    let g : begins_gap (b ∷ s) ≡ true = λ i. e i || begins_with (codes "/*") (b ∷ s) || begins_with (codes "--") (b ∷ s) in
+    let n : is_single b ≡ true = λ i. e i || b == 44 || b == 40 || b == 41 || b == 61 || b == 58 || b == 91 || b == 93 || b == 42 || b == 60 || b == 62 in
+    gap_next (b ∷ s) s g (single_unit b s n) ∙ sym (ap gap_stop (at_place t i h))
 
 pub c_next : (s r : Text) → starts_piece s ≡ false → passed r ≡ c_end s → c_stop r ≡ c_stop s
 c_next s r g e = sym (c_stop_on s r g (sym e))
@@ -330,3 +373,12 @@ type_table = [] ∷ codes "int" ∷ [] ∷ [] ∷ codes "long" ∷ [] ∷ codes 
 
 pub type_word : (w : Text) → (length w == 0) ≡ false → same_text (word_in type_table w) w ≡ is_type_word w
 type_word w e = looked_up declaring_words type_table (record { has_all = refl; has_only = refl }) w e
+
+-- each of them begins in lower case or with `V`
+pub no_type_word : (w : Text) → (length w == 0) ≡ false → get_or w 0 0 < 86 → false ≡ is_type_word w
+no_type_word [] h k = absurd (cc)
+no_type_word (b ∷ w) h k = go (is_type_word (b ∷ w)) refl
+  where
+    go : (x : Bool) → is_type_word (b ∷ w) ≡ x → false ≡ is_type_word (b ∷ w)
+    go false e = sym e
+    go true e = let m : nat_le 86 b ≡ true = holds_among (λ v. begins (λ c. nat_le 86 c) v) declaring_words (b ∷ w) refl e in absurd (grind (arith, nat_tests))

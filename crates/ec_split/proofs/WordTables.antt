@@ -8,7 +8,7 @@ use Rattle.ec_language.proofs.Classes.{either}
 use Rattle.ec_language.proofs.Marks.{same_text_is}
 use Rattle.ec_split.specs.WordTables.{place_of, word_in, IsTableOf}
 
-holds_among : (test : Text → Bool) (words : List Text) (w : Text) → list_all test words ≡ true → is_among words w ≡ true → test w ≡ true
+pub holds_among : (test : Text → Bool) (words : List Text) (w : Text) → list_all test words ≡ true → is_among words w ≡ true → test w ≡ true
 holds_among test [] w a e = absurd (cc)
 holds_among test (t ∷ words) w a e =
     let h = both (test t) (list_all test words) a in

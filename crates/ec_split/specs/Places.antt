@@ -1,8 +1,8 @@
 -- What an index into a text stands for: the text from there on.
-use Rattle.std.specs.Prelude.{◌≡◌, ℕ, ◌≤◌, Bool, false, ◌&&◌, ◌||◌, ◌==◌, Option, option_map, Some, None, List, [], ◌∷◌, codes, length, drop, ⊤, Result, Ok, Err, if◌then◌else◌}
+use Rattle.std.specs.Prelude.{◌≡◌, ℕ, ◌≤◌, Bool, false, not, ◌&&◌, ◌||◌, ◌==◌, Option, option_map, Some, None, List, [], ◌∷◌, ◌++◌, codes, length, drop, ⊤, Result, Ok, Err, if◌then◌else◌}
 use Rattle.ec_ctypes.specs.declared.text.piece.PieceKind.{PieceKind}
 use Rattle.ec_ctypes.specs.declared.text.piece.PieceKind.TheVariants.{Emb, SectionStart, SectionEnd}
-use Rattle.ec_language.specs.Letters.{Text, is_blank, is_word_byte, is_number_byte, is_sql_word_byte, is_not_newline, is_empty, same_word}
+use Rattle.ec_language.specs.Letters.{Text, is_blank, is_word_byte, is_number_byte, is_sql_word_byte, is_sql_word_start, is_not_newline, is_empty, same_word}
 use Rattle.ec_language.specs.Line.{newlines}
 use Rattle.ec_language.specs.Pieces.{starts_piece}
 use Rattle.ec_language.specs.ReadPieces as read
@@ -26,7 +26,13 @@ class_test Line = is_not_newline
 
 -- a byte that is a unit of SQL text by itself, whatever stands behind it, and no `;`
 abbrev pub is_single : ℕ → Bool
-is_single b = is_blank b || b == 44 || b == 40 || b == 41 || b == 61 || b == 58
+is_single b =
+    is_blank b || b == 44 || b == 40 || b == 41 || b == 61 || b == 58 || b == 91 || b == 93
+    || b == 42 || b == 60 || b == 62
+
+-- a byte that begins a word of SQL, and is no `E`
+abbrev pub is_plain_word_start : ℕ → Bool
+is_plain_word_start b = is_sql_word_start b && not (b == 69 || b == 101)
 
 -- the end that stands at an index
 abbrev pub behind_at : Text → End → Behind
@@ -118,3 +124,7 @@ kind_behind word rest =
     if same_word word (codes "BEGIN") && ends_mark rest then SectionStart
     else if same_word word (codes "END") && ends_mark rest then SectionEnd
     else Emb
+
+-- `EXEC SQL` and a blank stand first
+abbrev pub StartsPlainly : Text → Type 0
+StartsPlainly text = text ≡ codes "EXEC SQL " ++ drop 9 text

@@ -6,7 +6,7 @@ ghost use Rattle.ec_language.specs.ReadPieces as read;
 ghost use Rattle.ec_split.specs.Places as places;
 ghost use Rattle.ec_split.specs.Places.{found_at, FoundWithin, text_from, FindsWord, kind_behind};
 
-use crate::scanning::bytes::{byte_at, is_single};
+use crate::scanning::bytes::{ByteClass, behind_all, byte_at, is_plain_word_start, is_single};
 use crate::scanning::ends::End;
 use crate::scanning::fronts::{gap_stop, unit_end};
 use crate::scanning::units::{c_end, sql_end};
@@ -24,8 +24,9 @@ pub enum Found {
     Unended,
 }
 
-/// The index behind the first `;` of SQL text.
-#[tactic(auto, using(crate::proofs::Walks::statement_next, crate::proofs::Walks::statement_here, crate::proofs::Walks::statement_single))]
+/// The index behind the first `;` of SQL text. Most of it is told by the first byte of each unit.
+#[inline(never)]
+#[tactic(auto, using(crate::proofs::Walks::statement_next, crate::proofs::Walks::statement_here, crate::proofs::Walks::statement_single, crate::proofs::Walks::statement_word))]
 pub fn statement_end(text: &[u8], from: usize) -> Option<usize>
     requires { from ≤ length text.now }
     ensures is { text_from text.now result ≡ read.statement_end (drop from text.now) }
@@ -33,8 +34,13 @@ pub fn statement_end(text: &[u8], from: usize) -> Option<usize>
 {
     let mut at = from;
     while at < text.len() {
-        if is_single(text[at]) {
+        let byte = text[at];
+        if is_single(byte) {
             at += 1;
+            continue;
+        }
+        if is_plain_word_start(byte) {
+            at = behind_all(ByteClass::SqlWord, text, at + 1);
             continue;
         }
         if byte_at(text, at, b';') {
@@ -154,14 +160,28 @@ const TYPE_WORDS: [&[u8]; 24] = [
     b"",
 ];
 
-/// Whether the word begins a declaration.
-pub fn is_type_word(word: &[u8]) -> bool
+/// Whether the word begins a declaration, found in the table.
+fn stands_in_table(word: &[u8]) -> bool
     ensures { result ≡ pieces.is_type_word word.now }
 {
     if word.is_empty() {
         return false;
     }
     TYPE_WORDS[place_of(word)] == word
+}
+
+/// Whether the word begins a declaration. Those that do begin in lower case or with `V`.
+#[tactic(auto, using(crate::proofs::Walks::no_type_word))]
+pub fn is_type_word(word: &[u8]) -> bool
+    ensures { result ≡ pieces.is_type_word word.now }
+{
+    if word.is_empty() {
+        return false;
+    }
+    if word[0] < b'V' {
+        return false;
+    }
+    stands_in_table(word)
 }
 
 /// The index behind the word, if it stands behind blanks and comments from the index on, in any

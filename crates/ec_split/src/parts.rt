@@ -41,6 +41,7 @@ impl From<Fault> for Stop {
 }
 
 /// The index where C text stops: an embedded piece starts there, or no unit stands there.
+#[inline(never)]
 #[tactic(auto, using(crate::proofs::Walks::c_next, crate::proofs::Walks::blank_next))]
 pub fn c_stop(text: &[u8], from: usize) -> usize
     requires { from ≤ length text.now }

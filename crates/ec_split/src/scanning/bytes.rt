@@ -1,10 +1,12 @@
 //! Single bytes of a text, and the first bytes from an index on.
-ghost use Rattle.std.specs.Prelude.{◌≡◌, ◌+◌, ◌≤◌, length, drop, take, true, false, [], ◌∷◌, ◌==◌};
+ghost use Rattle.std.specs.Prelude.{◌≡◌, ◌+◌, ◌≤◌, length, drop, take, true, false, [], ◌∷◌, ◌==◌, ◌&&◌};
 ghost use Rattle.ec_language.specs.Letters as letters;
 ghost use Rattle.ec_language.specs.Line as lines;
 ghost use Rattle.ec_language.specs.ReadPieces as read;
 ghost use Rattle.ec_split.specs.Places as places;
 ghost use Rattle.ec_split.specs.Places.{class_test};
+
+use std::simd::prelude::*;
 
 /// A class of bytes.
 #[derive(Clone, Copy)]
@@ -42,11 +44,65 @@ pub fn is_word_start(byte: u8) -> bool
     (65 <= byte && byte <= 90) || (97 <= byte && byte <= 122) || byte == b'_'
 }
 
-/// Whether a word of SQL begins with the byte.
+/// Whether a word of SQL begins with each byte.
+const SQL_WORD_STARTS: [bool; 256] = [
+    false, false, false, false, false, false, false, false, false, false, false, false, false,
+    false, false, false, false, false, false, false, false, false, false, false, false, false,
+    false, false, false, false, false, false, false, false, false, false, false, false, false,
+    false, false, false, false, false, false, false, false, false, false, false, false, false,
+    false, false, false, false, false, false, false, false, false, false, false, false, false,
+    true, true, true, true, true, true, true, true, true, true, true, true, true, true, true, true,
+    true, true, true, true, true, true, true, true, true, true, false, false, false, false, true,
+    false, true, true, true, true, true, true, true, true, true, true, true, true, true, true,
+    true, true, true, true, true, true, true, true, true, true, true, true, false, false, false,
+    false, false, true, true, true, true, true, true, true, true, true, true, true, true, true,
+    true, true, true, true, true, true, true, true, true, true, true, true, true, true, true, true,
+    true, true, true, true, true, true, true, true, true, true, true, true, true, true, true, true,
+    true, true, true, true, true, true, true, true, true, true, true, true, true, true, true, true,
+    true, true, true, true, true, true, true, true, true, true, true, true, true, true, true, true,
+    true, true, true, true, true, true, true, true, true, true, true, true, true, true, true, true,
+    true, true, true, true, true, true, true, true, true, true, true, true, true, true, true, true,
+    true, true, true, true, true, true, true, true, true, true, true, true, true, true, true, true,
+    true, true, true,
+];
+
+/// Whether a word of SQL begins with the byte. It is looked up, since it is asked of each unit of a
+/// statement.
+#[inline(always)]
 pub fn is_sql_word_start(byte: u8) -> bool
     ensures { result ≡ letters.is_sql_word_start byte }
 {
-    is_word_start(byte) || 128 <= byte
+    SQL_WORD_STARTS[byte as usize]
+}
+
+/// Whether each byte begins a word of SQL, and is no `E`.
+const PLAIN_WORD_STARTS: [bool; 256] = [
+    false, false, false, false, false, false, false, false, false, false, false, false, false,
+    false, false, false, false, false, false, false, false, false, false, false, false, false,
+    false, false, false, false, false, false, false, false, false, false, false, false, false,
+    false, false, false, false, false, false, false, false, false, false, false, false, false,
+    false, false, false, false, false, false, false, false, false, false, false, false, false,
+    true, true, true, true, false, true, true, true, true, true, true, true, true, true, true,
+    true, true, true, true, true, true, true, true, true, true, true, false, false, false, false,
+    true, false, true, true, true, true, false, true, true, true, true, true, true, true, true,
+    true, true, true, true, true, true, true, true, true, true, true, true, true, false, false,
+    false, false, false, true, true, true, true, true, true, true, true, true, true, true, true,
+    true, true, true, true, true, true, true, true, true, true, true, true, true, true, true, true,
+    true, true, true, true, true, true, true, true, true, true, true, true, true, true, true, true,
+    true, true, true, true, true, true, true, true, true, true, true, true, true, true, true, true,
+    true, true, true, true, true, true, true, true, true, true, true, true, true, true, true, true,
+    true, true, true, true, true, true, true, true, true, true, true, true, true, true, true, true,
+    true, true, true, true, true, true, true, true, true, true, true, true, true, true, true, true,
+    true, true, true, true, true, true, true, true, true, true, true, true, true, true, true, true,
+    true, true, true, true,
+];
+
+/// Whether the byte begins a word of SQL, and is no `E`, behind which a quote may stand.
+#[inline(always)]
+pub fn is_plain_word_start(byte: u8) -> bool
+    ensures { result ≡ places.is_plain_word_start byte }
+{
+    PLAIN_WORD_STARTS[byte as usize]
 }
 
 /// Whether the byte is a quote.
@@ -139,12 +195,21 @@ pub fn lower(byte: u8) -> u8
     }
 }
 
-/// Whether the bytes are one, in any case of letters. Mostly they are equal as they stand.
+/// Whether the byte is a letter in upper case, and the other the same in lower case.
+#[inline(always)]
+fn is_lower_of(byte: u8, other: u8) -> bool
+    ensures { result ≡ (letters.is_upper byte && other == byte + 32) }
+{
+    65 <= byte && byte <= 90 && other == byte + 32
+}
+
+/// Whether the bytes are one, in any case of letters. Mostly they are equal as they stand. Where one
+/// of them is known, few of these tests are left.
 #[inline(always)]
 fn is_same_letter(byte: u8, other: u8) -> bool
     ensures { result ≡ (letters.lower byte == letters.lower other) }
 {
-    byte == other || lower(byte) == lower(other)
+    byte == other || is_lower_of(byte, other) || is_lower_of(other, byte)
 }
 
 /// Whether each byte is a unit of SQL text by itself.
@@ -152,8 +217,10 @@ const SINGLE_BYTES: [bool; 256] = [
     false, false, false, false, false, false, false, false, false, true, true, true, true, true,
     false, false, false, false, false, false, false, false, false, false, false, false, false,
     false, false, false, false, false, true, false, false, false, false, false, false, false, true,
-    true, false, false, true, false, false, false, false, false, false, false, false, false, false,
-    false, false, false, true, false, false, true, false, false, false, false, false, false, false,
+    true, true, false, true, false, false, false, false, false, false, false, false, false, false,
+    false, false, false, true, false, true, true, true, false, false, false, false, false, false,
+    false, false, false, false, false, false, false, false, false, false, false, false, false,
+    false, false, false, false, false, false, false, false, false, true, false, true, false, false,
     false, false, false, false, false, false, false, false, false, false, false, false, false,
     false, false, false, false, false, false, false, false, false, false, false, false, false,
     false, false, false, false, false, false, false, false, false, false, false, false, false,
@@ -166,13 +233,12 @@ const SINGLE_BYTES: [bool; 256] = [
     false, false, false, false, false, false, false, false, false, false, false, false, false,
     false, false, false, false, false, false, false, false, false, false, false, false, false,
     false, false, false, false, false, false, false, false, false, false, false, false, false,
-    false, false, false, false, false, false, false, false, false, false, false, false, false,
-    false, false, false, false, false, false, false, false, false, false, false, false, false,
-    false, false, false, false, false,
+    false, false, false, false,
 ];
 
 /// Whether the byte is a unit of SQL text by itself, whatever stands behind it, and ends no
 /// statement. There are others that are.
+#[inline(always)]
 pub fn is_single(byte: u8) -> bool
     ensures { result ≡ places.is_single byte }
 {
@@ -220,9 +286,9 @@ pub fn word_at(text: &[u8], at: usize, word: &[u8]) -> bool
     true
 }
 
-/// Where the bytes of the class end that stand from the index on.
+/// Where the bytes of the class end that stand from the index on, looked at one by one.
 #[inline(always)]
-pub fn behind_all(class: ByteClass, text: &[u8], from: usize) -> usize
+fn behind_each(class: ByteClass, text: &[u8], from: usize) -> usize
     requires { from ≤ length text.now }
     ensures rest { drop result text.now ≡ read.behind_all (class_test class) (drop from text.now) }
     ensures behind { from ≤ result }
@@ -238,32 +304,93 @@ pub fn behind_all(class: ByteClass, text: &[u8], from: usize) -> usize
     at
 }
 
-/// Whether one of four bytes is a newline.
+/// Where the bytes of the class end that stand from the index on. Four are looked at in a turn,
+/// since most words are short.
 #[inline(always)]
-fn is_newline_in(a: &u8, b: &u8, c: &u8, d: &u8) -> bool
-    ensures { result ≡ false → lines.newlines (a.now ∷ b.now ∷ c.now ∷ d.now ∷ []) ≡ 0 }
+pub fn behind_all(class: ByteClass, text: &[u8], from: usize) -> usize
+    requires { from ≤ length text.now }
+    ensures rest { drop result text.now ≡ read.behind_all (class_test class) (drop from text.now) }
+    ensures behind { from ≤ result }
+    ensures within { result ≤ length text.now }
 {
-    *a == b'\n' || *b == b'\n' || *c == b'\n' || *d == b'\n'
+    let mut at = from;
+    while text.len() - at >= 4 {
+        if !is_in(class, text[at]) {
+            return at;
+        }
+        if !is_in(class, text[at + 1]) {
+            return at + 1;
+        }
+        if !is_in(class, text[at + 2]) {
+            return at + 2;
+        }
+        if !is_in(class, text[at + 3]) {
+            return at + 3;
+        }
+        at += 4;
+    }
+    behind_each(class, text, at)
 }
 
-/// How many newlines stand in the bytes. Most lines are long, so eight bytes are looked at before
-/// each is counted.
+/// How many newlines stand in the sixteen bytes from the index on. Mostly none does.
+#[inline(always)]
+fn newlines_in_16(bytes: &[u8], at: usize) -> usize
+    requires { at + 16 ≤ length bytes.now }
+    ensures { result ≡ lines.newlines (take 16 (drop at bytes.now)) }
+{
+    let found = u8x16::from_slice(&bytes[at..])
+        .simd_eq(u8x16::splat(b'\n'))
+        .to_bitmask();
+    if found == 0 {
+        return 0;
+    }
+    found.count_ones() as usize
+}
+
+/// The same of eight.
+#[inline(always)]
+fn newlines_in_8(bytes: &[u8], at: usize) -> usize
+    requires { at + 8 ≤ length bytes.now }
+    ensures { result ≡ lines.newlines (take 8 (drop at bytes.now)) }
+{
+    let found = u8x8::from_slice(&bytes[at..])
+        .simd_eq(u8x8::splat(b'\n'))
+        .to_bitmask();
+    if found == 0 {
+        return 0;
+    }
+    found.count_ones() as usize
+}
+
+/// How many newlines stand in the last bytes, from the index on.
+#[inline(always)]
+fn last_newlines(bytes: &[u8], at: usize) -> usize
+    requires { at ≤ length bytes.now }
+    ensures is { result ≡ lines.newlines (drop at bytes.now) }
+    ensures most { at + result ≤ length bytes.now }
+{
+    if bytes.len() - at < 8 {
+        return counted_newlines(&bytes[at..]);
+    }
+    newlines_in_8(bytes, at) + counted_newlines(&bytes[at + 8..])
+}
+
+/// How many newlines stand in the bytes.
 pub fn newlines(bytes: &[u8]) -> usize
     ensures is { result ≡ lines.newlines bytes.now }
     ensures most { result ≤ length bytes.now }
 {
     let mut count = 0;
-    let mut left = bytes;
-    while let [a, b, c, d, e, f, g, h, rest @ ..] = left {
-        if is_newline_in(a, b, c, d) || is_newline_in(e, f, g, h) {
-            count += counted_newlines(&left[..8]);
-        }
-        left = rest;
+    let mut at = 0;
+    while bytes.len() - at >= 16 {
+        count += newlines_in_16(bytes, at);
+        at += 16;
     }
-    count + counted_newlines(left)
+    count + last_newlines(bytes, at)
 }
 
 /// How many newlines stand in the bytes, looked at one by one.
+#[inline(always)]
 fn counted_newlines(bytes: &[u8]) -> usize
     ensures is { result ≡ lines.newlines bytes.now }
     ensures most { result ≤ length bytes.now }

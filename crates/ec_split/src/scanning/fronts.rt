@@ -1,17 +1,18 @@
 //! What an embedded piece begins with: `EXEC SQL`, blanks and comments, and a first word.
-ghost use Rattle.std.specs.Prelude.{◌≡◌, ◌+◌, ◌-◌, ◌≤◌, ◌==◌, ◌||◌, length, take, drop, IfSome};
+ghost use Rattle.std.specs.Prelude.{◌≡◌, ◌+◌, ◌-◌, ◌≤◌, ◌==◌, ◌||◌, length, take, drop, IfSome, true};
 ghost use Rattle.ec_language.specs.Letters as letters;
 ghost use Rattle.ec_language.specs.Pieces as pieces;
 ghost use Rattle.ec_language.specs.ReadPieces as read;
-ghost use Rattle.ec_split.specs.Places.{text_from, first_unit, behind_first_unit};
+ghost use Rattle.ec_split.specs.Places.{text_from, first_unit, behind_first_unit, StartsPlainly};
 
-use crate::scanning::bytes::{ByteClass, behind_all, byte_at, class_at, word_at};
+use crate::scanning::bytes::{ByteClass, behind_all, class_at, is_blank, word_at};
 use crate::scanning::ends::End;
 use crate::scanning::units::{begins_gap, sql_end};
 
-/// The index behind `EXEC SQL`, if these two words stand at the index.
+/// The index behind `EXEC SQL`, if these two words stand at the index, however they are written.
+#[inline(never)]
 #[tactic(auto, using(crate::proofs::Walks::start_no_word, crate::proofs::Walks::start_no_blank, crate::proofs::Walks::start_no_second, crate::proofs::Walks::start_longer, crate::proofs::Walks::start_found))]
-pub fn behind_start(text: &[u8], at: usize) -> Option<usize>
+fn behind_any_start(text: &[u8], at: usize) -> Option<usize>
     requires { at ≤ length text.now }
     ensures is { text_from text.now result ≡ pieces.behind_start (drop at text.now) }
     ensures within { IfSome result (λ end. (at + 1 ≤ end) × (end ≤ length text.now)) }
@@ -30,6 +31,32 @@ pub fn behind_start(text: &[u8], at: usize) -> Option<usize>
         return None;
     }
     Some(second + 3)
+}
+
+/// Whether `EXEC SQL` and a blank stand first, as most people write them.
+#[inline(always)]
+fn starts_plainly(text: &[u8]) -> bool
+    ensures is { result ≡ true → StartsPlainly text.now }
+    ensures fits { result ≡ true → 9 ≤ length text.now }
+{
+    match text {
+        [b'E', b'X', b'E', b'C', b' ', b'S', b'Q', b'L', b' ', ..] => true,
+        _ => false,
+    }
+}
+
+/// The index behind `EXEC SQL`, if these two words stand at the index.
+#[inline(always)]
+#[tactic(auto, using(crate::proofs::Walks::plain_start))]
+pub fn behind_start(text: &[u8], at: usize) -> Option<usize>
+    requires { at ≤ length text.now }
+    ensures is { text_from text.now result ≡ pieces.behind_start (drop at text.now) }
+    ensures within { IfSome result (λ end. (at + 1 ≤ end) × (end ≤ length text.now)) }
+{
+    if starts_plainly(&text[at..]) {
+        return Some(at + 8);
+    }
+    behind_any_start(text, at)
 }
 
 /// Whether the first letter of `EXEC` stands at the index.
@@ -53,7 +80,7 @@ pub fn starts_piece(text: &[u8], at: usize) -> bool
 }
 
 /// The index behind the blanks and comments that stand from the index on.
-#[tactic(auto, using(crate::proofs::Walks::gap_next))]
+#[tactic(auto, using(crate::proofs::Walks::gap_next, crate::proofs::Walks::gap_blank))]
 pub fn gap_stop(text: &[u8], from: usize) -> usize
     requires { from ≤ length text.now }
     ensures is { drop result text.now ≡ read.gap_stop (drop from text.now) }
@@ -61,7 +88,14 @@ pub fn gap_stop(text: &[u8], from: usize) -> usize
     ensures within { result ≤ length text.now }
 {
     let mut at = from;
-    while begins_gap(text, at) {
+    while at < text.len() {
+        if is_blank(text[at]) {
+            at += 1;
+            continue;
+        }
+        if !begins_gap(text, at) {
+            return at;
+        }
         match sql_end(text, at) {
             End::Passed(end) => at = end,
             _ => return at,

@@ -6,6 +6,7 @@ ghost use Rattle.ec_split.specs.WordTables as tables;
 use crate::scanning::bytes::word_at;
 
 /// Whether the words are one, in any case of letters.
+#[inline(always)]
 pub fn same_word(word: &[u8], other: &[u8]) -> bool
     ensures { result ≡ letters.same_word word.now other.now }
 {

@@ -1,6 +1,6 @@
 use Rattle.std.proofs.Common.{◌∙◌, sym}
 use Rattle.ec_split.proofs.Walks.{start_no_blank, start_no_second, start_longer, start_found}
-use Rattle.ec_split.proofs.scanning.fronts.behind_start.Goals as goal
+use Rattle.ec_split.proofs.scanning.fronts.behind_any_start.Goals as goal
 
 pub returns-then-not-class_at-clause-is : goal.returns-then-not-class_at-clause-is
 returns-then-not-class_at-clause-is c = start_no_blank c.args.text.now c.args.at (sym c.class_at.ensures ∙ c.if-not-class_at.true)

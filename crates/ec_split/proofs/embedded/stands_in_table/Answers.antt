@@ -2,7 +2,7 @@ use Rattle.std.proofs.Common.{◌≡◌, ◌∙◌, sym, rules}
 use Rattle.ec_language.specs.Letters.{same_text}
 use Rattle.ec_split.specs.WordTables.{word_in}
 use Rattle.ec_split.proofs.Walks.{type_table, type_word}
-use Rattle.ec_split.proofs.embedded.is_type_word.Goals as goal
+use Rattle.ec_split.proofs.embedded.stands_in_table.Goals as goal
 
 pub returns : goal.returns
 returns c =
