@@ -16,7 +16,8 @@ use Rattle.ec_language.proofs.Ends.{both}
 use Rattle.ec_language.proofs.Classes.{all_sound, e_word, neither}
 use Rattle.ec_language.proofs.CWalks.{front_is}
 use Rattle.ec_split.proofs.Steps.{at_place, later}
-use Rattle.ec_split.proofs.Walks.{front_slice, single_unit}
+use Rattle.ec_split.specs.Places.{is_single, is_plain_word_start}
+use Rattle.ec_split.proofs.Walks.{front_slice, single_unit, plain_start_is, plain_no_escape}
 use Rattle.ec_language.proofs.LongestMatch.{begins_split}
 use Rattle.ec_clex.specs.declared.sql.SqlClass.{SqlClass}
 use Rattle.ec_clex.specs.declared.sql.SqlClass.TheVariants.{Word, Mark}
@@ -109,6 +110,32 @@ mark_flat t i h w e n =
     let p = at_place t i h in
     subst (λ z. IsFlat z (drop (i + 1) t) Mark) (sym p) (mark_is (get_or t i 0) (drop (i + 1) t) w e (ap begins_pair (sym p) ∙ n))
 
+-- ---- marks that are told by one look into a table
+
+single_mark : (b : ℕ) → is_single b ≡ true → is_blank b ≡ false → is_lone_mark b ≡ true
+single_mark b e n = grind (arith, nat_tests)
+
+mark_no_start : (b : ℕ) → is_lone_mark b ≡ true → is_sql_word_start b ≡ false
+mark_no_start b e = grind (arith, nat_tests)
+
+mark_no_pair : (b : ℕ) (s : Text) → is_lone_mark b ≡ true → begins_with (codes "::") (b ∷ s) ≡ false → begins_pair (b ∷ s) ≡ false
+mark_no_pair b s e n =
+    let d : (45 == b) ≡ false = grind (arith, nat_tests) in
+    λ i. n i || (d i && same_text (codes ">") (take 1 s))
+
+pub single_flat : (t : Text) (i : ℕ) → i < length t → begins_blank (drop i t) ≡ false → is_single (get_or t i 0) ≡ true → begins_with (codes "::") (drop i t) ≡ false
+    → IsFlat (drop i t) (drop (i + 1) t) Mark
+single_flat t i h k e n =
+    let p = at_place t i h in
+    let b = get_or t i 0 in
+    let m = single_mark b e (ap begins_blank (sym p) ∙ k) in
+    mark_flat t i h (mark_no_start b m) m (ap begins_pair p ∙ mark_no_pair b (drop (i + 1) t) m (ap (begins_with (codes "::")) (sym p) ∙ n))
+
+-- ---- words that begin with no `E`
+
+pub plain_flat : (t : Text) (i e : ℕ) → i < length t → is_plain_word_start (get_or t i 0) ≡ true → drop e t ≡ behind_all is_sql_word_byte (drop (i + 1) t) → IsFlat (drop i t) (drop e t) Word
+plain_flat t i e h w k = word_flat t i e h (plain_start_is (get_or t i 0) w).0 (ap begins_escaped (at_place t i h) ∙ plain_no_escape (get_or t i 0) (drop (i + 1) t) w) k
+
 -- ---- the first byte that begins no token
 
 good_first : (b : ℕ) (u : Text) → is_bad_byte b ≡ false → is_bad_unit (b ∷ u) ≡ false
@@ -186,7 +213,7 @@ blank_at t at h e =
     let m : (b == 59) ≡ false = grind (arith, nat_tests) in
     record {
       more = ap begins_semicolon p ∙ m;
-      behind = single_unit b (drop (at + 1) t) (λ i. k i || b == 44 || b == 40 || b == 41 || b == 61 || b == 58) ∙ ap sql_end (sym p);
+      behind = single_unit b (drop (at + 1) t) (λ i. k i || b == 44 || b == 40 || b == 41 || b == 61 || b == 58 || b == 91 || b == 93 || b == 42 || b == 60 || b == 62) ∙ ap sql_end (sym p);
       order = omega arith;
       within = omega arith;
     }

@@ -1,5 +1,6 @@
 //! The tokens of an embedded statement.
-ghost use Rattle.std.specs.Prelude.{◌≡◌, ◌+◌, ◌-◌, ◌≤◌, ◌<◌, ◌^◌, ◌∷◌, ◌++◌, [], ℕ, List as Sequence, Result as Answer, true, false, length, take, drop, IfOk, IfSome};
+ghost use Rattle.std.specs.Prelude.{◌≡◌, ◌+◌, ◌-◌, ◌≤◌, ◌<◌, ◌^◌, ◌∷◌, ◌++◌, [], ℕ, List as Sequence, Result as Answer, true, false, codes, length, take, drop, IfOk, IfSome};
+ghost use Rattle.ec_language.specs.Letters as letters;
 ghost use Rattle.ec_language.specs.Line as lines;
 ghost use Rattle.ec_language.specs.SqlTokens as sql;
 ghost use Rattle.ec_base.specs.declared.stop.Stop.{Stop as TheStop};
@@ -10,10 +11,11 @@ ghost use Rattle.ec_clex.specs.Items.{Told};
 ghost use Rattle.ec_clex.specs.Sql as view;
 
 use crate::lexer::behind;
-use ec_base::{FaultKind, Line, List, Name, OutOfMemory, Stop};
+use ec_base::{FaultKind, Line, List, OutOfMemory, Stop};
 use ec_ctypes::Piece;
 use ec_split::scanning::bytes::{
-    ByteClass, begins_two, behind_all, is_blank, is_quote, is_sql_word_start, newlines,
+    ByteClass, begins_two, behind_all, is_blank, is_plain_word_start, is_quote, is_single,
+    is_sql_word_start, newlines,
 };
 use ec_split::scanning::ends::End;
 use ec_split::scanning::units::{begins_escaped, begins_gap, begins_number, sql_end};
@@ -31,20 +33,20 @@ pub enum SqlClass {
 }
 
 /// A token of an embedded statement.
-#[derive(Debug, Drop)]
-pub struct SqlToken {
+#[derive(Clone, Copy, Debug)]
+pub struct SqlToken<'a> {
+    /// Its bytes, as they stand in the statement.
+    pub bytes: &'a [u8],
+    pub line: Line,
     pub class: SqlClass,
-    /// Few bytes take no block of memory, as those of most tokens.
-    pub bytes: Name,
     /// Whether blanks or comments stand between it and what stands before it.
     pub gap: bool,
-    pub line: Line,
 }
 
 /// The tokens that are read, and what is known of the next one.
 #[derive(Drop)]
-struct SqlLexer {
-    tokens: List<SqlToken>,
+struct SqlLexer<'a> {
+    tokens: List<SqlToken<'a>>,
     gap: bool,
     line: u32,
 }
@@ -78,21 +80,13 @@ fn begins_pair(text: &[u8], at: usize) -> bool
     begins_two(text, at, b'-', b'>')
 }
 
-/// Whether the byte is a mark by itself, but for what makes it one of two bytes. There are others
-/// that are.
-fn is_lone_mark(byte: u8) -> bool
-    ensures { result ≡ view.is_lone_mark byte }
+/// Whether `::` stands at the index. Most bytes tell at once that it doesn't.
+#[inline(always)]
+fn begins_colons(text: &[u8], at: usize) -> bool
+    requires { at < length text.now }
+    ensures { result ≡ letters.begins_with (codes "::") (drop at text.now) }
 {
-    byte == b','
-        || byte == b'('
-        || byte == b')'
-        || byte == b'='
-        || byte == b':'
-        || byte == b'['
-        || byte == b']'
-        || byte == b'*'
-        || byte == b'<'
-        || byte == b'>'
+    text[at] == b':' && begins_two(text, at, b':', b':')
 }
 
 /// Whether the byte begins no token.
@@ -113,26 +107,30 @@ struct Flat {
 /// The token that stands at the index, if its first bytes tell that it is a word or a mark.
 #[inline(always)]
 fn flat_at(text: &[u8], at: usize) -> Option<Flat>
-    requires { at < length text.now }
+    requires inside { at < length text.now }
+    requires solid { view.begins_blank (drop at text.now) ≡ false }
     ensures is { IfSome result (λ found. view.IsFlat (drop at text.now) (drop found.end text.now)
         found.class) }
     ensures within { IfSome result (λ found. (at + 1 ≤ found.end)
         × (found.end ≤ length text.now)) }
 {
     let byte = text[at];
-    if is_sql_word_start(byte) {
-        if begins_escaped(text, at) {
-            return None;
-        }
+    if is_plain_word_start(byte) {
         return Some(Flat {
             class: SqlClass::Word,
             end: behind_all(ByteClass::SqlWord, text, at + 1),
         });
     }
-    if is_lone_mark(byte) && !begins_pair(text, at) {
+    if is_single(byte) && !begins_colons(text, at) {
         return Some(Flat {
             class: SqlClass::Mark,
             end: at + 1,
+        });
+    }
+    if is_sql_word_start(byte) && !begins_escaped(text, at) {
+        return Some(Flat {
+            class: SqlClass::Word,
+            end: behind_all(ByteClass::SqlWord, text, at + 1),
         });
     }
     None
@@ -151,33 +149,34 @@ fn lines_in(byte: u8) -> u32
 
 /// For how many tokens room is made at first, in a statement of so many bytes.
 fn room_for(length: usize) -> usize {
-    if length < 80 {
-        return 4 + length / 4;
+    if length < 114 {
+        return 4 + length / 3;
     }
-    24
+    42
 }
 
-impl SqlLexer {
+impl<'a> SqlLexer<'a> {
     /// Puts a token of these bytes behind the others, and counts no lines.
-    #[inline(never)]
-    fn put(&mut self, alloc: Global, class: SqlClass, bytes: &[u8]) -> Result<(), OutOfMemory>
+    #[inline(always)]
+    fn put(&mut self, class: SqlClass, bytes: &'a [u8]) -> Result<(), OutOfMemory>
         ensures tokens { IfOk result (λ _. view.sql_views self.new.tokens
             ≡ view.sql_views self.old.tokens ++ view.next_token self.old class bytes.now ∷ []) }
         ensures gap { IfOk result (λ _. self.new.gap ≡ false) }
         ensures line { IfOk result (λ _. self.new.line ≡ self.old.line) }
     {
         self.tokens.push(SqlToken {
-            class,
-            bytes: Name::from_slice(alloc, bytes)?,
-            gap: self.gap,
+            bytes,
             line: Line(self.line),
+            class,
+            gap: self.gap,
         })?;
         self.gap = false;
         Ok(())
     }
 
     /// Puts a token of these bytes behind the others.
-    fn push(&mut self, alloc: Global, class: SqlClass, bytes: &[u8]) -> Result<(), OutOfMemory>
+    #[inline(never)]
+    fn push(&mut self, class: SqlClass, bytes: &'a [u8]) -> Result<(), OutOfMemory>
         requires { self.old.line + length bytes.now < 2 ^ 32 }
         ensures tokens { IfOk result (λ _. view.sql_views self.new.tokens
             ≡ view.sql_views self.old.tokens ++ view.next_token self.old class bytes.now ∷ []) }
@@ -185,20 +184,14 @@ impl SqlLexer {
         ensures line { IfOk result (λ _. self.new.line ≡ self.old.line + lines.newlines bytes.now) }
         ensures most { IfOk result (λ _. self.new.line ≤ self.old.line + length bytes.now) }
     {
-        self.put(alloc, class, bytes)?;
+        self.put(class, bytes)?;
         self.line += newlines(bytes) as u32;
         Ok(())
     }
 
     /// Takes the token that stands there, in which no newline stands.
     #[inline(always)]
-    fn flat(
-        &mut self,
-        alloc: Global,
-        text: &[u8],
-        at: usize,
-        found: Flat,
-    ) -> Result<(), OutOfMemory>
+    fn flat(&mut self, text: &'a [u8], at: usize, found: Flat) -> Result<(), OutOfMemory>
         requires order { at + 1 ≤ found.end }
         requires inside { found.end ≤ length text.now }
         requires flat { view.IsFlat (drop at text.now) (drop found.end text.now) found.class }
@@ -208,7 +201,7 @@ impl SqlLexer {
             ≡ view.bad_line self.old (drop at text.now)) }
         ensures line { IfOk result (λ _. self.new.line ≡ self.old.line) }
     {
-        self.put(alloc, found.class, &text[at..found.end])?;
+        self.put(found.class, &text[at..found.end])?;
         Ok(())
     }
 
@@ -241,13 +234,7 @@ impl SqlLexer {
     }
 
     /// Takes the word `E` and the quote behind it.
-    fn escaped(
-        &mut self,
-        alloc: Global,
-        text: &[u8],
-        at: usize,
-        end: usize,
-    ) -> Result<(), OutOfMemory>
+    fn escaped(&mut self, text: &'a [u8], at: usize, end: usize) -> Result<(), OutOfMemory>
         requires order { at + 1 ≤ end }
         requires inside { end ≤ length text.now }
         requires fits { self.old.line + (end - at) < 2 ^ 32 }
@@ -261,19 +248,13 @@ impl SqlLexer {
             ≡ view.all_tokens self.old (drop at text.now)) }
         ensures most { IfOk result (λ _. self.new.line ≤ self.old.line + (end - at)) }
     {
-        self.push(alloc, SqlClass::Word, &text[at..at + 1])?;
-        self.push(alloc, SqlClass::Quoted, &text[at + 1..end])?;
+        self.push(SqlClass::Word, &text[at..at + 1])?;
+        self.push(SqlClass::Quoted, &text[at + 1..end])?;
         Ok(())
     }
 
     /// Takes the unit that stands there, and answers where the next one stands.
-    fn unit(
-        &mut self,
-        alloc: Global,
-        text: &[u8],
-        at: usize,
-        end: usize,
-    ) -> Result<usize, OutOfMemory>
+    fn unit(&mut self, text: &'a [u8], at: usize, end: usize) -> Result<usize, OutOfMemory>
         requires order { at + 1 ≤ end }
         requires inside { end ≤ length text.now }
         requires fits { self.old.line + (length text.now - at) < 2 ^ 32 }
@@ -292,22 +273,28 @@ impl SqlLexer {
             return Ok(end);
         }
         if begins_escaped(text, at) {
-            self.escaped(alloc, text, at, end)?;
+            self.escaped(text, at, end)?;
             return Ok(end);
         }
         if begins_pair(text, at) {
-            self.push(alloc, SqlClass::Mark, &text[at..at + 2])?;
+            self.push(SqlClass::Mark, &text[at..at + 2])?;
             return Ok(at + 2);
         }
-        self.push(alloc, class_at(text, at), &text[at..end])?;
+        self.push(class_at(text, at), &text[at..end])?;
         Ok(end)
     }
 }
 
 /// The tokens of the units that stand from the index on, the first of which stands on this line,
 /// or the fault of the first byte that begins none.
+#[inline(never)]
 #[tactic(auto, using(crate::proofs::FlatTokens::bad_told, crate::proofs::FlatTokens::all_told))]
-fn tokens_from(alloc: Global, text: &[u8], from: usize, line: u32) -> Result<List<SqlToken>, Stop>
+fn tokens_from<'a>(
+    alloc: Global,
+    text: &'a [u8],
+    from: usize,
+    line: u32,
+) -> Result<List<SqlToken<'a>>, Stop>
     requires inside { from ≤ length text.now }
     requires fits { line + (length text.now - from) < 2 ^ 32 }
     ensures { Told view.sql_views result (sql_answer line (sql_units (drop from text.now))) }
@@ -326,7 +313,7 @@ fn tokens_from(alloc: Global, text: &[u8], from: usize, line: u32) -> Result<Lis
             continue;
         }
         if let Some(found) = flat_at(text, at) {
-            lexer.flat(alloc, text, at, found)?;
+            lexer.flat(text, at, found)?;
             at = found.end;
             continue;
         }
@@ -337,7 +324,7 @@ fn tokens_from(alloc: Global, text: &[u8], from: usize, line: u32) -> Result<Lis
             return Err(Stop::Refused(FaultKind::F4, Line(lexer.line)));
         }
         match sql_end(text, at) {
-            End::Passed(end) => at = lexer.unit(alloc, text, at, end)?,
+            End::Passed(end) => at = lexer.unit(text, at, end)?,
             End::Cut(_) => return Ok(lexer.tokens),
             End::Endless => return Ok(lexer.tokens),
         }
@@ -347,7 +334,7 @@ fn tokens_from(alloc: Global, text: &[u8], from: usize, line: u32) -> Result<Lis
 
 /// The tokens of an embedded statement, in order. The first byte that begins none is a fault (F4)
 /// on its line.
-pub fn sql_tokens(alloc: Global, piece: &Piece) -> Result<List<SqlToken>, Stop>
+pub fn sql_tokens<'a>(alloc: Global, piece: &'a Piece) -> Result<List<SqlToken<'a>>, Stop>
     requires { piece.now.line.0 + length piece.now.bytes < 2 ^ 32 }
     ensures { (answer : Answer (Sequence sql.SqlToken) TheStop)
         → SqlTokensOrStop piece.now.line.0 piece.now.bytes answer

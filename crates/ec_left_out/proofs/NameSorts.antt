@@ -21,9 +21,9 @@ number_by false f = refl
 
 pub name_is : (t : SqlToken) → t.class ≡ Quoted → not (is plain_quote (sql_view t)) ≡ is_name (sort_of (sql_view t))
 name_is t e =
-    ap (λ k. not (passes (on_quotes (sort_by (class_view k) t.bytes) t.gap) t.bytes)) e
-    ∙ name_by (begins (λ c. c == single_quote) t.bytes) (is_some (character_value t.bytes)) t.bytes t.gap
-    ∙ ap (λ k. is_name (sort_by (class_view k) t.bytes)) (sym e)
+    ap (λ k. not (passes (on_quotes (sort_by (class_view k) t.bytes.now) t.gap) t.bytes.now)) e
+    ∙ name_by (begins (λ c. c == single_quote) t.bytes.now) (is_some (character_value t.bytes.now)) t.bytes.now t.gap
+    ∙ ap (λ k. is_name (sort_by (class_view k) t.bytes.now)) (sym e)
 
 pub number_is : (t : SqlToken) → t.class ≡ Number → false ≡ is_name (sort_of (sql_view t))
-number_is t e = number_by (each is_digit t.bytes) (nat_lt (digits_value 10 t.bytes) (2 ^ 63)) ∙ ap (λ k. is_name (sort_by (class_view k) t.bytes)) (sym e)
+number_is t e = number_by (each is_digit t.bytes.now) (nat_lt (digits_value 10 t.bytes.now) (2 ^ 63)) ∙ ap (λ k. is_name (sort_by (class_view k) t.bytes.now)) (sym e)

@@ -11,7 +11,7 @@ use ec_clex::SqlToken;
 use ec_references::{is_keyword, is_mark};
 
 /// The parentheses that are open behind a token.
-fn depth_behind(depth: u64, token: &SqlToken) -> u64
+fn depth_behind(depth: u64, token: &SqlToken<'_>) -> u64
     requires { depth + 1 < 2 ^ 64 }
     ensures is { result ≡ depth_behind depth (sql_view token.now) }
     ensures most { result ≤ depth + 1 }
@@ -30,8 +30,8 @@ fn names_area_here(
     by_using: bool,
     depth: u64,
     inserts: bool,
-    token: &SqlToken,
-    rest: &[SqlToken],
+    token: &SqlToken<'_>,
+    rest: &[SqlToken<'_>],
 ) -> bool
     ensures { result ≡ names_area_here by_using depth inserts (sql_view token.now)
         (sql_views rest.now) }
@@ -42,14 +42,14 @@ fn names_area_here(
 }
 
 /// Whether the token is INSERT or MERGE.
-fn inserts(token: &SqlToken) -> bool
+fn inserts(token: &SqlToken<'_>) -> bool
     ensures { result ≡ is_insert (sql_view token.now) }
 {
     is_keyword(token, b"INSERT") || is_keyword(token, b"MERGE")
 }
 
 /// Whether the word DESCRIPTOR is one of the tokens. Most statements don't have it.
-fn has_descriptor(tokens: &[SqlToken]) -> bool
+fn has_descriptor(tokens: &[SqlToken<'_>]) -> bool
     ensures { result ≡ has_descriptor (sql_views tokens.now) }
 {
     let mut left = tokens;
@@ -65,7 +65,7 @@ fn has_descriptor(tokens: &[SqlToken]) -> bool
 /// Whether an SQLDA is named: DESCRIPTOR directly behind an INTO outside parentheses that isn't that of INSERT or MERGE,
 /// or, where it may, behind a USING.
 #[tactic(auto, using(crate::proofs::Descriptors::none_named))]
-pub fn names_area(by_using: bool, tokens: &[SqlToken]) -> bool
+pub fn names_area(by_using: bool, tokens: &[SqlToken<'_>]) -> bool
     ensures { result ≡ spec.names_area by_using 0 false (sql_views tokens.now) }
 {
     if !has_descriptor(tokens) {

@@ -12,7 +12,7 @@ use ec_references::{Class, is_any_word, is_class, is_keyword, is_mark};
 use ec_split::scanning::words::same_word;
 
 /// Whether the first token is this word.
-pub fn is_first(tokens: &[SqlToken], word: &[u8]) -> bool
+pub fn is_first(tokens: &[SqlToken<'_>], word: &[u8]) -> bool
     ensures { result ≡ spec.is_first word.now (sql_views tokens.now) }
 {
     match tokens {
@@ -37,25 +37,25 @@ fn is_left_out_word(word: &[u8]) -> bool
 }
 
 /// Whether the first token is such a word.
-fn begins_left_out(tokens: &[SqlToken]) -> bool
+fn begins_left_out(tokens: &[SqlToken<'_>]) -> bool
     ensures { result ≡ spec.first_is_among spec.left_out_words (sql_views tokens.now) }
 {
     match tokens {
-        [first, ..] => is_any_word(first) && is_left_out_word(first.bytes.as_slice()),
+        [first, ..] => is_any_word(first) && is_left_out_word(first.bytes),
         [] => false,
     }
 }
 
 /// Whether the token is a word that isn't sqlca.
-fn is_other_file(token: &SqlToken) -> bool
+fn is_other_file(token: &SqlToken<'_>) -> bool
     ensures { result ≡ is (word_but (codes "sqlca")) (sql_view token.now) }
 {
-    token.class == SqlClass::Word && !same_word(b"sqlca", token.bytes.as_slice())
+    token.class == SqlClass::Word && !same_word(b"sqlca", token.bytes)
 }
 
 /// Whether the token is a text in `"`.
 #[tactic(auto, using(crate::proofs::NameSorts::name_is, crate::proofs::NameSorts::number_is))]
-fn is_name(token: &SqlToken) -> bool
+fn is_name(token: &SqlToken<'_>) -> bool
     ensures { result ≡ spec.is_name (sort_of (sql_view token.now)) }
 {
     match token.class {
@@ -67,7 +67,7 @@ fn is_name(token: &SqlToken) -> bool
 }
 
 /// Whether a file is named that isn't sqlca.
-fn names_file(tokens: &[SqlToken]) -> bool
+fn names_file(tokens: &[SqlToken<'_>]) -> bool
     ensures { result ≡ spec.names_file (sql_views tokens.now) }
 {
     match tokens {
@@ -77,7 +77,7 @@ fn names_file(tokens: &[SqlToken]) -> bool
 }
 
 /// INCLUDE of a file.
-fn includes_file(tokens: &[SqlToken]) -> bool
+fn includes_file(tokens: &[SqlToken<'_>]) -> bool
     ensures { result ≡ words.includes_file (sql_views tokens.now) }
 {
     match tokens {
@@ -87,7 +87,7 @@ fn includes_file(tokens: &[SqlToken]) -> bool
 }
 
 /// `PREPARE name AS`
-fn prepares_as(tokens: &[SqlToken]) -> bool
+fn prepares_as(tokens: &[SqlToken<'_>]) -> bool
     ensures { result ≡ words.prepares_as (sql_views tokens.now) }
 {
     match tokens {
@@ -101,14 +101,14 @@ fn prepares_as(tokens: &[SqlToken]) -> bool
 }
 
 /// Whether the token is STATEMENT or BINARY.
-fn is_other_kind(token: &SqlToken) -> bool
+fn is_other_kind(token: &SqlToken<'_>) -> bool
     ensures { result ≡ words.is_other_kind (sql_view token.now) }
 {
     is_keyword(token, b"STATEMENT") || is_keyword(token, b"BINARY")
 }
 
 /// Whether the first token is STATEMENT or BINARY.
-fn kind_follows(tokens: &[SqlToken]) -> bool
+fn kind_follows(tokens: &[SqlToken<'_>]) -> bool
     ensures { result ≡ words.kind_follows (sql_views tokens.now) }
 {
     match tokens {
@@ -118,7 +118,7 @@ fn kind_follows(tokens: &[SqlToken]) -> bool
 }
 
 /// Whether a name stands before one of these.
-fn name_follows(tokens: &[SqlToken]) -> bool
+fn name_follows(tokens: &[SqlToken<'_>]) -> bool
     ensures { result ≡ words.name_follows (sql_views tokens.now) }
 {
     match tokens {
@@ -128,7 +128,7 @@ fn name_follows(tokens: &[SqlToken]) -> bool
 }
 
 /// `DECLARE name STATEMENT` and `DECLARE name BINARY`
-fn declares_other(tokens: &[SqlToken]) -> bool
+fn declares_other(tokens: &[SqlToken<'_>]) -> bool
     ensures { result ≡ words.declares_other (sql_views tokens.now) }
 {
     match tokens {
@@ -138,7 +138,7 @@ fn declares_other(tokens: &[SqlToken]) -> bool
 }
 
 /// `DEALLOCATE ALL`
-fn deallocates_all(tokens: &[SqlToken]) -> bool
+fn deallocates_all(tokens: &[SqlToken<'_>]) -> bool
     ensures { result ≡ words.deallocates_all (sql_views tokens.now) }
 {
     match tokens {
@@ -149,7 +149,7 @@ fn deallocates_all(tokens: &[SqlToken]) -> bool
 }
 
 /// Whether the words of the statement tell that it is left out.
-fn is_left_out_by_words(tokens: &[SqlToken]) -> bool
+fn is_left_out_by_words(tokens: &[SqlToken<'_>]) -> bool
     ensures { result ≡ words.is_left_out_by_words (sql_views tokens.now) }
 {
     begins_left_out(tokens)
@@ -160,7 +160,7 @@ fn is_left_out_by_words(tokens: &[SqlToken]) -> bool
 }
 
 /// Whether a descriptor behind USING may be an SQLDA.
-fn may_use(tokens: &[SqlToken]) -> bool
+fn may_use(tokens: &[SqlToken<'_>]) -> bool
     ensures { result ≡ words.may_use (sql_views tokens.now) }
 {
     is_first(tokens, b"OPEN") || is_first(tokens, b"EXECUTE")
@@ -168,7 +168,7 @@ fn may_use(tokens: &[SqlToken]) -> bool
 
 /// Whether the statement is left out.
 #[tactic(auto, using(crate::proofs::Telling::left_out_is))]
-pub fn is_left_out(tokens: &[SqlToken]) -> bool
+pub fn is_left_out(tokens: &[SqlToken<'_>]) -> bool
     ensures { result ≡ spec.is_left_out (sql_views tokens.now) }
 {
     is_left_out_by_words(tokens) || names_area(may_use(tokens), tokens)

@@ -27,7 +27,7 @@ use ec_statements::at_name;
 use std::alloc::Global;
 
 /// The line of the first token, or that of the `;`.
-fn first_line(tokens: &[SqlToken], end: Line) -> Line
+fn first_line(tokens: &[SqlToken<'_>], end: Line) -> Line
     ensures { result ≡ spec.first_line end.0 (sql_views tokens.now) }
 {
     match tokens {
@@ -37,7 +37,7 @@ fn first_line(tokens: &[SqlToken], end: Line) -> Line
 }
 
 /// The line of the first of the last tokens, so many.
-fn last_line(tokens: &[SqlToken], left: usize, end: Line) -> Line
+fn last_line(tokens: &[SqlToken<'_>], left: usize, end: Line) -> Line
     ensures { result ≡ spec.first_line end.0 (last left (sql_views tokens.now)) }
 {
     let from = tokens.len().saturating_sub(left);
@@ -45,7 +45,7 @@ fn last_line(tokens: &[SqlToken], left: usize, end: Line) -> Line
 }
 
 /// The line of the first word, or that of the `;`.
-fn first_word_line(tokens: &[SqlToken], end: Line) -> Line
+fn first_word_line(tokens: &[SqlToken<'_>], end: Line) -> Line
     ensures { result ≡ spec.first_word_line end.0 (sql_views tokens.now) }
 {
     let mut left = tokens;
@@ -59,7 +59,7 @@ fn first_word_line(tokens: &[SqlToken], end: Line) -> Line
 }
 
 /// Why the tokens of a statement have no tree.
-fn stop_of(tokens: &[SqlToken], end: Line, failure: Failure) -> Stop
+fn stop_of(tokens: &[SqlToken<'_>], end: Line, failure: Failure) -> Stop
     ensures { result ≡ spec.stop_of end.0 (sql_views tokens.now) failure }
 {
     match failure {
@@ -71,8 +71,8 @@ fn stop_of(tokens: &[SqlToken], end: Line, failure: Failure) -> Stop
 
 /// What was got from the tokens, where none of them is left.
 fn whole<T: Drop>(
-    tokens: &[SqlToken],
-    left: &[SqlToken],
+    tokens: &[SqlToken<'_>],
+    left: &[SqlToken<'_>],
     end: Line,
     got: Result<T, Failure>,
 ) -> Result<T, Stop>
@@ -114,7 +114,14 @@ fn named(alloc: Global, cursor: &mut Cursor<'_>) -> Result<Boxed<TextArg>, Failu
 }
 
 /// A statement with no AT before it.
-fn alone(alloc: Global, tokens: &[SqlToken], end: Line, line: Line, place: u32) -> Result<Emb, Stop>
+#[inline(always)]
+fn alone(
+    alloc: Global,
+    tokens: &[SqlToken<'_>],
+    end: Line,
+    line: Line,
+    place: u32,
+) -> Result<Emb, Stop>
     ensures { Told emb_view result (placed line place (spec.alone end.0 (sql_views tokens.now))) }
 {
     let mut cursor = Cursor::new(tokens);
@@ -128,9 +135,10 @@ fn alone(alloc: Global, tokens: &[SqlToken], end: Line, line: Line, place: u32) 
 }
 
 /// A statement with AT before it.
+#[inline(never)]
 fn behind_at(
     alloc: Global,
-    tokens: &[SqlToken],
+    tokens: &[SqlToken<'_>],
     end: Line,
     line: Line,
     place: u32,
@@ -154,10 +162,11 @@ fn behind_at(
 }
 
 /// The statement of these tokens, whose `;` stands on the line `end`.
+#[inline(always)]
 #[tactic(auto, unfolding(crate::specs::Answers::answered))]
 fn statement(
     alloc: Global,
-    tokens: &[SqlToken],
+    tokens: &[SqlToken<'_>],
     end: Line,
     line: Line,
     place: u32,

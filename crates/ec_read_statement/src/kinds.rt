@@ -24,7 +24,8 @@ use ec_statements::{
 use std::alloc::Global;
 
 /// Whether this word stands first.
-fn begins(tokens: &[SqlToken], word: &[u8]) -> bool
+#[inline(always)]
+fn begins(tokens: &[SqlToken<'_>], word: &[u8]) -> bool
     ensures first { result ≡ words.is_first word.now (sql_views tokens.now) }
     ensures alone { result ≡ begin_with (word.now ∷ []) (sql_views tokens.now) }
 {
@@ -35,7 +36,8 @@ fn begins(tokens: &[SqlToken], word: &[u8]) -> bool
 }
 
 /// Whether these words stand first.
-fn begins_two(tokens: &[SqlToken], word: &[u8], other: &[u8]) -> bool
+#[inline(always)]
+fn begins_two(tokens: &[SqlToken<'_>], word: &[u8], other: &[u8]) -> bool
     ensures { result ≡ begin_with (word.now ∷ other.now ∷ []) (sql_views tokens.now) }
 {
     match tokens {
@@ -58,11 +60,11 @@ fn is_transaction_word(word: &[u8]) -> bool
 }
 
 /// Whether transaction control begins here.
-fn begins_transaction(tokens: &[SqlToken]) -> bool
+fn begins_transaction(tokens: &[SqlToken<'_>]) -> bool
     ensures { result ≡ words.first_is_among transaction_words (sql_views tokens.now) }
 {
     match tokens {
-        [first, ..] => is_any_word(first) && is_transaction_word(first.bytes.as_slice()),
+        [first, ..] => is_any_word(first) && is_transaction_word(first.bytes),
         [] => false,
     }
 }
@@ -73,7 +75,7 @@ fn begins_transaction(tokens: &[SqlToken]) -> bool
 fn declared_for<'a>(
     alloc: Global,
     cursor: &mut Cursor<'a>,
-    all: &'a [SqlToken],
+    all: &'a [SqlToken<'a>],
     name: Name,
 ) -> Result<EmbKind, Failure>
     ensures { CursorReads emb_kind_view (spec.declaring_for name (sql_views all.now))
@@ -95,6 +97,7 @@ fn declared_for<'a>(
 }
 
 /// DECLARE of a cursor.
+#[inline(never)]
 #[tactic(auto, unfolding(crate::specs::Deciding::declared))]
 fn declared(alloc: Global, cursor: &mut Cursor<'_>) -> Result<EmbKind, Failure>
     ensures { CursorReads emb_kind_view spec.declared cursor.old result cursor.new }
@@ -105,6 +108,7 @@ fn declared(alloc: Global, cursor: &mut Cursor<'_>) -> Result<EmbKind, Failure>
 }
 
 /// Statements without a form.
+#[inline(always)]
 #[tactic(auto, unfolding(crate::specs::Deciding::formless))]
 fn formless(alloc: Global, cursor: &mut Cursor<'_>) -> Result<EmbKind, Failure>
     ensures { CursorReads emb_kind_view spec.formless cursor.old result cursor.new }
@@ -119,6 +123,7 @@ fn formless(alloc: Global, cursor: &mut Cursor<'_>) -> Result<EmbKind, Failure>
 }
 
 /// The other forms.
+#[inline(always)]
 #[tactic(auto, unfolding(crate::specs::Deciding::other_forms))]
 fn other_forms(alloc: Global, cursor: &mut Cursor<'_>) -> Result<EmbKind, Failure>
     ensures { CursorReads emb_kind_view spec.other_forms cursor.old result cursor.new }
@@ -145,6 +150,7 @@ fn other_forms(alloc: Global, cursor: &mut Cursor<'_>) -> Result<EmbKind, Failur
 }
 
 /// What is done, where AT doesn't stand before it.
+#[inline(always)]
 #[tactic(auto, unfolding(crate::specs::Deciding::decided))]
 fn decided(alloc: Global, cursor: &mut Cursor<'_>) -> Result<EmbKind, Failure>
     ensures { CursorReads emb_kind_view spec.decided cursor.old result cursor.new }
@@ -231,6 +237,7 @@ fn other_forms_at(alloc: Global, cursor: &mut Cursor<'_>) -> Result<EmbKind, Fai
 }
 
 /// What is done, behind AT.
+#[inline(never)]
 #[tactic(auto, unfolding(crate::specs::Deciding::decided_at))]
 fn decided_at(alloc: Global, cursor: &mut Cursor<'_>) -> Result<EmbKind, Failure>
     ensures { CursorReads emb_kind_view spec.decided_at cursor.old result cursor.new }
@@ -259,7 +266,7 @@ fn decided_at(alloc: Global, cursor: &mut Cursor<'_>) -> Result<EmbKind, Failure
     other_forms_at(alloc, cursor)
 }
 
-fn is_none_left(tokens: &[SqlToken]) -> bool
+fn is_none_left(tokens: &[SqlToken<'_>]) -> bool
     ensures { result ≡ spec.none_left (sql_views tokens.now) }
 {
     match tokens {
@@ -269,6 +276,7 @@ fn is_none_left(tokens: &[SqlToken]) -> bool
 }
 
 /// What is done; whether AT stands before it.
+#[inline(always)]
 #[tactic(auto, unfolding(crate::specs::Deciding::any_statement))]
 pub fn any_statement(
     alloc: Global,

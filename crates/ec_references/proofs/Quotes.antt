@@ -18,11 +18,11 @@ target_by true true b gap = refl
 target_by true false b gap = refl
 target_by false c b gap = refl
 
-pub quote_is : (t : SqlToken) → t.class ≡ Quoted → begins (λ c. c == single_quote) t.bytes ≡ is plain_quote (sql_view t)
-quote_is t e = quoted_by (begins (λ c. c == single_quote) t.bytes) (is_some (character_value t.bytes)) t.bytes t.gap ∙ ap (λ k. passes (on_quotes (sort_by (class_view k) t.bytes) t.gap) t.bytes) (sym e)
+pub quote_is : (t : SqlToken) → t.class ≡ Quoted → begins (λ c. c == single_quote) t.bytes.now ≡ is plain_quote (sql_view t)
+quote_is t e = quoted_by (begins (λ c. c == single_quote) t.bytes.now) (is_some (character_value t.bytes.now)) t.bytes.now t.gap ∙ ap (λ k. passes (on_quotes (sort_by (class_view k) t.bytes.now) t.gap) t.bytes.now) (sym e)
 
-pub input_is : (t : SqlToken) → t.class ≡ Quoted → begins (λ c. c == single_quote) t.bytes ≡ is input_quote (sql_view t)
-input_is t e = quoted_by (begins (λ c. c == single_quote) t.bytes) (is_some (character_value t.bytes)) t.bytes t.gap ∙ ap (λ k. passes (on_quotes (sort_by (class_view k) t.bytes) t.gap) t.bytes) (sym e)
+pub input_is : (t : SqlToken) → t.class ≡ Quoted → begins (λ c. c == single_quote) t.bytes.now ≡ is input_quote (sql_view t)
+input_is t e = quoted_by (begins (λ c. c == single_quote) t.bytes.now) (is_some (character_value t.bytes.now)) t.bytes.now t.gap ∙ ap (λ k. passes (on_quotes (sort_by (class_view k) t.bytes.now) t.gap) t.bytes.now) (sym e)
 
-pub target_is : (t : SqlToken) → t.class ≡ Quoted → not (begins (λ c. c == single_quote) t.bytes) ≡ is target_start (sql_view t)
-target_is t e = target_by (begins (λ c. c == single_quote) t.bytes) (is_some (character_value t.bytes)) t.bytes t.gap ∙ ap (λ k. passes (on_target (sort_by (class_view k) t.bytes) t.gap) t.bytes) (sym e)
+pub target_is : (t : SqlToken) → t.class ≡ Quoted → not (begins (λ c. c == single_quote) t.bytes.now) ≡ is target_start (sql_view t)
+target_is t e = target_by (begins (λ c. c == single_quote) t.bytes.now) (is_some (character_value t.bytes.now)) t.bytes.now t.gap ∙ ap (λ k. passes (on_target (sort_by (class_view k) t.bytes.now) t.gap) t.bytes.now) (sym e)

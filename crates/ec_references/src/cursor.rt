@@ -25,18 +25,14 @@ pub struct Counts {
 /// The tokens that are left, with what is counted so far.
 #[derive(Drop)]
 pub struct Cursor<'a> {
-    rest: &'a [SqlToken],
+    rest: &'a [SqlToken<'a>],
     counts: Counts,
 }
 
 impl<'a> Model for Cursor<'a> {
-    ghost use Rattle.std.specs.Coded.{codes};
-    ghost use Rattle.ec_clex.specs.contracts.sql.SqlToken as token;
     ghost use Rattle.ec_references.specs.States.{Left};
 
     ghost Value = { Left };
-
-    ghost coded = { Prim.hlevel (codes, token.the_row.coded) };
 
     ghost view = { λ c. record { tokens = c.rest.now; counts = c.counts } };
 }
@@ -75,7 +71,7 @@ fn counts_behind(counts: Counts, class: Class) -> Option<Counts>
 impl<'a> Cursor<'a> {
     /// All tokens, with nothing counted.
     #[tactic(auto, unfolding(crate::specs::States::seen))]
-    pub fn new(tokens: &'a [SqlToken]) -> Cursor<'a>
+    pub fn new(tokens: &'a [SqlToken<'a>]) -> Cursor<'a>
         ensures { seen result ≡ record { tokens = sql_views tokens.now; counts = spec.no_counts } }
     {
         Cursor {
@@ -89,7 +85,7 @@ impl<'a> Cursor<'a> {
 
     /// Goes to other tokens, with the same counts.
     #[tactic(auto, unfolding(crate::specs::States::seen))]
-    pub fn go_to(&mut self, tokens: &'a [SqlToken])
+    pub fn go_to(&mut self, tokens: &'a [SqlToken<'a>])
         ensures { seen self.new ≡ record {
           tokens = sql_views tokens.now;
           counts = (seen self.old).counts;
@@ -108,7 +104,7 @@ impl<'a> Cursor<'a> {
 
     /// The tokens that are left.
     #[tactic(auto, unfolding(crate::specs::States::seen))]
-    pub fn rest(&self) -> &'a [SqlToken]
+    pub fn rest(&self) -> &'a [SqlToken<'a>]
         ensures { sql_views result.now ≡ (seen self.now).tokens }
     {
         self.rest
@@ -173,7 +169,7 @@ impl<'a> Cursor<'a> {
 
     /// Takes the next token, whatever it is.
     #[tactic(auto, unfolding(crate::specs::States::seen))]
-    pub fn next(&mut self) -> Option<&'a SqlToken>
+    pub fn next(&mut self) -> Option<&'a SqlToken<'a>>
         ensures { TakesAny (seen self.old) (option_map (λ t. sql_view t.now) result)
             (seen self.new) }
     {
@@ -188,7 +184,7 @@ impl<'a> Cursor<'a> {
 
     /// Takes the next token, which is this word.
     #[tactic(auto, unfolding(crate::specs::States::seen))]
-    pub fn word(&mut self, word: &[u8]) -> Result<&'a SqlToken, Failure>
+    pub fn word(&mut self, word: &[u8]) -> Result<&'a SqlToken<'a>, Failure>
         ensures { CursorTakes (spec.keyword word.now) self.old result self.new }
     {
         let tokens = self.rest;
@@ -206,7 +202,7 @@ impl<'a> Cursor<'a> {
 
     /// Takes the next token, which is this word, with a gap before it.
     #[tactic(auto, unfolding(crate::specs::States::seen))]
-    pub fn parted(&mut self, word: &[u8]) -> Result<&'a SqlToken, Failure>
+    pub fn parted(&mut self, word: &[u8]) -> Result<&'a SqlToken<'a>, Failure>
         ensures { CursorTakes (spec.parted_word word.now) self.old result self.new }
     {
         let tokens = self.rest;
@@ -224,7 +220,7 @@ impl<'a> Cursor<'a> {
 
     /// Takes the next token, which is this mark.
     #[tactic(auto, unfolding(crate::specs::States::seen))]
-    pub fn sign(&mut self, mark: &[u8]) -> Result<&'a SqlToken, Failure>
+    pub fn sign(&mut self, mark: &[u8]) -> Result<&'a SqlToken<'a>, Failure>
         ensures { CursorTakes (spec.sign mark.now) self.old result self.new }
     {
         let tokens = self.rest;
@@ -242,7 +238,7 @@ impl<'a> Cursor<'a> {
 
     /// Takes the next token, which is this mark, with no gap before it.
     #[tactic(auto, unfolding(crate::specs::States::seen))]
-    pub fn glued_sign(&mut self, mark: &[u8]) -> Result<&'a SqlToken, Failure>
+    pub fn glued_sign(&mut self, mark: &[u8]) -> Result<&'a SqlToken<'a>, Failure>
         ensures { CursorTakes (spec.glued_sign mark.now) self.old result self.new }
     {
         let tokens = self.rest;
@@ -260,7 +256,7 @@ impl<'a> Cursor<'a> {
 
     /// Takes the next token, which is one of the class.
     #[tactic(auto, unfolding(crate::specs::States::seen))]
-    pub fn take(&mut self, class: Class) -> Result<&'a SqlToken, Failure>
+    pub fn take(&mut self, class: Class) -> Result<&'a SqlToken<'a>, Failure>
         ensures { CursorTakes (terminal_view class) self.old result self.new }
     {
         let tokens = self.rest;
@@ -284,7 +280,7 @@ impl<'a> Cursor<'a> {
 
     /// Takes the next token, which is a number that a long has, with no gap before it.
     #[tactic(auto, unfolding(crate::specs::States::seen))]
-    pub fn glued_number(&mut self) -> Result<&'a SqlToken, Failure>
+    pub fn glued_number(&mut self) -> Result<&'a SqlToken<'a>, Failure>
         ensures reads { CursorTakes spec.glued_number self.old result self.new }
         ensures fits { IfOk result (λ t. FitsLong (sql_view t.now).bytes) }
     {
@@ -303,7 +299,7 @@ impl<'a> Cursor<'a> {
 
     /// Takes the next token, which is a number that a long has.
     #[tactic(auto, unfolding(crate::specs::States::seen))]
-    pub fn fitting_number(&mut self) -> Result<&'a SqlToken, Failure>
+    pub fn fitting_number(&mut self) -> Result<&'a SqlToken<'a>, Failure>
         ensures reads { CursorTakes spec.fitting_number self.old result self.new }
         ensures fits { IfOk result (λ t. FitsLong (sql_view t.now).bytes) }
     {
@@ -322,7 +318,7 @@ impl<'a> Cursor<'a> {
 
     /// Takes the next token, which is this mark with no gap before it and begins a suffix, and counts it.
     #[tactic(auto, unfolding(crate::specs::States::seen))]
-    pub fn suffix_sign(&mut self, mark: &[u8]) -> Result<&'a SqlToken, Failure>
+    pub fn suffix_sign(&mut self, mark: &[u8]) -> Result<&'a SqlToken<'a>, Failure>
         ensures { CursorTakes (spec.suffix_sign mark.now) self.old result self.new }
     {
         let tokens = self.rest;

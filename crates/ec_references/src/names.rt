@@ -19,10 +19,10 @@ use ec_split::scanning::words::same_word;
 use std::alloc::Global;
 
 /// The bytes of a token.
-pub fn copy_bytes(alloc: Global, token: &SqlToken) -> Result<Bytes, OutOfMemory>
+pub fn copy_bytes(alloc: Global, token: &SqlToken<'_>) -> Result<Bytes, OutOfMemory>
     ensures { IfOk result (λ bytes. bytes ≡ (sql_view token.now).bytes) }
 {
-    List::from_slice(alloc, token.bytes.as_slice())
+    List::from_slice(alloc, token.bytes)
 }
 
 /// The bytes with a doubled quote for one.
@@ -43,10 +43,10 @@ fn undoubled(alloc: Global, text: &[u8]) -> Result<Bytes, OutOfMemory>
 }
 
 /// The bytes of a quote without its quotes.
-pub fn unquoted(alloc: Global, token: &SqlToken) -> Result<Bytes, OutOfMemory>
+pub fn unquoted(alloc: Global, token: &SqlToken<'_>) -> Result<Bytes, OutOfMemory>
     ensures { IfOk result (λ bytes. bytes ≡ forms.unquoted (sql_view token.now).bytes) }
 {
-    let text = token.bytes.as_slice();
+    let text = token.bytes;
     if text.len() < 2 {
         return Ok(List::new(alloc));
     }
@@ -145,7 +145,7 @@ pub fn connection(alloc: Global, cursor: &mut Cursor<'_>) -> Result<TextArg, Fai
 {
     if cursor.at(Class::AnyWord) {
         let token = cursor.take(Class::AnyWord)?;
-        return Ok(TextArg::Word(or_default(alloc, token.bytes.as_slice())?));
+        return Ok(TextArg::Word(or_default(alloc, token.bytes)?));
     }
     quote_or_host(alloc, cursor)
 }
@@ -158,7 +158,7 @@ pub fn ended_connection(alloc: Global, cursor: &mut Cursor<'_>) -> Result<TextAr
 {
     if cursor.at(Class::AnyWord) {
         let token = cursor.take(Class::AnyWord)?;
-        return Ok(TextArg::Word(or_special(alloc, token.bytes.as_slice())?));
+        return Ok(TextArg::Word(or_special(alloc, token.bytes)?));
     }
     quote_or_host(alloc, cursor)
 }

@@ -19,22 +19,22 @@ use ec_shapes::Failure;
 use std::alloc::Global;
 
 /// The name that a word is.
-pub fn copy_name(alloc: Global, token: &SqlToken) -> Result<Name, OutOfMemory>
+pub fn copy_name(alloc: Global, token: &SqlToken<'_>) -> Result<Name, OutOfMemory>
     ensures { IfOk result (λ name. name ≡ (sql_view token.now).bytes) }
 {
-    Name::from_slice(alloc, token.bytes.as_slice())
+    Name::from_slice(alloc, token.bytes)
 }
 
 /// The variable that a word names.
 #[tactic(auto, using(ec_ctypes::specs::declared::tree::expr::Expr::the_lemmas))]
-pub fn name(alloc: Global, token: &SqlToken) -> Result<Expr, OutOfMemory>
+pub fn name(alloc: Global, token: &SqlToken<'_>) -> Result<Expr, OutOfMemory>
     ensures { IfOk result (λ e. expr_view e ≡ tree.identifier (sql_view token.now).bytes) }
 {
     Ok(Expr::Name(copy_name(alloc, token)?))
 }
 
 #[tactic(auto, using(ec_ctypes::specs::declared::tree::expr::Expr::the_lemmas))]
-fn member(alloc: Global, of: Boxed<Expr>, token: &SqlToken) -> Result<Expr, OutOfMemory>
+fn member(alloc: Global, of: Boxed<Expr>, token: &SqlToken<'_>) -> Result<Expr, OutOfMemory>
     ensures { IfOk result
         (λ e. expr_view e ≡ tree.member (expr_view of) (sql_view token.now).bytes) }
 {
@@ -42,7 +42,7 @@ fn member(alloc: Global, of: Boxed<Expr>, token: &SqlToken) -> Result<Expr, OutO
 }
 
 #[tactic(auto, using(ec_ctypes::specs::declared::tree::expr::Expr::the_lemmas))]
-fn arrow(alloc: Global, of: Boxed<Expr>, token: &SqlToken) -> Result<Expr, OutOfMemory>
+fn arrow(alloc: Global, of: Boxed<Expr>, token: &SqlToken<'_>) -> Result<Expr, OutOfMemory>
     ensures { IfOk result
         (λ e. expr_view e ≡ tree.arrow (expr_view of) (sql_view token.now).bytes) }
 {
@@ -68,11 +68,11 @@ fn integer(value: u64) -> Expr
 }
 
 /// The constant that a number is, whose value a long has.
-pub fn decimal(token: &SqlToken) -> Expr
+pub fn decimal(token: &SqlToken<'_>) -> Expr
     requires { spec.FitsLong (sql_view token.now).bytes }
     ensures { expr_view result ≡ decimal_constant (sql_view token.now).bytes }
 {
-    match digits_value(10, token.bytes.as_slice()) {
+    match digits_value(10, token.bytes) {
         Some(value) => integer(value),
         None => integer(0),
     }

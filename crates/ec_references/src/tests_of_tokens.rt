@@ -43,28 +43,31 @@ fn begins_single(text: &[u8]) -> bool
 }
 
 /// Whether the token is this word.
-pub fn is_keyword(token: &SqlToken, word: &[u8]) -> bool
+#[inline(always)]
+pub fn is_keyword(token: &SqlToken<'_>, word: &[u8]) -> bool
     ensures { result ≡ spec.is (spec.keyword word.now) (sql_view token.now) }
 {
-    token.class == SqlClass::Word && same_word(word, token.bytes.as_slice())
+    token.class == SqlClass::Word && same_word(word, token.bytes)
 }
 
 /// Whether the token is this word, with a gap before it.
-pub fn is_parted_word(token: &SqlToken, word: &[u8]) -> bool
+pub fn is_parted_word(token: &SqlToken<'_>, word: &[u8]) -> bool
     ensures { result ≡ spec.is (spec.parted_word word.now) (sql_view token.now) }
 {
     token.gap && is_keyword(token, word)
 }
 
 /// Whether the token is this mark.
-pub fn is_mark(token: &SqlToken, mark: &[u8]) -> bool
+#[inline(always)]
+pub fn is_mark(token: &SqlToken<'_>, mark: &[u8]) -> bool
     ensures { result ≡ spec.is (spec.sign mark.now) (sql_view token.now) }
 {
-    token.class == SqlClass::Mark && same_word(mark, token.bytes.as_slice())
+    token.class == SqlClass::Mark && same_word(mark, token.bytes)
 }
 
 /// Whether the token is this mark, with no gap before it.
-pub fn is_glued_mark(token: &SqlToken, mark: &[u8]) -> bool
+#[inline(always)]
+pub fn is_glued_mark(token: &SqlToken<'_>, mark: &[u8]) -> bool
     ensures suffix { result ≡ spec.is (spec.suffix_sign mark.now) (sql_view token.now) }
     ensures other { result ≡ spec.is (spec.glued_sign mark.now) (sql_view token.now) }
 {
@@ -72,55 +75,55 @@ pub fn is_glued_mark(token: &SqlToken, mark: &[u8]) -> bool
 }
 
 /// Whether the token is a word.
-pub fn is_any_word(token: &SqlToken) -> bool
+#[inline(always)]
+pub fn is_any_word(token: &SqlToken<'_>) -> bool
     ensures { result ≡ spec.is spec.any_word (sql_view token.now) }
 {
     token.class == SqlClass::Word
 }
 
 /// Whether the token is a word with no gap before it.
-fn is_glued_word(token: &SqlToken) -> bool
+#[inline(always)]
+fn is_glued_word(token: &SqlToken<'_>) -> bool
     ensures { result ≡ spec.is spec.glued_word (sql_view token.now) }
 {
     !token.gap && token.class == SqlClass::Word
 }
 
 /// Whether the token is a number of digits alone.
-fn is_whole(token: &SqlToken) -> bool
+fn is_whole(token: &SqlToken<'_>) -> bool
     ensures plain { result ≡ spec.is spec.whole_number (sql_view token.now) }
     ensures input { result ≡ spec.is spec.input_number (sql_view token.now) }
 {
-    token.class == SqlClass::Number && are_digits(token.bytes.as_slice())
+    token.class == SqlClass::Number && are_digits(token.bytes)
 }
 
 /// Whether the token is a number of digits alone, whose value a long has.
-pub fn is_fitting(token: &SqlToken) -> bool
+pub fn is_fitting(token: &SqlToken<'_>) -> bool
     ensures fits { result ≡ true → FitsLong (sql_view token.now).bytes }
     ensures is { result ≡ spec.is spec.fitting_number (sql_view token.now) }
 {
-    token.class == SqlClass::Number
-        && are_digits(token.bytes.as_slice())
-        && fits_long(token.bytes.as_slice())
+    token.class == SqlClass::Number && are_digits(token.bytes) && fits_long(token.bytes)
 }
 
 /// Whether the token is such a number with no gap before it.
-pub fn is_glued_fitting(token: &SqlToken) -> bool
+pub fn is_glued_fitting(token: &SqlToken<'_>) -> bool
     ensures fits { result ≡ true → FitsLong (sql_view token.now).bytes }
     ensures is { result ≡ spec.is spec.glued_number (sql_view token.now) }
 {
     !token.gap
         && token.class == SqlClass::Number
-        && are_digits(token.bytes.as_slice())
-        && fits_long(token.bytes.as_slice())
+        && are_digits(token.bytes)
+        && fits_long(token.bytes)
 }
 
 /// Whether the token is a text in `'`.
 #[tactic(auto, using(crate::proofs::Quotes::quote_is, crate::proofs::Quotes::input_is))]
-fn is_quote(token: &SqlToken) -> bool
+fn is_quote(token: &SqlToken<'_>) -> bool
     ensures plain { result ≡ spec.is spec.plain_quote (sql_view token.now) }
     ensures input { result ≡ spec.is spec.input_quote (sql_view token.now) }
 {
-    token.class == SqlClass::Quoted && begins_single(token.bytes.as_slice())
+    token.class == SqlClass::Quoted && begins_single(token.bytes)
 }
 
 /// What a text in quotes stands for as a character constant of C.
@@ -134,45 +137,43 @@ pub fn character_of(text: &[u8]) -> Option<i8>
 }
 
 /// Whether the token is a character constant of C.
-fn is_character(token: &SqlToken) -> bool
+fn is_character(token: &SqlToken<'_>) -> bool
     ensures { result ≡ spec.is spec.character_constant (sql_view token.now) }
 {
     token.class == SqlClass::Quoted
-        && begins_single(token.bytes.as_slice())
-        && character_of(token.bytes.as_slice()).is_some()
+        && begins_single(token.bytes)
+        && character_of(token.bytes).is_some()
 }
 
 /// Whether the token is another word than this.
-fn is_other_word(token: &SqlToken, word: &[u8]) -> bool
+fn is_other_word(token: &SqlToken<'_>, word: &[u8]) -> bool
     ensures { result ≡ spec.is (spec.word_but word.now) (sql_view token.now) }
 {
-    token.class == SqlClass::Word && !same_word(word, token.bytes.as_slice())
+    token.class == SqlClass::Word && !same_word(word, token.bytes)
 }
 
 /// Whether the token is another word than these.
-fn is_neither_word(token: &SqlToken, word: &[u8], other: &[u8]) -> bool
+fn is_neither_word(token: &SqlToken<'_>, word: &[u8], other: &[u8]) -> bool
     ensures { result ≡ spec.is (spec.other_word (word.now ∷ other.now ∷ [])) (sql_view token.now) }
 {
-    token.class == SqlClass::Word
-        && !same_word(word, token.bytes.as_slice())
-        && !same_word(other, token.bytes.as_slice())
+    token.class == SqlClass::Word && !same_word(word, token.bytes) && !same_word(other, token.bytes)
 }
 
 /// Whether what begins here may begin a target that is neither a quote nor a reference.
 #[tactic(auto, using(crate::proofs::Quotes::target_is))]
-fn is_target_start(token: &SqlToken) -> bool
+fn is_target_start(token: &SqlToken<'_>) -> bool
     ensures { result ≡ spec.is spec.target_start (sql_view token.now) }
 {
     match token.class {
         SqlClass::Word => is_neither_word(token, b"AS", b"USER"),
         SqlClass::Number => true,
-        SqlClass::Quoted => !begins_single(token.bytes.as_slice()),
+        SqlClass::Quoted => !begins_single(token.bytes),
         SqlClass::Mark => !is_mark(token, b":"),
     }
 }
 
 /// Whether the token may stand further on in a target.
-fn is_target_more(token: &SqlToken) -> bool
+fn is_target_more(token: &SqlToken<'_>) -> bool
     ensures { result ≡ spec.is spec.target_more (sql_view token.now) }
 {
     match token.class {
@@ -182,7 +183,7 @@ fn is_target_more(token: &SqlToken) -> bool
 }
 
 /// Whether the token may stand in a target behind a `:` that begins no reference.
-fn is_target_behind(token: &SqlToken) -> bool
+fn is_target_behind(token: &SqlToken<'_>) -> bool
     ensures { result ≡ spec.is spec.target_behind (sql_view token.now) }
 {
     match token.class {
@@ -192,7 +193,7 @@ fn is_target_behind(token: &SqlToken) -> bool
 }
 
 /// Whether the token is one of the class.
-pub fn is_class(token: &SqlToken, class: Class) -> bool
+pub fn is_class(token: &SqlToken<'_>, class: Class) -> bool
     ensures { result ≡ spec.is (terminal_view class) (sql_view token.now) }
 {
     match class {

@@ -17,11 +17,11 @@ use ec_shapes::Failure;
 use std::alloc::Global;
 
 /// A number behind its sign.
-fn negative(alloc: Global, token: &SqlToken) -> Result<Bytes, OutOfMemory>
+fn negative(alloc: Global, token: &SqlToken<'_>) -> Result<Bytes, OutOfMemory>
     ensures { IfOk result (λ bytes. bytes ≡ codes "-" ++ (sql_view token.now).bytes) }
 {
     let mut bytes = List::from_slice(alloc, b"-")?;
-    bytes.extend_from_slice(token.bytes.as_slice())?;
+    bytes.extend_from_slice(token.bytes)?;
     Ok(bytes)
 }
 

@@ -21,14 +21,14 @@ use ec_translate::ec_split::split;
 use std::alloc::Global;
 
 // Whether the token is a word.
-fn is_word(token: &SqlToken) -> bool
+fn is_word(token: &SqlToken<'_>) -> bool
     ensures { result ≡ is any_word (sql_view token.now) }
 {
     token.class == SqlClass::Word
 }
 
 // The line of the first word, or that of the `;`.
-fn word_line(tokens: &[SqlToken], end: Line) -> Line
+fn word_line(tokens: &[SqlToken<'_>], end: Line) -> Line
     ensures { result.0 ≡ findings.word_line end.0 (sql_views tokens.now) }
 {
     let mut left = tokens;

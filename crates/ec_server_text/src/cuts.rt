@@ -37,7 +37,7 @@ pub struct Cutting {
 }
 
 /// The parentheses that are open behind a token.
-fn depth_behind(depth: u64, token: &SqlToken) -> u64
+fn depth_behind(depth: u64, token: &SqlToken<'_>) -> u64
     requires { depth + 1 < 2 ^ 64 }
     ensures is { result ≡ depth_behind depth (sql_view token.now) }
     ensures most { result ≤ depth + 1 }
@@ -63,14 +63,14 @@ fn put_blank(bytes: &mut Bytes, first: bool, gap: bool) -> Result<(), OutOfMemor
 
 /// Puts a token as it stands.
 #[inline(always)]
-fn put_token(cutting: &mut Cutting, token: &SqlToken) -> Result<(), OutOfMemory>
+fn put_token(cutting: &mut Cutting, token: &SqlToken<'_>) -> Result<(), OutOfMemory>
     requires { cutting.old.depth + 1 < 2 ^ 64 }
     ensures is { IfOk result (λ _. cutting_view cutting.new
         ≡ spec.token_cut (cutting_view cutting.old) (sql_view token.now)) }
     ensures most { IfOk result (λ _. cutting.new.depth ≤ cutting.old.depth + 1) }
 {
     put_blank(&mut cutting.bytes, cutting.first, token.gap || cutting.gap)?;
-    cutting.bytes.extend_from_slice(token.bytes.as_slice())?;
+    cutting.bytes.extend_from_slice(token.bytes)?;
     cutting.first = false;
     cutting.gap = false;
     cutting.depth = depth_behind(cutting.depth, token);
@@ -154,7 +154,7 @@ fn host_cut(
 
 /// Whether an INTO list stands here outside parentheses.
 #[inline(always)]
-fn is_into(depth: u64, tokens: &[SqlToken]) -> bool
+fn is_into(depth: u64, tokens: &[SqlToken<'_>]) -> bool
     ensures { result ≡ spec.is_into depth (sql_views tokens.now) }
 {
     depth == 0 && begins_into(tokens)

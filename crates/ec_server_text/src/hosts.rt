@@ -70,7 +70,7 @@ fn long_indicator(alloc: Global, cursor: &mut Cursor<'_>) -> Result<Option<Boxed
 }
 
 /// Whether an indicator begins here.
-fn has_indicator(tokens: &[SqlToken]) -> bool
+fn has_indicator(tokens: &[SqlToken<'_>]) -> bool
     ensures { result ≡ spec.has_indicator (sql_views tokens.now) }
 {
     begins_host(tokens) || begins_indicator(tokens)

@@ -10,7 +10,7 @@ use ec_references::{Class, is_class, is_glued_mark, is_keyword, is_mark};
 
 /// Whether a `:` stands directly before a word.
 #[inline(always)]
-pub fn begins_host(tokens: &[SqlToken]) -> bool
+pub fn begins_host(tokens: &[SqlToken<'_>]) -> bool
     ensures { result ≡ text.begins_host (sql_views tokens.now) }
 {
     match tokens {
@@ -21,7 +21,7 @@ pub fn begins_host(tokens: &[SqlToken]) -> bool
 }
 
 /// Whether the word INDICATOR stands before a host.
-pub fn begins_indicator(tokens: &[SqlToken]) -> bool
+pub fn begins_indicator(tokens: &[SqlToken<'_>]) -> bool
     ensures { result ≡ text.begins_indicator (sql_views tokens.now) }
 {
     match tokens {
@@ -31,7 +31,7 @@ pub fn begins_indicator(tokens: &[SqlToken]) -> bool
 }
 
 /// Whether a descriptor is named.
-pub fn begins_area(tokens: &[SqlToken]) -> bool
+pub fn begins_area(tokens: &[SqlToken<'_>]) -> bool
     ensures { result ≡ text.begins_area (sql_views tokens.now) }
 {
     match tokens {
@@ -43,7 +43,7 @@ pub fn begins_area(tokens: &[SqlToken]) -> bool
 
 /// Whether an INTO stands before a host or a descriptor.
 #[inline(always)]
-pub fn begins_into(tokens: &[SqlToken]) -> bool
+pub fn begins_into(tokens: &[SqlToken<'_>]) -> bool
     ensures { result ≡ text.begins_into (sql_views tokens.now) }
 {
     match tokens {
@@ -53,7 +53,7 @@ pub fn begins_into(tokens: &[SqlToken]) -> bool
 }
 
 /// Whether a comma stands before a host.
-pub fn begins_more(tokens: &[SqlToken]) -> bool
+pub fn begins_more(tokens: &[SqlToken<'_>]) -> bool
     ensures { result ≡ text.begins_more (sql_views tokens.now) }
 {
     match tokens {
@@ -63,21 +63,21 @@ pub fn begins_more(tokens: &[SqlToken]) -> bool
 }
 
 /// A `.` and a word.
-fn is_member(first: &SqlToken, second: &SqlToken) -> bool
+fn is_member(first: &SqlToken<'_>, second: &SqlToken<'_>) -> bool
     ensures { result ≡ text.is_member (sql_view first.now) (sql_view second.now) }
 {
     is_glued_mark(first, b".") && is_class(second, Class::GluedWord)
 }
 
 /// A `->` and a word.
-fn is_arrow(first: &SqlToken, second: &SqlToken) -> bool
+fn is_arrow(first: &SqlToken<'_>, second: &SqlToken<'_>) -> bool
     ensures { result ≡ text.is_arrow (sql_view first.now) (sql_view second.now) }
 {
     is_glued_mark(first, b"->") && is_class(second, Class::GluedWord)
 }
 
 /// A `[`, a word or a number, and a `]`.
-fn is_index(first: &SqlToken, second: &SqlToken, third: &SqlToken) -> bool
+fn is_index(first: &SqlToken<'_>, second: &SqlToken<'_>, third: &SqlToken<'_>) -> bool
     ensures { result ≡ text.is_index (sql_view first.now) (sql_view second.now)
         (sql_view third.now) }
 {
@@ -87,7 +87,7 @@ fn is_index(first: &SqlToken, second: &SqlToken, third: &SqlToken) -> bool
 }
 
 /// Whether a whole suffix begins here.
-pub fn begins_suffix(tokens: &[SqlToken]) -> bool
+pub fn begins_suffix(tokens: &[SqlToken<'_>]) -> bool
     ensures { result ≡ spec.begins_suffix (sql_views tokens.now) }
 {
     match tokens {

@@ -64,7 +64,7 @@ impl Printer {
     }
 
     /// Prints the tokens of an embedded statement, each two blanks further in.
-    pub fn sql_tokens(&mut self, tokens: &List<SqlToken>) -> Result<(), OutOfMemory> {
+    pub fn sql_tokens(&mut self, tokens: &List<SqlToken<'_>>) -> Result<(), OutOfMemory> {
         for token in tokens.as_slice() {
             self.plain(b"  ")?;
             self.line(token.line)?;
@@ -75,7 +75,7 @@ impl Printer {
                 SqlClass::Quoted => "quoted",
                 SqlClass::Mark => "mark",
             })?;
-            self.quoted(token.bytes.as_slice())?;
+            self.quoted(token.bytes)?;
             self.end_line()?;
         }
         Ok(())

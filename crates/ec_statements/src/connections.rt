@@ -19,6 +19,7 @@ use ec_shapes::Failure;
 use std::alloc::Global;
 
 /// DISCONNECT
+#[inline(never)]
 #[tactic(auto, unfolding(crate::specs::Readers::disconnecting))]
 pub fn disconnect(alloc: Global, cursor: &mut Cursor<'_>) -> Result<EmbKind, Failure>
     ensures { CursorReads emb_kind_view spec.disconnecting cursor.old result cursor.new }
@@ -32,7 +33,7 @@ pub fn disconnect(alloc: Global, cursor: &mut Cursor<'_>) -> Result<EmbKind, Fai
 
 /// The name behind TO, or TO itself.
 #[tactic(auto, unfolding(crate::specs::Readers::name_or_to))]
-fn name_or_to(alloc: Global, cursor: &mut Cursor<'_>, to: &SqlToken) -> Result<EmbKind, Failure>
+fn name_or_to(alloc: Global, cursor: &mut Cursor<'_>, to: &SqlToken<'_>) -> Result<EmbKind, Failure>
     ensures { CursorReads emb_kind_view (spec.name_or_to (sql_view to.now))
         cursor.old result cursor.new }
 {
@@ -49,10 +50,7 @@ fn bare_name(alloc: Global, cursor: &mut Cursor<'_>) -> Result<EmbKind, Failure>
 {
     if cursor.at(Class::NotTo) {
         let token = cursor.take(Class::NotTo)?;
-        return Ok(EmbKind::SetConnection(TextArg::Word(or_default(
-            alloc,
-            token.bytes.as_slice(),
-        )?)));
+        return Ok(EmbKind::SetConnection(TextArg::Word(or_default(alloc, token.bytes)?)));
     }
     if cursor.at(Class::Quote) {
         let token = cursor.take(Class::Quote)?;
@@ -63,6 +61,7 @@ fn bare_name(alloc: Global, cursor: &mut Cursor<'_>) -> Result<EmbKind, Failure>
 }
 
 /// SET CONNECTION
+#[inline(never)]
 #[tactic(auto, unfolding(crate::specs::Readers::setting_connection))]
 pub fn set_connection(alloc: Global, cursor: &mut Cursor<'_>) -> Result<EmbKind, Failure>
     ensures { CursorReads emb_kind_view spec.setting_connection cursor.old result cursor.new }
@@ -81,7 +80,7 @@ pub fn set_connection(alloc: Global, cursor: &mut Cursor<'_>) -> Result<EmbKind,
 }
 
 /// TO or `=`
-fn to_or_equal<'a>(cursor: &mut Cursor<'a>) -> Result<&'a SqlToken, Failure>
+fn to_or_equal<'a>(cursor: &mut Cursor<'a>) -> Result<&'a SqlToken<'a>, Failure>
     ensures { CursorReads (λ t. sql_view t.now) spec.to_or_equal cursor.old result cursor.new }
 {
     if cursor.at_word(b"TO") {
@@ -91,6 +90,7 @@ fn to_or_equal<'a>(cursor: &mut Cursor<'a>) -> Result<&'a SqlToken, Failure>
 }
 
 /// SET AUTOCOMMIT
+#[inline(never)]
 #[tactic(auto, unfolding(crate::specs::Readers::setting_autocommit))]
 pub fn set_autocommit(cursor: &mut Cursor<'_>) -> Result<EmbKind, Failure>
     ensures { CursorReads emb_kind_view spec.setting_autocommit cursor.old result cursor.new }
@@ -107,6 +107,7 @@ pub fn set_autocommit(cursor: &mut Cursor<'_>) -> Result<EmbKind, Failure>
 }
 
 /// The connection that AT names.
+#[inline(never)]
 #[tactic(auto, unfolding(crate::specs::Readers::at_name))]
 pub fn at_name(alloc: Global, cursor: &mut Cursor<'_>) -> Result<TextArg, Failure>
     ensures { CursorReads text_arg_view spec.at_name cursor.old result cursor.new }
@@ -269,7 +270,7 @@ fn one_more_token(cursor: &mut Cursor<'_>, mut target: TargetBytes) -> Result<Ta
         cursor.old result cursor.new }
 {
     let token = cursor.take(Class::TargetMore)?;
-    target.bytes.extend_from_slice(token.bytes.as_slice())?;
+    target.bytes.extend_from_slice(token.bytes)?;
     Ok(TargetBytes {
         bytes: target.bytes,
         alone: false,
@@ -311,13 +312,17 @@ fn started_bytes(alloc: Global, cursor: &mut Cursor<'_>) -> Result<TextArg, Fail
 }
 
 /// A target that begins with a `:` and is no host.
-fn colon_bytes(alloc: Global, cursor: &mut Cursor<'_>, colon: &SqlToken) -> Result<TextArg, Failure>
+fn colon_bytes(
+    alloc: Global,
+    cursor: &mut Cursor<'_>,
+    colon: &SqlToken<'_>,
+) -> Result<TextArg, Failure>
     ensures { CursorReads text_arg_view (spec.colon_bytes (sql_view colon.now))
         cursor.old result cursor.new }
 {
     let token = cursor.take(Class::TargetBehind)?;
     let mut bytes = copy_bytes(alloc, colon)?;
-    bytes.extend_from_slice(token.bytes.as_slice())?;
+    bytes.extend_from_slice(token.bytes)?;
     let target = more_tokens(
         cursor,
         TargetBytes {
@@ -346,11 +351,15 @@ fn host_target(alloc: Global, cursor: &mut Cursor<'_>) -> Result<TextArg, Failur
 
 /// The target that is a `:` alone, and what stands behind it.
 #[tactic(auto, unfolding(crate::specs::Readers::colon_alone))]
-fn colon_alone(alloc: Global, cursor: &mut Cursor<'_>, colon: &SqlToken) -> Result<EmbKind, Failure>
+fn colon_alone(
+    alloc: Global,
+    cursor: &mut Cursor<'_>,
+    colon: &SqlToken<'_>,
+) -> Result<EmbKind, Failure>
     ensures { CursorReads emb_kind_view (spec.colon_alone (sql_view colon.now))
         cursor.old result cursor.new }
 {
-    let bytes = or_default(alloc, colon.bytes.as_slice())?;
+    let bytes = or_default(alloc, colon.bytes)?;
     let target = Boxed::new(alloc, TextArg::Word(bytes))?;
     parted_tail(alloc, cursor, target)
 }
@@ -360,7 +369,7 @@ fn colon_alone(alloc: Global, cursor: &mut Cursor<'_>, colon: &SqlToken) -> Resu
 fn target_behind_colon(
     alloc: Global,
     cursor: &mut Cursor<'_>,
-    colon: &SqlToken,
+    colon: &SqlToken<'_>,
 ) -> Result<EmbKind, Failure>
     ensures { CursorReads emb_kind_view (spec.target_behind_colon (sql_view colon.now))
         cursor.old result cursor.new }
@@ -399,6 +408,7 @@ fn targeted(alloc: Global, cursor: &mut Cursor<'_>) -> Result<EmbKind, Failure>
 }
 
 /// CONNECT
+#[inline(never)]
 #[tactic(auto, unfolding(crate::specs::Readers::connecting))]
 pub fn connect(alloc: Global, cursor: &mut Cursor<'_>) -> Result<EmbKind, Failure>
     ensures { CursorReads emb_kind_view spec.connecting cursor.old result cursor.new }

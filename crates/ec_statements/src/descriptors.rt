@@ -19,6 +19,7 @@ use ec_shapes::Failure;
 use std::alloc::Global;
 
 /// ALLOCATE DESCRIPTOR
+#[inline(never)]
 #[tactic(auto, unfolding(crate::specs::Readers::allocating))]
 pub fn allocate(alloc: Global, cursor: &mut Cursor<'_>) -> Result<EmbKind, Failure>
     ensures { CursorReads emb_kind_view spec.allocating cursor.old result cursor.new }
@@ -140,6 +141,7 @@ fn got_count(
 }
 
 /// GET DESCRIPTOR
+#[inline(never)]
 #[tactic(auto, unfolding(crate::specs::Readers::getting))]
 pub fn get(alloc: Global, cursor: &mut Cursor<'_>) -> Result<EmbKind, Failure>
     ensures { CursorReads emb_kind_view spec.getting cursor.old result cursor.new }
@@ -368,6 +370,7 @@ fn set_values(alloc: Global, cursor: &mut Cursor<'_>) -> Result<Settings, Failur
 }
 
 /// SET DESCRIPTOR
+#[inline(never)]
 #[tactic(auto, unfolding(crate::specs::Readers::setting_area))]
 pub fn set(alloc: Global, cursor: &mut Cursor<'_>) -> Result<EmbKind, Failure>
     ensures { CursorReads emb_kind_view spec.setting_area cursor.old result cursor.new }

@@ -73,11 +73,11 @@ fn named(alloc: Global, word: &[u8]) -> Result<Expr, OutOfMemory>
 
 /// The constant that a character is.
 #[tactic(auto, using(ec_ctypes::specs::declared::tree::expr::Expr::the_lemmas))]
-fn character(token: &SqlToken) -> Expr
+fn character(token: &SqlToken<'_>) -> Expr
     ensures { expr_view result
         ≡ tree.character (character_in (character_value (sql_view token.now).bytes)) }
 {
-    match character_of(token.bytes.as_slice()) {
+    match character_of(token.bytes) {
         Some(value) => Expr::Char(value),
         None => Expr::Char(0),
     }
@@ -90,7 +90,7 @@ fn argument(alloc: Global, cursor: &mut Cursor<'_>) -> Result<Expr, Failure>
 {
     if cursor.at(Class::AnyWord) {
         let token = cursor.take(Class::AnyWord)?;
-        return Ok(named(alloc, token.bytes.as_slice())?);
+        return Ok(named(alloc, token.bytes)?);
     }
     if cursor.at(Class::FittingNumber) {
         let token = cursor.fitting_number()?;
@@ -166,7 +166,7 @@ fn arguments(alloc: Global, cursor: &mut Cursor<'_>) -> Result<List<Expr>, Failu
 }
 
 /// The call of the function with this name.
-fn call(alloc: Global, cursor: &mut Cursor<'_>, function: &SqlToken) -> Result<Action, Failure>
+fn call(alloc: Global, cursor: &mut Cursor<'_>, function: &SqlToken<'_>) -> Result<Action, Failure>
     ensures { CursorReads action_view (spec.call (sql_view function.now))
         cursor.old result cursor.new }
 {
@@ -243,6 +243,7 @@ fn action(alloc: Global, cursor: &mut Cursor<'_>) -> Result<Action, Failure>
 }
 
 /// WHENEVER
+#[inline(never)]
 #[tactic(auto, unfolding(crate::specs::Readers::setting_handler))]
 pub fn whenever(alloc: Global, cursor: &mut Cursor<'_>) -> Result<EmbKind, Failure>
     ensures { CursorReads emb_kind_view spec.setting_handler cursor.old result cursor.new }
@@ -254,6 +255,7 @@ pub fn whenever(alloc: Global, cursor: &mut Cursor<'_>) -> Result<EmbKind, Failu
 }
 
 /// INCLUDE
+#[inline(never)]
 #[tactic(auto, unfolding(crate::specs::Readers::including))]
 pub fn include(cursor: &mut Cursor<'_>) -> Result<EmbKind, Failure>
     ensures { CursorReads emb_kind_view spec.including cursor.old result cursor.new }
@@ -307,7 +309,7 @@ fn mode(cursor: &mut Cursor<'_>) -> Result<(), Failure>
 }
 
 /// WITH or WITHOUT.
-fn with_or_without<'a>(cursor: &mut Cursor<'a>) -> Result<&'a SqlToken, Failure>
+fn with_or_without<'a>(cursor: &mut Cursor<'a>) -> Result<&'a SqlToken<'a>, Failure>
     ensures { CursorReads (λ t. sql_view t.now) spec.with_or_without cursor.old result cursor.new }
 {
     if cursor.at_word(b"WITH") {
@@ -329,6 +331,7 @@ fn hold(cursor: &mut Cursor<'_>) -> Result<(), Failure>
 }
 
 /// DECLARE up to FOR: the name of the cursor.
+#[inline(never)]
 #[tactic(auto, unfolding(crate::specs::Readers::cursor_head))]
 pub fn cursor_head(alloc: Global, cursor: &mut Cursor<'_>) -> Result<Name, Failure>
     ensures { CursorReads (λ name. name) spec.cursor_head cursor.old result cursor.new }

@@ -17,6 +17,7 @@ use ec_shapes::Failure;
 use std::alloc::Global;
 
 /// PREPARE
+#[inline(never)]
 #[tactic(auto, unfolding(crate::specs::Readers::preparing))]
 pub fn prepare(alloc: Global, cursor: &mut Cursor<'_>) -> Result<EmbKind, Failure>
     ensures { CursorReads emb_kind_view spec.preparing cursor.old result cursor.new }
@@ -78,7 +79,7 @@ fn lists_of(alloc: Global, cursor: &mut Cursor<'_>, name: Name) -> Result<EmbKin
 fn text_or_lists(
     alloc: Global,
     cursor: &mut Cursor<'_>,
-    immediate: &SqlToken,
+    immediate: &SqlToken<'_>,
 ) -> Result<EmbKind, Failure>
     ensures { CursorReads emb_kind_view (spec.text_or_lists (sql_view immediate.now))
         cursor.old result cursor.new }
@@ -91,6 +92,7 @@ fn text_or_lists(
 }
 
 /// EXECUTE
+#[inline(never)]
 #[tactic(auto, unfolding(crate::specs::Readers::executing))]
 pub fn execute(alloc: Global, cursor: &mut Cursor<'_>) -> Result<EmbKind, Failure>
     ensures { CursorReads emb_kind_view spec.executing cursor.old result cursor.new }
@@ -107,7 +109,11 @@ pub fn execute(alloc: Global, cursor: &mut Cursor<'_>) -> Result<EmbKind, Failur
 
 /// The name of a prepared statement, or the word before it.
 #[tactic(auto, unfolding(crate::specs::Readers::name_or_word))]
-fn name_or_word(alloc: Global, cursor: &mut Cursor<'_>, word: &SqlToken) -> Result<EmbKind, Failure>
+fn name_or_word(
+    alloc: Global,
+    cursor: &mut Cursor<'_>,
+    word: &SqlToken<'_>,
+) -> Result<EmbKind, Failure>
     ensures { CursorReads emb_kind_view (spec.name_or_word (sql_view word.now))
         cursor.old result cursor.new }
 {
@@ -120,7 +126,11 @@ fn name_or_word(alloc: Global, cursor: &mut Cursor<'_>, word: &SqlToken) -> Resu
 
 /// A descriptor, or the word before it as the name of a prepared statement.
 #[tactic(auto, unfolding(crate::specs::Readers::area_or_word))]
-fn area_or_word(alloc: Global, cursor: &mut Cursor<'_>, word: &SqlToken) -> Result<EmbKind, Failure>
+fn area_or_word(
+    alloc: Global,
+    cursor: &mut Cursor<'_>,
+    word: &SqlToken<'_>,
+) -> Result<EmbKind, Failure>
     ensures { CursorReads emb_kind_view (spec.area_or_word (sql_view word.now))
         cursor.old result cursor.new }
 {
@@ -131,6 +141,7 @@ fn area_or_word(alloc: Global, cursor: &mut Cursor<'_>, word: &SqlToken) -> Resu
 }
 
 /// DEALLOCATE
+#[inline(never)]
 #[tactic(auto, unfolding(crate::specs::Readers::deallocating))]
 pub fn deallocate(alloc: Global, cursor: &mut Cursor<'_>) -> Result<EmbKind, Failure>
     ensures { CursorReads emb_kind_view spec.deallocating cursor.old result cursor.new }
@@ -149,6 +160,7 @@ pub fn deallocate(alloc: Global, cursor: &mut Cursor<'_>) -> Result<EmbKind, Fai
 }
 
 /// DEALLOCATE behind AT, where descriptors have no place.
+#[inline(never)]
 #[tactic(auto, unfolding(crate::specs::Readers::deallocating_at))]
 pub fn deallocate_at(alloc: Global, cursor: &mut Cursor<'_>) -> Result<EmbKind, Failure>
     ensures { CursorReads emb_kind_view spec.deallocating_at cursor.old result cursor.new }
@@ -163,6 +175,7 @@ pub fn deallocate_at(alloc: Global, cursor: &mut Cursor<'_>) -> Result<EmbKind, 
 }
 
 /// OPEN
+#[inline(never)]
 #[tactic(auto, unfolding(crate::specs::Readers::opening))]
 pub fn open_cursor(alloc: Global, cursor: &mut Cursor<'_>) -> Result<EmbKind, Failure>
     ensures { CursorReads emb_kind_view spec.opening cursor.old result cursor.new }
