@@ -1,3 +1,4 @@
+pub mod Alone
 pub mod HostAlone
 pub mod CutSteps
 pub mod Longest

@@ -1,6 +1,6 @@
 //! A statement for the server: its tokens as they stand, its hosts as parts, and the list of its INTO.
 
-ghost use Rattle.std.specs.Prelude.{◌≡◌, ◌≤◌, ◌<◌, ◌+◌, ◌^◌, IfOk, map};
+ghost use Rattle.std.specs.Prelude.{◌≡◌, ◌≤◌, ◌<◌, ◌+◌, ◌^◌, ◌++◌, IfOk, map};
 ghost use Rattle.ec_clex.specs.Sql.{sql_view, sql_views};
 ghost use Rattle.ec_ctypes.specs.views.Embedded.{emb_kind_view, host_view, outs_view, part_view};
 ghost use Rattle.ec_references.specs.States.{CursorReads};
@@ -52,6 +52,7 @@ fn depth_behind(depth: u64, token: &SqlToken<'_>) -> u64
 }
 
 /// Puts a blank where a gap stands, but at the start.
+#[inline(always)]
 fn put_blank(bytes: &mut Bytes, first: bool, gap: bool) -> Result<(), OutOfMemory>
     ensures { IfOk result (λ _. bytes.new ≡ spec.spaced bytes.old first gap) }
 {
@@ -59,6 +60,17 @@ fn put_blank(bytes: &mut Bytes, first: bool, gap: bool) -> Result<(), OutOfMemor
         bytes.push(b' ')?;
     }
     Ok(())
+}
+
+/// Puts the bytes of a token. Half of all tokens have one byte.
+#[inline(always)]
+fn put_letters(bytes: &mut Bytes, letters: &[u8]) -> Result<(), OutOfMemory>
+    ensures { IfOk result (λ _. bytes.new ≡ bytes.old ++ letters.now) }
+{
+    match letters {
+        [only] => bytes.push(*only),
+        _ => bytes.extend_from_slice(letters),
+    }
 }
 
 /// Puts a token as it stands.
@@ -70,7 +82,7 @@ fn put_token(cutting: &mut Cutting, token: &SqlToken<'_>) -> Result<(), OutOfMem
     ensures most { IfOk result (λ _. cutting.new.depth ≤ cutting.old.depth + 1) }
 {
     put_blank(&mut cutting.bytes, cutting.first, token.gap || cutting.gap)?;
-    cutting.bytes.extend_from_slice(token.bytes)?;
+    put_letters(&mut cutting.bytes, token.bytes)?;
     cutting.first = false;
     cutting.gap = false;
     cutting.depth = depth_behind(cutting.depth, token);
@@ -190,25 +202,23 @@ fn one_cut(alloc: Global, cursor: &mut Cursor<'_>, cutting: &mut Cutting) -> Res
 }
 
 /// All cuts.
-fn all_cuts(
-    alloc: Global,
-    cursor: &mut Cursor<'_>,
-    mut cutting: Cutting,
-) -> Result<Cutting, Failure>
-    requires { cutting.depth ≡ 0 }
-    ensures { CursorReads cutting_view (spec.all_cuts (cutting_view cutting))
-        cursor.old result cursor.new }
+#[inline(never)]
+fn all_cuts(alloc: Global, cursor: &mut Cursor<'_>, cutting: &mut Cutting) -> Result<(), Failure>
+    requires { cutting.old.depth ≡ 0 }
+    ensures { CursorReads (λ _. cutting_view cutting.new)
+        (spec.all_cuts (cutting_view cutting.old)) cursor.old result cursor.new }
 {
     for _turn in 0..cursor.left() {
         if cursor.left() == 0 {
-            return Ok(cutting);
+            return Ok(());
         }
-        one_cut(alloc, cursor, &mut cutting)?;
+        one_cut(alloc, cursor, cutting)?;
     }
-    Ok(cutting)
+    Ok(())
 }
 
 /// Nothing is written. There is room for the bytes of most statements.
+#[inline(always)]
 fn cutting_from(alloc: Global, free: bool) -> Result<Cutting, OutOfMemory>
     ensures is { IfOk result (λ cutting. cutting_view cutting ≡ spec.cutting_from free) }
     ensures depth { IfOk result (λ cutting. cutting.depth ≡ 0) }
@@ -225,6 +235,7 @@ fn cutting_from(alloc: Global, free: bool) -> Result<Cutting, OutOfMemory>
 }
 
 /// The parts, with the bytes that may go on behind them.
+#[inline(always)]
 fn parts_of(alloc: Global, mut parts: List<Part>, bytes: Bytes) -> Result<List<Part>, OutOfMemory>
     ensures { IfOk result (λ more. map part_view more
         ≡ spec.with_bytes (map part_view parts) bytes) }
@@ -234,6 +245,7 @@ fn parts_of(alloc: Global, mut parts: List<Part>, bytes: Bytes) -> Result<List<P
 }
 
 /// The statement that is written so.
+#[inline(always)]
 fn sent_by(alloc: Global, cutting: Cutting) -> Result<EmbKind, OutOfMemory>
     ensures { IfOk result (λ kind. emb_kind_view kind ≡ spec.sent_by (cutting_view cutting)) }
 {
@@ -251,12 +263,13 @@ fn sent_by(alloc: Global, cutting: Cutting) -> Result<EmbKind, OutOfMemory>
 }
 
 /// A statement that passes to the server.
+#[inline(never)]
 #[tactic(auto, unfolding(crate::specs::Readers::sending))]
 pub fn server(alloc: Global, cursor: &mut Cursor<'_>) -> Result<EmbKind, Failure>
     ensures { CursorReads emb_kind_view spec.sending cursor.old result cursor.new }
 {
-    let cutting = cutting_from(alloc, true)?;
-    let cutting = all_cuts(alloc, cursor, cutting)?;
+    let mut cutting = cutting_from(alloc, true)?;
+    all_cuts(alloc, cursor, &mut cutting)?;
     Ok(sent_by(alloc, cutting)?)
 }
 
@@ -308,15 +321,20 @@ fn bytes_in(alloc: Global, parts: &List<Part>) -> Result<Bytes, OutOfMemory>
     }
 }
 
-/// The transaction control that is written so.
+/// The transaction control that is written so. It has no part but its bytes.
+#[tactic(auto, using(crate::proofs::Alone::only_bytes))]
 fn controlled_by(alloc: Global, cutting: Cutting) -> Result<EmbKind, OutOfMemory>
     ensures { IfOk result (λ kind. emb_kind_view kind ≡ spec.controlled_by (cutting_view cutting)) }
 {
+    if cutting.parts.is_empty() {
+        return Ok(EmbKind::Trans(List::from_slice(alloc, cutting.bytes.as_slice())?));
+    }
     let parts = parts_of(alloc, cutting.parts, cutting.bytes)?;
     Ok(EmbKind::Trans(bytes_in(alloc, &parts)?))
 }
 
 /// Transaction control.
+#[inline(never)]
 #[tactic(auto, unfolding(crate::specs::Readers::controlling))]
 pub fn transaction(alloc: Global, cursor: &mut Cursor<'_>) -> Result<EmbKind, Failure>
     ensures { CursorReads emb_kind_view spec.controlling cursor.old result cursor.new }
@@ -339,12 +357,13 @@ fn declared_by(alloc: Global, cutting: Cutting, name: Name) -> Result<EmbKind, O
 }
 
 /// DECLARE of a cursor for a statement, from its first token on. No list is cut out of it.
+#[inline(never)]
 #[tactic(auto, unfolding(crate::specs::Readers::declaring))]
 pub fn declare(alloc: Global, cursor: &mut Cursor<'_>, name: Name) -> Result<EmbKind, Failure>
     ensures { CursorReads emb_kind_view (spec.declaring name) cursor.old result cursor.new }
 {
-    let cutting = cutting_from(alloc, false)?;
-    let cutting = all_cuts(alloc, cursor, cutting)?;
+    let mut cutting = cutting_from(alloc, false)?;
+    all_cuts(alloc, cursor, &mut cutting)?;
     Ok(declared_by(alloc, cutting, name)?)
 }
 
@@ -391,6 +410,7 @@ fn prepared_by(
 }
 
 /// DECLARE of a cursor for a prepared statement, from its first token on: all but the last token, and a blank.
+#[inline(never)]
 #[tactic(auto, unfolding(crate::specs::Readers::declaring_prepared))]
 pub fn declare_prepared(
     alloc: Global,

@@ -17,6 +17,7 @@ use ec_shapes::Failure;
 use std::alloc::Global;
 
 /// All suffixes.
+#[inline(always)]
 fn long_suffixes(alloc: Global, cursor: &mut Cursor<'_>, mut of: Expr) -> Result<Expr, Failure>
     ensures { CursorReads expr_view (spec.long_suffixes (expr_view of))
         cursor.old result cursor.new }
@@ -70,6 +71,7 @@ fn long_indicator(alloc: Global, cursor: &mut Cursor<'_>) -> Result<Option<Boxed
 }
 
 /// Whether an indicator begins here.
+#[inline(always)]
 fn has_indicator(tokens: &[SqlToken<'_>]) -> bool
     ensures { result ≡ spec.has_indicator (sql_views tokens.now) }
 {
@@ -82,6 +84,12 @@ pub fn long_host(alloc: Global, cursor: &mut Cursor<'_>) -> Result<Host, Failure
     ensures { CursorReads host_view (spec.long_host reference) cursor.old result cursor.new }
 {
     let value = long_reference(alloc, cursor)?;
+    if !has_indicator(cursor.rest()) {
+        return Ok(Host {
+            value,
+            indicator: None,
+        });
+    }
     let value = Boxed::new(alloc, value)?;
     let indicator = long_indicator(alloc, cursor)?;
     Ok(Host {

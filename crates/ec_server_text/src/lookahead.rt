@@ -21,6 +21,7 @@ pub fn begins_host(tokens: &[SqlToken<'_>]) -> bool
 }
 
 /// Whether the word INDICATOR stands before a host.
+#[inline(always)]
 pub fn begins_indicator(tokens: &[SqlToken<'_>]) -> bool
     ensures { result ≡ text.begins_indicator (sql_views tokens.now) }
 {
@@ -53,6 +54,7 @@ pub fn begins_into(tokens: &[SqlToken<'_>]) -> bool
 }
 
 /// Whether a comma stands before a host.
+#[inline(always)]
 pub fn begins_more(tokens: &[SqlToken<'_>]) -> bool
     ensures { result ≡ text.begins_more (sql_views tokens.now) }
 {
@@ -63,6 +65,7 @@ pub fn begins_more(tokens: &[SqlToken<'_>]) -> bool
 }
 
 /// A `.` and a word.
+#[inline(always)]
 fn is_member(first: &SqlToken<'_>, second: &SqlToken<'_>) -> bool
     ensures { result ≡ text.is_member (sql_view first.now) (sql_view second.now) }
 {
@@ -70,6 +73,7 @@ fn is_member(first: &SqlToken<'_>, second: &SqlToken<'_>) -> bool
 }
 
 /// A `->` and a word.
+#[inline(always)]
 fn is_arrow(first: &SqlToken<'_>, second: &SqlToken<'_>) -> bool
     ensures { result ≡ text.is_arrow (sql_view first.now) (sql_view second.now) }
 {
@@ -77,6 +81,7 @@ fn is_arrow(first: &SqlToken<'_>, second: &SqlToken<'_>) -> bool
 }
 
 /// A `[`, a word or a number, and a `]`.
+#[inline(always)]
 fn is_index(first: &SqlToken<'_>, second: &SqlToken<'_>, third: &SqlToken<'_>) -> bool
     ensures { result ≡ text.is_index (sql_view first.now) (sql_view second.now)
         (sql_view third.now) }
@@ -87,6 +92,7 @@ fn is_index(first: &SqlToken<'_>, second: &SqlToken<'_>, third: &SqlToken<'_>) -
 }
 
 /// Whether a whole suffix begins here.
+#[inline(always)]
 pub fn begins_suffix(tokens: &[SqlToken<'_>]) -> bool
     ensures { result ≡ spec.begins_suffix (sql_views tokens.now) }
 {
