@@ -2,7 +2,7 @@
 use Rattle.std.proofs.Common.{◌≡◌, ℕ, ◌+◌, ◌-◌, ◌≤◌, List, [], ◌∷◌, ◌++◌, length, map, take, drop, Option, Some, None, true, false, refl, sym, ap, ◌∙◌, subst, arith, Result, Ok, Err, append_assoc, length-append}
 use Rattle.std.specs.Prelude.{reverse, IsErrAnd}
 use Rattle.std.specs.Borrow.{Bor}
-use Rattle.std.proofs.lemmas.List.{map-append, reverse-append, drop_all, drop-append-le, take_all, take_at, take-append-le}
+use Rattle.std.proofs.lemmas.List.{append-nil, map-append, reverse-append, drop_all, drop-append-le, take_all, take_at, take-append-le}
 use Rattle.ec_bytes.specs.declared.scalar.address.Ptr.{Ptr}
 use Rattle.ec_code.specs.declared.program.Function.{Function}
 use Rattle.ec_code.specs.Trees.{Step}
@@ -156,6 +156,10 @@ entered knowing w e sc fs fs₁ fs₂ mark line b o g p q =
     ap (λ x. resume knowing w (record e { scope = x }) (reverse fs) (closing mark (settle w (here (record e { scope = sc }) line) (statements_view b.now) o))) (sym (back_again e sc g))
     ∙ pushed knowing w (record e { scope = sc }) fs fs₁ (frame.Close mark (length e.scope.pointers) e.scope.count) (settle w (here (record e { scope = sc }) line) (statements_view b.now) o) p
     ∙ pushed knowing w (record e { scope = sc }) fs₁ fs₂ (frame.Settle line b) o q
+
+-- pointers of which none was added
+pub same_pointers : (ps : List Ptr) → Grown ps ps
+same_pointers ps = ([], sym (append-nil ps))
 
 -- ---- loops
 

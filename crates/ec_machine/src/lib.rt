@@ -3,6 +3,7 @@
 #![tactic(auto)]
 
 mod answers;
+mod blocks;
 mod calls;
 mod expressions;
 mod found;

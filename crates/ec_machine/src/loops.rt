@@ -280,10 +280,7 @@ impl<'p> Machine<'p> {
     {
         match call_of(left) {
             Some(full) => self.body_call(functions, inner, line, full),
-            None => {
-                self.frames.push(Frame::Body(line, inner))?;
-                Ok(Some(Focus::Runs(left)))
-            }
+            None => self.body_other(inner, line, left),
         }
     }
 
@@ -319,7 +316,7 @@ impl<'p> Machine<'p> {
 
     /// What a loop evaluates behind its body. Where this needs no frame the loop stands at its test.
     #[inline(always)]
-    fn behind(&mut self, inner: &'p Loop) -> Result<Option<Focus<'p>>, Stop>
+    pub(crate) fn behind(&mut self, inner: &'p Loop) -> Result<Option<Focus<'p>>, Stop>
         ensures goes { (functions : List FunctionData) → Onward functions self.old (behind_body
             inner.now) result self.new (testing inner.now) }
         ensures turns { self.new.turns ≡ self.old.turns }
@@ -359,7 +356,7 @@ impl<'p> Machine<'p> {
 
 /// What the machine stands at.
 #[inline(always)]
-fn standing<'p>(left: Result<Focus<'p>, Stop>) -> Result<Option<Focus<'p>>, Stop>
+pub(crate) fn standing<'p>(left: Result<Focus<'p>, Stop>) -> Result<Option<Focus<'p>>, Stop>
     ensures { StandsAt left.entry result }
 {
     match left {

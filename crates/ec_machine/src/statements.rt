@@ -350,9 +350,12 @@ impl<'p> Machine<'p> {
         ensures nears { remaining self.old.turns result self.new ≤
             3 + frames_weight self.old.frames + statements_weight body.now }
     {
-        match self.enter(sizes, body) {
-            Ok(()) => self.list(functions, body),
-            Err(stop) => Err(stop),
+        match sizes {
+            [] => self.run_bare_block(body),
+            _ => match self.enter(sizes, body) {
+                Ok(()) => self.list(functions, body),
+                Err(stop) => Err(stop),
+            },
         }
     }
 

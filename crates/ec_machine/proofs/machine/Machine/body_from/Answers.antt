@@ -23,10 +23,5 @@ returns-in-Some-clause-goes c =
     ap (λ z. after_body (run knowing w (here (env_of m) m.line) z (at s m)) (λ u. again knowing w (here (env_of m) c.args.line) (test_of i) (behind_of i) (body_of i) u)) c.in-Some.ensures)
     c.body_call.result c.body_call.new.self c.body_call.ensures.goes
 
-pub returns-in_ok-push-in-None-clause-goes : goal.returns-in_ok-push-in-None-clause-goes
-returns-in_ok-push-in-None-clause-goes c =
-    let fs = c.args.functions.now in
-    let m = c.args.self.now in
-    let i = c.args.inner.now in
-    waits fs m (record m { frames = c.push.new.self }) (λ knowing w t. after_body (run knowing w (here (env_of m) m.line) (statement_view c.args.left.now) t) (λ u. again knowing w (here (env_of m) c.args.line) (test_of i) (behind_of i) (body_of i) u)) (frame.Body c.args.line c.args.inner) (focus.Runs c.args.left) c.in_ok-push-in-None.ensures.ok
-    (λ knowing fits k s l. refl)
+pub returns-in-None-clause-goes : goal.returns-in-None-clause-goes
+returns-in-None-clause-goes c = c.body_other.ensures.goes c.args.functions.now
