@@ -20,7 +20,12 @@ class_view Mark = sql.mark
 
 -- a token, as the definition has it
 abbrev pub sql_view : SqlToken → sql.SqlToken
-sql_view t = record { class = class_view t.class; bytes = t.bytes.now; gap = t.gap; line = t.line.0 }
+sql_view t = record {
+  class = class_view t.class;
+  bytes = t.bytes.now;
+  gap = t.gap;
+  line = t.line.0;
+}
 
 abbrev pub sql_views : List SqlToken → List sql.SqlToken
 sql_views ts = map sql_view ts

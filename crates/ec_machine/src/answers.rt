@@ -215,7 +215,8 @@ impl<'p> Machine<'p> {
     #[inline(never)]
     fn go_astray(&mut self, way: Way<'p>) -> Result<Focus<'p>, Stop>
         ensures stops { result ≡ Err (stops.Over ends.Stuck) }
-        ensures ended { self.new ≡ record self.old { store = end_to self.old.store way.entry.mark } }
+        ensures ended { self.new
+            ≡ record self.old { store = end_to self.old.store way.entry.mark } }
     {
         self.store.end_to(way.mark);
         Err(Stop::Over(End::Stuck))

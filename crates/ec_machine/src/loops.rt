@@ -368,7 +368,8 @@ pub(crate) fn standing<'p>(left: Result<Focus<'p>, Stop>) -> Result<Option<Focus
 /// The expression that a statement is, where it holds a call.
 #[inline(always)]
 fn call_of(statement: &Statement) -> Option<&Full>
-    ensures { IfSome result (λ full. statement_view statement.now ≡ evaluated (full_view full.now)) }
+    ensures { IfSome result (λ full.
+        statement_view statement.now ≡ evaluated (full_view full.now)) }
 {
     match statement {
         Statement::Evaluate(expression) => full_of(expression),
