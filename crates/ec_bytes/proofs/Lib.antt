@@ -1,3 +1,4 @@
 pub mod Cells
+pub mod Marks
 pub mod Places
 pub mod Runs

@@ -1,13 +1,14 @@
 -- A region of memory is a list of cells, of which it keeps the bytes and the marks.
-use Rattle.std.specs.Prelude.{ℕ, zero, suc, Bool, true, false, None, Some, List, [], ◌∷◌}
+use Rattle.std.specs.Prelude.{ℕ, zero, suc, None, Some, List, [], ◌∷◌}
 use Rattle.ec_objects.specs.Cells.{Cell}
 
--- the cells of bytes and of marks, which say of each byte whether it is set
-abbrev pub cells_of : List ℕ → List Bool → List Cell
+-- the cells of bytes and of marks: a byte is set where its mark is 1
+abbrev pub cells_of : List ℕ → List ℕ → List Cell
 cells_of [] marks = []
 cells_of (byte ∷ bytes) [] = []
-cells_of (byte ∷ bytes) (false ∷ marks) = None ∷ cells_of bytes marks
-cells_of (byte ∷ bytes) (true ∷ marks) = Some byte ∷ cells_of bytes marks
+cells_of (byte ∷ bytes) (zero ∷ marks) = None ∷ cells_of bytes marks
+cells_of (byte ∷ bytes) (suc zero ∷ marks) = Some byte ∷ cells_of bytes marks
+cells_of (byte ∷ bytes) (suc (suc mark) ∷ marks) = None ∷ cells_of bytes marks
 
 -- the bytes of the cells from the first one on, up to a zero byte or a cell that is unset
 abbrev pub run_of : List Cell → List ℕ

@@ -1,6 +1,6 @@
 //! Reads and writes of a part of a slice.
 
-ghost use Rattle.std.specs.Prelude.{◌≡◌, ◌+◌, ◌≤◌, length, replicate, take, drop};
+ghost use Rattle.std.specs.Prelude.{◌≡◌, ◌==◌, ◌+◌, ◌≤◌, length, replicate, take, drop};
 ghost use Rattle.std.specs.List.{list_all};
 ghost use Rattle.ec_objects.specs.Cells.{written};
 ghost use Rattle.ec_bytes.specs.Region.{cells_of, run_of};
@@ -8,12 +8,36 @@ ghost use Rattle.ec_bytes.specs.Scalars.{AreBytes};
 
 use crate::scalar::Scalar;
 
-/// Whether each of the `n` marks from `at` on is true.
-pub(crate) fn all_set(marks: &[bool], at: usize, n: usize) -> bool
+/// The mark of a byte that is set.
+pub(crate) const SET: u8 = 1;
+
+/// The mark of a byte that is unset.
+pub(crate) const UNSET: u8 = 0;
+
+/// Whether each of the `n` marks from `at` on is `SET`. Those of a value of 4 or 8 bytes are compared at once.
+pub(crate) fn all_set(marks: &[u8], at: usize, n: usize) -> bool
     requires { at + n ≤ length marks.now }
-    ensures { result ≡ list_all (λ mark. mark) (take n (drop at marks.now)) }
+    ensures { result ≡ list_all (λ mark. mark == 1) (take n (drop at marks.now)) }
 {
-    part(marks, at, n).iter().all(|mark| *mark)
+    match part(marks, at, n) {
+        [a, b, c, d] => four_set([*a, *b, *c, *d]),
+        [a, b, c, d, e, f, g, h] => eight_set([*a, *b, *c, *d, *e, *f, *g, *h]),
+        others => others.iter().all(|mark| *mark == SET),
+    }
+}
+
+/// Whether each of four marks is `SET`.
+fn four_set(marks: [u8; 4]) -> bool
+    ensures { result ≡ list_all (λ mark. mark == 1) marks }
+{
+    u32::from_le_bytes(marks) == 0x0101_0101
+}
+
+/// Whether each of eight marks is `SET`.
+fn eight_set(marks: [u8; 8]) -> bool
+    ensures { result ≡ list_all (λ mark. mark == 1) marks }
+{
+    u64::from_le_bytes(marks) == 0x0101_0101_0101_0101
 }
 
 /// The `n` items from `at` on.
@@ -26,24 +50,16 @@ pub(crate) fn part<T>(items: &[T], at: usize, n: usize) -> &[T]
 }
 
 /// How many bytes from the first one on are set and not 0.
-pub(crate) fn run_length(bytes: &[u8], marks: &[bool]) -> usize
+pub(crate) fn run_length(bytes: &[u8], marks: &[u8]) -> usize
     requires { length marks.now ≡ length bytes.now }
     ensures bound { result ≤ length bytes.now }
     ensures run { take result bytes.now ≡ run_of (cells_of bytes.now marks.now) }
 {
     let mut n = 0;
-    while n < bytes.len() && marks[n] && bytes[n] != 0 {
+    while n < bytes.len() && marks[n] == SET && bytes[n] != 0 {
         n += 1;
     }
     n
-}
-
-/// Makes each of the `n` marks from `at` on `set`.
-pub(crate) fn mark(marks: &mut [bool], at: usize, n: usize, set: bool)
-    requires { at + n ≤ length marks.old }
-    ensures { marks.new ≡ written marks.old at (replicate n set) }
-{
-    marks[at..at + n].fill(set);
 }
 
 /// Makes each of the `n` bytes from `at` on `byte`.

@@ -6,7 +6,7 @@ ghost use Rattle.ec_bytes.specs.Region.{run_of};
 ghost use Rattle.ec_bytes.specs.Scalars.{HoldBytes};
 ghost use Rattle.ec_objects.specs.Cells.{bytes_of, part_of, filled_cells, set_cells, unset_cells, value_of, written};
 
-use crate::parts::{all_set, decode, encode, mark, part, put, run_length, shift, spread};
+use crate::parts::{SET, UNSET, all_set, decode, encode, part, put, run_length, shift, spread};
 use crate::scalar::Scalar;
 use ec_objects::ec_base::OutOfMemory;
 use std::alloc::Global;
@@ -17,7 +17,7 @@ use std::marker::Model;
 #[derive(Debug, Drop)]
 pub struct Region {
     bytes: Vec<u8>,
-    set: Vec<bool>,
+    set: Vec<u8>,
 }
 
 impl Model for Region {
@@ -61,7 +61,7 @@ impl Region {
         let Some(len) = start.checked_add(n) else {
             return Err(OutOfMemory);
         };
-        self.set.resize(len, false)?;
+        self.set.resize(len, UNSET)?;
         if self.bytes.resize(len, 0).is_err() {
             self.set.truncate(start);
             return Err(OutOfMemory);
@@ -108,7 +108,7 @@ impl Region {
         ensures length { length self.new ≡ length self.old }
     {
         put(&mut self.bytes, at, piece);
-        mark(&mut self.set, at, piece.len(), true);
+        spread(&mut self.set, at, piece.len(), SET);
     }
 
     /// Writes `byte` into each of the `n` cells from `at` on, which lie in the region.
@@ -118,7 +118,7 @@ impl Region {
         ensures length { length self.new ≡ length self.old }
     {
         spread(&mut self.bytes, at, n, byte);
-        mark(&mut self.set, at, n, true);
+        spread(&mut self.set, at, n, SET);
     }
 
     /// Copies the `n` cells from `from` on, the unset ones too, to those from `to` on. Both lie in the region, and may
@@ -139,7 +139,7 @@ impl Region {
         ensures cells { self.new ≡ written self.old at (unset_cells n) }
         ensures length { length self.new ≡ length self.old }
     {
-        mark(&mut self.set, at, n, false);
+        spread(&mut self.set, at, n, UNSET);
     }
 
     /// The place of item `i` of those from `at` on that begin at each `step` cells. It lies in the region.
@@ -170,6 +170,6 @@ impl Region {
         ensures length { length self.new ≡ length self.old }
     {
         encode(&mut self.bytes, at, value);
-        mark(&mut self.set, at, T::SIZE, true);
+        spread(&mut self.set, at, T::SIZE, SET);
     }
 }

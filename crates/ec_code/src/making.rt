@@ -1,10 +1,11 @@
 //! Expressions are made from what stands at their left: each operator adds a step.
 
-ghost use Rattle.std.specs.Prelude.{◌≡◌, IfOk, IfSome, map};
+ghost use Rattle.std.specs.Prelude.{◌≡◌, None, IfOk, IfSome, map};
 ghost use Rattle.ec_values.specs.ec_resolved.Resolved as of;
 ghost use Rattle.ec_formats.specs.Known.{known_view};
 ghost use Rattle.ec_objects.specs.Memory.{number};
 ghost use Rattle.ec_values.specs.Words.{word_view};
+ghost use Rattle.ec_code.specs.Numbers.{IsNoLong};
 ghost use Rattle.ec_code.specs.Trees.{leaf_view, one_made, stepped, two, two_made, walked};
 ghost use Rattle.ec_code.specs.declared.expression.Plain.{out-Plain};
 ghost use Rattle.ec_code.specs.Views.{expression_view, expressions_view, full_step_view, full_view, head_view, plain_step_view, plain_view};
@@ -179,10 +180,11 @@ fn found_operand(step: Binary, right: &Plain) -> Option<PlainStep>
     }
 }
 
-/// The number of a value, where `long` has it.
+/// The number of a value, where `long` has it. A pointer has none, and neither has a number from 2^63 on.
 #[inline(always)]
 pub fn small(word: Word) -> Option<i64>
-    ensures { IfSome result (λ z. word_view word ≡ number z) }
+    ensures value { IfSome result (λ z. word_view word ≡ number z) }
+    ensures none { result ≡ None → IsNoLong word }
 {
     match word {
         Word::Signed(number) => Some(number),

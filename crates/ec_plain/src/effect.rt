@@ -8,7 +8,6 @@ ghost use Rattle.ec_code.specs.declared.step.Binary.TheVariants as binary;
 ghost use Rattle.ec_objects.specs.Kinds.{kind_type};
 ghost use Rattle.ec_objects.specs.Memory.{address, number, store as put_there};
 ghost use Rattle.ec_memory.specs.Store.{outcome};
-ghost use Rattle.ec_resolved.specs.Resolved.{Exp};
 ghost use Rattle.ec_plain.specs.Numbers.{Changes, Leads, StepLeads, Stands};
 
 use crate::number::{element, number, object_place, operand, read, slot_place};

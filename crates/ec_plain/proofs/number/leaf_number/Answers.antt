@@ -12,4 +12,4 @@ returns-in-LongValue c = leaf_as c.args.scope.now c.args.leaf.now (leaf.LongValu
 pub returns-in-Constant : goal.returns-in-Constant
 returns-in-Constant c =
     leaf_as c.args.scope.now c.args.leaf.now (leaf.Constant c.in-Constant.word) c.args.store.now c.small.result c.in-Constant.is
-    (constant_leads c.args.scope.now c.in-Constant.word c.args.store.now c.small.result c.small.ensures)
+    (constant_leads c.args.scope.now c.in-Constant.word c.args.store.now c.small.result c.small.ensures.value)
