@@ -1,12 +1,13 @@
 //! Reads and writes of a part of a slice.
 
-ghost use Rattle.std.specs.Prelude.{◌≡◌, ◌==◌, ◌+◌, ◌≤◌, length, replicate, take, drop};
+ghost use Rattle.std.specs.Prelude.{◌≡◌, ◌==◌, ◌+◌, ◌≤◌, ℕ, length, replicate, take, drop, OnOk};
 ghost use Rattle.std.specs.List.{list_all};
 ghost use Rattle.ec_objects.specs.Cells.{written};
 ghost use Rattle.ec_bytes.specs.Region.{cells_of, run_of};
 ghost use Rattle.ec_bytes.specs.Scalars.{AreBytes};
 
 use crate::scalar::Scalar;
+use ec_objects::ec_base::OutOfMemory;
 
 /// The mark of a byte that is set.
 pub(crate) const SET: u8 = 1;
@@ -68,6 +69,31 @@ pub(crate) fn spread(bytes: &mut [u8], at: usize, n: usize, byte: u8)
     ensures { bytes.new ≡ written bytes.old at (replicate n byte) }
 {
     bytes[at..at + n].fill(byte);
+}
+
+/// Makes each of the `n` marks from `at` on `UNSET`: at once, where they are those of a value of 4 or 8 bytes.
+pub(crate) fn clear(marks: &mut [u8], at: usize, n: usize)
+    requires { at + n ≤ length marks.old }
+    ensures { marks.new ≡ written marks.old at (replicate n 0) }
+{
+    match n {
+        4 => spread(marks, at, 4, UNSET),
+        8 => spread(marks, at, 8, UNSET),
+        _ => spread(marks, at, n, UNSET),
+    }
+}
+
+/// Makes room for `len` items behind which others may stand.
+pub(crate) fn make_room(items: &mut Vec<u8>, len: usize) -> Result<(), OutOfMemory>
+    ensures room { OnOk result (len ≤ length items.new.items) }
+    ensures more { length items.old.items ≤ length items.new.items }
+    ensures front { (n : ℕ) → n ≤ length items.old.items
+        → take n items.new.items ≡ take n items.old.items }
+{
+    if items.len() < len {
+        items.resize(len, 0)?;
+    }
+    Ok(())
 }
 
 /// Writes `piece` from `at` on.

@@ -1,4 +1,4 @@
-#![tactic(auto, using(crate::proofs::Cells::cells))]
+#![tactic(auto, using(crate::proofs::Held::cells))]
 
 ghost use Rattle.std.specs.Prelude.{◌≡◌, ◌+◌, ◌*◌, ◌≤◌, [], ◌++◌, length, take, OnOk, OnErr, IfOk, IfSome};
 ghost use Rattle.std.specs.Option.{option_map};
@@ -6,7 +6,9 @@ ghost use Rattle.ec_bytes.specs.Region.{run_of};
 ghost use Rattle.ec_bytes.specs.Scalars.{HoldBytes};
 ghost use Rattle.ec_objects.specs.Cells.{bytes_of, part_of, filled_cells, set_cells, unset_cells, value_of, written};
 
-use crate::parts::{SET, UNSET, all_set, decode, encode, part, put, run_length, shift, spread};
+use crate::parts::{
+    SET, all_set, clear, decode, encode, make_room, part, put, run_length, shift, spread,
+};
 use crate::scalar::Scalar;
 use ec_objects::ec_base::OutOfMemory;
 use std::alloc::Global;
@@ -16,20 +18,22 @@ use std::marker::Model;
 /// holds nothing is what ISO/IEC 9899:1999 calls indeterminate (6.2.4, 6.7.8).
 #[derive(Debug, Drop)]
 pub struct Region {
+    // Behind the first `len` of both stand those of cells that were dropped.
     bytes: Vec<u8>,
     set: Vec<u8>,
+    len: usize,
 }
 
 impl Model for Region {
-    ghost use Rattle.std.specs.Prelude.{◌≡◌, List, length};
+    ghost use Rattle.std.specs.Prelude.{List};
     ghost use Rattle.ec_objects.specs.Cells.{Cell};
-    ghost use Rattle.ec_bytes.specs.Region.{cells_of};
+    ghost use Rattle.ec_bytes.specs.Region.{Holds, held};
 
     ghost Value = { List Cell };
 
-    ghost view = { λ r. cells_of r.bytes.items r.set.items };
+    ghost view = { λ r. held r.len r.bytes.items r.set.items };
 
-    ghost invariant = { λ r. length r.set.items ≡ length r.bytes.items };
+    ghost invariant = { λ r. Holds r.len r.bytes.items r.set.items };
 }
 
 impl Region {
@@ -40,6 +44,7 @@ impl Region {
         Region {
             bytes: Vec::new(alloc),
             set: Vec::new(alloc),
+            len: 0,
         }
     }
 
@@ -47,7 +52,7 @@ impl Region {
     pub fn len(&self) -> usize
         ensures { result ≡ length self.now }
     {
-        self.bytes.len()
+        self.len
     }
 
     /// Puts `n` unset cells at the end, and says at which place they begin. Where there is no memory for them, or the
@@ -57,15 +62,14 @@ impl Region {
         ensures ok { OnOk result (self.new ≡ self.old ++ unset_cells n) }
         ensures err { OnErr result (self.new ≡ self.old) }
     {
-        let start = self.bytes.len();
+        let start = self.len;
         let Some(len) = start.checked_add(n) else {
             return Err(OutOfMemory);
         };
-        self.set.resize(len, UNSET)?;
-        if self.bytes.resize(len, 0).is_err() {
-            self.set.truncate(start);
-            return Err(OutOfMemory);
-        }
+        make_room(&mut self.bytes, len)?;
+        make_room(&mut self.set, len)?;
+        clear(&mut self.set, start, n);
+        self.len = len;
         Ok(start)
     }
 
@@ -74,8 +78,7 @@ impl Region {
         requires { len ≤ length self.old }
         ensures { self.new ≡ take len self.old }
     {
-        self.bytes.truncate(len);
-        self.set.truncate(len);
+        self.len = len;
     }
 
     /// The `n` bytes from `at` on, or `None` where one of their cells is unset. They lie in the region.
@@ -139,7 +142,7 @@ impl Region {
         ensures cells { self.new ≡ written self.old at (unset_cells n) }
         ensures length { length self.new ≡ length self.old }
     {
-        spread(&mut self.set, at, n, UNSET);
+        clear(&mut self.set, at, n);
     }
 
     /// The place of item `i` of those from `at` on that begin at each `step` cells. It lies in the region.
@@ -148,7 +151,7 @@ impl Region {
         ensures { result ≡ at + i * step }
     {
         // The length of a region fits `usize`, and so does a place in it.
-        let _ = &self.bytes;
+        let _ = self.len();
         let offset = i * step;
         at + offset
     }
