@@ -148,6 +148,7 @@ impl Store {
 
     /// The pointer that is `by` elements of `size` bytes further on (ISO/IEC 9899:1999, 6.5.6), within its object or one
     /// past the end of it. The traps are `Null`, `Dead`, and `Outside` where it would leave the object.
+    #[inline(always)]
     pub fn move_ptr(&self, ptr: Ptr, by: i64, size: u64) -> Result<Ptr, Trap>
         ensures { seen (λ to. to.0) result ≡ moved self.now ptr.0 by size }
     {
