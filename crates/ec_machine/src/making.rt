@@ -211,9 +211,12 @@ pub(crate) fn make_locals(
         Ok(()) => (),
         Err(stop) => return Err(stop),
     }
-    match make_objects(store, scope, function.objects.as_slice()) {
-        Ok(()) => Ok(()),
-        Err(why) => Err(no_room(line, why)),
+    match function.objects.as_slice() {
+        [] => Ok(()),
+        sizes => match make_objects(store, scope, sizes) {
+            Ok(()) => Ok(()),
+            Err(why) => Err(no_room(line, why)),
+        },
     }
 }
 

@@ -36,7 +36,7 @@ pub(crate) fn at_once(store: &mut Store, scope: &[Ptr], expression: &Plain) -> O
             let place = object_place(number);
             at_place(store, scope, place, expression)
         }
-        _ => number(store, scope, expression),
+        _ => operand(store, scope, expression),
     }
 }
 
@@ -122,11 +122,36 @@ fn change(store: &mut Store, to: Ptr, update: &Update, by: i64) -> Option<i64>
     ensures some { IfSome result (λ z. Changes update.now to.0 by store.old store.new z) }
     ensures none { result ≡ None → store.new ≡ store.old }
 {
-    let old = read(store, to, update.kind)?;
+    match update.kind {
+        Kind::Int => change_kind(store, to, update, by, Kind::Int),
+        _ => change_other(store, to, update, by),
+    }
+}
+
+/// The same of the other types.
+#[inline(never)]
+fn change_other(store: &mut Store, to: Ptr, update: &Update, by: i64) -> Option<i64>
+    ensures some { IfSome result (λ z. Changes update.now to.0 by store.old store.new z) }
+    ensures none { result ≡ None → store.new ≡ store.old }
+{
+    match update.kind {
+        Kind::Long => change_kind(store, to, update, by, Kind::Long),
+        _ => change_kind(store, to, update, by, update.kind),
+    }
+}
+
+/// The same of the type that it is for.
+#[inline(always)]
+fn change_kind(store: &mut Store, to: Ptr, update: &Update, by: i64, kind: Kind) -> Option<i64>
+    requires { update.now.kind ≡ kind }
+    ensures some { IfSome result (λ z. Changes update.now to.0 by store.old store.new z) }
+    ensures none { result ≡ None → store.new ≡ store.old }
+{
+    let old = read(store, to, kind)?;
     let widened = fitted(update.widened, old)?;
     let made = combined(&update.operation, store, widened, by)?;
-    let new = fitted(update.kind, made)?;
-    match put(store, to, update.kind, new) {
+    let new = fitted(kind, made)?;
+    match put(store, to, kind, new) {
         Ok(()) => Some(if update.gives_old { old } else { new }),
         Err(_) => None,
     }

@@ -2,9 +2,10 @@
 //! conversions.
 
 ghost use Rattle.std.specs.Prelude.{◌≡◌, ◌≤ℤ◌, Ok, pos, int_div, int_rem, IfSome};
+ghost use Rattle.ec_ctypes.specs.Arithmetic.{converted};
 ghost use Rattle.ec_objects.specs.Kinds.{kind_type};
 ghost use Rattle.ec_objects.specs.Memory.{Memory, moved, number};
-ghost use Rattle.ec_resolved.specs.Operations.{address_worked, calculated, compares, gives, quotient, result_of, value_as, worked};
+ghost use Rattle.ec_resolved.specs.Operations.{address_worked, bits_of, calculated, compares, gives, quotient, result_of, value_as, worked};
 ghost use Rattle.ec_values.specs.Operations.{comparison_view, operation_view, operator_view};
 ghost use Rattle.ec_values.specs.Words.{word_view, worked_by};
 ghost use Rattle.ec_plain.specs.Outcomes.{outcome_view};
@@ -112,6 +113,40 @@ fn integers(ty: Arith, operator: IntegerOperator, x: i64, y: i64) -> Option<i64>
             divided(ty, x, y)?;
             Some(rest(x, y))
         }
+        IntegerOperator::BitsAnd => with_bits(ty, bits(ty, x)? & bits(ty, y)?),
+        IntegerOperator::BitsOr => with_bits(ty, bits(ty, x)? | bits(ty, y)?),
+        IntegerOperator::BitsXor => with_bits(ty, bits(ty, x)? ^ bits(ty, y)?),
+    }
+}
+
+/// The bits of a number below 2^31 of a type with 32 bits or more.
+#[inline(always)]
+fn bits(ty: Arith, number: i64) -> Option<u64>
+    ensures { IfSome result (λ n. bits_of ty number ≡ n) }
+{
+    if number < 0 || number > i32::MAX as i64 {
+        return None;
+    }
+    match ty {
+        Arith::Int | Arith::UInt => Some(number as u64),
+        Arith::Long | Arith::ULong => Some(number as u64),
+        Arith::LLong | Arith::ULLong => Some(number as u64),
+        _ => None,
+    }
+}
+
+/// The number below 2^31 that has these bits.
+#[inline(always)]
+fn with_bits(ty: Arith, bits: u64) -> Option<i64>
+    ensures { IfSome result (λ z. converted ty (pos bits) ≡ z) }
+{
+    if bits > i32::MAX as u64 {
+        return None;
+    }
+    match ty {
+        Arith::Int | Arith::UInt => Some(bits as i64),
+        Arith::Long | Arith::ULong => Some(bits as i64),
+        Arith::LLong | Arith::ULLong => Some(bits as i64),
         _ => None,
     }
 }
