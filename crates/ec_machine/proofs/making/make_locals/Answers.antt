@@ -8,6 +8,7 @@ use Rattle.ec_plain.specs.Answered.{at, scope_view}
 use Rattle.ec_values.specs.Words.{word_view}
 use Rattle.ec_machine.specs.Frames.{objects_of}
 use Rattle.ec_machine.proofs.Objects.{no_room_stops}
+use Rattle.ec_machine.proofs.Parts.{none_left}
 use Rattle.ec_machine.proofs.Turns.{stops_by}
 use Rattle.ec_machine.proofs.making.make_locals.Goals as goal
 
@@ -24,6 +25,21 @@ returns-in-Err-give_arguments-clause-made c = λ s go.
     ∙ c.in-Ok.ensures.made line s next
     ∙ (λ i. given line (map kind_type (sym c.as_slice-kinds.ensures i)) (scope_view (sym c.objects.ensures i)) vs (at s store) (λ u. made line (map size_view f.objects) sc u go)))
     (c.in-Err-give_arguments.ensures s (λ u. made line (map size_view f.objects) sc u go))
+
+pub returns-in-empty-clause-made : goal.returns-in-empty-clause-made
+returns-in-empty-clause-made c = λ s go.
+    let line = c.args.line.0 in
+    let f = c.args.function.now in
+    let vs = map word_view c.args.values.now in
+    let sc = scope_view (objects_of c.make_parameters.new.scope) in
+    let store = c.make_parameters.new.store in
+    let next : List ℕ → State → Res = λ ps t. given line (map kind_type f.parameters) ps vs t (λ u. made line (map size_view f.objects) ps u go) in
+    let none = none_left c.as_slice.result.now c.in-empty.len_below in
+    ap (λ p. made line (map scalar_size (map kind_type p)) (scope_view (objects_of c.args.scope.now)) (at s c.args.store.now) next) (sym c.as_slice-kinds.ensures)
+    ∙ c.in-Ok.ensures.made line s next
+    ∙ (λ i. given line (map kind_type (sym c.as_slice-kinds.ensures i)) (scope_view (sym c.objects.ensures i)) vs (at s store) (λ u. made line (map size_view f.objects) sc u go))
+    ∙ c.in-Ok-give_arguments.ensures s (λ u. made line (map size_view f.objects) sc u go)
+    ∙ ap (λ p. made line (map size_view p) sc (at s c.give_arguments.new.store) go) (sym c.as_slice.ensures ∙ none)
 
 pub returns-in-Ok-make_objects-clause-made : goal.returns-in-Ok-make_objects-clause-made
 returns-in-Ok-make_objects-clause-made c = λ s go.
