@@ -49,6 +49,7 @@ fn at_place(store: &mut Store, scope: &[Ptr], place: Ptr, expression: &Plain) ->
     ensures none { result ≡ None → store.new ≡ store.old }
 {
     match expression.steps.as_slice() {
+        [] => None,
         [only] => assign(store, scope, place, only),
         [first, last] => {
             if assigns(last) {
