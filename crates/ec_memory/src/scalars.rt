@@ -4,6 +4,7 @@ ghost use Rattle.std.specs.Prelude.{◌≡◌, ℕ, List, IfOk, OnErr, IsSome, S
 ghost use Rattle.ec_ctypes.specs.views.Types.{ty_view};
 ghost use Rattle.ec_objects.specs.Memory.{ScalarType, scalar_type, Fits, span, put, load, store};
 ghost use Rattle.ec_objects.specs.Kinds.{kind_type};
+ghost use Rattle.ec_objects.specs.declared.kind.Kind.TheVariants as kind;
 ghost use Rattle.ec_bytes.specs.Scalars.{AreBytes};
 ghost use Rattle.ec_memory.specs.Store.{outcome, seen};
 ghost use Rattle.ec_memory.specs.Values.{value_view};
@@ -48,6 +49,30 @@ impl Store {
             Kind::ULong | Kind::ULLong => self.load_scalar::<U64>(ptr),
             Kind::Ptr => self.load_scalar::<Ptr>(ptr),
         }
+    }
+
+    /// The value of an `int` at a pointer.
+    #[inline(always)]
+    pub fn load_int(&self, ptr: Ptr) -> Result<Value, Trap>
+        ensures { seen value_view result ≡ load self.now ptr.0 (kind_type kind.Int) }
+    {
+        self.load_scalar::<I32>(ptr)
+    }
+
+    /// The value of a `long` at a pointer.
+    #[inline(always)]
+    pub fn load_long(&self, ptr: Ptr) -> Result<Value, Trap>
+        ensures { seen value_view result ≡ load self.now ptr.0 (kind_type kind.Long) }
+    {
+        self.load_scalar::<I64>(ptr)
+    }
+
+    /// The value of a `char` at a pointer.
+    #[inline(always)]
+    pub fn load_char(&self, ptr: Ptr) -> Result<Value, Trap>
+        ensures { seen value_view result ≡ load self.now ptr.0 (kind_type kind.Char) }
+    {
+        self.load_scalar::<I8>(ptr)
     }
 
     /// Stores `value` at a pointer, as one access (ISO/IEC 9899:1999, 6.2.6, 6.5.16). `ty` is its type: an integer type of

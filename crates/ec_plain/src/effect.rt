@@ -1,12 +1,13 @@
 //! Assignments of numbers that are found at once.
 
-ghost use Rattle.std.specs.Prelude.{◌≡◌, Ok, None, IfSome, OnErr};
+ghost use Rattle.std.specs.Prelude.{◌≡◌, Ok, None, IfSome, OnErr, if◌then◌else◌};
 ghost use Rattle.ec_code.specs.Trees.{leaf_view, two};
 ghost use Rattle.ec_code.specs.Views.{plain_step_view, plain_view};
 ghost use Rattle.ec_code.specs.declared.expression.Plain.{out-Plain};
 ghost use Rattle.ec_code.specs.declared.step.Binary.TheVariants as binary;
 ghost use Rattle.ec_objects.specs.Kinds.{kind_type};
-ghost use Rattle.ec_objects.specs.Memory.{address, number, store as put_there};
+ghost use Rattle.ec_objects.specs.declared.kind.Kind.TheVariants as kinds;
+ghost use Rattle.ec_objects.specs.Memory.{address, load, number, store as put_there};
 ghost use Rattle.ec_memory.specs.Store.{outcome};
 ghost use Rattle.ec_plain.specs.Numbers.{Changes, Leads, StepLeads, Stands};
 
@@ -17,7 +18,7 @@ use ec_bytes::Ptr;
 use ec_code::{Binary, Leaf, Plain, PlainStep, Unary, Update};
 use ec_memory::Store;
 use ec_objects::Kind;
-use ec_values::{Word, store as stored};
+use ec_values::{Word, load_int, store as stored, store_char, store_int, store_long};
 
 /// The value of an expression, where it is a number that `long` has and is found at once, with its one assignment done.
 /// Where it gives none, nothing is changed.
@@ -124,9 +125,47 @@ fn change(store: &mut Store, to: Ptr, update: &Update, by: i64) -> Option<i64>
     ensures none { result ≡ None → store.new ≡ store.old }
 {
     match update.kind {
-        Kind::Int => change_kind(store, to, update, by, Kind::Int),
+        Kind::Int => change_int(store, to, update, by, Kind::Int),
         _ => change_other(store, to, update, by),
     }
+}
+
+/// The same of an `int`.
+#[inline(always)]
+fn change_int(store: &mut Store, to: Ptr, update: &Update, by: i64, kind: Kind) -> Option<i64>
+    requires same { update.now.kind ≡ kind }
+    requires int { kind ≡ kinds.Int }
+    ensures some { IfSome result (λ z. Changes update.now to.0 by store.old store.new z) }
+    ensures none { result ≡ None → store.new ≡ store.old }
+{
+    let old = read_int(store, to, kind)?;
+    let widened = fitted(update.widened, old)?;
+    let made = combined(&update.operation, store, widened, by)?;
+    let new = fitted(kind, made)?;
+    match put_int(store, to, kind, new) {
+        Ok(()) => Some(given(update, old, new)),
+        Err(_) => None,
+    }
+}
+
+/// The number at the place of an `int`.
+#[inline(always)]
+fn read_int(store: &Store, place: Ptr, kind: Kind) -> Option<i64>
+    requires { kind ≡ kinds.Int }
+    ensures { IfSome result (λ z. load store.now place.0 (kind_type kind) ≡ Ok (number z)) }
+{
+    load_int(store, place)
+}
+
+/// A number is put at the place of an `int`.
+#[inline(always)]
+fn put_int(store: &mut Store, to: Ptr, kind: Kind, value: i64) -> Result<(), Trap>
+    requires { kind ≡ kinds.Int }
+    ensures outcome { outcome result store.new
+        ≡ put_there store.old to.0 (kind_type kind) (number value) }
+    ensures unchanged { OnErr result (store.new ≡ store.old) }
+{
+    store_int(store, to, value)
 }
 
 /// The same of the other types.
@@ -135,27 +174,22 @@ fn change_other(store: &mut Store, to: Ptr, update: &Update, by: i64) -> Option<
     ensures some { IfSome result (λ z. Changes update.now to.0 by store.old store.new z) }
     ensures none { result ≡ None → store.new ≡ store.old }
 {
-    match update.kind {
-        Kind::Long => change_kind(store, to, update, by, Kind::Long),
-        _ => change_kind(store, to, update, by, update.kind),
+    let old = read(store, to, update.kind)?;
+    let widened = fitted(update.widened, old)?;
+    let made = combined(&update.operation, store, widened, by)?;
+    let new = fitted(update.kind, made)?;
+    match put(store, to, update.kind, new) {
+        Ok(()) => Some(given(update, old, new)),
+        Err(_) => None,
     }
 }
 
-/// The same of the type that it is for.
+/// What an update gives: the number from before, or that from behind.
 #[inline(always)]
-fn change_kind(store: &mut Store, to: Ptr, update: &Update, by: i64, kind: Kind) -> Option<i64>
-    requires { update.now.kind ≡ kind }
-    ensures some { IfSome result (λ z. Changes update.now to.0 by store.old store.new z) }
-    ensures none { result ≡ None → store.new ≡ store.old }
+fn given(update: &Update, old: i64, new: i64) -> i64
+    ensures { result ≡ (if update.now.gives_old then old else new) }
 {
-    let old = read(store, to, kind)?;
-    let widened = fitted(update.widened, old)?;
-    let made = combined(&update.operation, store, widened, by)?;
-    let new = fitted(kind, made)?;
-    match put(store, to, kind, new) {
-        Ok(()) => Some(if update.gives_old { old } else { new }),
-        Err(_) => None,
-    }
+    if update.gives_old { old } else { new }
 }
 
 /// A number is put at a place.
@@ -166,9 +200,9 @@ fn put(store: &mut Store, to: Ptr, kind: Kind, value: i64) -> Result<(), Trap>
     ensures unchanged { OnErr result (store.new ≡ store.old) }
 {
     match kind {
-        Kind::Int => stored(store, to, Kind::Int, Word::Signed(value)),
-        Kind::Long => stored(store, to, Kind::Long, Word::Signed(value)),
-        Kind::Char => stored(store, to, Kind::Char, Word::Signed(value)),
+        Kind::Int => store_int(store, to, value),
+        Kind::Long => store_long(store, to, value),
+        Kind::Char => store_char(store, to, value),
         _ => put_other(store, to, kind, value),
     }
 }

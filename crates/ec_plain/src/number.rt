@@ -10,12 +10,12 @@ ghost use Rattle.ec_objects.specs.Kinds.{kind_type};
 ghost use Rattle.ec_objects.specs.Memory.{Memory, address, load as loaded, moved, number};
 ghost use Rattle.ec_plain.specs.Numbers.{Follows, FollowsPlace, Leads, StepLeads};
 
-use crate::quick::{combined, fitted};
+use crate::quick::{combined, combined_aside, fitted};
 use ec_bytes::Ptr;
 use ec_code::{Binary, Leaf, Plain, PlainStep, Unary, small};
 use ec_memory::Store;
 use ec_objects::Kind;
-use ec_values::{Operation, load};
+use ec_values::{Operation, load, load_char, load_int, load_long};
 
 /// The value of an expression that only reads, where it is a number that `long` has and is found at once.
 #[cycle(number)]
@@ -110,11 +110,11 @@ fn advance(store: &Store, scope: &[Ptr], value: i64, step: &PlainStep) -> Option
         }
         PlainStep::WithLong(operation, slot) => {
             let right = long(store, scope, *slot)?;
-            combined(operation, store, value, right)
+            combined_aside(operation, store, value, right)
         }
         PlainStep::Two(Binary::Operate(operation), right) => {
             let right = number(store, scope, right)?;
-            combined(operation, store, value, right)
+            combined_aside(operation, store, value, right)
         }
         PlainStep::One(Unary::Convert(_, to)) => fitted(*to, value),
         PlainStep::One(Unary::Not) => Some((value == 0) as i64),
@@ -158,7 +158,7 @@ pub(crate) fn int(store: &Store, scope: &[Ptr], slot: u32) -> Option<i64>
     ensures { IfSome result (λ z.
         Leads scope.now (leaf_view (leaf.IntValue slot)) store.now store.now (number z)) }
 {
-    found(store, slot_place(scope, slot)?, Kind::Int)
+    load_int(store, slot_place(scope, slot)?)
 }
 
 /// The value of a `long` of the function.
@@ -167,7 +167,7 @@ pub(crate) fn long(store: &Store, scope: &[Ptr], slot: u32) -> Option<i64>
     ensures { IfSome result (λ z.
         Leads scope.now (leaf_view (leaf.LongValue slot)) store.now store.now (number z)) }
 {
-    found(store, slot_place(scope, slot)?, Kind::Long)
+    load_long(store, slot_place(scope, slot)?)
 }
 
 /// The type of the value that a step loads, if it does.
@@ -242,9 +242,9 @@ pub(crate) fn read(store: &Store, place: Ptr, kind: Kind) -> Option<i64>
     ensures { IfSome result (λ z. loaded store.now place.0 (kind_type kind) ≡ Ok (number z)) }
 {
     match kind {
-        Kind::Int => found(store, place, Kind::Int),
-        Kind::Long => found(store, place, Kind::Long),
-        Kind::Char => found(store, place, Kind::Char),
+        Kind::Int => load_int(store, place),
+        Kind::Long => load_long(store, place),
+        Kind::Char => load_char(store, place),
         _ => read_other(store, place, kind),
     }
 }
@@ -252,18 +252,6 @@ pub(crate) fn read(store: &Store, place: Ptr, kind: Kind) -> Option<i64>
 /// The same of the other types.
 #[inline(never)]
 fn read_other(store: &Store, place: Ptr, kind: Kind) -> Option<i64>
-    ensures { IfSome result (λ z. loaded store.now place.0 (kind_type kind) ≡ Ok (number z)) }
-{
-    match kind {
-        Kind::Ptr => None,
-        Kind::Char => found(store, place, Kind::Char),
-        _ => found(store, place, kind),
-    }
-}
-
-/// The same of any type.
-#[inline(always)]
-fn found(store: &Store, place: Ptr, kind: Kind) -> Option<i64>
     ensures { IfSome result (λ z. loaded store.now place.0 (kind_type kind) ≡ Ok (number z)) }
 {
     match load(store, place, kind) {

@@ -74,6 +74,15 @@ pub(crate) fn combined(operation: &Operation, store: &Store, x: i64, y: i64) -> 
     }
 }
 
+/// The same, where it stands beside others, so that it isn't drawn in for each.
+#[inline(never)]
+pub(crate) fn combined_aside(operation: &Operation, store: &Store, x: i64, y: i64) -> Option<i64>
+    ensures { IfSome result (λ z.
+        worked (operation_view operation.now) store.now (number x) (number y) ≡ gives (number z)) }
+{
+    combined(operation, store, x, y)
+}
+
 /// The same, for any operation.
 #[inline(never)]
 fn combined_slowly(operation: &Operation, store: &Store, x: i64, y: i64) -> Option<i64>
@@ -113,9 +122,20 @@ fn integers(ty: Arith, operator: IntegerOperator, x: i64, y: i64) -> Option<i64>
             divided(ty, x, y)?;
             Some(rest(x, y))
         }
+        _ => with_both(ty, operator, x, y),
+    }
+}
+
+/// What an operator on bits gives for two numbers below 2^31.
+#[inline(never)]
+fn with_both(ty: Arith, operator: IntegerOperator, x: i64, y: i64) -> Option<i64>
+    ensures { IfSome result (λ z. calculated ty (operator_view operator) x y ≡ Ok z) }
+{
+    match operator {
         IntegerOperator::BitsAnd => with_bits(ty, bits(ty, x)? & bits(ty, y)?),
         IntegerOperator::BitsOr => with_bits(ty, bits(ty, x)? | bits(ty, y)?),
         IntegerOperator::BitsXor => with_bits(ty, bits(ty, x)? ^ bits(ty, y)?),
+        _ => None,
     }
 }
 

@@ -95,7 +95,7 @@ fn begun(store: &Store, scope: &[Ptr], leaf: Leaf) -> Outcome
     Outcome::of(begin(store, scope, leaf))
 }
 
-/// The same, step by step.
+/// The value of an expression, step by step.
 #[cycle(evaluation)]
 fn walk(store: &mut Store, scope: &[Ptr], expression: &Plain) -> Outcome
     ensures { (knowing : Knowing) (w : World) (line : ℕ) (first : Bool) (s : State)

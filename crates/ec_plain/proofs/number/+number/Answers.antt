@@ -38,8 +38,8 @@ pub advance-returns-in_ok-right-in-WithLong : goal.advance-returns-in_ok-right-i
 advance-returns-in_ok-right-in-WithLong t c =
     let f : SFits w64 c.in_ok-right-in-WithLong.right = search rules in let g = c.ranges.value in
     let e : plain_step_view c.args.step.now ≡ two (binary.Operate c.in-WithLong.operation) (leaf_view (leaf.LongValue c.in-WithLong.slot)) = search (rules, step_lemmas) in
-    step_as c.args.scope.now number (plain_step_view c.args.step.now) (two (binary.Operate c.in-WithLong.operation) (leaf_view (leaf.LongValue c.in-WithLong.slot))) (number c.args.value) c.args.store.now c.args.store.now c.combined-in-WithLong.result e
-    (operate_leads c.args.scope.now c.in-WithLong.operation (leaf_view (leaf.LongValue c.in-WithLong.slot)) c.args.value c.in_ok-right-in-WithLong.right c.args.store.now c.combined-in-WithLong.result c.in_ok-right-in-WithLong.ensures (simp to_z-of_z at c.combined-in-WithLong.ensures))
+    step_as c.args.scope.now number (plain_step_view c.args.step.now) (two (binary.Operate c.in-WithLong.operation) (leaf_view (leaf.LongValue c.in-WithLong.slot))) (number c.args.value) c.args.store.now c.args.store.now c.combined_aside.result e
+    (operate_leads c.args.scope.now c.in-WithLong.operation (leaf_view (leaf.LongValue c.in-WithLong.slot)) c.args.value c.in_ok-right-in-WithLong.right c.args.store.now c.combined_aside.result c.in_ok-right-in-WithLong.ensures (simp to_z-of_z at c.combined_aside.ensures))
 
 pub element-returns-in_ok-by-in-WithInt-PointerPlus-default : goal.element-returns-in_ok-by-in-WithInt-PointerPlus-default
 element-returns-in_ok-by-in-WithInt-PointerPlus-default t c =
