@@ -2,7 +2,7 @@
 
 ghost use Rattle.std.specs.Prelude.{◌≡◌, ℕ, List, IfOk, OnErr, IsSome, Some, Ok};
 ghost use Rattle.ec_ctypes.specs.views.Types.{ty_view};
-ghost use Rattle.ec_objects.specs.Memory.{ScalarType, scalar_type, Fits, span, put, load, store};
+ghost use Rattle.ec_objects.specs.Memory.{ScalarType, scalar_type, Fits, number, span, put, load, store};
 ghost use Rattle.ec_objects.specs.Kinds.{kind_type};
 ghost use Rattle.ec_objects.specs.declared.kind.Kind.TheVariants as kind;
 ghost use Rattle.ec_bytes.specs.Scalars.{AreBytes};
@@ -51,28 +51,28 @@ impl Store {
         }
     }
 
-    /// The value of an `int` at a pointer.
+    /// The number of an `int` at a pointer, read as one access. The traps are `Null`, `Dead`, `Outside` and `Unset`.
     #[inline(always)]
-    pub fn load_int(&self, ptr: Ptr) -> Result<Value, Trap>
-        ensures { seen value_view result ≡ load self.now ptr.0 (kind_type kind.Int) }
+    pub fn load_int(&self, ptr: Ptr) -> Result<i32, Trap>
+        ensures { seen number result ≡ load self.now ptr.0 (kind_type kind.Int) }
     {
-        self.load_scalar::<I32>(ptr)
+        Ok(self.read::<I32>(ptr)?.0)
     }
 
-    /// The value of a `long` at a pointer.
+    /// The same of a `long`.
     #[inline(always)]
-    pub fn load_long(&self, ptr: Ptr) -> Result<Value, Trap>
-        ensures { seen value_view result ≡ load self.now ptr.0 (kind_type kind.Long) }
+    pub fn load_long(&self, ptr: Ptr) -> Result<i64, Trap>
+        ensures { seen number result ≡ load self.now ptr.0 (kind_type kind.Long) }
     {
-        self.load_scalar::<I64>(ptr)
+        Ok(self.read::<I64>(ptr)?.0)
     }
 
-    /// The value of a `char` at a pointer.
+    /// The same of a `char`.
     #[inline(always)]
-    pub fn load_char(&self, ptr: Ptr) -> Result<Value, Trap>
-        ensures { seen value_view result ≡ load self.now ptr.0 (kind_type kind.Char) }
+    pub fn load_char(&self, ptr: Ptr) -> Result<i8, Trap>
+        ensures { seen number result ≡ load self.now ptr.0 (kind_type kind.Char) }
     {
-        self.load_scalar::<I8>(ptr)
+        Ok(self.read::<I8>(ptr)?.0)
     }
 
     /// Stores `value` at a pointer, as one access (ISO/IEC 9899:1999, 6.2.6, 6.5.16). `ty` is its type: an integer type of

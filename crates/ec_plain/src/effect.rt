@@ -11,14 +11,14 @@ ghost use Rattle.ec_objects.specs.Memory.{address, load, number, store as put_th
 ghost use Rattle.ec_memory.specs.Store.{outcome};
 ghost use Rattle.ec_plain.specs.Numbers.{Changes, Leads, StepLeads, Stands};
 
-use crate::number::{element, number, object_place, operand, read, slot_place};
+use crate::number::{element, int_at, number, object_place, operand, read, slot_place};
 use crate::quick::{combined, fitted};
 use ec_base::Trap;
 use ec_bytes::Ptr;
 use ec_code::{Binary, Leaf, Plain, PlainStep, Unary, Update};
 use ec_memory::Store;
 use ec_objects::Kind;
-use ec_values::{Word, load_int, store as stored, store_char, store_int, store_long};
+use ec_values::{Word, store as stored, store_char, store_int, store_long};
 
 /// The value of an expression, where it is a number that `long` has and is found at once, with its one assignment done.
 /// Where it gives none, nothing is changed.
@@ -50,7 +50,6 @@ fn at_place(store: &mut Store, scope: &[Ptr], place: Ptr, expression: &Plain) ->
     ensures none { result ≡ None → store.new ≡ store.old }
 {
     match expression.steps.as_slice() {
-        [] => None,
         [only] => assign(store, scope, place, only),
         [first, last] => {
             if assigns(last) {
@@ -154,7 +153,7 @@ fn read_int(store: &Store, place: Ptr, kind: Kind) -> Option<i64>
     requires { kind ≡ kinds.Int }
     ensures { IfSome result (λ z. load store.now place.0 (kind_type kind) ≡ Ok (number z)) }
 {
-    load_int(store, place)
+    int_at(store, place)
 }
 
 /// A number is put at the place of an `int`.

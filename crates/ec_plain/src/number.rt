@@ -8,6 +8,7 @@ ghost use Rattle.ec_code.specs.declared.step.Leaf.TheVariants as leaf;
 ghost use Rattle.ec_code.specs.declared.step.Unary.TheVariants as unary;
 ghost use Rattle.ec_objects.specs.Kinds.{kind_type};
 ghost use Rattle.ec_objects.specs.Memory.{Memory, address, load as loaded, moved, number};
+ghost use Rattle.ec_objects.specs.declared.kind.Kind.TheVariants as kind;
 ghost use Rattle.ec_plain.specs.Numbers.{Follows, FollowsPlace, Leads, StepLeads};
 
 use crate::quick::{combined, combined_aside, fitted};
@@ -15,7 +16,7 @@ use ec_bytes::Ptr;
 use ec_code::{Binary, Leaf, Plain, PlainStep, Unary, small};
 use ec_memory::Store;
 use ec_objects::Kind;
-use ec_values::{Operation, load, load_char, load_int, load_long};
+use ec_values::{Operation, load};
 
 /// The value of an expression that only reads, where it is a number that `long` has and is found at once.
 #[cycle(number)]
@@ -158,7 +159,7 @@ pub(crate) fn int(store: &Store, scope: &[Ptr], slot: u32) -> Option<i64>
     ensures { IfSome result (λ z.
         Leads scope.now (leaf_view (leaf.IntValue slot)) store.now store.now (number z)) }
 {
-    load_int(store, slot_place(scope, slot)?)
+    int_at(store, slot_place(scope, slot)?)
 }
 
 /// The value of a `long` of the function.
@@ -167,7 +168,7 @@ pub(crate) fn long(store: &Store, scope: &[Ptr], slot: u32) -> Option<i64>
     ensures { IfSome result (λ z.
         Leads scope.now (leaf_view (leaf.LongValue slot)) store.now store.now (number z)) }
 {
-    load_long(store, slot_place(scope, slot)?)
+    long_at(store, slot_place(scope, slot)?)
 }
 
 /// The type of the value that a step loads, if it does.
@@ -242,10 +243,43 @@ pub(crate) fn read(store: &Store, place: Ptr, kind: Kind) -> Option<i64>
     ensures { IfSome result (λ z. loaded store.now place.0 (kind_type kind) ≡ Ok (number z)) }
 {
     match kind {
-        Kind::Int => load_int(store, place),
-        Kind::Long => load_long(store, place),
-        Kind::Char => load_char(store, place),
+        Kind::Int => int_at(store, place),
+        Kind::Long => long_at(store, place),
+        Kind::Char => char_at(store, place),
         _ => read_other(store, place, kind),
+    }
+}
+
+/// The number of the `int` at a place.
+#[inline(always)]
+pub(crate) fn int_at(store: &Store, place: Ptr) -> Option<i64>
+    ensures { IfSome result (λ z. loaded store.now place.0 (kind_type kind.Int) ≡ Ok (number z)) }
+{
+    match store.load_int(place) {
+        Ok(value) => Some(value as i64),
+        Err(_) => None,
+    }
+}
+
+/// The number of the `long` at a place.
+#[inline(always)]
+fn long_at(store: &Store, place: Ptr) -> Option<i64>
+    ensures { IfSome result (λ z. loaded store.now place.0 (kind_type kind.Long) ≡ Ok (number z)) }
+{
+    match store.load_long(place) {
+        Ok(value) => Some(value),
+        Err(_) => None,
+    }
+}
+
+/// The number of the `char` at a place.
+#[inline(always)]
+fn char_at(store: &Store, place: Ptr) -> Option<i64>
+    ensures { IfSome result (λ z. loaded store.now place.0 (kind_type kind.Char) ≡ Ok (number z)) }
+{
+    match store.load_char(place) {
+        Ok(value) => Some(value as i64),
+        Err(_) => None,
     }
 }
 

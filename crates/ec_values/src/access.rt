@@ -1,11 +1,10 @@
 //! Loads and stores of values in machine words.
 
-ghost use Rattle.std.specs.Prelude.{◌≡◌, Ok, IfSome, OnErr};
+ghost use Rattle.std.specs.Prelude.{◌≡◌, OnErr};
 ghost use Rattle.ec_objects.specs.Kinds.{kind_type};
 ghost use Rattle.ec_objects.specs.Memory.{load, number, store as stored};
 ghost use Rattle.ec_objects.specs.declared.kind.Kind.TheVariants as kind;
 ghost use Rattle.ec_memory.specs.Store.{outcome, seen};
-ghost use Rattle.ec_memory.specs.Values.{value_view};
 ghost use Rattle.ec_values.specs.Words.{word_view};
 
 use crate::word::Word;
@@ -52,48 +51,7 @@ pub fn store(store: &mut Store, ptr: Ptr, kind: Kind, value: Word) -> Result<(),
     }
 }
 
-/// The number of an `int` at a pointer.
-#[inline(always)]
-pub fn load_int(store: &Store, ptr: Ptr) -> Option<i64>
-    ensures { IfSome result (λ z. load store.now ptr.0 (kind_type kind.Int) ≡ Ok (number z)) }
-{
-    small(store.load_int(ptr))
-}
-
-/// The number of a `long` at a pointer.
-#[inline(always)]
-pub fn load_long(store: &Store, ptr: Ptr) -> Option<i64>
-    ensures { IfSome result (λ z. load store.now ptr.0 (kind_type kind.Long) ≡ Ok (number z)) }
-{
-    small(store.load_long(ptr))
-}
-
-/// The number of a `char` at a pointer.
-#[inline(always)]
-pub fn load_char(store: &Store, ptr: Ptr) -> Option<i64>
-    ensures { IfSome result (λ z. load store.now ptr.0 (kind_type kind.Char) ≡ Ok (number z)) }
-{
-    small(store.load_char(ptr))
-}
-
-/// The number that was loaded, where `long` has it.
-#[inline(always)]
-fn small(loaded: Result<Value, Trap>) -> Option<i64>
-    ensures { IfSome result (λ z. seen value_view loaded ≡ Ok (number z)) }
-{
-    match loaded {
-        Ok(Value::Int(number)) => {
-            if i64::MIN as i128 <= number && number <= i64::MAX as i128 {
-                Some(number as i64)
-            } else {
-                None
-            }
-        }
-        _ => None,
-    }
-}
-
-/// Stores a number in an `int` at a pointer, as `store` does.
+/// Stores a number in an `int` at a pointer, as `store` does: its low four bytes.
 #[inline(always)]
 pub fn store_int(store: &mut Store, ptr: Ptr, amount: i64) -> Result<(), Trap>
     ensures outcome { outcome result store.new
@@ -103,7 +61,7 @@ pub fn store_int(store: &mut Store, ptr: Ptr, amount: i64) -> Result<(), Trap>
     store.write(ptr, U32((amount as i128).rem_euclid(1 << 32) as u32))
 }
 
-/// Stores a number in a `long` at a pointer, as `store` does.
+/// The same in a `long`: its eight bytes.
 #[inline(always)]
 pub fn store_long(store: &mut Store, ptr: Ptr, amount: i64) -> Result<(), Trap>
     ensures outcome { outcome result store.new
@@ -113,7 +71,7 @@ pub fn store_long(store: &mut Store, ptr: Ptr, amount: i64) -> Result<(), Trap>
     store.write(ptr, U64((amount as i128).rem_euclid(1 << 64) as u64))
 }
 
-/// Stores a number in a `char` at a pointer, as `store` does.
+/// The same in a `char`: its lowest byte.
 #[inline(always)]
 pub fn store_char(store: &mut Store, ptr: Ptr, amount: i64) -> Result<(), Trap>
     ensures outcome { outcome result store.new

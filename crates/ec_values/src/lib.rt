@@ -7,7 +7,7 @@ mod calculations;
 mod operation;
 mod word;
 
-pub use access::{load, load_char, load_int, load_long, store, store_char, store_int, store_long};
+pub use access::{load, store, store_char, store_int, store_long};
 pub use calculations::{convert, flip, negate, work};
 pub use ec_memory;
 pub use ec_memory::{ec_bytes, ec_ctypes};
