@@ -9,3 +9,4 @@ pub mod Calls
 pub mod Counts
 pub mod Strides
 pub mod Singles
+pub mod Sums

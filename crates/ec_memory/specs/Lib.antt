@@ -4,5 +4,6 @@ pub mod SingleBytes
 pub mod Objects
 pub mod Moves
 pub mod Store
+pub mod Sums
 pub mod Values
 pub mod Elements

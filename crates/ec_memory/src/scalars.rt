@@ -1,12 +1,14 @@
 //! Loads and stores of scalars.
 
-ghost use Rattle.std.specs.Prelude.{◌≡◌, ℕ, List, IfOk, OnErr, IsSome, Some, Ok};
+ghost use Rattle.std.specs.Prelude.{◌≡◌, ◌+ℤ◌, ℕ, List, IfOk, OnErr, IsSome, MatchOption, None, Some, Ok, length};
 ghost use Rattle.ec_ctypes.specs.views.Types.{ty_view};
-ghost use Rattle.ec_objects.specs.Memory.{ScalarType, scalar_type, Fits, number, span, put, load, store};
+ghost use Rattle.ec_objects.specs.Memory.{ScalarType, scalar_type, Fits, decoded, encoded, number, span, put, load, store};
 ghost use Rattle.ec_objects.specs.Kinds.{kind_type};
 ghost use Rattle.ec_objects.specs.declared.kind.Kind.TheVariants as kind;
-ghost use Rattle.ec_bytes.specs.Scalars.{AreBytes};
+ghost use Rattle.ec_bytes.specs.Scalars.{AreBytes, signed_bytes, signed_of};
+ghost use Rattle.std.specs.Int.{w32};
 ghost use Rattle.ec_memory.specs.Store.{outcome, seen};
+ghost use Rattle.ec_memory.specs.Sums.{Adds, HasNoSum, PassesInt};
 ghost use Rattle.ec_memory.specs.Values.{value_view};
 
 use crate::place::reach;
@@ -73,6 +75,33 @@ impl Store {
         ensures { seen number result ≡ load self.now ptr.0 (kind_type kind.Char) }
     {
         Ok(self.read::<I8>(ptr)?.0)
+    }
+
+    /// Adds a number to the `int` at a pointer, and gives that from before (ISO/IEC 9899:1999, 6.5.16.2). There is none, and
+    /// nothing is changed, where no `int` can be read there, and where `int` doesn't have the sum.
+    #[inline(always)]
+    pub fn add_int(&mut self, ptr: Ptr, by: i64) -> Option<i32>
+        ensures sum { MatchOption result (HasNoSum self.old ptr.0 by)
+            (λ before. Adds self.old ptr.0 before by self.new) }
+        ensures unchanged { result ≡ None → self.new ≡ self.old }
+    {
+        match reach(&self.alive, ptr, 4) {
+            Ok(at) => match self.cells.view::<I32>(at).get() {
+                Some(scalar) => {
+                    let before = number_in(scalar);
+                    match sum_of(before, by) {
+                        Some(sum) => {
+                            let new = scalar_of(sum);
+                            self.cells.view_mut::<I32>(at).set(new);
+                            Some(before)
+                        }
+                        None => None,
+                    }
+                }
+                None => None,
+            },
+            Err(_) => None,
+        }
     }
 
     /// Stores `value` at a pointer, as one access (ISO/IEC 9899:1999, 6.2.6, 6.5.16). `ty` is its type: an integer type of
@@ -159,5 +188,36 @@ impl Store {
         let at = reach(&self.alive, ptr, T::SIZE as u128)?;
         self.cells.view_mut::<T>(at).set(value);
         Ok(())
+    }
+}
+
+/// The scalar that stands for a number.
+#[inline(always)]
+fn scalar_of(amount: i32) -> I32
+    ensures { signed_bytes w32 result.0 ≡ encoded (kind_type kind.Int) (number amount) }
+{
+    I32(amount)
+}
+
+/// The number that a scalar stands for.
+#[inline(always)]
+fn number_in(scalar: I32) -> i32
+    ensures { (bytes : List ℕ) → length bytes ≡ 4 → AreBytes bytes
+        → scalar ≡ record { 0 = signed_of w32 bytes }
+        → number result ≡ decoded (kind_type kind.Int) bytes }
+{
+    scalar.0
+}
+
+/// The sum, where `int` has it.
+#[inline(always)]
+fn sum_of(before: i32, by: i64) -> Option<i32>
+    ensures { MatchOption result (PassesInt (before +ℤ by)) (λ sum. sum ≡ before +ℤ by) }
+{
+    let sum = (before as i64).checked_add(by)?;
+    if i32::MIN as i64 <= sum && sum <= i32::MAX as i64 {
+        Some(sum as i32)
+    } else {
+        None
     }
 }
