@@ -19,6 +19,20 @@ use ec_objects::Kind;
 pub fn load(store: &Store, ptr: Ptr, kind: Kind) -> Result<Word, Trap>
     ensures { seen word_view result ≡ load store.now ptr.0 (kind_type kind) }
 {
+    match kind {
+        Kind::Int => match store.load_int(ptr) {
+            Ok(number) => Ok(Word::Signed(number as i64)),
+            Err(trap) => Err(trap),
+        },
+        _ => load_other(store, ptr, kind),
+    }
+}
+
+/// The same of any type.
+#[inline(never)]
+fn load_other(store: &Store, ptr: Ptr, kind: Kind) -> Result<Word, Trap>
+    ensures { seen word_view result ≡ load store.now ptr.0 (kind_type kind) }
+{
     match store.load_kind(ptr, kind) {
         Ok(Value::Int(number)) => Ok(Word::of_number(number)),
         Ok(Value::Ptr(ptr)) => Ok(Word::Address(ptr)),
@@ -30,6 +44,22 @@ pub fn load(store: &Store, ptr: Ptr, kind: Kind) -> Result<Word, Trap>
 /// `Dead` and `Outside`, after which nothing is changed.
 #[inline(always)]
 pub fn store(store: &mut Store, ptr: Ptr, kind: Kind, value: Word) -> Result<(), Trap>
+    ensures outcome { outcome result store.new
+        ≡ stored store.old ptr.0 (kind_type kind) (word_view value) }
+    ensures unchanged { OnErr result (store.new ≡ store.old) }
+{
+    match kind {
+        Kind::Int => match value {
+            Word::Signed(amount) => store_int(store, ptr, amount),
+            _ => store_other(store, ptr, kind, value),
+        },
+        _ => store_other(store, ptr, kind, value),
+    }
+}
+
+/// The same of any type.
+#[inline(never)]
+fn store_other(store: &mut Store, ptr: Ptr, kind: Kind, value: Word) -> Result<(), Trap>
     ensures outcome { outcome result store.new
         ≡ stored store.old ptr.0 (kind_type kind) (word_view value) }
     ensures unchanged { OnErr result (store.new ≡ store.old) }

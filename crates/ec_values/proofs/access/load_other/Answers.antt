@@ -6,7 +6,7 @@ use mir.Val.{SFits}
 use Rattle.ec_objects.specs.Kinds.{kind_type}
 use Rattle.ec_values.specs.Words.{HasWord}
 use Rattle.ec_values.proofs.Loads.{loaded_bounds}
-use Rattle.ec_values.proofs.access.load.Goals as goal
+use Rattle.ec_values.proofs.access.load_other.Goals as goal
 
 pub of_number-requires : goal.of_number-requires
 of_number-requires c =
