@@ -1,3 +1,4 @@
 pub mod Numbers
 pub mod Quotients
 pub mod Walks
+pub mod Sums

@@ -1,16 +1,24 @@
 -- What is found at once, as the definition says it: a value, and the memory behind it.
 use Rattle.std.specs.Prelude.{◌≡◌, ℕ, ℤ, Bool, List, map}
 use Rattle.ec_bytes.specs.declared.scalar.address.Ptr.{Ptr}
-use Rattle.ec_code.specs.Trees.{Step}
+use Rattle.ec_ctypes.specs.declared.types.arith.Arith.TheVariants as arithmetic
+use Rattle.ec_code.specs.Trees.{Step, two}
 use Rattle.ec_code.specs.Views.{plain_step_view}
 use Rattle.ec_code.specs.declared.expression.PlainStep.{PlainStep}
 use Rattle.ec_evaluation.specs.Evaluate.{World, Step as Knowing, eval}
+use Rattle.ec_code.specs.declared.step.Binary.{Binary}
 use Rattle.ec_code.specs.declared.step.Binary.TheVariants as binary
 use Rattle.ec_code.specs.declared.step.Update.{Update}
 use Rattle.ec_evaluation.specs.Results.{value, on_value}
 use Rattle.ec_evaluation.specs.State.{State}
+use Rattle.ec_objects.specs.declared.kind.Kind.TheVariants as kind
 use Rattle.ec_objects.specs.Memory.{Memory, ValueData, address, number}
+use Rattle.ec_resolved.specs.Operations.{gives, worked}
 use Rattle.ec_resolved.specs.Resolved.{Exp}
+use Rattle.ec_values.specs.Operations.{operation_view}
+use Rattle.ec_values.specs.declared.operation.IntegerOperator.TheVariants as operator
+use Rattle.ec_values.specs.declared.operation.Operation.{Operation}
+use Rattle.ec_values.specs.declared.operation.Operation.TheVariants as operation
 use Rattle.ec_plain.specs.Answered.{at, context}
 use Rattle.ec_plain.specs.Steps.{both_on, followed, old_on, step_on}
 
@@ -51,3 +59,33 @@ Changes u p by m n z =
     → on_value (old_on line u (address p) (at s m))
     (λ old t. both_on line (binary.Update u) (address p) old (number by) t)
     ≡ value (number z) (at s n)
+
+-- behind any number a step is this operation, with this number at its right
+abbrev pub Operates : List Ptr → Step → Memory → Operation → ℤ → Type 0
+Operates scope step m op y =
+    (x z : ℤ) → worked (operation_view op) m (number x) (number y) ≡ gives (number z)
+    → StepLeads scope step (number x) m m (number z)
+
+-- what a step leads to behind this place is what a whole expression leads to
+abbrev pub Targets : List Ptr → Exp → Memory → ℕ → Step → Type 0
+Targets scope e m p step =
+    (n : Memory) (z : ℤ) → StepLeads scope step (address p) m n (number z)
+    → Leads scope e m n (number z)
+
+-- with a number at its right, whatever it is the value of, a step leads from one memory to another, and gives a number
+abbrev pub Completes : Binary → ℕ → ℤ → Memory → Memory → ℤ → Type 0
+Completes step p y m n z =
+    (scope : List Ptr) (a : Exp) → Leads scope a m m (number y)
+    → StepLeads scope (two step a) (address p) m n (number z)
+
+-- a step is this update by this number, of whatever place
+abbrev pub Updates : List Ptr → Step → Memory → Update → ℤ → Type 0
+Updates scope step m u y =
+    (p : ℕ) (n : Memory) (z : ℤ) → Changes u p y m n z
+    → StepLeads scope step (address p) m n (number z)
+
+-- an update adds to an int
+pub record AddsInts (u : Update) : Type 0 where
+  pub of_int : u.kind ≡ kind.Int
+  pub as_int : u.widened ≡ kind.Int
+  pub adds : u.operation ≡ operation.Integers arithmetic.Int operator.Plus

@@ -84,6 +84,19 @@ pub fn finish(store: &mut Store, step: Binary, left: Word, old: Word, right: Wor
 {
     match step {
         Binary::Store(kind) => assign(store, kind, left, right),
+        _ => finish_other(store, step, left, old, right),
+    }
+}
+
+/// The same of any step.
+#[inline(never)]
+fn finish_other(store: &mut Store, step: Binary, left: Word, old: Word, right: Word) -> Outcome
+    ensures { (line : ℕ) (s : State)
+        → both_on line step (word_view left) (word_view old) (word_view right) (at s store.old)
+        ≡ answered line (outcome_view result) (at s store.new) }
+{
+    match step {
+        Binary::Store(kind) => assign(store, kind, left, right),
         Binary::Copy(size) => copy(store, size, left, right),
         Binary::Update(update) => renew(store, update, left, old, right),
         Binary::Operate(operation) => operate(operation, store, left, right),

@@ -1,6 +1,6 @@
 //! Assignments of numbers that are found at once.
 
-ghost use Rattle.std.specs.Prelude.{◌≡◌, Ok, None, IfSome, OnErr, if◌then◌else◌};
+ghost use Rattle.std.specs.Prelude.{◌≡◌, Ok, None, IfSome, OnErr, true, if◌then◌else◌};
 ghost use Rattle.ec_code.specs.Trees.{leaf_view, two};
 ghost use Rattle.ec_code.specs.Views.{plain_step_view, plain_view};
 ghost use Rattle.ec_code.specs.declared.expression.Plain.{out-Plain};
@@ -9,57 +9,78 @@ ghost use Rattle.ec_objects.specs.Kinds.{kind_type};
 ghost use Rattle.ec_objects.specs.declared.kind.Kind.TheVariants as kinds;
 ghost use Rattle.ec_objects.specs.Memory.{address, load, number, store as put_there};
 ghost use Rattle.ec_memory.specs.Store.{outcome};
-ghost use Rattle.ec_plain.specs.Numbers.{Changes, Leads, StepLeads, Stands};
+ghost use Rattle.ec_plain.specs.Numbers.{AddsInts, Changes, Completes, Leads, Stands, StepLeads, Targets};
 
-use crate::number::{element, int_at, number, object_place, operand, read, slot_place};
+use crate::number::{element, int_at, number, operand, place_of, read, valued};
 use crate::quick::{combined, fitted};
 use ec_base::Trap;
 use ec_bytes::Ptr;
 use ec_code::{Binary, Leaf, Plain, PlainStep, Unary, Update};
+use ec_ctypes::Arith;
 use ec_memory::Store;
 use ec_objects::Kind;
-use ec_values::{Word, store as stored, store_char, store_int, store_long};
+use ec_values::{
+    IntegerOperator, Operation, Word, store as stored, store_char, store_int, store_long,
+};
 
 /// The value of an expression, where it is a number that `long` has and is found at once, with its one assignment done.
 /// Where it gives none, nothing is changed.
-#[inline(always)]
+#[inline(never)]
 pub(crate) fn at_once(store: &mut Store, scope: &[Ptr], expression: &Plain) -> Option<i64>
     ensures some { IfSome result (λ z.
         Leads scope.now (plain_view expression.now) store.old store.new (number z)) }
     ensures none { result ≡ None → store.new ≡ store.old }
 {
-    match expression.leaf {
-        Leaf::Slot(slot) => {
-            let place = slot_place(scope, slot)?;
-            at_place(store, scope, place, expression)
-        }
-        Leaf::Object(number) => {
-            let place = object_place(number);
-            at_place(store, scope, place, expression)
-        }
-        _ => operand(store, scope, expression),
+    match place_of(scope, &expression.leaf) {
+        Some(place) => at_place(store, scope, place, expression),
+        None => valued(store, scope, expression),
     }
 }
 
 /// The same, where it begins with a place.
-#[inline(never)]
+#[inline(always)]
 fn at_place(store: &mut Store, scope: &[Ptr], place: Ptr, expression: &Plain) -> Option<i64>
     requires { Stands scope.now (leaf_view (out-Plain expression.now).leaf) place.0 }
     ensures some { IfSome result (λ z.
         Leads scope.now (plain_view expression.now) store.old store.new (number z)) }
     ensures none { result ≡ None → store.new ≡ store.old }
 {
+    match target_of(store, scope, place, expression) {
+        Some(found) => assign(store, scope, found.place, found.step),
+        None => number(store, scope, expression),
+    }
+}
+
+/// A place, and the last step of an expression, which is for it.
+#[derive(Clone, Copy)]
+struct Target<'p> {
+    place: Ptr,
+    step: &'p PlainStep,
+}
+
+/// The target of an expression that begins with a place: that place, or an element of the array there.
+#[inline(always)]
+fn target_of<'p>(
+    store: &Store,
+    scope: &[Ptr],
+    place: Ptr,
+    expression: &'p Plain,
+) -> Option<Target<'p>>
+    requires { Stands scope.now (leaf_view (out-Plain expression.now).leaf) place.0 }
+    ensures { IfSome result (λ t. Targets scope.now (plain_view expression.now) store.now t.place.0
+        (plain_step_view t.step.now)) }
+{
     match expression.steps.as_slice() {
-        [only] => assign(store, scope, place, only),
-        [first, last] => {
-            if assigns(last) {
-                let to = element(store, scope, place, first)?;
-                assign(store, scope, to, last)
+        [step] => Some(Target { place, step }),
+        [first, step] => {
+            if assigns(step) {
+                let place = element(store, scope, place, first)?;
+                Some(Target { place, step })
             } else {
-                number(store, scope, expression)
+                None
             }
         }
-        _ => number(store, scope, expression),
+        _ => None,
     }
 }
 
@@ -82,23 +103,37 @@ fn assign(store: &mut Store, scope: &[Ptr], to: Ptr, step: &PlainStep) -> Option
     ensures none { result ≡ None → store.new ≡ store.old }
 {
     match step {
-        PlainStep::Two(Binary::Store(kind), right) => give(store, scope, to, *kind, right),
+        PlainStep::Two(Binary::Operate(_), _) => None,
+        PlainStep::Two(step, right) => {
+            let by = operand(store, scope, right)?;
+            complete(store, to, step, by)
+        }
         PlainStep::ChangeBy(update, by) => change(store, to, update, *by),
-        PlainStep::Two(Binary::Update(update), right) => { renew(store, scope, to, update, right) }
         PlainStep::One(Unary::Load(kind)) => read(store, to, *kind),
+        _ => None,
+    }
+}
+
+/// An assignment to a place, with the number at its right.
+#[inline(always)]
+fn complete(store: &mut Store, to: Ptr, step: &Binary, by: i64) -> Option<i64>
+    ensures some { IfSome result (λ z. Completes step.now to.0 by store.old store.new z) }
+    ensures none { result ≡ None → store.new ≡ store.old }
+{
+    match step {
+        Binary::Store(kind) => give(store, to, *kind, by),
+        Binary::Update(update) => renew(store, to, update, by),
         _ => None,
     }
 }
 
 /// `a = b`, to a place.
 #[inline(always)]
-fn give(store: &mut Store, scope: &[Ptr], to: Ptr, kind: Kind, right: &Plain) -> Option<i64>
-    ensures some { IfSome result (λ z. StepLeads scope.now
-        (two (binary.Store kind) (plain_view right.now))
-        (address to.0) store.old store.new (number z)) }
+fn give(store: &mut Store, to: Ptr, kind: Kind, value: i64) -> Option<i64>
+    ensures some { IfSome result (λ z.
+        Completes (binary.Store kind) to.0 value store.old store.new z) }
     ensures none { result ≡ None → store.new ≡ store.old }
 {
-    let value = operand(store, scope, right)?;
     match put(store, to, kind, value) {
         Ok(()) => Some(value),
         Err(_) => None,
@@ -107,13 +142,11 @@ fn give(store: &mut Store, scope: &[Ptr], to: Ptr, kind: Kind, right: &Plain) ->
 
 /// `a op= b`, at a place.
 #[inline(always)]
-fn renew(store: &mut Store, scope: &[Ptr], to: Ptr, update: &Update, right: &Plain) -> Option<i64>
-    ensures some { IfSome result (λ z. StepLeads scope.now
-        (two (binary.Update update.now) (plain_view right.now))
-        (address to.0) store.old store.new (number z)) }
+fn renew(store: &mut Store, to: Ptr, update: &Update, by: i64) -> Option<i64>
+    ensures some { IfSome result (λ z.
+        Completes (binary.Update update.now) to.0 by store.old store.new z) }
     ensures none { result ≡ None → store.new ≡ store.old }
 {
-    let by = operand(store, scope, right)?;
     change(store, to, update, by)
 }
 
@@ -144,6 +177,42 @@ fn change_int(store: &mut Store, to: Ptr, update: &Update, by: i64, kind: Kind) 
     match put_int(store, to, kind, new) {
         Ok(()) => Some(given(update, old, new)),
         Err(_) => None,
+    }
+}
+
+/// `a += b` and `++` of an `int`, by a number.
+#[inline(always)]
+pub(crate) fn added(store: &mut Store, to: Ptr, update: &Update, by: i64) -> Option<i64>
+    ensures some { IfSome result (λ z. Changes update.now to.0 by store.old store.new z) }
+    ensures none { result ≡ None → store.new ≡ store.old }
+{
+    if adds_ints(update) {
+        match store.add_int(to, by) {
+            Some(before) => {
+                let old = before as i64;
+                Some(given(update, old, old + by))
+            }
+            None => None,
+        }
+    } else {
+        None
+    }
+}
+
+/// Whether an update adds to an `int`.
+#[inline(always)]
+fn adds_ints(update: &Update) -> bool
+    ensures { result ≡ true → AddsInts update.now }
+{
+    match update.kind {
+        Kind::Int => match update.widened {
+            Kind::Int => match update.operation {
+                Operation::Integers(Arith::Int, IntegerOperator::Plus) => true,
+                _ => false,
+            },
+            _ => false,
+        },
+        _ => false,
     }
 }
 

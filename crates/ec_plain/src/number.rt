@@ -2,14 +2,15 @@
 
 ghost use Rattle.std.specs.Prelude.{◌≡◌, [], ◌∷◌, List, Ok, IfSome};
 ghost use Rattle.ec_bytes.specs.declared.scalar.address.Ptr.{Ptr};
-ghost use Rattle.ec_code.specs.Trees.{leaf_view, one};
+ghost use Rattle.ec_code.specs.Trees.{leaf_view, one, two};
 ghost use Rattle.ec_code.specs.Views.{plain_step_view, plain_view};
+ghost use Rattle.ec_code.specs.declared.step.Binary.TheVariants as binary;
 ghost use Rattle.ec_code.specs.declared.step.Leaf.TheVariants as leaf;
 ghost use Rattle.ec_code.specs.declared.step.Unary.TheVariants as unary;
 ghost use Rattle.ec_objects.specs.Kinds.{kind_type};
 ghost use Rattle.ec_objects.specs.Memory.{Memory, address, load as loaded, moved, number};
 ghost use Rattle.ec_objects.specs.declared.kind.Kind.TheVariants as kind;
-ghost use Rattle.ec_plain.specs.Numbers.{Follows, FollowsPlace, Leads, StepLeads};
+ghost use Rattle.ec_plain.specs.Numbers.{Follows, FollowsPlace, Leads, Operates, Stands, StepLeads};
 
 use crate::quick::{combined, combined_aside, fitted};
 use ec_bytes::Ptr;
@@ -25,25 +26,28 @@ pub(crate) fn number(store: &Store, scope: &[Ptr], expression: &Plain) -> Option
     ensures { IfSome result (λ z.
         Leads scope.now (plain_view expression.now) store.now store.now (number z)) }
 {
-    match expression.leaf {
-        Leaf::Slot(slot) => {
-            let place = slot_place(scope, slot)?;
-            placed(store, scope, place, expression.steps.as_slice())
-        }
-        Leaf::Object(number) => {
-            let place = object_place(number);
-            placed(store, scope, place, expression.steps.as_slice())
-        }
-        _ => {
+    match place_of(scope, &expression.leaf) {
+        Some(place) => placed(store, scope, place, expression.steps.as_slice()),
+        None => {
             let begun = leaf_number(store, scope, &expression.leaf)?;
             follow(store, scope, begun, expression.steps.as_slice())
         }
     }
 }
 
+/// The same, where it begins with a constant, or with an `int` or a `long` of the function.
+#[inline(always)]
+pub(crate) fn valued(store: &Store, scope: &[Ptr], expression: &Plain) -> Option<i64>
+    ensures { IfSome result (λ z.
+        Leads scope.now (plain_view expression.now) store.now store.now (number z)) }
+{
+    let begun = leaf_number(store, scope, &expression.leaf)?;
+    follow(store, scope, begun, expression.steps.as_slice())
+}
+
 /// What steps make of a place that begin with the value there, or with that of an element of an array.
 #[cycle(number)]
-#[inline(never)]
+#[inline(always)]
 fn placed(store: &Store, scope: &[Ptr], place: Ptr, steps: &[PlainStep]) -> Option<i64>
     ensures { IfSome result (λ z. FollowsPlace scope.now steps.now place.0 store.now z) }
 {
@@ -103,39 +107,144 @@ fn advance(store: &Store, scope: &[Ptr], value: i64, step: &PlainStep) -> Option
     ensures { IfSome result (λ z. StepLeads scope.now (plain_step_view step.now) (number value)
         store.now store.now (number z)) }
 {
+    match right_of(store, scope, step) {
+        Some(right) => combined(right.operation, store, value, right.number),
+        None => match step {
+            PlainStep::Two(Binary::Operate(operation), right) => {
+                let right = number(store, scope, right)?;
+                combined_aside(operation, store, value, right)
+            }
+            _ => without_right(store, scope, value, step),
+        },
+    }
+}
+
+/// An operation, and the number at its right.
+#[derive(Clone, Copy)]
+struct Right<'p> {
+    operation: &'p Operation,
+    number: i64,
+}
+
+/// The operation of a step, with the number at its right where that is found without a way back.
+#[inline(always)]
+fn right_of<'p>(store: &Store, scope: &[Ptr], step: &'p PlainStep) -> Option<Right<'p>>
+    ensures { IfSome result (λ r. Operates scope.now (plain_step_view step.now) store.now
+        r.operation.now r.number) }
+{
     match step {
-        PlainStep::WithNumber(operation, right) => combined(operation, store, value, *right),
-        PlainStep::WithInt(operation, slot) => {
-            let right = int(store, scope, *slot)?;
-            combined(operation, store, value, right)
+        PlainStep::WithNumber(operation, number) => {
+            Some(Right {
+                operation,
+                number: *number,
+            })
         }
-        PlainStep::WithLong(operation, slot) => {
-            let right = long(store, scope, *slot)?;
-            combined_aside(operation, store, value, right)
+        PlainStep::WithInt(operation, slot) => {
+            let number = int(store, scope, *slot)?;
+            Some(Right { operation, number })
         }
         PlainStep::Two(Binary::Operate(operation), right) => {
-            let right = number(store, scope, right)?;
-            combined_aside(operation, store, value, right)
+            let number = with_constant(store, scope, right)?;
+            Some(Right { operation, number })
         }
-        PlainStep::One(Unary::Convert(_, to)) => fitted(*to, value),
-        PlainStep::One(Unary::Not) => Some((value == 0) as i64),
         _ => None,
     }
 }
 
-/// The number of an expression that may well have one step or none.
+/// What any other step makes of a number.
+#[inline(always)]
+fn without_right(store: &Store, scope: &[Ptr], value: i64, step: &PlainStep) -> Option<i64>
+    ensures { IfSome result (λ z. StepLeads scope.now (plain_step_view step.now) (number value)
+        store.now store.now (number z)) }
+{
+    match step {
+        PlainStep::One(Unary::Convert(_, to)) => fitted(*to, value),
+        PlainStep::One(Unary::Not) => Some((value == 0) as i64),
+        PlainStep::WithLong(operation, slot) => with_long(operation, store, scope, value, *slot),
+        _ => None,
+    }
+}
+
+/// What an operation gives for a number and the value of a `long` of the function.
+#[inline(never)]
+fn with_long(
+    operation: &Operation,
+    store: &Store,
+    scope: &[Ptr],
+    value: i64,
+    slot: u32,
+) -> Option<i64>
+    ensures { IfSome result (λ z. StepLeads scope.now
+        (two (binary.Operate operation.now) (leaf_view (leaf.LongValue slot)))
+        (number value) store.now store.now (number z)) }
+{
+    let right = long(store, scope, slot)?;
+    combined(operation, store, value, right)
+}
+
+/// The number that an operation on an `int` of the function and a constant gives, as one of another type where that follows.
+#[inline(always)]
+fn with_constant(store: &Store, scope: &[Ptr], expression: &Plain) -> Option<i64>
+    ensures { IfSome result (λ z.
+        Leads scope.now (plain_view expression.now) store.now store.now (number z)) }
+{
+    match expression.leaf {
+        Leaf::IntValue(slot) => {
+            let begun = int(store, scope, slot)?;
+            few(store, begun, expression.steps.as_slice())
+        }
+        _ => None,
+    }
+}
+
+/// What an operation with a constant makes of a number, as one of another type where that follows.
+#[inline(always)]
+fn few(store: &Store, begun: i64, steps: &[PlainStep]) -> Option<i64>
+    ensures { IfSome result (λ z. (scope : List Ptr) → Follows scope steps.now begun store.now z) }
+{
+    match steps {
+        [only] => with_number(store, begun, only),
+        [first, last] => {
+            let made = with_number(store, begun, first)?;
+            as_other(made, last)
+        }
+        _ => None,
+    }
+}
+
+/// What an operation with a constant makes of a number.
+#[inline(always)]
+fn with_number(store: &Store, value: i64, step: &PlainStep) -> Option<i64>
+    ensures { IfSome result (λ z. (scope : List Ptr) → StepLeads scope (plain_step_view step.now)
+        (number value) store.now store.now (number z)) }
+{
+    match step {
+        PlainStep::WithNumber(operation, right) => combined_aside(operation, store, value, *right),
+        _ => None,
+    }
+}
+
+/// What a step makes of a number that takes it as one of another type.
+#[inline(always)]
+fn as_other(value: i64, step: &PlainStep) -> Option<i64>
+    ensures { IfSome result (λ z. (scope : List Ptr) (m : Memory) → StepLeads scope
+        (plain_step_view step.now) (number value) m m (number z)) }
+{
+    match step {
+        PlainStep::One(Unary::Convert(_, to)) => fitted(*to, value),
+        _ => None,
+    }
+}
+
+/// The number of an expression that most often has few steps.
 #[inline(always)]
 pub(crate) fn operand(store: &Store, scope: &[Ptr], expression: &Plain) -> Option<i64>
     ensures { IfSome result (λ z.
         Leads scope.now (plain_view expression.now) store.now store.now (number z)) }
 {
-    match expression.steps.as_slice() {
-        [] => leaf_number(store, scope, &expression.leaf),
-        [only] => match leaf_number(store, scope, &expression.leaf) {
-            Some(begun) => advance(store, scope, begun, only),
-            None => number(store, scope, expression),
-        },
-        _ => number(store, scope, expression),
+    match valued(store, scope, expression) {
+        Some(found) => Some(found),
+        None => number(store, scope, expression),
     }
 }
 
@@ -163,7 +272,7 @@ pub(crate) fn int(store: &Store, scope: &[Ptr], slot: u32) -> Option<i64>
 }
 
 /// The value of a `long` of the function.
-#[inline(always)]
+#[inline(never)]
 pub(crate) fn long(store: &Store, scope: &[Ptr], slot: u32) -> Option<i64>
     ensures { IfSome result (λ z.
         Leads scope.now (leaf_view (leaf.LongValue slot)) store.now store.now (number z)) }
@@ -213,6 +322,18 @@ fn moved(store: &Store, first: Ptr, by: i64, size: u64) -> Option<Ptr>
     match store.move_ptr(first, by, size) {
         Ok(to) => Some(to),
         Err(_) => None,
+    }
+}
+
+/// The place of an object of the function or of the program.
+#[inline(always)]
+pub(crate) fn place_of(scope: &[Ptr], leaf: &Leaf) -> Option<Ptr>
+    ensures { IfSome result (λ p. Stands scope.now (leaf_view leaf.now) p.0) }
+{
+    match leaf {
+        Leaf::Slot(slot) => slot_place(scope, *slot),
+        Leaf::Object(number) => Some(object_place(*number)),
+        _ => None,
     }
 }
 

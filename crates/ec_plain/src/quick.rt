@@ -108,6 +108,18 @@ fn quick(operation: Operation, x: i64, y: i64) -> Option<i64>
     }
 }
 
+/// What a comparison gives for two numbers.
+#[inline(always)]
+pub(crate) fn compared_by(operation: &Operation, x: i64, y: i64) -> Option<i64>
+    ensures { IfSome result (λ z. (m : Memory) →
+        worked (operation_view operation.now) m (number x) (number y) ≡ gives (number z)) }
+{
+    match operation {
+        Operation::Compare(comparison) => Some(compared(*comparison, x, y) as i64),
+        _ => None,
+    }
+}
+
 /// What an operator gives for two numbers of `int`, `long` or `long long`, where it doesn't trap and is found at once.
 #[inline(always)]
 fn integers(ty: Arith, operator: IntegerOperator, x: i64, y: i64) -> Option<i64>

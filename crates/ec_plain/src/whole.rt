@@ -1,6 +1,6 @@
 //! Whole expressions.
 
-ghost use Rattle.std.specs.Prelude.{◌≡◌, ℕ, Bool};
+ghost use Rattle.std.specs.Prelude.{◌≡◌, ℕ, Bool, IfSome};
 ghost use Rattle.ec_evaluation.specs.Evaluate.{Context, World, Step as Knowing, eval};
 ghost use Rattle.ec_evaluation.specs.State.{State};
 ghost use Rattle.ec_values.specs.Words.{word_view};
@@ -12,12 +12,13 @@ ghost use Rattle.ec_code.specs.declared.step.Leaf.TheVariants as leaf;
 ghost use Rattle.ec_code.specs.Trees.{leaf_view};
 ghost use Rattle.ec_code.specs.Views.{plain_step_view, plain_view};
 ghost use Rattle.ec_plain.specs.Answered.{answered, at, context};
+ghost use Rattle.ec_plain.specs.Numbers.{Stands};
 ghost use Rattle.ec_plain.specs.Outcomes.{outcome_view};
 ghost use Rattle.ec_plain.specs.Steps.{step_on, two_on};
 
 use crate::both::{Ready, finish, prepare};
 use crate::effect::at_once;
-use crate::number::{int, slot_place};
+use crate::number::place_of;
 use crate::one::{load, unary};
 use crate::outcome::Outcome;
 use ec_bytes::Ptr;
@@ -34,69 +35,29 @@ pub fn evaluate(store: &mut Store, scope: &[Ptr], expression: &Plain) -> Outcome
         → eval knowing w (context line scope.now first) (plain_view expression.now) (at s store.old)
         ≡ answered line (outcome_view result) (at s store.new) }
 {
-    match expression.steps.as_slice() {
-        [] => alone(store, scope, expression.leaf),
-        _ => match at_once(store, scope, expression) {
+    match place_alone(scope, expression) {
+        Some(place) => Outcome::Address(place),
+        None => match at_once(store, scope, expression) {
             Some(number) => Outcome::Signed(number),
             None => walk(store, scope, expression),
         },
     }
 }
 
-/// The value of where an expression begins, which is all of it.
+/// The place of an object that is all of an expression.
 #[inline(always)]
-fn alone(store: &Store, scope: &[Ptr], leaf: Leaf) -> Outcome
-    ensures { (knowing : Knowing) (w : World) (line : ℕ) (first : Bool) (s : State)
-        → eval knowing w (context line scope.now first) (leaf_view leaf) (at s store.now)
-        ≡ answered line (outcome_view result) (at s store.now) }
+fn place_alone(scope: &[Ptr], expression: &Plain) -> Option<Ptr>
+    ensures { IfSome result (λ p. Stands scope.now (plain_view expression.now) p.0) }
 {
-    match leaf {
-        Leaf::IntValue(slot) => int_alone(store, scope, slot),
-        Leaf::Slot(slot) => slot_alone(store, scope, slot),
-        _ => begun(store, scope, leaf),
+    match expression.steps.as_slice() {
+        [] => place_of(scope, &expression.leaf),
+        _ => None,
     }
-}
-
-/// The value of an `int` of the function.
-#[inline(always)]
-fn int_alone(store: &Store, scope: &[Ptr], slot: u32) -> Outcome
-    ensures { (knowing : Knowing) (w : World) (line : ℕ) (first : Bool) (s : State)
-        → eval knowing w (context line scope.now first)
-        (leaf_view (leaf.IntValue slot)) (at s store.now)
-        ≡ answered line (outcome_view result) (at s store.now) }
-{
-    match int(store, scope, slot) {
-        Some(number) => Outcome::Signed(number),
-        None => begun(store, scope, Leaf::IntValue(slot)),
-    }
-}
-
-/// The place of an object of the function.
-#[inline(always)]
-fn slot_alone(store: &Store, scope: &[Ptr], slot: u32) -> Outcome
-    ensures { (knowing : Knowing) (w : World) (line : ℕ) (first : Bool) (s : State)
-        → eval knowing w (context line scope.now first)
-        (leaf_view (leaf.Slot slot)) (at s store.now)
-        ≡ answered line (outcome_view result) (at s store.now) }
-{
-    match slot_place(scope, slot) {
-        Some(place) => Outcome::Address(place),
-        None => begun(store, scope, Leaf::Slot(slot)),
-    }
-}
-
-/// The same, for any beginning.
-#[inline(never)]
-fn begun(store: &Store, scope: &[Ptr], leaf: Leaf) -> Outcome
-    ensures { (knowing : Knowing) (w : World) (line : ℕ) (first : Bool) (s : State)
-        → eval knowing w (context line scope.now first) (leaf_view leaf) (at s store.now)
-        ≡ answered line (outcome_view result) (at s store.now) }
-{
-    Outcome::of(begin(store, scope, leaf))
 }
 
 /// The value of an expression, step by step.
 #[cycle(evaluation)]
+#[inline(never)]
 fn walk(store: &mut Store, scope: &[Ptr], expression: &Plain) -> Outcome
     ensures { (knowing : Knowing) (w : World) (line : ℕ) (first : Bool) (s : State)
         → eval knowing w (context line scope.now first) (plain_view expression.now) (at s store.old)

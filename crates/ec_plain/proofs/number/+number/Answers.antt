@@ -1,5 +1,5 @@
 -- Where the beginning and the steps lead.
-use Rattle.std.proofs.Common.{◌≡◌, ◌∙◌, ap, sym, rules, drop, length, take, ◌∷◌, ◌-◌}
+use Rattle.std.proofs.Common.{◌≡◌, ◌∙◌, ap, sym, refl, rules, drop, length, take, ◌∷◌, ◌-◌}
 use Rattle.std.specs.Int.{w64}
 use mir.Val.{SFits, to_z, of_z}
 use Rattle.std.specs.Prelude.{map}
@@ -16,7 +16,8 @@ use Rattle.ec_evaluation.specs.Results.{value}
 use Rattle.ec_objects.specs.Memory.{address, number}
 use Rattle.ec_plain.specs.Answered.{at, context}
 use Rattle.ec_plain.specs.Steps.{followed}
-use Rattle.ec_plain.proofs.Numbers.{front_is, pair_leads, move_leads, number_leads, operate_leads, place_leads, step_as}
+use Rattle.ec_code.specs.declared.expression.Plain.{out-Plain}
+use Rattle.ec_plain.proofs.Numbers.{front_is, load_leads, move_leads, number_leads, operated, pair_leads, place_leads, step_as}
 use Rattle.ec_plain.proofs.number.+number.Goals as goal
 
 pub follow-returns : goal.follow-returns
@@ -27,20 +28,6 @@ follow-returns t c = λ knowing w line first s.
     ∙ c.loop-step.invariant knowing w line first s
     ∙ ap (λ xs. followed knowing w (context line c.args.scope.now first) (map plain_step_view xs) (value (number (to_z w64 c.loop-step.value-bits)) (at s c.args.store.now))) (drop_all c.loop-step.step-index c.args.steps.now c.loop-step-test.false)
 
-pub advance-returns-in_ok-right-in-WithInt : goal.advance-returns-in_ok-right-in-WithInt
-advance-returns-in_ok-right-in-WithInt t c =
-    let f : SFits w64 c.in_ok-right-in-WithInt.right = search rules in let g = c.ranges.value in
-    let e : plain_step_view c.args.step.now ≡ two (binary.Operate c.in-WithInt.operation) (leaf_view (leaf.IntValue c.in-WithInt.slot)) = search (rules, step_lemmas) in
-    step_as c.args.scope.now number (plain_step_view c.args.step.now) (two (binary.Operate c.in-WithInt.operation) (leaf_view (leaf.IntValue c.in-WithInt.slot))) (number c.args.value) c.args.store.now c.args.store.now c.combined-in-WithInt.result e
-    (operate_leads c.args.scope.now c.in-WithInt.operation (leaf_view (leaf.IntValue c.in-WithInt.slot)) c.args.value c.in_ok-right-in-WithInt.right c.args.store.now c.combined-in-WithInt.result c.in_ok-right-in-WithInt.ensures (simp to_z-of_z at c.combined-in-WithInt.ensures))
-
-pub advance-returns-in_ok-right-in-WithLong : goal.advance-returns-in_ok-right-in-WithLong
-advance-returns-in_ok-right-in-WithLong t c =
-    let f : SFits w64 c.in_ok-right-in-WithLong.right = search rules in let g = c.ranges.value in
-    let e : plain_step_view c.args.step.now ≡ two (binary.Operate c.in-WithLong.operation) (leaf_view (leaf.LongValue c.in-WithLong.slot)) = search (rules, step_lemmas) in
-    step_as c.args.scope.now number (plain_step_view c.args.step.now) (two (binary.Operate c.in-WithLong.operation) (leaf_view (leaf.LongValue c.in-WithLong.slot))) (number c.args.value) c.args.store.now c.args.store.now c.combined_aside.result e
-    (operate_leads c.args.scope.now c.in-WithLong.operation (leaf_view (leaf.LongValue c.in-WithLong.slot)) c.args.value c.in_ok-right-in-WithLong.right c.args.store.now c.combined_aside.result c.in_ok-right-in-WithLong.ensures (simp to_z-of_z at c.combined_aside.ensures))
-
 pub element-returns-in_ok-by-in-WithInt-PointerPlus-default : goal.element-returns-in_ok-by-in-WithInt-PointerPlus-default
 element-returns-in_ok-by-in-WithInt-PointerPlus-default t c =
     let f : SFits w64 c.in_ok-by-in-WithInt-PointerPlus-default.by = search rules in
@@ -49,22 +36,6 @@ element-returns-in_ok-by-in-WithInt-PointerPlus-default t c =
     let e : plain_step_view c.args.step.now ≡ two (binary.Operate (operation.PointerPlus size)) index = search (rules, step_lemmas) in
     step_as c.args.scope.now (λ (p : Ptr). address p.0) (plain_step_view c.args.step.now) (two (binary.Operate (operation.PointerPlus size)) index) (address c.args.first.0) c.args.store.now c.args.store.now c.moved.result e
     (move_leads c.args.scope.now size index c.args.first.0 c.in_ok-by-in-WithInt-PointerPlus-default.by c.args.store.now c.moved.result c.in_ok-by-in-WithInt-PointerPlus-default.ensures (simp to_z-of_z at c.moved.ensures))
-
-pub number-returns-in_ok-begun-in_default : goal.number-returns-in_ok-begun-in_default
-number-returns-in_ok-begun-in_default t c =
-    let f : SFits w64 c.in_ok-begun-in_default.begun = search rules in
-    number_leads c.args.scope.now c.args.expression.now c.as_slice-in_default.result.now c.args.store.now c.in_ok-begun-in_default.begun c.follow.result
-    c.as_slice-in_default.ensures c.in_ok-begun-in_default.ensures (simp to_z-of_z at c.follow.ensures)
-
-pub number-returns-in_ok-place-in-Slot : goal.number-returns-in_ok-place-in-Slot
-number-returns-in_ok-place-in-Slot t c =
-    place_leads c.args.scope.now c.args.expression.now (leaf.Slot c.in-Slot.slot) c.as_slice.result.now c.args.store.now c.in_ok-place-in-Slot.place.0 c.placed.result
-    c.in-Slot.is c.as_slice.ensures (c.in_ok-place-in-Slot.ensures c.args.store.now) c.placed.ensures
-
-pub number-returns-in-Object : goal.number-returns-in-Object
-number-returns-in-Object t c =
-    place_leads c.args.scope.now c.args.expression.now (leaf.Object c.in-Object.number) c.as_slice-in-Object.result.now c.args.store.now c.object_place-place.result.0 c.placed-in-Object.result
-    c.in-Object.is c.as_slice-in-Object.ensures (c.object_place-place.ensures c.args.scope.now c.args.store.now) c.placed-in-Object.ensures
 
 pub placed-returns-in_ok-begun-in-len1-up-rest : goal.placed-returns-in_ok-begun-in-len1-up-rest
 placed-returns-in_ok-begun-in-len1-up-rest t c =
@@ -75,3 +46,29 @@ placed-returns-in_ok-begun-in-len1-up-rest t c =
     pair_leads c.args.scope.now xs c.first-item.result c.second-item.result rest c.args.store.now c.args.place.0 c.in_ok-begun-in-len1-up-rest.begun c.follow-in-len1-up-rest.result
     (front_is xs c.first-item.result c.in-len1-up.len_at_least c.first-item.is ∙ ap (λ ys. c.first-item.result ∷ ys) (front_is behind c.second-item.result c.in-len1-up-rest.len_at_least c.second-item.is))
     c.in_ok-begun-in-len1-up-rest.ensures (simp to_z-of_z at c.follow-in-len1-up-rest.ensures)
+
+pub advance-returns-in-Some : goal.advance-returns-in-Some
+advance-returns-in-Some t c =
+    let g = c.ranges.value in
+    let f : SFits w64 c.in-Some.right.number = search rules in
+    operated c.args.scope.now (plain_step_view c.args.step.now) c.in-Some.right.operation.now c.args.value c.in-Some.right.number c.args.store.now c.combined.result c.in-Some.ensures (simp to_z-of_z at c.combined.ensures)
+
+pub number-returns-in-Some : goal.number-returns-in-Some
+number-returns-in-Some t c =
+    place_leads c.args.scope.now c.args.expression.now (out-Plain c.args.expression.now).leaf c.as_slice.result.now c.args.store.now c.in-Some.place.0 c.placed.result
+    refl c.as_slice.ensures (c.in-Some.ensures c.args.store.now) c.placed.ensures
+
+pub placed-returns-in_ok-begun-in-Some : goal.placed-returns-in_ok-begun-in-Some
+placed-returns-in_ok-begun-in-Some t c =
+    let f : SFits w64 c.in_ok-begun-in-Some.begun = search rules in
+    let xs = c.args.steps.now in
+    let rest = take (length xs - 1) (drop 1 xs) in
+    load_leads c.args.scope.now xs rest c.in-Some.kind c.args.store.now c.args.place.0 c.in_ok-begun-in-Some.begun c.follow.result
+    (ap (map plain_step_view) (front_is xs c.first-item.result c.in-len1-up.len_at_least c.first-item.is) ∙ ap (λ x. x ∷ map plain_step_view rest) c.in-Some.ensures)
+    c.in_ok-begun-in-Some.ensures (simp to_z-of_z at c.follow.ensures)
+
+pub number-returns-in_ok-begun-in-None : goal.number-returns-in_ok-begun-in-None
+number-returns-in_ok-begun-in-None t c =
+    let f : SFits w64 c.in_ok-begun-in-None.begun = search rules in
+    number_leads c.args.scope.now c.args.expression.now c.as_slice-in-None.result.now c.args.store.now c.in_ok-begun-in-None.begun c.follow.result
+    c.as_slice-in-None.ensures c.in_ok-begun-in-None.ensures (simp to_z-of_z at c.follow.ensures)
