@@ -202,6 +202,12 @@ module _ (fs : List Function) (m : Machine) (part further : Machine → Knowing 
   pub onward_stops : (x : Stop) → r ≡ Err x → Goes fs m (env_of m) (part m) (Err x) new
   onward_stops x p = subst (λ r. Onward fs m part r new further) p h
 
+  -- and on from there
+  pub onward_on : r ≡ Ok None → (more : Machine → Knowing → World → State → Res) (r' : Result (Option Focus) Stop) (new' : Machine) → Onward fs new further r' new' more → Onward fs m part r' new' more
+  onward_on p more (Ok None) new' g = ((λ r x i. onward_none p r x (g.0 r x i)), g.1 ∙ onward_frames p)
+  onward_on p more (Ok (Some f)) new' g = onward_none p (Ok f) new' g
+  onward_on p more (Err x) new' g = onward_none p (Err x) new' g
+
 -- from one machine to another, and on from there
 module _ (fs : List Function) (m n : Machine) (part part' further : Machine → Knowing → World → State → Res) (frames : n.frames ≡ m.frames) (env : env_of n ≡ env_of m) (turns : n.turns ≤ m.turns)
     (h : (knowing : Knowing) (fits : Fits knowing) (k : ℕ) (s : State) → m.turns < k → part m knowing (tasks knowing fs k) (at s m) ≡ part' n knowing (tasks knowing fs k) (at s n)) where

@@ -8,7 +8,7 @@ ghost use Rattle.ec_evaluation.specs.Results.{after_body, closing, on_done};
 ghost use Rattle.ec_resolved.specs.Resolved.{block};
 ghost use Rattle.ec_machine.specs.Frames.{behind_of, body_of, here, test_of};
 ghost use Rattle.ec_machine.specs.Goes.{Goes, env_of};
-ghost use Rattle.ec_machine.specs.Quick.{Onward, testing};
+ghost use Rattle.ec_machine.specs.Quick.{Onward, behind_body};
 ghost use Rattle.ec_machine.specs.Weights.{frames_weight, remaining, statement_weight, statements_weight};
 
 use crate::frame::{Flow, Focus, Frame};
@@ -43,7 +43,7 @@ impl<'p> Machine<'p> {
     }
 
     /// What is left of the body of a loop, which began on this line, is no call. Where it is a block that declares nothing,
-    /// what of that needs no frame is done, and what is evaluated behind it follows.
+    /// what of that needs no frame is done, and where that is all of it the loop stands behind its body.
     #[inline(always)]
     pub(crate) fn body_other(
         &mut self,
@@ -54,7 +54,7 @@ impl<'p> Machine<'p> {
         ensures goes { (functions : List FunctionData) → Onward functions self.old
             (λ m knowing w t. after_body (run knowing w (here (env_of m) m.line) (statement_view
             left.now) t) (λ u. again knowing w (here (env_of m) line) (test_of inner.now)
-            (behind_of inner.now) (body_of inner.now) u)) result self.new (testing inner.now) }
+            (behind_of inner.now) (body_of inner.now) u)) result self.new (behind_body inner.now) }
         ensures turns { self.new.turns ≤ self.old.turns }
     {
         match bare_block_of(left) {
@@ -66,8 +66,8 @@ impl<'p> Machine<'p> {
         }
     }
 
-    /// What is left of the body of a loop, which began on this line, is a block that declares nothing. What is evaluated
-    /// behind it follows, where it needs no frame.
+    /// What is left of the body of a loop, which began on this line, is a block that declares nothing. Where it needs no
+    /// frame the loop stands behind its body.
     #[inline(always)]
     fn body_block(
         &mut self,
@@ -79,7 +79,7 @@ impl<'p> Machine<'p> {
             (λ m knowing w t. after_body (enter w (here (env_of m) m.line) []
             (statements_view body.now) (λ d u. run_all knowing w d (statements_view body.now) u) t)
             (λ u. again knowing w (here (env_of m) line) (test_of inner.now) (behind_of inner.now)
-            (body_of inner.now) u)) result self.new (testing inner.now) }
+            (body_of inner.now) u)) result self.new (behind_body inner.now) }
         ensures turns { self.new.turns ≤ self.old.turns }
     {
         let start = self.line;
@@ -88,7 +88,7 @@ impl<'p> Machine<'p> {
             Ok(None) => {
                 self.store.end_to(mark);
                 self.line = line;
-                self.behind(inner)
+                Ok(None)
             }
             Ok(Some(found)) => {
                 self.frames.push(Frame::Body(line, inner))?;

@@ -17,10 +17,9 @@ use crate::found::{Found, waits};
 use crate::frame::{Callee, Focus, Frame};
 use crate::machine::Machine;
 use crate::making::stopped;
-use crate::quick::compute;
 use crate::stop::Stop;
 use ec_code::{Binary, Expression, Full, FullStep, Function, Head, Plain, Unary};
-use ec_plain::{Ready, evaluate, finish, prepare, unary};
+use ec_plain::{Ready, evaluate, evaluate_argument, finish, prepare, unary};
 use ec_values::Word;
 
 impl<'p> Machine<'p> {
@@ -248,12 +247,12 @@ impl<'p> Machine<'p> {
         let Some(more) = count.checked_add(1) else {
             return Err(Stop::OutOfMemory);
         };
-        match compute(&mut self.store, &self.scope, self.line, argument) {
+        match evaluate_argument(&mut self.store, self.scope.objects(), argument).get() {
             Ok(value) => {
                 self.values.push(value)?;
                 Ok(more)
             }
-            Err(stop) => Err(stop),
+            Err(why) => Err(stopped(self.line, why)),
         }
     }
 

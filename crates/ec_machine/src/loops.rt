@@ -19,7 +19,7 @@ use crate::frame::{Flow, Focus, Frame};
 use crate::labels::first_holding;
 use crate::machine::Machine;
 use crate::making::{make_objects, no_room, take_turn};
-use crate::quick::{Asked, Done, ask, pass_over, quick, quick_list};
+use crate::quick::{Asked, Done, ask, pass_behind, quick, quick_list};
 use crate::stop::Stop;
 use ec_base::Line;
 use ec_code::{Expression, Full, Function, Loop, ObjectSize, Statement};
@@ -121,7 +121,7 @@ impl<'p> Machine<'p> {
         Ok(())
     }
 
-    /// The body of a loop is run once more, and costs a turn.
+    /// The body of a loop is run once more, and costs a turn. Further turns that need no frame are taken here.
     pub(crate) fn turn(
         &mut self,
         functions: &'p [Function],
@@ -133,14 +133,21 @@ impl<'p> Machine<'p> {
         ensures turns { self.new.turns ≤ self.old.turns }
         ensures nears { remaining self.old.turns result self.new ≡ 0 }
     {
-        match self.round(functions, inner) {
-            Ok(None) => self.test(functions, inner),
-            Ok(Some(focus)) => Ok(focus),
-            Err(stop) => Err(stop),
+        loop {
+            match self.round(functions, inner) {
+                Ok(None) => (),
+                Ok(Some(focus)) => return Ok(focus),
+                Err(stop) => return Err(stop),
+            }
+            match self.ask(inner) {
+                Ok(None) => (),
+                Ok(Some(focus)) => return Ok(focus),
+                Err(stop) => return Err(stop),
+            }
         }
     }
 
-    /// A loop from its test. Turns that need no frame are taken here.
+    /// A loop from its test.
     pub(crate) fn test(
         &mut self,
         functions: &'p [Function],
@@ -153,17 +160,10 @@ impl<'p> Machine<'p> {
         ensures nears { remaining self.old.turns result self.new ≤
             1 + frames_weight self.old.frames + test_weight inner.now }
     {
-        loop {
-            match self.ask(inner) {
-                Ok(None) => (),
-                Ok(Some(focus)) => return Ok(focus),
-                Err(stop) => return Err(stop),
-            }
-            match self.round(functions, inner) {
-                Ok(None) => (),
-                Ok(Some(focus)) => return Ok(focus),
-                Err(stop) => return Err(stop),
-            }
+        match self.ask(inner) {
+            Ok(None) => self.turn(functions, inner),
+            Ok(Some(focus)) => Ok(focus),
+            Err(stop) => Err(stop),
         }
     }
 
@@ -236,12 +236,16 @@ impl<'p> Machine<'p> {
         ensures turns { self.new.turns ≤ self.old.turns }
     {
         match take_turn(&mut self.turns) {
-            Ok(()) => self.body(functions, inner),
+            Ok(()) => match self.body(functions, inner) {
+                Ok(None) => self.behind(inner),
+                Ok(Some(focus)) => Ok(Some(focus)),
+                Err(stop) => Err(stop),
+            },
             Err(stop) => Err(stop),
         }
     }
 
-    /// The body of a loop, and what is evaluated behind it. Where this needs no frame the loop stands at its test.
+    /// The body of a loop. Where it needs no frame the loop stands behind its body.
     #[inline(always)]
     fn body(
         &mut self,
@@ -249,21 +253,22 @@ impl<'p> Machine<'p> {
         inner: &'p Loop,
     ) -> Result<Option<Focus<'p>>, Stop>
         ensures goes { Onward functions.now self.old (bodily
-            inner.now) result self.new (testing inner.now) }
+            inner.now) result self.new (behind_body inner.now) }
         ensures turns { self.new.turns ≤ self.old.turns }
     {
         let line = self.line;
         match quick(&mut self.store, &self.scope, &mut self.line, &inner.body) {
             Ok(None) => {
                 self.line = line;
-                self.behind(inner)
+                Ok(None)
             }
             Ok(Some(left)) => self.body_from(functions, inner, line, left),
             Err(stop) => Err(stop),
         }
     }
 
-    /// What is left of the body of a loop, which began on this line, and what is evaluated behind it.
+    /// What is left of the body of a loop, which began on this line. Where it needs no frame the loop stands behind its
+    /// body.
     #[inline(always)]
     fn body_from(
         &mut self,
@@ -275,7 +280,7 @@ impl<'p> Machine<'p> {
         ensures goes { Onward functions.now self.old
             (λ m knowing w t. after_body (run knowing w (here (env_of m) m.line) (statement_view
             left.now) t) (λ u. again knowing w (here (env_of m) line) (test_of inner.now)
-            (behind_of inner.now) (body_of inner.now) u)) result self.new (testing inner.now) }
+            (behind_of inner.now) (body_of inner.now) u)) result self.new (behind_body inner.now) }
         ensures turns { self.new.turns ≤ self.old.turns }
     {
         match call_of(left) {
@@ -284,7 +289,8 @@ impl<'p> Machine<'p> {
         }
     }
 
-    /// What is left of the body of a loop, which began on this line, is an expression that holds a call.
+    /// What is left of the body of a loop, which began on this line, is an expression that holds a call. Where that is done
+    /// on the spot the loop stands behind its body.
     #[inline(always)]
     fn body_call(
         &mut self,
@@ -297,7 +303,7 @@ impl<'p> Machine<'p> {
             (λ m knowing w t. after_body (on_value (eval knowing w (here (env_of m) m.line)
             (full_view full.now) t) (λ v u. on u)) (λ u. again knowing w (here (env_of m) line)
             (test_of inner.now) (behind_of inner.now) (body_of inner.now) u))
-            result self.new (testing inner.now) }
+            result self.new (behind_body inner.now) }
         ensures turns { self.new.turns ≤ self.old.turns }
     {
         let height = self.frames.len();
@@ -307,7 +313,7 @@ impl<'p> Machine<'p> {
             Ok(Done::All) => {
                 self.frames.truncate(height);
                 self.line = line;
-                self.behind(inner)
+                Ok(None)
             }
             Ok(Done::Nothing) => standing(left),
             Err(stop) => Err(stop),
@@ -343,7 +349,7 @@ impl<'p> Machine<'p> {
         ensures nears { IsNear self.old.turns result self.new (2 + frames_weight self.old.frames +
             expression_weight behind.now + test_weight inner.now) }
     {
-        match pass_over(&mut self.store, &self.scope, self.line, behind) {
+        match pass_behind(&mut self.store, &self.scope, self.line, behind) {
             Ok(Done::All) => Ok(None),
             Ok(Done::Nothing) => {
                 self.frames.push(Frame::Behind(self.line, inner))?;

@@ -20,7 +20,7 @@ use crate::stop::Stop;
 use ec_base::Line;
 use ec_code::{Expression, Plain, Statement};
 use ec_memory::Store;
-use ec_plain::evaluate;
+use ec_plain::{evaluate, evaluate_change, evaluate_test};
 use ec_values::Word;
 
 /// What a test says.
@@ -85,9 +85,9 @@ pub(crate) fn ask(
         if_so if_not (at s store.new) }
 {
     match test {
-        Expression::Plain(plain) => match compute(store, scope, line, plain) {
+        Expression::Plain(plain) => match evaluate_test(store, scope.objects(), plain).get() {
             Ok(value) => Ok(answer_of(value)),
-            Err(stop) => Err(stop),
+            Err(why) => Err(stopped(line, why)),
         },
         Expression::Full(_) => Ok(Asked::Waits),
     }
@@ -123,6 +123,29 @@ pub(crate) fn pass_over(
         Expression::Plain(plain) => match compute(store, scope, line, plain) {
             Ok(_) => Ok(Done::All),
             Err(stop) => Err(stop),
+        },
+        Expression::Full(_) => Ok(Done::Nothing),
+    }
+}
+
+/// The same, behind the body of a loop: an expression is evaluated whose value isn't used, unless it holds a call.
+#[inline(always)]
+pub(crate) fn pass_behind(
+    store: &mut Store,
+    scope: &Scope,
+    line: Line,
+    expression: &Expression,
+) -> Result<Done, Stop>
+    ensures { (knowing : Knowing) (w : World) (first : Bool) (s : State) (go : State → Res) →
+        PassesOver result store.old store.new
+        (on_value (eval knowing w (context line.0 (objects_of scope.now) first) (expression_view
+        expression.now) (at s store.old)) (λ v u. go u))
+        go (at s store.new) }
+{
+    match expression {
+        Expression::Plain(plain) => match evaluate_change(store, scope.objects(), plain).get() {
+            Ok(_) => Ok(Done::All),
+            Err(why) => Err(stopped(line, why)),
         },
         Expression::Full(_) => Ok(Done::Nothing),
     }

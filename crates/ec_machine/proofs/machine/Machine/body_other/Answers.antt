@@ -1,5 +1,5 @@
 -- A block that declares nothing, or any other statement.
-use Rattle.std.proofs.Common.{◌≡◌, ap, arith, refl, []}
+use Rattle.std.proofs.Common.{ap, arith, refl, []}
 use Rattle.ec_code.specs.Views.{statement_view, statements_view}
 use Rattle.ec_evaluation.specs.Execute.{again, enter, run, run_all}
 use Rattle.ec_evaluation.specs.Results.{after_body}
@@ -7,7 +7,7 @@ use Rattle.ec_machine.specs.declared.frame.Focus.TheVariants as focus
 use Rattle.ec_machine.specs.declared.frame.Frame.TheVariants as frame
 use Rattle.ec_machine.specs.Frames.{behind_of, body_of, here, test_of}
 use Rattle.ec_machine.specs.Goes.{at, env_of, tasks}
-use Rattle.ec_machine.specs.Quick.{testing}
+use Rattle.ec_machine.specs.Quick.{behind_body}
 use Rattle.ec_machine.proofs.Quickly.{onward_came, waits}
 use Rattle.ec_machine.proofs.machine.Machine.body_other.Goals as goal
 
@@ -17,7 +17,7 @@ returns-in-Some-clause-goes c = λ fs.
     let i = c.args.inner.now in
     let b = statements_view c.in-Some.body.now in
     onward_came fs m m (λ p knowing w t. after_body (run knowing w (here (env_of p) p.line) (statement_view c.args.left.now) t) (λ u. again knowing w (here (env_of p) c.args.line) (test_of i) (behind_of i) (body_of i) u))
-    (λ p knowing w t. after_body (enter w (here (env_of p) p.line) [] b (λ d u. run_all knowing w d b u) t) (λ u. again knowing w (here (env_of p) c.args.line) (test_of i) (behind_of i) (body_of i) u)) (testing i) refl refl (omega arith)
+    (λ p knowing w t. after_body (enter w (here (env_of p) p.line) [] b (λ d u. run_all knowing w d b u) t) (λ u. again knowing w (here (env_of p) c.args.line) (test_of i) (behind_of i) (body_of i) u)) (behind_body i) refl refl (omega arith)
     (λ knowing fits k s l. let w = tasks knowing fs k in
     ap (λ z. after_body (run knowing w (here (env_of m) m.line) z (at s m)) (λ u. again knowing w (here (env_of m) c.args.line) (test_of i) (behind_of i) (body_of i) u)) c.in-Some.ensures)
     c.body_block.result c.body_block.new.self (c.body_block.ensures.goes fs)

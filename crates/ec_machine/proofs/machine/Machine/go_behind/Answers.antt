@@ -16,35 +16,35 @@ use Rattle.ec_machine.proofs.machine.Machine.go_behind.Goals as goal
 pub returns-in-Ok-All-clause-goes : goal.returns-in-Ok-All-clause-goes
 returns-in-Ok-All-clause-goes c = λ fs.
     let m = c.args.self.now in
-    let n = record m { store = c.pass_over.new.store } in
+    let n = record m { store = c.pass_behind.new.store } in
     let d = here (env_of m) m.line in
     let i = c.args.inner.now in
     let y = expression_view c.args.behind.now in (
       came fs m (env_of m) (evaluated_for (env_of m) m.line y (frame.Behind m.line c.args.inner)) n (testing i n) refl (omega arith)
-          (λ knowing fits k s l. let w = tasks knowing fs k in passes_all c.pass_over.result m.store n.store (on_value (eval knowing w d y (at s m)) (λ v u. tested knowing w d (test_of i) (behind_of i) (body_of i) u)) (λ u. tested knowing w d (test_of i) (behind_of i) (body_of i) u) (at s n) (c.pass_over.ensures knowing w m.first (at s m) (λ u. tested knowing w d (test_of i) (behind_of i) (body_of i) u)) (cc (c.in-Ok-All.is, c.in-Ok-All.field-0-is))),
+          (λ knowing fits k s l. let w = tasks knowing fs k in passes_all c.pass_behind.result m.store n.store (on_value (eval knowing w d y (at s m)) (λ v u. tested knowing w d (test_of i) (behind_of i) (body_of i) u)) (λ u. tested knowing w d (test_of i) (behind_of i) (body_of i) u) (at s n) (c.pass_behind.ensures knowing w m.first (at s m) (λ u. tested knowing w d (test_of i) (behind_of i) (body_of i) u)) (cc (c.in-Ok-All.is, c.in-Ok-All.field-0-is))),
       refl,
     )
 
 pub returns-in_ok-push-in-Ok-Nothing-clause-goes : goal.returns-in_ok-push-in-Ok-Nothing-clause-goes
 returns-in_ok-push-in-Ok-Nothing-clause-goes c = λ fs.
     let m = c.args.self.now in
-    let n = record m { store = c.pass_over.new.store } in
+    let n = record m { store = c.pass_behind.new.store } in
     let d = here (env_of m) m.line in
     let i = c.args.inner.now in
     let y = expression_view c.args.behind.now in
     waits fs m (record n { frames = c.push.new.self }) (evaluated_for (env_of m) m.line y (frame.Behind m.line c.args.inner)) (frame.Behind m.line c.args.inner) (focus.Evaluates c.args.behind) c.in_ok-push-in-Ok-Nothing.ensures.ok
     (λ knowing fits k s l. let w = tasks knowing fs k in
-    ap (λ st. on_value (eval knowing w d y (over_memory (at s m) st)) (λ v u. tested knowing w d (test_of i) (behind_of i) (body_of i) u)) (sym (passes_nothing c.pass_over.result m.store n.store (on_value (eval knowing w d y (at s m)) (λ v u. tested knowing w d (test_of i) (behind_of i) (body_of i) u)) (λ u. tested knowing w d (test_of i) (behind_of i) (body_of i) u) (at s n) (c.pass_over.ensures knowing w m.first (at s m) (λ u. tested knowing w d (test_of i) (behind_of i) (body_of i) u)) (cc (c.in-Ok-Nothing.is, c.in-Ok-Nothing.field-0-is)))))
+    ap (λ st. on_value (eval knowing w d y (over_memory (at s m) st)) (λ v u. tested knowing w d (test_of i) (behind_of i) (body_of i) u)) (sym (passes_nothing c.pass_behind.result m.store n.store (on_value (eval knowing w d y (at s m)) (λ v u. tested knowing w d (test_of i) (behind_of i) (body_of i) u)) (λ u. tested knowing w d (test_of i) (behind_of i) (body_of i) u) (at s n) (c.pass_behind.ensures knowing w m.first (at s m) (λ u. tested knowing w d (test_of i) (behind_of i) (body_of i) u)) (cc (c.in-Ok-Nothing.is, c.in-Ok-Nothing.field-0-is)))))
 
 pub returns-in-Err-clause-goes : goal.returns-in-Err-clause-goes
 returns-in-Err-clause-goes c = λ fs.
     let m = c.args.self.now in
-    let n = record m { store = c.pass_over.new.store } in
+    let n = record m { store = c.pass_behind.new.store } in
     let d = here (env_of m) m.line in
     let i = c.args.inner.now in
     let y = expression_view c.args.behind.now in
     halted fs m (env_of m) (evaluated_for (env_of m) m.line y (frame.Behind m.line c.args.inner)) n c.in-Err.stop
-    (λ knowing fits k s l. let w = tasks knowing fs k in passes_stops c.pass_over.result m.store n.store (on_value (eval knowing w d y (at s m)) (λ v u. tested knowing w d (test_of i) (behind_of i) (body_of i) u)) (λ u. tested knowing w d (test_of i) (behind_of i) (body_of i) u) (at s n) (c.pass_over.ensures knowing w m.first (at s m) (λ u. tested knowing w d (test_of i) (behind_of i) (body_of i) u)) c.in-Err.stop c.in-Err.is)
+    (λ knowing fits k s l. let w = tasks knowing fs k in passes_stops c.pass_behind.result m.store n.store (on_value (eval knowing w d y (at s m)) (λ v u. tested knowing w d (test_of i) (behind_of i) (body_of i) u)) (λ u. tested knowing w d (test_of i) (behind_of i) (body_of i) u) (at s n) (c.pass_behind.ensures knowing w m.first (at s m) (λ u. tested knowing w d (test_of i) (behind_of i) (body_of i) u)) c.in-Err.stop c.in-Err.is)
 
 pub returns-in_ok-push-in-Ok-Nothing-clause-nears : goal.returns-in_ok-push-in-Ok-Nothing-clause-nears
 returns-in_ok-push-in-Ok-Nothing-clause-nears c = pushes _ _ _ _ _ _ c.in_ok-push-in-Ok-Nothing.ensures.ok (omega arith)

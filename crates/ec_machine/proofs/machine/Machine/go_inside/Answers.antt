@@ -1,5 +1,5 @@
 -- The frames of the block are pushed.
-use Rattle.std.proofs.Common.{◌≡◌, ◌∙◌, refl, ap, arith, [], ◌∷◌, ◌++◌}
+use Rattle.std.proofs.Common.{◌∙◌, ap, arith, [], ◌∷◌, ◌++◌}
 use Rattle.ec_code.specs.Views.{statement_view, statements_view}
 use Rattle.ec_evaluation.specs.Execute.{run, run_all}
 use Rattle.ec_evaluation.specs.Results.{on_done}

@@ -1,5 +1,5 @@
 -- What is done on the spot, before the block is entered.
-use Rattle.std.proofs.Common.{◌≤◌, ◌+◌, ◌≡◌, ◌∙◌, refl, ap, sym, arith, []}
+use Rattle.std.proofs.Common.{◌≤◌, ◌+◌, ◌∙◌, refl, ap, sym, arith, []}
 use Rattle.std.specs.Prelude.{reverse}
 use Rattle.ec_code.specs.Views.{statement_view, statements_view}
 use Rattle.ec_evaluation.specs.Execute.{enter, run, run_all, settle}
