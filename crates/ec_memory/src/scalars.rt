@@ -1,6 +1,8 @@
 //! Loads and stores of scalars.
 
 ghost use Rattle.std.specs.Prelude.{◌≡◌, ◌+ℤ◌, ℕ, List, IfOk, OnErr, IsSome, MatchOption, None, Some, Ok, length};
+ghost use Rattle.ec_ctypes.specs.Arithmetic.{IsValue};
+ghost use Rattle.ec_ctypes.specs.declared.types.arith.Arith.TheVariants as arith;
 ghost use Rattle.ec_ctypes.specs.views.Types.{ty_view};
 ghost use Rattle.ec_objects.specs.Memory.{ScalarType, scalar_type, Fits, decoded, encoded, number, span, put, load, store};
 ghost use Rattle.ec_objects.specs.Kinds.{kind_type};
@@ -8,7 +10,7 @@ ghost use Rattle.ec_objects.specs.declared.kind.Kind.TheVariants as kind;
 ghost use Rattle.ec_bytes.specs.Scalars.{AreBytes, signed_bytes, signed_of};
 ghost use Rattle.std.specs.Int.{w32};
 ghost use Rattle.ec_memory.specs.Store.{outcome, seen};
-ghost use Rattle.ec_memory.specs.Sums.{Adds, HasNoSum, PassesInt};
+ghost use Rattle.ec_memory.specs.Sums.{Adds, HasNoSum};
 ghost use Rattle.ec_memory.specs.Values.{value_view};
 
 use crate::place::reach;
@@ -193,7 +195,7 @@ impl Store {
 
 /// The scalar that stands for a number.
 #[inline(always)]
-fn scalar_of(amount: i32) -> I32
+pub(crate) fn scalar_of(amount: i32) -> I32
     ensures { signed_bytes w32 result.0 ≡ encoded (kind_type kind.Int) (number amount) }
 {
     I32(amount)
@@ -212,7 +214,8 @@ fn number_in(scalar: I32) -> i32
 /// The sum, where `int` has it.
 #[inline(always)]
 fn sum_of(before: i32, by: i64) -> Option<i32>
-    ensures { MatchOption result (PassesInt (before +ℤ by)) (λ sum. sum ≡ before +ℤ by) }
+    ensures { MatchOption result (IsValue arith.Int (before +ℤ by) → ⊥)
+        (λ sum. sum ≡ before +ℤ by) }
 {
     let sum = (before as i64).checked_add(by)?;
     if i32::MIN as i64 <= sum && sum <= i32::MAX as i64 {

@@ -49,8 +49,7 @@ returns-in-Some-sum_of-clause-sum c =
           (subst Q c.view.ensures.place (subst P c.view.ensures.cells c.in-Some.ensures.bytes)))
           (λ bytes is. span_length c.args.self.now c.args.ptr.0 4 bytes (sym is))
           c.number_in-before.ensures);
-      low = omega (arith, ints, is, fits);
-      high = omega (arith, ints, is, fits);
+      fits = (omega (arith, ints, is, fits), omega (arith, ints, is, fits));
       stored = ap (λ z. with_cells c.args.self.now c.args.ptr.0 (set_cells (encoded (kind_type kind.Int) (number z)))) (sym is)
           ∙ ap (λ bytes. with_cells c.args.self.now c.args.ptr.0 (set_cells bytes)) encoding
           ∙ sym (wrote c.args.self.now c.self.inside.made c.self.inside.cells c.self.inside.alive.items _ c.args.ptr.0 4 c.in-Ok.at (set_cells new) c.set.new.self.region.now c.self.view_is c.self.invariant c.deref.ensures.value c.in-Ok.ensures refl
