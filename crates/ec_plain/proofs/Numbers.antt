@@ -1,13 +1,11 @@
 -- What is found at once is where the steps lead.
-use Rattle.std.proofs.Common.{◌≡◌, ◌∙◌, refl, ap, sym, rules, arith, ℕ, suc, ◌-◌, ◌≤◌, ◌<◌, length, get_or, take, drop, take_all, List, [], ◌∷◌, Option, Some, None, Result, Ok, Err, ℤ, Bool}
+use Rattle.std.proofs.Common.{◌≡◌, ◌∙◌, refl, ap, sym, rules, arith, ℕ, suc, ◌-◌, ◌≤◌, ◌<◌, length, get_or, take, drop, take_all, List, [], ◌∷◌, Option, Some, None, Ok, ℤ, Bool}
 use Rattle.std.specs.Prelude.{map, IfSome}
 use Rattle.ec_bytes.specs.declared.scalar.address.Ptr.{Ptr}
 use Rattle.ec_code.specs.Trees.{Step, one, two, leaf_view, walked}
 use Rattle.ec_code.specs.Views.{plain_step_view, plain_view}
 use Rattle.ec_code.specs.declared.expression.Plain.{Plain, out-Plain, the_lemmas}
 use Rattle.ec_code.specs.declared.expression.PlainStep.{PlainStep}
-use Rattle.ec_base.specs.declared.stop.Trap.{Trap}
-use Rattle.ec_code.specs.declared.step.Binary.{Binary}
 use Rattle.ec_code.specs.declared.step.Binary.TheVariants as binary
 use Rattle.ec_code.specs.declared.step.Leaf.{Leaf}
 use Rattle.ec_code.specs.declared.step.Leaf.TheVariants as leaf
@@ -22,13 +20,13 @@ use Rattle.ec_code.specs.declared.step.Update.{Update}
 use Rattle.ec_resolved.specs.Resolved.{Exp}
 use Rattle.ec_resolved.specs.Resolved as of
 use Rattle.ec_evaluation.specs.Evaluate.{World, Step as Knowing, eval}
-use Rattle.ec_evaluation.specs.Results.{changed, value, tried, on_value, worked_out}
+use Rattle.ec_evaluation.specs.Results.{value, tried, on_value, worked_out}
 use Rattle.ec_evaluation.specs.State.{State}
 use Rattle.ec_objects.specs.Kinds.{kind_type}
 use Rattle.ec_objects.specs.declared.kind.Kind.{Kind}
-use Rattle.ec_objects.specs.Memory.{Memory, ValueData, number, address, load, moved, store}
+use Rattle.ec_objects.specs.Memory.{Memory, ValueData, number, address, load, moved}
 use Rattle.ec_plain.specs.Answered.{at, context}
-use Rattle.ec_plain.specs.Numbers.{Changes, Completes, Follows, FollowsPlace, Leads, Operates, Stands, StepLeads, Targets, Updates}
+use Rattle.ec_plain.specs.Numbers.{Changes, Follows, FollowsPlace, Leads, Operates, Stands, StepLeads, Targets, Updates}
 use Rattle.ec_plain.specs.Steps.{both_on, followed, one_on, step_on}
 use Rattle.ec_plain.proofs.Walks.{walk_leads}
 
@@ -38,13 +36,6 @@ front_is [] x h e = absurd (omega arith)
 front_is (y ∷ ys) x h e =
     let less : suc (length ys) - 1 ≡ length ys = omega arith in
     ap (λ a. a ∷ ys) (sym e) ∙ ap (λ r. x ∷ r) (sym (ap (λ n. take n ys) less ∙ take_all (length ys) ys (omega arith)))
-
-pub front_two_is : {A : Type 0} (xs : List A) (x y : A) → 2 ≤ length xs → x ≡ get_or xs 0 x → y ≡ get_or xs 1 y → xs ≡ x ∷ y ∷ take (length xs - 2) (drop 2 xs)
-front_two_is [] x y h d e = absurd (omega arith)
-front_two_is (a ∷ []) x y h d e = absurd (omega arith)
-front_two_is (a ∷ b ∷ xs) x y h d e =
-    let less : suc (suc (length xs)) - 2 ≡ length xs = omega arith in
-    ap (λ a. a ∷ b ∷ xs) (sym d) ∙ ap (λ b. x ∷ b ∷ xs) (sym e) ∙ ap (λ r. x ∷ y ∷ r) (sym (ap (λ n. take n xs) less ∙ take_all (length xs) xs (omega arith)))
 
 pub none_is : {A : Type 0} (xs : List A) → length xs < 1 → xs ≡ []
 none_is [] l = refl
@@ -84,10 +75,6 @@ module _ (scope : List Ptr) where
   step_as g x y v m n None h f = tt
   step_as g x y v m n (Some a) h f = λ knowing w line first s. ap (λ q. step_on knowing w (context line scope first) q v (at s m)) h ∙ f knowing w line first s
 
-  pub steps_as : (xs ys : List PlainStep) (p : ℕ) (m : Memory) (r : Option ℤ) → xs ≡ ys → IfSome r (λ z. FollowsPlace scope ys p m z) → IfSome r (λ z. FollowsPlace scope xs p m z)
-  steps_as xs ys p m None h f = tt
-  steps_as xs ys p m (Some z) h f = λ knowing w line first s. ap (λ zs. followed knowing w (context line scope first) (map plain_step_view zs) (value (address p) (at s m))) h ∙ f knowing w line first s
-
   -- an operation on two numbers
   pub operate_leads : (op : Operation) (a : Exp) (x y : ℤ) (m : Memory) (r : Option ℤ) → Leads scope a m m (number y) → IfSome r (λ z. worked (operation_view op) m (number x) (number y) ≡ gives (number z)) → IfSome r (λ z. StepLeads scope (two (binary.Operate op) a) (number x) m m (number z))
   operate_leads op a x y m None l f = tt
@@ -118,21 +105,6 @@ module _ (scope : List Ptr) where
       ∙ ap (followed knowing w (context line scope first) (map plain_step_view rest)) (b knowing w line first s)
       ∙ f knowing w line first s
 
-  renewed : (u : Update) (a : Exp) (by : ℤ) (m : Memory) → Leads scope a m m (number by) → (knowing : Knowing) (w : World) (line : ℕ) (first : Bool) (s : State) (p : ℕ) (r : Result ValueData Trap) → on_value (tried line r (at s m) (λ old. value old (at s m))) (λ old t. on_value (eval knowing w (context line scope first) a t) (both_on line (binary.Update u) (address p) old)) ≡ on_value (tried line r (at s m) (λ old. value old (at s m))) (λ old t. both_on line (binary.Update u) (address p) old (number by) t)
-  renewed u a by m l knowing w line first s p (Ok old) = ap (λ x. on_value x (both_on line (binary.Update u) (address p) old)) (l knowing w line first s)
-  renewed u a by m l knowing w line first s p (Err trap) = refl
-
-  -- an update by the value of an expression that only reads
-  pub renew_leads : (u : Update) (a : Exp) (p : ℕ) (by : ℤ) (m n : Memory) (r : Option ℤ) → Leads scope a m m (number by) → IfSome r (λ z. Changes u p by m n z) → IfSome r (λ z. StepLeads scope (two (binary.Update u) a) (address p) m n (number z))
-  renew_leads u a p by m n None l f = tt
-  renew_leads u a p by m n (Some z) l f = λ knowing w line first s.
-      renewed u a by m l knowing w line first s p (load m p (kind_type u.kind)) ∙ f line s
-
-  -- an update by a number
-  pub change_leads : (u : Update) (p : ℕ) (by : ℤ) (m n : Memory) (r : Option ℤ) → IfSome r (λ z. Changes u p by m n z) → IfSome r (λ z. StepLeads scope (two (binary.Update u) (of.constant (number by))) (address p) m n (number z))
-  change_leads u p by m n None f = tt
-  change_leads u p by m n (Some z) f = λ knowing w line first s. f line s
-
   -- the number at the right of an operation
   pub operates : (step : Step) (op : Operation) (a : Exp) (y : ℤ) (m : Memory) → step ≡ two (binary.Operate op) a → Leads scope a m m (number y) → Operates scope step m op y
   operates step op a y m is l = λ x z w. step_as number step (two (binary.Operate op) a) (number x) m m (Some z) is (operate_leads op a x y m (Some z) l w)
@@ -141,13 +113,7 @@ module _ (scope : List Ptr) where
   operated step op x y m None o f = tt
   operated step op x y m (Some z) o f = o x z f
 
-  -- what one step makes of a number, and what two make of it
-  pub follows_one : (steps : List PlainStep) (x : PlainStep) (begun : ℤ) (m : Memory) (r : Option ℤ) → steps ≡ x ∷ [] → IfSome r (λ z. StepLeads scope (plain_step_view x) (number begun) m m (number z)) → IfSome r (λ z. Follows scope steps begun m z)
-  follows_one steps x begun m None h f = tt
-  follows_one steps x begun m (Some z) h f = λ knowing w line first s.
-      ap (λ ys. followed knowing w (context line scope first) (map plain_step_view ys) (value (number begun) (at s m))) h
-      ∙ f knowing w line first s
-
+  -- what two steps make of a number
   pub follows_two : (steps : List PlainStep) (x y : PlainStep) (begun made : ℤ) (m : Memory) (r : Option ℤ) → steps ≡ x ∷ y ∷ [] → StepLeads scope (plain_step_view x) (number begun) m m (number made) → IfSome r (λ z. StepLeads scope (plain_step_view y) (number made) m m (number z)) → IfSome r (λ z. Follows scope steps begun m z)
   follows_two steps x y begun made m None h b f = tt
   follows_two steps x y begun made m (Some z) h b f = λ knowing w line first s.
@@ -165,15 +131,6 @@ module _ (scope : List Ptr) where
   targeted e m n p step None t f = tt
   targeted e m n p step (Some z) t f = t n z f
 
-  -- an assignment with the value of an expression at its right
-  pub completed : (step : Step) (b : Binary) (a : Exp) (p : ℕ) (y : ℤ) (m n : Memory) (r : Option ℤ) → step ≡ two b a → Leads scope a m m (number y) → IfSome r (λ z. Completes b p y m n z) → IfSome r (λ z. StepLeads scope step (address p) m n (number z))
-  completed step b a p y m n None is l f = tt
-  completed step b a p y m n (Some z) is l f = step_as number step (two b a) (address p) m n (Some z) is (f scope a l)
-
-  -- an update by the value of an expression, and one by a number
-  pub updates : (step : Step) (u : Update) (a : Exp) (y : ℤ) (m : Memory) → step ≡ two (binary.Update u) a → Leads scope a m m (number y) → Updates scope step m u y
-  updates step u a y m is l = λ p n z c. step_as number step (two (binary.Update u) a) (address p) m n (Some z) is (renew_leads u a p y m n (Some z) l c)
-
   -- what a change leads to
   pub updated_by : (step : Step) (u : Update) (y : ℤ) (p : ℕ) (m n : Memory) (r : Option ℤ) → Updates scope step m u y → IfSome r (λ z. Changes u p y m n z) → IfSome r (λ z. StepLeads scope step (address p) m n (number z))
   updated_by step u y p m n None c f = tt
@@ -188,22 +145,6 @@ follow_two steps x y begun made m (Some z) h b f = λ scope. follows_two scope s
 pub at_memory : (op : Operation) (x y : ℤ) (m : Memory) (r : Option ℤ) → IfSome r (λ z. (m : Memory) → worked (operation_view op) m (number x) (number y) ≡ gives (number z)) → IfSome r (λ z. worked (operation_view op) m (number x) (number y) ≡ gives (number z))
 at_memory op x y m None f = tt
 at_memory op x y m (Some z) f = f m
-
--- a store of a number
-pub store_completes : (kind : Kind) (p : ℕ) (y : ℤ) (m n : Memory) → Ok n ≡ store m p (kind_type kind) (number y) → Completes (binary.Store kind) p y m n y
-store_completes kind p y m n is = λ scope a l knowing w line first s.
-    ap (λ r. on_value r (both_on line (binary.Store kind) (address p) (address p))) (l knowing w line first s)
-    ∙ ap (λ r. changed line r (at s m) (λ t. value (number y) t)) (sym is)
-
--- an update by a number
-pub update_completes : (u : Update) (p : ℕ) (y : ℤ) (m n : Memory) (r : Option ℤ) → IfSome r (λ z. Changes u p y m n z) → IfSome r (λ z. Completes (binary.Update u) p y m n z)
-update_completes u p y m n None f = tt
-update_completes u p y m n (Some z) f = λ scope a l. renew_leads scope u a p y m n (Some z) l f
-
--- the same of an equal step
-pub completes_as : (b d : Binary) (p : ℕ) (y : ℤ) (m n : Memory) (r : Option ℤ) → b ≡ d → IfSome r (λ z. Completes d p y m n z) → IfSome r (λ z. Completes b p y m n z)
-completes_as b d p y m n None is f = tt
-completes_as b d p y m n (Some z) is f = λ scope a l. step_as scope number (two b a) (two d a) (address p) m n (Some z) (ap (λ x. two x a) is) (f scope a l)
 
 module _ (scope : List Ptr) (e : Plain) where
   -- behind the value of the leaf, the steps
@@ -244,11 +185,6 @@ module _ (scope : List Ptr) (e : Plain) where
       (λ knowing w line first s.
       ap (followed knowing w (context line scope first) (next ∷ [])) (there knowing w line first s)
       ∙ f knowing w line first s)
-
-  -- a place alone
-  pub place_stands : (r : Option Ptr) → (out-Plain e).steps ≡ [] → IfSome r (λ p. Stands scope (leaf_view (out-Plain e).leaf) p.0) → IfSome r (λ p. Stands scope (plain_view e) p.0)
-  place_stands None h f = tt
-  place_stands (Some p) h f = λ m. leads_on [] m m (address p.0) (address p.0) (ap (map plain_step_view) h) (f m) (λ knowing w line first s. refl)
 
   -- a number of this leaf, and the steps behind it, whatever the scope
   pub few_lead : (l : Leaf) (steps : List PlainStep) (m : Memory) (begun : ℤ) (r : Option ℤ) → (out-Plain e).leaf ≡ l → steps ≡ (out-Plain e).steps → Leads scope (leaf_view l) m m (number begun) → IfSome r (λ z. (scope : List Ptr) → Follows scope steps begun m z) → IfSome r (λ z. Leads scope (plain_view e) m m (number z))

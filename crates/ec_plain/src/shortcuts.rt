@@ -31,7 +31,8 @@ pub fn evaluate_test(store: &mut Store, scope: &[Ptr], test: &Plain) -> Outcome
     }
 }
 
-/// What `evaluate` gives for what stands behind the body of a loop, which is most often a change of an `int` of the function.
+/// What `evaluate` gives for what stands behind the body of a loop, which is most often a change of an `int` of the
+/// function.
 #[inline(always)]
 pub fn evaluate_change(store: &mut Store, scope: &[Ptr], behind: &Plain) -> Outcome
     ensures { (knowing : Knowing) (w : World) (line : ℕ) (first : Bool) (s : State)
