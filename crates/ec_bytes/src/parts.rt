@@ -72,6 +72,7 @@ pub(crate) fn spread(bytes: &mut [u8], at: usize, n: usize, byte: u8)
 }
 
 /// Makes each of the `n` marks from `at` on `UNSET`: at once, where they are those of a value of 4 or 8 bytes.
+#[inline(always)]
 pub(crate) fn clear(marks: &mut [u8], at: usize, n: usize)
     requires { at + n ≤ length marks.old }
     ensures { marks.new ≡ written marks.old at (replicate n 0) }
@@ -84,6 +85,7 @@ pub(crate) fn clear(marks: &mut [u8], at: usize, n: usize)
 }
 
 /// Makes room for `len` items behind which others may stand.
+#[inline(always)]
 pub(crate) fn make_room(items: &mut Vec<u8>, len: usize) -> Result<(), OutOfMemory>
     ensures room { OnOk result (len ≤ length items.new.items) }
     ensures more { length items.old.items ≤ length items.new.items }
@@ -91,8 +93,21 @@ pub(crate) fn make_room(items: &mut Vec<u8>, len: usize) -> Result<(), OutOfMemo
         → take n items.new.items ≡ take n items.old.items }
 {
     if items.len() < len {
-        items.resize(len, 0)?;
+        return grow(items, len);
     }
+    Ok(())
+}
+
+/// Makes room for `len` items, which are more than there are.
+#[inline(never)]
+fn grow(items: &mut Vec<u8>, len: usize) -> Result<(), OutOfMemory>
+    requires { length items.old.items ≤ len }
+    ensures room { OnOk result (len ≤ length items.new.items) }
+    ensures more { length items.old.items ≤ length items.new.items }
+    ensures front { (n : ℕ) → n ≤ length items.old.items
+        → take n items.new.items ≡ take n items.old.items }
+{
+    items.resize(len, 0)?;
     Ok(())
 }
 

@@ -57,6 +57,7 @@ impl Region {
 
     /// Puts `n` unset cells at the end, and says at which place they begin. Where there is no memory for them, or the
     /// new length fits no `usize`, the region stays as it was.
+    #[inline(always)]
     pub fn extend(&mut self, n: usize) -> Result<usize, OutOfMemory>
         ensures start { IfOk result (λ start. start ≡ length self.old) }
         ensures ok { OnOk result (self.new ≡ self.old ++ unset_cells n) }

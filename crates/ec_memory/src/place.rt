@@ -44,7 +44,7 @@ fn is_at(places: &[Place], number: u32, index: usize) -> bool
 /// Where the object with this number would be if no object before it had ended.
 #[inline(always)]
 fn from_front(number: u32) -> usize {
-    number.saturating_sub(1) as usize
+    number.wrapping_sub(1) as usize
 }
 
 /// Where it would be if no object behind it had ended.
@@ -52,8 +52,8 @@ fn from_front(number: u32) -> usize {
 fn from_back(places: &[Place], number: u32) -> usize {
     match places.last() {
         Some(last) => {
-            let behind = last.number.saturating_sub(number) as usize;
-            places.len().saturating_sub(1).saturating_sub(behind)
+            let behind = last.number.wrapping_sub(number) as usize;
+            places.len().wrapping_sub(1).wrapping_sub(behind)
         }
         None => 0,
     }

@@ -76,6 +76,7 @@ impl Store {
     /// Makes an object of `size` bytes, from 1 to 2^24, and gives the pointer to its first byte. All its bytes are unset.
     /// After an error nothing is changed: `Spent` where there would be 2^32 objects since the start or more than 2^28
     /// bytes alive, and else `OutOfMemory` where the machine has no memory for it.
+    #[inline(always)]
     pub fn make(&mut self, size: u64) -> Result<Ptr, MakeStop>
         requires some { 1 ≤ size }
         requires small { size ≤ 2 ^ 24 }
@@ -99,6 +100,7 @@ impl Store {
     }
 
     /// Makes an object of `size` bytes, all of them zero or all unset.
+    #[inline(always)]
     fn make_cells(&mut self, size: u64, zeroed: bool) -> Result<Ptr, MakeStop>
         requires some { 1 ≤ size }
         requires small { size ≤ 2 ^ 24 }
@@ -262,13 +264,15 @@ impl Store {
 }
 
 /// The pointer to the first byte of an object.
-fn pointer(number: u32) -> Ptr
+#[inline(always)]
+pub(crate) fn pointer(number: u32) -> Ptr
     ensures { result.0 ≡ pointer_to number 0 }
 {
     Ptr((number as u64) << 32)
 }
 
 /// Puts an object at the end, with its cells all zero or all unset.
+#[inline(always)]
 fn add(
     cells: &mut Region,
     alive: &mut Vec<Place>,
@@ -292,7 +296,8 @@ fn add(
 }
 
 /// Puts a place at the end.
-fn push(alive: &mut Vec<Place>, place: Place) -> Result<(), OutOfMemory>
+#[inline(always)]
+pub(crate) fn push(alive: &mut Vec<Place>, place: Place) -> Result<(), OutOfMemory>
     ensures ok { OnOk result (alive.new.items ≡ alive.old.items ++ place ∷ []) }
     ensures err { OnErr result (alive.new.items ≡ alive.old.items) }
 {
@@ -301,6 +306,7 @@ fn push(alive: &mut Vec<Place>, place: Place) -> Result<(), OutOfMemory>
 }
 
 /// Puts `n` cells at the end, all of them zero or all unset.
+#[inline(always)]
 fn extend(cells: &mut Region, n: usize, zeroed: bool) -> Result<(), OutOfMemory>
     ensures ok { OnOk result (cells.new ≡ cells.old ++ first_cells zeroed n) }
     ensures err { OnErr result (cells.new ≡ cells.old) }
