@@ -1,15 +1,20 @@
 //! Objects of blocks and functions, and turns.
 
-ghost use Rattle.std.specs.Prelude.{◌≡◌, ◌≤◌, ◌+◌, ◌^◌, ℕ, ◌++◌, [], ◌∷◌, List, map, OnOk, Some, slice_get};
+ghost use Rattle.std.specs.Prelude.{◌≡◌, ◌≤◌, ◌+◌, ◌^◌, ℕ, ◌++◌, [], ◌∷◌, List, length, drop, map, OnOk, IfSome, Some, Err, slice_get};
 ghost use Rattle.std.specs.Option.{option_map};
 ghost use Rattle.ec_code.specs.Views.{size_view};
 ghost use Rattle.ec_evaluation.specs.Results.{Res, made, given, tried, turn};
 ghost use Rattle.ec_evaluation.specs.State.{State};
 ghost use Rattle.ec_objects.specs.Kinds.{kind_type};
 ghost use Rattle.ec_objects.specs.declared.kind.Kind.{Kind as KindData};
-ghost use Rattle.ec_objects.specs.Memory.{make, scalar_size};
+ghost use Rattle.ec_base.specs.declared.stop.Trap.TheVariants as trap;
+ghost use Rattle.ec_memory.specs.declared.store.MakeStop.TheVariants as stops;
+ghost use Rattle.ec_objects.specs.declared.kind.Kind.TheVariants as kinds;
+ghost use Rattle.ec_objects.specs.Memory.{make, number, scalar_size, with_object};
 ghost use Rattle.ec_plain.specs.Answered.{at, ending_of, scope_view};
 ghost use Rattle.ec_values.specs.Words.{word_view};
+ghost use Rattle.ec_memory.specs.Room.{HasRoom, int_cells};
+ghost use Rattle.ec_machine.specs.Arguments.{HasMade, with_arguments};
 ghost use Rattle.ec_machine.specs.Frames.{Grown, objects_of};
 ghost use Rattle.ec_machine.specs.Goes.{IsNoRoom, IsOver, Makes, Passes};
 
@@ -143,7 +148,6 @@ fn first_kind(kinds: &[Kind]) -> Option<Kind>
 }
 
 /// Makes objects of these types, and puts them behind the others.
-#[inline(always)]
 fn make_parameters(store: &mut Store, scope: &mut Scope, kinds: &[Kind]) -> Result<(), MakeStop>
     ensures made { (line : ℕ) (s : State) (go : List ℕ → State → Res) → Makes line result
         (made line (map scalar_size (map kind_type kinds.now)) (scope_view (objects_of scope.old))
@@ -195,19 +199,13 @@ pub(crate) fn make_locals(
     values: &[Word],
 ) -> Result<(), Stop>
     ensures made { (s : State) (go : List ℕ → State → Res) → Passes result
-        (made line.0 (map scalar_size (map kind_type function.now.parameters)) (scope_view
-        (objects_of scope.old)) (at s store.old) (λ ps t.
-        given line.0 (map kind_type function.now.parameters) ps (map word_view values.now) t (λ u.
-        made line.0 (map size_view function.now.objects) ps u go)))
+        (with_arguments line.0 function.now.parameters (map word_view values.now)
+        (scope_view (objects_of scope.old)) (at s store.old)
+        (λ ps t. made line.0 (map size_view function.now.objects) ps t go))
         (go (scope_view (objects_of scope.new)) (at s store.new)) (at s store.new) }
     ensures grown { OnOk result (Grown scope.old.pointers scope.new.pointers) }
 {
-    let kinds = function.parameters.as_slice();
-    match make_parameters(store, scope, kinds) {
-        Ok(()) => (),
-        Err(why) => return Err(no_room(line, why)),
-    }
-    match give_arguments(store, line, kinds, scope.objects(), values) {
+    match make_arguments(store, scope, line, function.parameters.as_slice(), values) {
         Ok(()) => (),
         Err(stop) => return Err(stop),
     }
@@ -220,9 +218,132 @@ pub(crate) fn make_locals(
     }
 }
 
-/// Stores arguments in parameters of these types, in order.
+/// Makes parameters of these types with these values, and puts them behind the others.
 #[inline(always)]
-pub fn give_arguments(
+fn make_arguments(
+    store: &mut Store,
+    scope: &mut Scope,
+    line: Line,
+    kinds: &[Kind],
+    values: &[Word],
+) -> Result<(), Stop>
+    ensures made { (s : State) (go : List ℕ → State → Res) → Passes result
+        (with_arguments line.0 kinds.now (map word_view values.now)
+        (scope_view (objects_of scope.old)) (at s store.old) go)
+        (go (scope_view (objects_of scope.new)) (at s store.new)) (at s store.new) }
+    ensures grown { OnOk result (Grown scope.old.pointers scope.new.pointers) }
+{
+    if store.has_room(kinds.len()) {
+        make_ints(store, scope, line, kinds, values)
+    } else {
+        make_any(store, scope, line, kinds, values)
+    }
+}
+
+/// The same where there is room for all. Those of `int` are made with their values, up to the first of another type.
+#[inline(always)]
+fn make_ints(
+    store: &mut Store,
+    scope: &mut Scope,
+    line: Line,
+    kinds: &[Kind],
+    values: &[Word],
+) -> Result<(), Stop>
+    requires room { HasRoom store.old (length kinds.now) }
+    ensures made { (s : State) (go : List ℕ → State → Res) → Passes result
+        (with_arguments line.0 kinds.now (map word_view values.now)
+        (scope_view (objects_of scope.old)) (at s store.old) go)
+        (go (scope_view (objects_of scope.new)) (at s store.new)) (at s store.new) }
+    ensures grown { OnOk result (Grown scope.old.pointers scope.new.pointers) }
+{
+    let mut kinds = kinds;
+    let mut values = values;
+    while let [kind, more_kinds @ ..] = kinds {
+        match values {
+            [] => return make_any(store, scope, line, kinds, values),
+            [value, more_values @ ..] => match int_of(*kind, *value) {
+                Some(number) => {
+                    match make_int(store, scope, number) {
+                        Ok(()) => (),
+                        Err(why) => return Err(no_room(line, why)),
+                    }
+                    kinds = more_kinds;
+                    values = more_values;
+                }
+                None => return make_any(store, scope, line, kinds, values),
+            },
+        }
+    }
+    if values.is_empty() {
+        Ok(())
+    } else {
+        Err(Stop::Over(End::Stuck))
+    }
+}
+
+/// The number that an `int` gets from this value.
+#[inline(always)]
+fn int_of(kind: Kind, value: Word) -> Option<i32>
+    ensures { IfSome result (λ z. (kind ≡ kinds.Int) × (word_view value ≡ number z)) }
+{
+    match kind {
+        Kind::Int => match value {
+            Word::Signed(number) => i32::try_from(number).ok(),
+            _ => None,
+        },
+        _ => None,
+    }
+}
+
+/// Makes an `int` with this value, and puts it behind the others.
+#[inline(always)]
+fn make_int(store: &mut Store, scope: &mut Scope, value: i32) -> Result<(), MakeStop>
+    ensures made { OnOk result (HasMade value store.old scope.old store.new scope.new) }
+    ensures spent { result ≡ Err stops.Spent
+        → with_object store.old (int_cells value) ≡ Err trap.Spent }
+{
+    match store.make_int(value) {
+        Ok(ptr) => {
+            scope.push(ptr)?;
+            Ok(())
+        }
+        Err(MakeStop::Spent) => Err(MakeStop::Spent),
+        Err(MakeStop::OutOfMemory) => Err(MakeStop::OutOfMemory),
+    }
+}
+
+/// The same of any types and values: all parameters are made, and then the values are stored in them.
+#[inline(never)]
+fn make_any(
+    store: &mut Store,
+    scope: &mut Scope,
+    line: Line,
+    kinds: &[Kind],
+    values: &[Word],
+) -> Result<(), Stop>
+    ensures made { (s : State) (go : List ℕ → State → Res) → Passes result
+        (with_arguments line.0 kinds.now (map word_view values.now)
+        (scope_view (objects_of scope.old)) (at s store.old) go)
+        (go (scope_view (objects_of scope.new)) (at s store.new)) (at s store.new) }
+    ensures grown { OnOk result (Grown scope.old.pointers scope.new.pointers) }
+{
+    let before = scope.objects().len();
+    match make_parameters(store, scope, kinds) {
+        Ok(()) => (),
+        Err(why) => return Err(no_room(line, why)),
+    }
+    give_arguments(store, line, kinds, behind(scope.objects(), before), values)
+}
+
+/// The objects behind the first.
+fn behind(objects: &[Ptr], before: usize) -> &[Ptr]
+    ensures { result.now ≡ drop before objects.now }
+{
+    &objects[before.min(objects.len())..]
+}
+
+/// Stores arguments in parameters of these types, in order.
+fn give_arguments(
     store: &mut Store,
     line: Line,
     kinds: &[Kind],

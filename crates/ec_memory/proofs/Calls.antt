@@ -8,6 +8,7 @@ use Rattle.std.proofs.lemmas.List.{drop_all, take_all, take_at, length-take-le, 
 use Rattle.std.proofs.lemmas.Option.{slice_get-get_or}
 use Rattle.ec_base.specs.declared.stop.Trap.{Trap}
 use Rattle.ec_base.specs.declared.stop.Trap.TheVariants.{Outside, Spent}
+use Rattle.ec_memory.specs.Room.{int_cells}
 use Rattle.ec_memory.specs.declared.place.Place.{Place}
 use Rattle.ec_memory.specs.Objects.{memory_of, InLine, Kept, IsRising, Holds, Placed, Behind}
 use Rattle.ec_memory.specs.Moves.{moved_within}
@@ -121,6 +122,10 @@ front_beyond m made cells places now p q o limit some view kept e holds is beyon
 pub first_length : (zeroed : Bool) (n : ℕ) → length (first_cells zeroed n) ≡ n
 first_length true n = length-replicate n (Some 0)
 first_length false n = length-replicate n None
+
+-- the cells of an int
+pub int_length : (z : ℤ) → length (int_cells z) ≡ 4
+int_length z = refl
 
 -- zero bytes written over new cells
 pub zeroed_behind : (cells : List Cell) (n start : ℕ) → start ≡ length cells → written (cells ++ unset_cells n) start (filled_cells n 0) ≡ cells ++ filled_cells n 0

@@ -5,5 +5,6 @@ pub mod Objects
 pub mod Moves
 pub mod Store
 pub mod Sums
+pub mod Room
 pub mod Values
 pub mod Elements

@@ -2,6 +2,7 @@
 #![tactic(auto)]
 
 mod elements;
+mod ints;
 mod moves;
 mod padded;
 mod place;

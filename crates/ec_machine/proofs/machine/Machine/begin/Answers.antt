@@ -1,4 +1,4 @@
-use Rattle.std.proofs.Common.{◌≡◌, ◌∙◌, ap, arith, map, refl, subst, sym, ℕ, List, [], false}
+use Rattle.std.proofs.Common.{◌≡◌, ◌∙◌, ap, arith, drop, length, map, refl, subst, sym, ℕ, List, [], false}
 use Rattle.ec_code.specs.Views.{full_step_view, function_view, statements_view}
 use Rattle.ec_evaluation.specs.Execute.{body_run, called, in_function, run_all, settle}
 use Rattle.ec_evaluation.specs.Results.{Res, answered, closing, function_end, given, made}
@@ -30,7 +30,7 @@ returns-in-Err-clause-finds c = λ fs.
     let t = record s { turns = m.turns } in
     let n = record m { store = c.make_locals.new.store } in
     let next : List ℕ → State → Res = λ objects r. body_run knowing w (in_function m.line.0 objects false) f r in
-    let inner : List ℕ → List _ → Res = λ os vs. made m.line.0 (map scalar_size f.parameters) os (at s m) (λ ps u. given m.line.0 f.parameters ps vs u (λ v. made m.line.0 f.objects ps v next)) in
+    let inner : List ℕ → List _ → Res = λ os vs. made m.line.0 (map scalar_size f.parameters) os (at s m) (λ ps u. given m.line.0 f.parameters (drop (length os) ps) vs u (λ v. made m.line.0 f.objects ps v next)) in
     let around : Res → Res = λ o. answered m.line.0 c.args.used (function_end f.otherwise o) in
     stops_through around (λ e u. refl) c.in-Err.stop (at s n) (closing (last_number m.store) (inner [] vs))
     (closed (last_number m.store) c.in-Err.stop (at s n) (inner [] vs)
@@ -58,7 +58,7 @@ returns-clause-finds c = λ fs.
     (λ knowing fits k s l. let w = tasks knowing fs k in
     let t = record s { turns = m.turns } in
     let next : List ℕ → State → Res = λ objects r. body_run knowing w (in_function m.line.0 objects false) f r in
-    let inner : List ℕ → List _ → Res = λ os vs. made m.line.0 (map scalar_size f.parameters) os (at s m) (λ ps u. given m.line.0 f.parameters ps vs u (λ v. made m.line.0 f.objects ps v next)) in
+    let inner : List ℕ → List _ → Res = λ os vs. made m.line.0 (map scalar_size f.parameters) os (at s m) (λ ps u. given m.line.0 f.parameters (drop (length os) ps) vs u (λ v. made m.line.0 f.objects ps v next)) in
     let around : Res → Res = λ o. answered m.line.0 c.args.used (function_end f.otherwise o) in
     ap (λ o. around (closing (last_number m.store) o))
     (ap (λ os. inner os vs) (sym (ap (λ y. scope_view (objects_of y)) c.enter-saved.ensures.scope ∙ ap scope_view (no_objects m.scope.pointers)))
