@@ -8,7 +8,7 @@ static int step(int a, int b)
 int main(void)
 {
     int sum = 0;
-    for (int i = 0; i < 2000000; i++)
+    for (int i = 0; i < 20000000; i++)
         sum = step(sum, i);
     printf("%d\n", sum);
     return 0;

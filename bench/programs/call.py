@@ -4,7 +4,7 @@ def step(a, b):
 
 def main():
     sum = 0
-    for i in range(2000000):
+    for i in range(20000000):
         sum = step(sum, i)
     print(sum)
 

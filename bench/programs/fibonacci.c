@@ -9,6 +9,6 @@ static int fibonacci(int n)
 
 int main(void)
 {
-    printf("%d\n", fibonacci(27));
+    printf("%d\n", fibonacci(32));
     return 0;
 }

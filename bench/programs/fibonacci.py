@@ -5,7 +5,7 @@ def fibonacci(n):
 
 
 def main():
-    print(fibonacci(27))
+    print(fibonacci(32))
 
 
 main()

@@ -3,7 +3,7 @@
 int main(void)
 {
     long sum = 0;
-    for (int i = 0; i < 5000000; i++)
+    for (int i = 0; i < 50000000; i++)
         sum = sum + i % 7;
     printf("%ld\n", sum);
     return 0;

@@ -1,6 +1,6 @@
 def main():
     sum = 0
-    for i in range(5000000):
+    for i in range(50000000):
         sum = sum + i % 7
     print(sum)
 

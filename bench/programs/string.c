@@ -4,7 +4,7 @@
 int main(void)
 {
     char line[200];
-    for (int i = 0; i < 40000; i++) {
+    for (int i = 0; i < 400000; i++) {
         strcpy(line, "");
         for (int j = 0; j < 20; j++)
             strcat(line, "word ");

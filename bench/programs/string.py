@@ -1,5 +1,5 @@
 def main():
-    for i in range(40000):
+    for i in range(400000):
         line = ""
         for j in range(20):
             line += "word "
