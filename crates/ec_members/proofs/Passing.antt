@@ -6,14 +6,15 @@ use Rattle.ec_ctypes.specs.Layout.{no_members, with_member, offset_behind, shape
 use Rattle.ec_ctypes.specs.trees.Types.{TyData, MemberData}
 use Rattle.ec_language.specs.Letters.{Text, same_text}
 use Rattle.ec_resolved.specs.Resolved.{Exp}
-use Rattle.ec_resolving.specs.Operands.{member_at, member_exp}
+use Rattle.ec_resolving.specs.Operands.{member_at, member_exp, offset_among}
 use Rattle.ec_scopes.specs.declared.measures.Measure.{Measure}
 use Rattle.ec_scopes.specs.declared.measures.Measure.TheVariants.{Unknown, Within, TooLarge}
 use Rattle.ec_scopes.specs.Entries.{named_view}
 use Rattle.ec_scopes.specs.Measures.{measured}
+use Rattle.ec_scopes.specs.Offsets as kept
 use Rattle.ec_typing.specs.Expressions.{Members, typed_members}
 use Rattle.ec_typing.specs.Tables.{Named}
-use Rattle.ec_typing.specs.Worlds.{World, max_size}
+use Rattle.ec_typing.specs.Worlds.{World, MembersData, unlisted, begun, listed, members_of, max_size, shapes_in}
 use Rattle.ec_members.specs.Offsets.{found_behind, is_untyped, is_untyped_at, offset_by, offset_from, offset_in, passed_at, passed_shape, passed_type}
 
 -- ---- what is measured
@@ -142,3 +143,13 @@ member_found w (Some k) name e = refl
 pub named_length : {V W : Type 0} (f : V → W) (es : Named V) → length (named_view f es) ≡ length es
 named_length f [] = refl
 named_length f (e ∷ es) = ap suc (named_length f es)
+
+-- an offset that the checks keep
+among : (w : World) (name : Text) (o : Option MembersData) → kept.offset_among (shapes_in w) name o ≡ offset_among w name o
+among w name None = refl
+among w name (Some unlisted) = refl
+among w name (Some begun) = refl
+among w name (Some (listed ms)) = refl
+
+pub kept_offset : (w : World) (k : ℕ) (name : Text) (offset : ℕ) → kept.offset_among (shapes_in w) name (members_of k w) ≡ Some offset → Some offset ≡ offset_in w (Some k) name
+kept_offset w k name offset h = sym h ∙ among w name (members_of k w)

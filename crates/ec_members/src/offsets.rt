@@ -1,6 +1,6 @@
 //! Where the members of a struct stand (ISO/IEC 9899:1999, 6.7.2.1).
 
-ghost use Rattle.std.specs.Prelude.{◌≡◌, IfOk, is_some, slice_get};
+ghost use Rattle.std.specs.Prelude.{◌≡◌, IfOk, Some, is_some, slice_get};
 ghost use Rattle.std.specs.Int.{next_multiple_of};
 ghost use Rattle.ec_ctypes.specs.Layout.{no_members, with_member};
 ghost use Rattle.ec_ctypes.specs.views.Types.{ty_view};
@@ -179,8 +179,29 @@ fn offset_among(
     }
 }
 
+/// The offset of the member of this name in the struct of this number, found by a walk over its members.
+fn walked_offset(
+    checker: &Checker,
+    number: u32,
+    name: &[u8],
+) -> Result<Option<u64>, OutOfMemory>
+    ensures { IfOk result (λ offset. offset
+        ≡ offset_in (world_of checker.now) (Some number) name.now) }
+{
+    match checker.members_of(number) {
+        Some(Members::Listed(members)) => {
+            let members = members.get();
+            offset_among(checker, members, name)
+        }
+        Some(Members::Unlisted) => Ok(None),
+        Some(Members::Begun) => Ok(None),
+        None => Ok(None),
+    }
+}
+
 /// The offset of the member of this name in the struct of this number, if there is such a struct, it is complete, and the
 /// member is one of it.
+#[tactic(auto, using(crate::proofs::Passing::kept_offset))]
 pub(crate) fn offset_in(
     checker: &Checker,
     number: Option<u32>,
@@ -190,14 +211,9 @@ pub(crate) fn offset_in(
 {
     match number {
         None => Ok(None),
-        Some(number) => match checker.members_of(number) {
-            Some(Members::Listed(members)) => {
-                let members = members.get();
-                offset_among(checker, members, name)
-            }
-            Some(Members::Unlisted) => Ok(None),
-            Some(Members::Begun) => Ok(None),
-            None => Ok(None),
+        Some(number) => match checker.offset(number, name) {
+            Some(offset) => Ok(Some(offset)),
+            None => walked_offset(checker, number, name),
         },
     }
 }

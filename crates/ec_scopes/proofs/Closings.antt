@@ -12,8 +12,10 @@ use Rattle.ec_typing.specs.Expressions as rule
 use Rattle.ec_scopes.specs.declared.structs.StructRow.{StructRow}
 use Rattle.ec_scopes.specs.Counts.{counted}
 use Rattle.ec_scopes.specs.Measures.{rounded, measured, IsSmallMeasure}
-use Rattle.ec_scopes.specs.Structs.{members_view, listed_of, shapes_of, shape_by, stands_by, closed_of, opened, close_as, close_at, closings, infos, listed_at, members_at, is_begun, AreListed, AreSmall, IsKept}
+use Rattle.ec_scopes.specs.Offsets.{offset_among}
+use Rattle.ec_scopes.specs.Structs.{members_view, listed_of, shapes_of, shape_by, stands_by, closed_of, opened, close_as, close_at, closings, infos, listed_at, members_at, is_begun, AreListed, AreSmall, AreStarted, IsKept, IsKeptAt, IsStarted}
 use Rattle.ec_scopes.specs.declared.measures.Measure.TheVariants.{Unknown}
+use Rattle.ec_scopes.proofs.Starting.{set-extends, started-on, all-on, started-more, started-set, blank-started, started-at, kept-at}
 
 -- ---- lists
 
@@ -302,24 +304,33 @@ small-set [] k r all one = tt
 small-set (x ∷ xs) zero r all one = (one, all.1)
 small-set (x ∷ xs) (suc k) r all one = (all.0, small-set xs k r all.1 one)
 
+blank-none : (is : List StructInfo) (k : ℕ) → BlankAt is k → IfSome (slice_get (shapes_of is) k) (λ o. o ≡ None)
+blank-none [] k h = tt
+blank-none (s ∷ ss) zero h = h.no_shape
+blank-none (s ∷ ss) (suc k) h = blank-none ss k h
+
 -- ---- what is kept
 
 pub none-listed : (o : Option StructRow) {m : MembersData} → option_map (λ r. members_view r.members) o ≡ Some m → listed_of m ≡ None → option_and_then (λ r. listed_of (members_view r.members)) o ≡ None
 none-listed None h e = refl
 none-listed (Some r) h e = let q : members_view r.members ≡ _ = cc in ap listed_of q ∙ e
 
-pub kept-push : (rows rows' : List StructRow) (ks : List ℕ) (r : StructRow) → rows' ≡ rows ++ r ∷ [] → r.measure ≡ Unknown → r.stands_for ≡ 0 → IsKept rows ks → IsKept rows' ks
-kept-push rows rows' ks r e m n k = subst (λ l. IsKept l ks) (sym e) (record {
+pub kept-push : (rows rows' : List StructRow) (ks : List ℕ) (r : StructRow) → rows' ≡ rows ++ r ∷ [] → r.measure ≡ Unknown → r.stands_for ≡ 0 → r.offsets ≡ [] → IsKept rows ks → IsKept rows' ks
+kept-push rows rows' ks r e m n z k = subst (λ l. IsKept l ks) (sym e) (record {
   lists = listed-more rows r ks k.lists;
   fits = small-more rows r k.fits (subst (λ x. IsSmallMeasure x) (sym m) tt);
   measures = map-append (λ x. x.measure) rows (r ∷ []) ∙ (λ i. k.measures i ++ m i ∷ [])
       ∙ sym (ap (map (λ s. measured s.shape)) (infos-more rows r ks k.lists) ∙ map-append (λ s. measured s.shape) (infos rows ks) (opened r ∷ []));
   counts = map-append (λ x. x.stands_for) rows (r ∷ []) ∙ (λ i. k.counts i ++ n i ∷ [])
       ∙ sym (ap (map (λ s. counted s.stands_for)) (infos-more rows r ks k.lists) ∙ map-append (λ s. counted s.stands_for) (infos rows ks) (opened r ∷ []));
+  starts =
+      let os = shapes_of (infos rows ks) in
+      subst (λ qs. AreStarted qs (rows ++ r ∷ [])) (sym (ap shapes_of (infos-more rows r ks k.lists) ∙ shapes-more (infos rows ks) (opened r) (record { no_shape = refl; no_first = refl; no_host = refl })))
+      (started-more (os ++ None ∷ []) rows r (all-on os (os ++ None ∷ []) (λ t s h. none-shape os t ∙ h) rows k.starts) (blank-started (os ++ None ∷ []) r z));
 })
 
-pub kept-begin : (rows rows' : List StructRow) (ks : List ℕ) (k : ℕ) (r : StructRow) → rows' ≡ set rows k r → r.measure ≡ Unknown → r.stands_for ≡ 0 → listed_at rows k ≡ None → IsKept rows ks → IsKept rows' ks
-kept-begin rows rows' ks k r e m n none kept =
+pub kept-begin : (rows rows' : List StructRow) (ks : List ℕ) (k : ℕ) (r : StructRow) → rows' ≡ set rows k r → r.measure ≡ Unknown → r.stands_for ≡ 0 → r.offsets ≡ [] → listed_at rows k ≡ None → IsKept rows ks → IsKept rows' ks
+kept-begin rows rows' ks k r e m n z none kept =
     let d = apart-of rows ks k kept.lists none in
     subst (λ l. IsKept l ks) (sym e) (record {
       lists = listed-set rows r k ks d kept.lists;
@@ -328,11 +339,15 @@ kept-begin rows rows' ks k r e m n none kept =
           ∙ sym (ap (map (λ s. measured s.shape)) (infos-set rows r ks k d) ∙ map-set (λ s. measured s.shape) (infos rows ks) k (opened r));
       counts = map-set (λ x. x.stands_for) rows k r ∙ (λ i. set (kept.counts i) k (n i))
           ∙ sym (ap (map (λ s. counted s.stands_for)) (infos-set rows r ks k d) ∙ map-set (λ s. counted s.stands_for) (infos rows ks) k (opened r));
+      starts =
+          let os = shapes_of (infos rows ks) in
+          subst (λ qs. AreStarted qs (set rows k r)) (sym (ap shapes_of (infos-set rows r ks k d) ∙ shapes-same (infos rows ks) k (opened r) (record { no_shape = refl; no_first = refl; no_host = refl }) (infos-blank rows ks k d)))
+          (started-set os rows k r kept.starts (blank-started os r z));
     })
 
 pub kept-close : (rows rows' : List StructRow) (ks ks' : List ℕ) (k : ℕ) (r : StructRow) (ms : rule.Members) → rows' ≡ set rows k r → ks' ≡ ks ++ k ∷ [] → listed_of (members_view r.members) ≡ Some ms
-    → r.measure ≡ measured (shape_by (infos rows ks) ms) → IsSmallMeasure r.measure → r.stands_for ≡ counted (stands_by r.varchar (infos rows ks) ms) → listed_at rows k ≡ None → k < length rows → IsKept rows ks → IsKept rows' ks'
-kept-close rows rows' ks ks' k r ms e f l m small n none h kept =
+    → r.measure ≡ measured (shape_by (infos rows ks) ms) → IsSmallMeasure r.measure → r.stands_for ≡ counted (stands_by r.varchar (infos rows ks) ms) → IsStarted (shapes_of (infos rows ks)) r → listed_at rows k ≡ None → k < length rows → IsKept rows ks → IsKept rows' ks'
+kept-close rows rows' ks ks' k r ms e f l m small n st none h kept =
     let d = apart-of rows ks k kept.lists none in
     subst (λ l. IsKept l ks') (sym e) (subst (λ l. IsKept (set rows k r) l) (sym f) (record {
       lists = listed-last (set rows k r) ks k (listed-set rows r k ks d kept.lists) (subst (λ (o : Option StructRow). IsSome (option_and_then (λ r. listed_of (members_view r.members)) o)) (sym (get-set-same rows k r h)) (subst (λ (o : Option rule.Members). IsSome o) (sym l) refl));
@@ -341,6 +356,12 @@ kept-close rows rows' ks ks' k r ms e f l m small n none h kept =
           ∙ sym (ap (map (λ s. measured s.shape)) (infos-close rows r ks k ms d h l) ∙ map-set (λ s. measured s.shape) (infos rows ks) k (closed_of r.tag r.varchar ms (infos rows ks)));
       counts = map-set (λ x. x.stands_for) rows k r ∙ (λ i. set (kept.counts i) k (n i))
           ∙ sym (ap (map (λ s. counted s.stands_for)) (infos-close rows r ks k ms d h l) ∙ map-set (λ s. counted s.stands_for) (infos rows ks) k (closed_of r.tag r.varchar ms (infos rows ks)));
+      starts =
+          let os = shapes_of (infos rows ks) in
+          let own = closed_of r.tag r.varchar ms (infos rows ks) in
+          let ext = set-extends os k own.shape (blank-none (infos rows ks) k (infos-blank rows ks k d)) in
+          subst (λ qs. AreStarted qs (set rows k r)) (sym (ap shapes_of (infos-close rows r ks k ms d h l) ∙ map-set (λ s. s.shape) (infos rows ks) k own))
+          (started-set (set os k own.shape) rows k r (all-on os (set os k own.shape) ext rows kept.starts) (started-on os (set os k own.shape) ext r st));
     }))
 
 -- ---- members
@@ -411,3 +432,11 @@ pub closed-last : (is : List StructInfo) (own : Option Text) (m : MembersData) (
     → set (is ++ struct_named own m ∷ []) (length is) (closed_of tag v ms (is ++ struct_named own m ∷ [])) ≡ is ++ closed_of tag v ms is ∷ []
 closed-last is own m tag v ms =
     ap (set (is ++ struct_named own m ∷ []) (length is)) (closed-more is (struct_named own m) tag v ms (blank-named own m)) ∙ set-last is (struct_named own m) (closed_of tag v ms is)
+
+-- the offset of a member is what is kept of it
+pub offset-kept : (rows : List StructRow) (ks : List ℕ) (k : ℕ) (row : StructRow) (name : Text) (o : Option ℕ) → IsKept rows ks → slice_get rows k ≡ Some row → IfSome o (IsKeptAt row name)
+    → IfSome o (λ offset. offset_among (shapes_of (infos rows ks)) name (members_at rows ks k) ≡ Some offset)
+offset-kept rows ks k row name None kept e h = tt
+offset-kept rows ks k row name (Some offset) kept e h =
+    let os = shapes_of (infos rows ks) in
+    ap (offset_among os name) (sym (members-kept rows ks k) ∙ ap (option_map (λ r. members_view r.members)) e) ∙ kept-at os row name offset (started-at os rows k row kept.starts e) h

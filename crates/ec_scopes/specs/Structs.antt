@@ -11,6 +11,7 @@ use Rattle.ec_typing.specs.Expressions as rule
 use Rattle.ec_scopes.specs.declared.measures.Measure.{Measure}
 use Rattle.ec_scopes.specs.Counts.{counted}
 use Rattle.ec_scopes.specs.Measures.{measured, IsSmallMeasure}
+use Rattle.ec_scopes.specs.Offsets.{place_of, starts}
 use Rattle.ec_scopes.specs.declared.structs.Members.{Members}
 use Rattle.ec_scopes.specs.declared.structs.Members.TheVariants as m
 use Rattle.ec_scopes.specs.declared.structs.StructRow.{StructRow}
@@ -101,12 +102,39 @@ abbrev pub AreSmall : List StructRow → Type 0
 AreSmall [] = Unit {0}
 AreSmall (r ∷ rs) = IsSmallMeasure r.measure × AreSmall rs
 
--- Those that have closed list their members, and each struct is measured as its shape says, and counted as hosts of it stand for members.
+-- the members that a struct lists, or none
+abbrev pub members_or_none : Option rule.Members → rule.Members
+members_or_none None = []
+members_or_none (Some ms) = ms
+
+abbrev pub members_in : StructRow → rule.Members
+members_in r = members_or_none (listed_of (members_view r.members))
+
+-- where an offset is kept for each member, the members stand there
+abbrev pub IsStarted : List (Option Shape) → StructRow → Type 0
+IsStarted shapes r =
+    length r.offsets ≡ length (members_in r) → r.offsets ≡ starts shapes 0 (members_in r)
+
+abbrev pub AreStarted : List (Option Shape) → List StructRow → Type 0
+AreStarted shapes [] = Unit {0}
+AreStarted shapes (r ∷ rs) = IsStarted shapes r × AreStarted shapes rs
+
+-- an offset is kept for each member of the struct, and this is the one for the member of this name
+pub record IsKeptAt (row : StructRow) (name : Text) (offset : ℕ) : Type 0 where
+  pub members : rule.Members
+  pub number : ℕ
+  pub lists : listed_of (members_view row.members) ≡ Some members
+  pub whole : length row.offsets ≡ length members
+  pub named : place_of name members ≡ Some number
+  pub kept : slice_get row.offsets number ≡ Some offset
+
+-- Those that have closed list their members, and each struct is measured as its shape says, and counted as hosts of it stand for members, and where offsets are kept its members stand there.
 pub record IsKept (rows : List StructRow) (closed : List ℕ) : Type 0 where
   pub lists : AreListed rows closed
   pub fits : AreSmall rows
   pub measures : map (λ r. r.measure) rows ≡ map (λ s. measured s.shape) (infos rows closed)
   pub counts : map (λ r. r.stands_for) rows ≡ map (λ s. counted s.stands_for) (infos rows closed)
+  pub starts : AreStarted (shapes_of (infos rows closed)) rows
 
 -- what is known of the size of a type among these structs
 abbrev pub measure_in : List StructInfo → TyData → Measure

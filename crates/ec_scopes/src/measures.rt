@@ -34,7 +34,7 @@ impl Measure {
 }
 
 /// The greatest size of a type, in bytes.
-const LIMIT: u64 = 16_777_216;
+pub(crate) const LIMIT: u64 = 16_777_216;
 
 /// What is known of this size, which may be above the limit.
 fn within(size: u64, align: u64) -> Measure

@@ -1,11 +1,13 @@
 //! The structs of a program, by their numbers (ISO/IEC 9899:1999, 6.7.2.1 and 6.7.2.3).
 
-ghost use Rattle.std.specs.Prelude.{◌≡◌, ◌++◌, ◌∷◌, [], length, option_map, slice_get, slice_set, Some, OnOk, IfOk};
+ghost use Rattle.std.specs.Prelude.{◌≡◌, ◌++◌, ◌∷◌, [], length, option_map, slice_get, slice_set, Option, Some, OnOk, IfOk, IfSome};
+ghost use Rattle.ec_ctypes.specs.declared.types.sizes.Shape.{Shape as ShapeData};
 ghost use Rattle.std.specs.Option.{option_copied};
 ghost use Rattle.ec_ctypes.specs.views.Types.{ty_view};
 ghost use Rattle.ec_typing.specs.Worlds as rule;
 ghost use Rattle.ec_scopes.specs.Entries.{named_view, type_view};
-ghost use Rattle.ec_scopes.specs.Structs.{members_view, infos, begun_at, closed_of, shape_by, members_at, complete_in, arrays_within_in, measure_in, member_shape, is_begun, opened, stands_by};
+ghost use Rattle.ec_scopes.specs.Structs.{members_view, infos, begun_at, closed_of, shape_by, members_at, complete_in, arrays_within_in, measure_in, member_shape, is_begun, opened, shapes_of, stands_by, IsKeptAt};
+ghost use Rattle.ec_scopes.specs.Offsets.{offset_among, starts, IsPlaced};
 ghost use Rattle.ec_scopes.specs.Counts.{counted, member_stands, members_among};
 ghost use Rattle.ec_typing.specs.Expressions as expressions;
 ghost use Rattle.ec_scopes.specs.declared.measures.Measure.TheVariants as measures;
@@ -13,7 +15,9 @@ ghost use Rattle.ec_scopes.specs.Measures.{measured, IsSmallMeasure};
 ghost use Rattle.ec_ctypes.specs.trees.Types.{structure};
 
 use crate::counts::joined_count;
-use crate::measures::{Measure, joined_measure, repeated_measure, rounded_measure, scalar_measure};
+use crate::measures::{
+    LIMIT, Measure, joined_measure, repeated_measure, rounded_measure, scalar_measure,
+};
 use crate::shared::Shared;
 use crate::table::Table;
 use ec_base::{List, Name, OutOfMemory};
@@ -58,10 +62,34 @@ pub struct StructRow {
     pub measure: Measure,
     /// How many members a host of it stands for, inner structs too: up to 1000, or 1001 for all above.
     pub stands_for: u32,
+    /// Where its members stand, in their order, if each of them has a size within the limit.
+    pub offsets: List<u64>,
+}
+
+impl StructRow {
+    /// Where the member of this name stands, if that is kept of each member.
+    fn offset(&self, name: &[u8]) -> Option<u64>
+        ensures { IfSome result (IsKeptAt self.now name.now) }
+    {
+        match &self.members {
+            Members::Listed(members) => {
+                let members = members.get();
+                if self.offsets.len() != members.len() {
+                    return None;
+                }
+                match members.place(name) {
+                    Some(i) => self.offsets.get(i).copied(),
+                    None => None,
+                }
+            }
+            Members::Unlisted => None,
+            Members::Begun => None,
+        }
+    }
 }
 
 /// The structs of a program, numbered as they are met, and the numbers of those whose members are closed, in this order. Each
-/// is measured once, as its members close.
+/// is measured once, as its members close, and so are the offsets of its members found.
 #[derive(Drop)]
 pub struct StructTable {
     rows: List<StructRow>,
@@ -120,7 +148,8 @@ impl StructTable {
         if k > u32::MAX as usize {
             return Err(OutOfMemory);
         }
-        self.rows.push(open_row(tag, is_begun))?;
+        let row = open_row(self.rows.allocator(), tag, is_begun);
+        self.rows.push(row)?;
         Ok(k as u32)
     }
 
@@ -150,7 +179,8 @@ impl StructTable {
         ensures closed { self.new.1 ≡ self.old.1 }
     {
         if (k as usize) < self.rows.len() {
-            self.rows.set(k as usize, open_row(Some(tag), true));
+            let row = open_row(self.rows.allocator(), Some(tag), true);
+            self.rows.set(k as usize, row);
         }
     }
 
@@ -184,6 +214,7 @@ impl StructTable {
         }
         let measure = self.struct_measure(&members);
         let stands_for = self.host_count(varchar, &members);
+        let offsets = self.offsets(&members)?;
         let alloc = self.rows.allocator();
         let members = Shared::new(alloc, members)?;
         self.closed.push(k)?;
@@ -195,6 +226,7 @@ impl StructTable {
                 members: Members::Listed(members),
                 measure,
                 stands_for,
+                offsets,
             },
         );
         Ok(measure)
@@ -282,6 +314,41 @@ impl StructTable {
             Some(Some(ty)) => self.measure(ty),
             Some(None) => Measure::Unknown,
             None => Measure::Unknown,
+        }
+    }
+
+    /// Where these members stand, if each of them has a size within the limit.
+    fn offsets(&self, members: &Table<Option<Ty>>) -> Result<List<u64>, OutOfMemory>
+        ensures { IfOk result (λ offsets. length offsets ≡ length members.now → offsets
+            ≡ starts (shapes_of (infos self.now.0 self.now.1)) 0
+            (named_view type_view members.now)) }
+    {
+        let alloc = self.rows.allocator();
+        let mut offsets = List::new(alloc);
+        let mut used = 0;
+        let mut i = 0;
+        while i < members.len() {
+            match placed(used, self.member_measure(members, i)) {
+                Some(place) => {
+                    offsets.push(place.0)?;
+                    used = place.1;
+                }
+                None => return Ok(List::new(alloc)),
+            }
+            i += 1;
+        }
+        Ok(offsets)
+    }
+
+    /// The offset of the member of this name in the struct of this number, if it is kept: if each member of the struct has a size
+    /// within the limit, and this is one of them.
+    pub fn offset(&self, k: u32, name: &[u8]) -> Option<u64>
+        ensures { IfSome result (λ offset. offset_among (shapes_of (infos self.now.0 self.now.1))
+            name.now (members_at self.now.0 self.now.1 k) ≡ Some offset) }
+    {
+        match self.rows.get(k as usize) {
+            Some(row) => row.offset(name),
+            None => None,
         }
     }
 
@@ -379,10 +446,11 @@ impl StructTable {
 }
 
 /// A struct whose members are begun or not listed so far.
-fn open_row(tag: Option<Name>, is_begun: bool) -> StructRow
+fn open_row(alloc: Global, tag: Option<Name>, is_begun: bool) -> StructRow
     ensures opened { opened result ≡ rule.struct_named tag (begun_at is_begun) }
     ensures measure { result.measure ≡ measures.Unknown }
     ensures count { result.stands_for ≡ 0 }
+    ensures offsets { result.offsets ≡ [] }
 {
     let members = if is_begun {
         Members::Begun
@@ -395,5 +463,25 @@ fn open_row(tag: Option<Name>, is_begun: bool) -> StructRow
         members,
         measure: Measure::Unknown,
         stands_for: 0,
+        offsets: List::new(alloc),
+    }
+}
+
+/// Where a member stands behind so many bytes, and how many there are with it, if it has a size and they are within the limit.
+fn placed(used: u64, member: Measure) -> Option<(u64, u64)>
+    requires small { IsSmallMeasure member }
+    ensures { IfSome result (λ place. (o : Option ShapeData) → member ≡ measured o →
+        IsPlaced used o place) }
+{
+    match member {
+        Measure::Unknown => None,
+        Measure::TooLarge => None,
+        Measure::Within(shape) => {
+            if used > LIMIT {
+                return None;
+            }
+            let offset = used.next_multiple_of(shape.align);
+            Some((offset, offset + shape.size))
+        }
     }
 }

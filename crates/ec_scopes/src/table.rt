@@ -3,6 +3,7 @@
 ghost use Rattle.std.specs.Prelude.{◌≡◌, IfOk, OnOk, is_some, option_map, [], length, slice_get};
 ghost use Rattle.std.specs.Option.{option_copied};
 ghost use Rattle.ec_typing.specs.Tables.{find, put};
+ghost use Rattle.ec_scopes.specs.Offsets.{place_of};
 
 use ec_base::OutOfMemory;
 use indexmap::IndexMap;
@@ -58,6 +59,13 @@ impl<V: Drop> Table<V> {
         ensures { result ≡ length self.now }
     {
         self.inner.len()
+    }
+
+    /// The number of the name.
+    pub fn place(&self, name: &[u8]) -> Option<usize>
+        ensures { result ≡ place_of name.now self.now }
+    {
+        self.inner.get_index_of(name)
     }
 
     /// The name of this number.

@@ -1,12 +1,13 @@
 //! Structs by their tags, and their members (ISO/IEC 9899:1999, 6.7.2.1 and 6.7.2.3).
 
-ghost use Rattle.std.specs.Prelude.{◌≡◌, Some, option_map, IfOk};
+ghost use Rattle.std.specs.Prelude.{◌≡◌, Some, option_map, IfOk, IfSome};
 ghost use Rattle.std.specs.Option.{option_copied};
 ghost use Rattle.ec_ctypes.specs.views.Types.{ty_view};
 ghost use Rattle.ec_typing.specs.Worlds as world;
 ghost use Rattle.ec_typing.specs.Expressions as rule;
 ghost use Rattle.ec_scopes.specs.Entries.{place_view, named_view, type_view};
 ghost use Rattle.ec_scopes.specs.Measures.{measured};
+ghost use Rattle.ec_scopes.specs.Offsets.{offset_among};
 ghost use Rattle.ec_scopes.specs.Seen.{world_of, IsDone, Does};
 ghost use Rattle.ec_scopes.specs.Structs.{begun_at, members_view, struct_closing};
 
@@ -27,6 +28,15 @@ impl Checker {
             ≡ world.members_of k (world_of self.now) }
     {
         self.structs.members_of(k)
+    }
+
+    /// The offset of the member of this name in the struct of this number (ISO/IEC 9899:1999, 6.7.2.1), if it is kept: if each
+    /// member of the struct has a size within the limit, and this is one of them.
+    pub fn offset(&self, k: u32, name: &[u8]) -> Option<u64>
+        ensures { IfSome result (λ offset. offset_among (world.shapes_in (world_of self.now))
+            name.now (world.members_of k (world_of self.now)) ≡ Some offset) }
+    {
+        self.structs.offset(k, name)
     }
 
     /// Whether a type is complete (ISO/IEC 9899:1999, 6.2.5).
