@@ -1,9 +1,12 @@
 -- The bytes before a zero byte or an unset cell.
-use Rattle.std.proofs.Common.{◌≡◌, ◌∙◌, sym, ap, refl, ℕ, zero, suc, ◌+◌, ◌<◌, List, [], ◌∷◌, ◌++◌, length, get_or, take, drop, arith, drop-cons}
-use Rattle.std.proofs.lemmas.List.{append-nil}
+use Rattle.std.proofs.Common.{◌≡◌, ◌==◌, ◌∙◌, sym, ap, refl, ℕ, zero, suc, ◌+◌, ◌-◌, ◌<◌, ◌≤◌, ◌&&◌, true, not, List, [], ◌∷◌, ◌++◌, length, get_or, take, drop, arith, append_assoc, drop-cons, length-drop, ne_eqb}
+use Rattle.std.specs.List.{list_all}
+use Rattle.std.proofs.lemmas.Bool.{both_ways}
+use Rattle.std.proofs.lemmas.List.{append-nil, drop-drop}
+use Rattle.std.proofs.Math.Seq.{take-add}
 use Rattle.ec_objects.specs.Cells.{Cell, part_of}
 use Rattle.ec_bytes.specs.Region.{cells_of, run_of}
-use Rattle.ec_bytes.proofs.Cells.{part_cells}
+use Rattle.ec_bytes.proofs.Cells.{first_unset, part_cells}
 
 -- the run from the next cell on, by its byte and mark
 at_cell : (bytes : List ℕ) (marks : List ℕ) (n d : ℕ) (e : ℕ) → n < length bytes → length marks ≡ length bytes → cells_of (drop n bytes) (drop n marks) ≡ cells_of (get_or bytes n d ∷ drop (n + 1) bytes) (get_or marks n e ∷ drop (n + 1) marks)
@@ -34,3 +37,24 @@ pub run_part : (cells : List Cell) (bytes : List ℕ) (marks : List ℕ) (at n :
 run_part cells bytes marks at n piece run set is p s view =
     is ∙ ap (λ bs. run_of (cells_of bs set)) p ∙ ap (λ ms. run_of (cells_of (take n (drop at bytes)) ms)) s
     ∙ ap run_of (sym (part_cells at n bytes marks)) ∙ ap (λ those. run_of (part_of those at n)) view
+
+-- the first bytes are of the run where they are set and none is 0
+first_run : (k : ℕ) (bytes : List ℕ) (marks : List ℕ) → k ≤ length bytes → length marks ≡ length bytes → list_all (λ mark. mark == 1) (take k marks) ≡ true → list_all (λ byte. not (byte == 0)) (take k bytes) ≡ true → run_of (cells_of bytes marks) ≡ take k bytes ++ run_of (cells_of (drop k bytes) (drop k marks))
+first_run zero bytes marks within same set some = refl
+first_run (suc k) [] marks within same set some = absurd (omega arith)
+first_run (suc k) (b ∷ bytes) [] within same set some = absurd (omega arith)
+first_run (suc k) (b ∷ bytes) (zero ∷ marks) within same set some = cc
+first_run (suc k) (b ∷ bytes) (suc (suc m) ∷ marks) within same set some = absurd (both_ways (list_all (λ mark. mark == 1) (take (suc k) (suc (suc m) ∷ marks))) (first_unset m (take k marks)) set)
+first_run (suc k) (zero ∷ bytes) (suc zero ∷ marks) within same set some = cc
+first_run (suc k) (suc b ∷ bytes) (suc zero ∷ marks) within same set some = ap (λ run. suc b ∷ run) (first_run k bytes marks (omega arith) (omega arith) set (ap (λ test. not test && list_all (λ byte. not (byte == 0)) (take k bytes)) (sym (ne_eqb (suc b) 0 (λ e. omega arith))) ∙ some))
+
+-- and so are the next, behind those that were found to be of it
+pub next_run : (n k : ℕ) (bytes : List ℕ) (marks : List ℕ) → n + k ≤ length bytes → length marks ≡ length bytes → run_of (cells_of bytes marks) ≡ take n bytes ++ run_of (cells_of (drop n bytes) (drop n marks)) → list_all (λ mark. mark == 1) (take k (drop n marks)) ≡ true → list_all (λ byte. not (byte == 0)) (take k (drop n bytes)) ≡ true → run_of (cells_of bytes marks) ≡ take (n + k) bytes ++ run_of (cells_of (drop (n + k) bytes) (drop (n + k) marks))
+next_run n k bytes marks within same before set some =
+    let rest : List ℕ = run_of (cells_of (drop k (drop n bytes)) (drop k (drop n marks))) in
+    before
+    ∙ ap (λ run. take n bytes ++ run) (first_run k (drop n bytes) (drop n marks) (omega (arith, length-drop n bytes)) (length-drop n marks ∙ ap (λ l. l - n) same ∙ sym (length-drop n bytes)) set some)
+    ∙ sym (append_assoc (take n bytes) (take k (drop n bytes)) rest)
+    ∙ ap (λ front. front ++ rest) (sym (take-add n k bytes))
+    ∙ ap (λ bs. take (n + k) bytes ++ run_of (cells_of bs (drop k (drop n marks)))) (drop-drop k n bytes)
+    ∙ ap (λ ms. take (n + k) bytes ++ run_of (cells_of (drop (n + k) bytes) ms)) (drop-drop k n marks)

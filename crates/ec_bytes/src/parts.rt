@@ -1,6 +1,6 @@
 //! Reads and writes of a part of a slice.
 
-ghost use Rattle.std.specs.Prelude.{◌≡◌, ◌==◌, ◌+◌, ◌≤◌, ℕ, length, replicate, take, drop, OnOk};
+ghost use Rattle.std.specs.Prelude.{◌≡◌, ◌==◌, ◌+◌, ◌≤◌, ◌++◌, ℕ, not, length, replicate, take, drop, OnOk};
 ghost use Rattle.std.specs.List.{list_all};
 ghost use Rattle.ec_objects.specs.Cells.{written};
 ghost use Rattle.ec_bytes.specs.Region.{cells_of, run_of};
@@ -56,11 +56,44 @@ pub(crate) fn run_length(bytes: &[u8], marks: &[u8]) -> usize
     ensures bound { result ≤ length bytes.now }
     ensures run { take result bytes.now ≡ run_of (cells_of bytes.now marks.now) }
 {
-    let mut n = 0;
+    let mut n = whole_eights(bytes, marks);
     while n < bytes.len() && marks[n] == SET && bytes[n] != 0 {
         n += 1;
     }
     n
+}
+
+/// How many of them there are in whole groups of eight, of which the marks are compared at once.
+fn whole_eights(bytes: &[u8], marks: &[u8]) -> usize
+    requires { length marks.now ≡ length bytes.now }
+    ensures within { result ≤ length bytes.now }
+    ensures whole { run_of (cells_of bytes.now marks.now) ≡ take result bytes.now
+        ++ run_of (cells_of (drop result bytes.now) (drop result marks.now)) }
+{
+    let mut n = 0;
+    while bytes.len() - n >= 8 && all_set(marks, n, 8) && none_zero(part(bytes, n, 8)) {
+        n += 8;
+    }
+    n
+}
+
+/// Whether none of these bytes is 0. Eight of them are compared at once.
+fn none_zero(bytes: &[u8]) -> bool
+    ensures { result ≡ list_all (λ byte. not (byte == 0)) bytes.now }
+{
+    match bytes {
+        [a, b, c, d, e, f, g, h] => {
+            (*a != 0)
+                & (*b != 0)
+                & (*c != 0)
+                & (*d != 0)
+                & (*e != 0)
+                & (*f != 0)
+                & (*g != 0)
+                & (*h != 0)
+        }
+        others => others.iter().all(|byte| *byte != 0),
+    }
 }
 
 /// Makes each of the `n` bytes from `at` on `byte`.
