@@ -96,7 +96,7 @@ pub text_held : (made : ℕ) (cells : List Cell) (places : List Place) (p : ℕ)
 text_held made cells places p q kept holds = ap (λ r. and_then r (λ cells. text_of (drop (offset_of p) cells))) (held_object made cells places (object_of p) q kept holds)
 
 -- as many bytes as cells
-bytes_length : (cells : List Cell) (bytes : List ℕ) → read_bytes cells ≡ Ok bytes → length bytes ≡ length cells
+pub bytes_length : (cells : List Cell) (bytes : List ℕ) → read_bytes cells ≡ Ok bytes → length bytes ≡ length cells
 bytes_length [] bytes e = let none : [] ≡ bytes = cc in ap length (sym none)
 bytes_length (None ∷ cells) bytes e = cc
 bytes_length (Some b ∷ cells) bytes e = one_more (bytes_of cells) (λ rest is. bytes_length cells rest (ap or_unset is)) e

@@ -1,6 +1,6 @@
 //! The places of the objects that are alive, and what pointers find among them.
 
-ghost use Rattle.std.specs.Prelude.{◌≡◌, ◌≤◌, ◌<◌, ◌+◌, ℕ, true, List, length, MatchBool, MatchOption, MatchResult, Err};
+ghost use Rattle.std.specs.Prelude.{◌≡◌, ◌≤◌, ◌<◌, ◌+◌, ℕ, true, List, length, IfSome, MatchBool, MatchOption, MatchResult, Err};
 ghost use Rattle.ec_base.specs.declared.stop.Trap.TheVariants as trap;
 ghost use Rattle.ec_objects.specs.Cells.{Cell};
 ghost use Rattle.ec_objects.specs.Memory.{object_of, offset_of, object_cells, cells_at};
@@ -141,6 +141,33 @@ fn within(size: u32, offset: u32, n: u128) -> bool
     ensures { MatchBool result (offset + n ≤ size) (size < offset + n) }
 {
     n <= size as u128 && offset <= size - n as u32
+}
+
+/// Where the first `n` bytes of an object begin, if the pointer leads to its start and it is the one so many places from
+/// the end. There is no search.
+#[inline(always)]
+pub(crate) fn reach_near(places: &[Place], ptr: Ptr, n: usize, behind: usize) -> Option<usize>
+    ensures { IfSome result (λ at. Placed places.now ptr.0 n at) }
+{
+    match places.get(places.len().wrapping_sub(behind)) {
+        Some(place) => {
+            if is_start(place, ptr) && n <= place.size as usize {
+                Some(place.start as usize)
+            } else {
+                None
+            }
+        }
+        None => None,
+    }
+}
+
+/// Whether a pointer leads to the start of the object at a place.
+#[inline(always)]
+fn is_start(place: &Place, ptr: Ptr) -> bool
+    ensures number { result ≡ true → place.now.number ≡ object_of ptr.0 }
+    ensures offset { result ≡ true → offset_of ptr.0 ≡ 0 }
+{
+    place.number as u64 * (1 << 32) == ptr.0
 }
 
 /// How many objects are not behind a mark.

@@ -1,6 +1,6 @@
 //! Loads and stores of scalars.
 
-ghost use Rattle.std.specs.Prelude.{◌≡◌, ◌+ℤ◌, ℕ, List, IfOk, OnErr, IsSome, MatchOption, None, Some, Ok, length};
+ghost use Rattle.std.specs.Prelude.{◌≡◌, ◌+◌, ◌≤◌, ◌+ℤ◌, ℕ, List, IfOk, IfSome, OnErr, IsSome, MatchOption, None, Some, Ok, length};
 ghost use Rattle.ec_ctypes.specs.Arithmetic.{IsValue};
 ghost use Rattle.ec_ctypes.specs.declared.types.arith.Arith.TheVariants as arith;
 ghost use Rattle.ec_ctypes.specs.views.Types.{ty_view};
@@ -10,14 +10,14 @@ ghost use Rattle.ec_objects.specs.declared.kind.Kind.TheVariants as kind;
 ghost use Rattle.ec_bytes.specs.Scalars.{AreBytes, signed_bytes, signed_of};
 ghost use Rattle.std.specs.Int.{w32};
 ghost use Rattle.ec_memory.specs.Store.{outcome, seen};
-ghost use Rattle.ec_memory.specs.Sums.{Adds, HasNoSum};
+ghost use Rattle.ec_memory.specs.Sums.{Adds, AddsAt, HasNoSum, HasNoSumAt};
 ghost use Rattle.ec_memory.specs.Values.{value_view};
 
-use crate::place::reach;
+use crate::place::{reach, reach_near};
 use crate::store::Store;
 use crate::value::{Held, Value};
 use ec_base::Trap;
-use ec_bytes::{Flag, I8, I16, I32, I64, Ptr, Scalar, U8, U16, U32, U64};
+use ec_bytes::{Flag, I8, I16, I32, I64, Ptr, Region, Scalar, U8, U16, U32, U64};
 use ec_ctypes::Ty;
 use ec_objects::Kind;
 
@@ -88,21 +88,41 @@ impl Store {
         ensures unchanged { result ≡ None → self.new ≡ self.old }
     {
         match reach(&self.alive, ptr, 4) {
-            Ok(at) => match self.cells.view::<I32>(at).get() {
-                Some(scalar) => {
-                    let before = number_in(scalar);
-                    match sum_of(before, by) {
-                        Some(sum) => {
-                            let new = scalar_of(sum);
-                            self.cells.view_mut::<I32>(at).set(new);
-                            Some(before)
-                        }
-                        None => None,
-                    }
-                }
-                None => None,
-            },
+            Ok(at) => add_at(&mut self.cells, at, by),
             Err(_) => None,
+        }
+    }
+
+    /// The number of an `int` at a pointer to the start of an object, found without a search: only where the object is the
+    /// one that is `behind` places from the end of those that are alive, the last being 1, and where it is large enough
+    /// and its bytes are set. Where there is no number nothing is known, and `load_int` tells more.
+    #[inline(always)]
+    pub fn load_int_near(&self, ptr: Ptr, behind: usize) -> Option<i32>
+        ensures { IfSome result
+            (λ value. load self.now ptr.0 (kind_type kind.Int) ≡ Ok (number value)) }
+    {
+        Some(self.read_near::<I32>(ptr, behind)?.0)
+    }
+
+    /// The same of a `long`. Where there is no number `load_long` tells more.
+    #[inline(always)]
+    pub fn load_long_near(&self, ptr: Ptr, behind: usize) -> Option<i64>
+        ensures { IfSome result
+            (λ value. load self.now ptr.0 (kind_type kind.Long) ≡ Ok (number value)) }
+    {
+        Some(self.read_near::<I64>(ptr, behind)?.0)
+    }
+
+    /// Adds a number to such an `int`, and gives that from before, as `add_int` does. Where there is none nothing is
+    /// changed: `load_int_near` would give none, or `int` doesn't have the sum.
+    #[inline(always)]
+    pub fn add_int_near(&mut self, ptr: Ptr, behind: usize, by: i64) -> Option<i32>
+        ensures sum { IfSome result (λ before. Adds self.old ptr.0 before by self.new) }
+        ensures unchanged { result ≡ None → self.new ≡ self.old }
+    {
+        match reach_near(&self.alive, ptr, 4, behind) {
+            Some(at) => add_at(&mut self.cells, at, by),
+            None => None,
         }
     }
 
@@ -181,6 +201,21 @@ impl Store {
         }
     }
 
+    /// The scalar at a pointer to the start of an object, if it is the one so many places from the end of those that are
+    /// alive, it is large enough, and its bytes are set.
+    #[inline(always)]
+    fn read_near<T: Scalar>(&self, ptr: Ptr, behind: usize) -> Option<T>
+        ensures value { IfSome result
+            (λ scalar. Ok scalar ≡ seen T.decode (span self.now ptr.0 T.SIZE)) }
+        ensures bytes { IfSome result
+            (λ _. (bytes : List ℕ) → span self.now ptr.0 T.SIZE ≡ Ok bytes → AreBytes bytes) }
+    {
+        match reach_near(&self.alive, ptr, T::SIZE, behind) {
+            Some(at) => self.cells.view::<T>(at).get(),
+            None => None,
+        }
+    }
+
     /// Puts the bytes of a scalar at a pointer, as one access. The traps are `Null`, `Dead` and `Outside`.
     #[inline(always)]
     pub fn write<T: Scalar>(&mut self, ptr: Ptr, value: T) -> Result<(), Trap>
@@ -190,6 +225,32 @@ impl Store {
         let at = reach(&self.alive, ptr, T::SIZE as u128)?;
         self.cells.view_mut::<T>(at).set(value);
         Ok(())
+    }
+}
+
+/// Adds a number to the `int` that the cells from `at` on hold, and gives that from before, if its bytes are set and `int`
+/// has the sum.
+#[inline(always)]
+fn add_at(cells: &mut Region, at: usize, by: i64) -> Option<i32>
+    requires { at + 4 ≤ length cells.old }
+    ensures sum { MatchOption result (HasNoSumAt cells.old at by)
+        (λ before. AddsAt cells.old at before by cells.new) }
+    ensures unchanged { result ≡ None → cells.new ≡ cells.old }
+    ensures length { length cells.new ≡ length cells.old }
+{
+    match cells.view::<I32>(at).get() {
+        Some(scalar) => {
+            let before = number_in(scalar);
+            match sum_of(before, by) {
+                Some(sum) => {
+                    let new = scalar_of(sum);
+                    cells.view_mut::<I32>(at).set(new);
+                    Some(before)
+                }
+                None => None,
+            }
+        }
+        None => None,
     }
 }
 
