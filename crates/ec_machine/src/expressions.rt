@@ -481,7 +481,7 @@ impl<'p> Machine<'p> {
             (word_view right) t) (found_view result) left.new self.new }
         ensures turns { self.new.turns ≡ self.old.turns }
     {
-        match finish(&mut self.store, *step, value, old, right).get() {
+        match finish(&mut self.store, step, value, old, right).get() {
             Ok(next) => Found::value(next),
             Err(why) => waits(left, Err(stopped(self.line, why))),
         }
@@ -506,7 +506,7 @@ impl<'p> Machine<'p> {
         ensures nears { remaining self.old.turns result self.new ≤
             frames_weight self.old.frames + steps_weight rest.now }
     {
-        match finish(&mut self.store, *step, value, old, right).get() {
+        match finish(&mut self.store, step, value, old, right).get() {
             Ok(next) => self.go_on(functions, rest, next),
             Err(why) => Err(stopped(self.line, why)),
         }

@@ -1,9 +1,12 @@
 //! Steps that take the value so far and that of another expression.
 
-ghost use Rattle.std.specs.Prelude.{◌≡◌, ℕ};
+ghost use Rattle.std.specs.Prelude.{◌≡◌, ℕ, IfSome};
 ghost use Rattle.ec_evaluation.specs.Evaluate.{Context, World, Step as Knowing};
 ghost use Rattle.ec_evaluation.specs.State.{State};
+ghost use Rattle.ec_objects.specs.Memory.{Memory, number};
+ghost use Rattle.ec_resolved.specs.Operations.{gives, worked};
 ghost use Rattle.ec_resolved.specs.Resolved.{Exp};
+ghost use Rattle.ec_values.specs.Operations.{operation_view};
 ghost use Rattle.ec_values.specs.Words.{word_view};
 ghost use Rattle.ec_code.specs.declared.step.Binary.TheVariants as of;
 ghost use Rattle.ec_plain.specs.Answered.{answered, at};
@@ -12,11 +15,11 @@ ghost use Rattle.ec_plain.specs.Ready.{readied};
 ghost use Rattle.ec_plain.specs.Steps.{both_on, old_on, two_on};
 
 use crate::outcome::Outcome;
-use crate::quick::{converted, operate};
+use crate::quick::{converted, operate, summed_by};
 use ec_code::{Binary, Update};
 use ec_memory::Store;
 use ec_objects::Kind;
-use ec_values::{Stop, Word, load, store as stored};
+use ec_values::{Operation, Stop, Word, load, store as stored};
 
 /// What a step does before the other expression is evaluated.
 #[derive(Clone, Copy, Debug)]
@@ -77,29 +80,45 @@ fn old_value(store: &Store, update: Update, place: Word) -> Result<Word, Stop>
 
 /// What a step makes of both values, and of the old value where a place is updated.
 #[inline(always)]
-pub fn finish(store: &mut Store, step: Binary, left: Word, old: Word, right: Word) -> Outcome
-    ensures { (line : ℕ) (s : State)
-        → both_on line step (word_view left) (word_view old) (word_view right) (at s store.old)
+pub fn finish(store: &mut Store, step: &Binary, left: Word, old: Word, right: Word) -> Outcome
+    ensures { (line : ℕ) (s : State) → both_on line step.now
+        (word_view left) (word_view old) (word_view right) (at s store.old)
         ≡ answered line (outcome_view result) (at s store.new) }
 {
     match step {
-        Binary::Store(kind) => assign(store, kind, left, right),
+        Binary::Store(kind) => assign(store, *kind, left, right),
+        Binary::Operate(operation) => match summed(operation, left, right) {
+            Some(number) => Outcome::Signed(number),
+            None => finish_other(store, step, left, old, right),
+        },
         _ => finish_other(store, step, left, old, right),
+    }
+}
+
+/// What adding or subtracting two values gives, where both are signed.
+#[inline(always)]
+fn summed(operation: &Operation, left: Word, right: Word) -> Option<i64>
+    ensures { IfSome result (λ z. (m : Memory) → worked (operation_view operation.now) m
+        (word_view left) (word_view right) ≡ gives (number z)) }
+{
+    match (left, right) {
+        (Word::Signed(x), Word::Signed(y)) => summed_by(operation, x, y),
+        _ => None,
     }
 }
 
 /// The same of any step.
 #[inline(never)]
-fn finish_other(store: &mut Store, step: Binary, left: Word, old: Word, right: Word) -> Outcome
-    ensures { (line : ℕ) (s : State)
-        → both_on line step (word_view left) (word_view old) (word_view right) (at s store.old)
+fn finish_other(store: &mut Store, step: &Binary, left: Word, old: Word, right: Word) -> Outcome
+    ensures { (line : ℕ) (s : State) → both_on line step.now
+        (word_view left) (word_view old) (word_view right) (at s store.old)
         ≡ answered line (outcome_view result) (at s store.new) }
 {
     match step {
-        Binary::Store(kind) => assign(store, kind, left, right),
-        Binary::Copy(size) => copy(store, size, left, right),
-        Binary::Update(update) => renew(store, update, left, old, right),
-        Binary::Operate(operation) => operate(operation, store, left, right),
+        Binary::Store(kind) => assign(store, *kind, left, right),
+        Binary::Copy(size) => copy(store, *size, left, right),
+        Binary::Update(update) => renew(store, *update, left, old, right),
+        Binary::Operate(operation) => operate(*operation, store, left, right),
         Binary::Both => Outcome::value(Word::truth(right.is_true())),
         Binary::Either => Outcome::value(Word::truth(right.is_true())),
     }

@@ -120,6 +120,19 @@ pub(crate) fn compared_by(operation: &Operation, x: i64, y: i64) -> Option<i64>
     }
 }
 
+/// What adding or subtracting two numbers gives.
+#[inline(always)]
+pub(crate) fn summed_by(operation: &Operation, x: i64, y: i64) -> Option<i64>
+    ensures { IfSome result (λ z. (m : Memory) →
+        worked (operation_view operation.now) m (number x) (number y) ≡ gives (number z)) }
+{
+    match operation {
+        Operation::Integers(ty, IntegerOperator::Plus) => fitting(*ty, x.checked_add(y)?),
+        Operation::Integers(ty, IntegerOperator::Minus) => fitting(*ty, x.checked_sub(y)?),
+        _ => None,
+    }
+}
+
 /// What an operator gives for two numbers of `int`, `long` or `long long`, where it doesn't trap and is found at once.
 #[inline(always)]
 fn integers(ty: Arith, operator: IntegerOperator, x: i64, y: i64) -> Option<i64>

@@ -130,7 +130,7 @@ fn take_step(store: &mut Store, scope: &[Ptr], step: &PlainStep, value: Word) ->
         PlainStep::WithNumber(operation, number) => {
             finish(
                 store,
-                Binary::Operate(*operation),
+                &Binary::Operate(*operation),
                 value,
                 value,
                 Word::Signed(*number),
@@ -146,7 +146,7 @@ fn take_step(store: &mut Store, scope: &[Ptr], step: &PlainStep, value: Word) ->
         PlainStep::Two(step, right) => match prepare(store, *step, value) {
             Ok(Ready::Done(done)) => Outcome::value(done),
             Ok(Ready::Waits(old)) => match operand(store, scope, right).get() {
-                Ok(right) => finish(store, *step, value, old, right),
+                Ok(right) => finish(store, step, value, old, right),
                 Err(stop) => Outcome::stopped(stop),
             },
             Err(stop) => Outcome::stopped(stop),
@@ -182,7 +182,7 @@ fn combine(
         ≡ answered line (outcome_view result) (at s store.new) }
 {
     match value_of(store, scope, slot, kind) {
-        Ok(right) => finish(store, Binary::Operate(operation), value, value, right),
+        Ok(right) => finish(store, &Binary::Operate(operation), value, value, right),
         Err(stop) => Outcome::stopped(stop),
     }
 }
@@ -197,7 +197,7 @@ fn change(store: &mut Store, update: Update, place: Word, by: i64) -> Outcome
     match prepare(store, Binary::Update(update), place) {
         Ok(Ready::Done(done)) => Outcome::value(done),
         Ok(Ready::Waits(old)) => {
-            finish(store, Binary::Update(update), place, old, Word::Signed(by))
+            finish(store, &Binary::Update(update), place, old, Word::Signed(by))
         }
         Err(stop) => Outcome::stopped(stop),
     }
