@@ -1,4 +1,5 @@
-//! Shortcuts to what is evaluated most often: a comparison and a change of an `int`, and an `int` alone.
+//! Shortcuts to what is evaluated most often: a comparison and a change of an `int`, and an `int` alone or with a
+//! number added.
 
 ghost use Rattle.std.specs.Prelude.{◌≡◌, ℕ, Bool, None, IfSome};
 ghost use Rattle.ec_code.specs.Views.{plain_step_view, plain_view};
@@ -12,7 +13,7 @@ ghost use Rattle.ec_plain.specs.Outcomes.{outcome_view};
 use crate::effect::added;
 use crate::number::{int, slot_place};
 use crate::outcome::Outcome;
-use crate::quick::compared_by;
+use crate::quick::{compared_by, summed_by};
 use crate::whole::evaluate;
 use ec_bytes::Ptr;
 use ec_code::{Binary, Leaf, Plain, PlainStep, Update};
@@ -45,14 +46,14 @@ pub fn evaluate_change(store: &mut Store, scope: &[Ptr], behind: &Plain) -> Outc
     }
 }
 
-/// What `evaluate` gives for an argument, which is most often an `int` of the function.
+/// What `evaluate` gives for an argument, which is most often an `int` of the function, or one with a number added.
 #[inline(always)]
 pub fn evaluate_argument(store: &mut Store, scope: &[Ptr], argument: &Plain) -> Outcome
     ensures { (knowing : Knowing) (w : World) (line : ℕ) (first : Bool) (s : State)
         → eval knowing w (context line scope.now first) (plain_view argument.now) (at s store.old)
         ≡ answered line (outcome_view result) (at s store.new) }
 {
-    match int_alone(store, scope, argument) {
+    match int_with_number(store, scope, argument) {
         Some(number) => Outcome::Signed(number),
         None => evaluate(store, scope, argument),
     }
@@ -166,6 +167,28 @@ fn int_alone(store: &Store, scope: &[Ptr], expression: &Plain) -> Option<i64>
     match expression.leaf {
         Leaf::IntValue(slot) => match expression.steps.as_slice() {
             [] => int(store, scope, slot),
+            _ => None,
+        },
+        _ => None,
+    }
+}
+
+/// The value of an `int` of the function that is all of an expression, or with a number added or subtracted.
+#[inline(always)]
+fn int_with_number(store: &Store, scope: &[Ptr], expression: &Plain) -> Option<i64>
+    ensures { IfSome result (λ z.
+        Leads scope.now (plain_view expression.now) store.now store.now (number z)) }
+{
+    match expression.leaf {
+        Leaf::IntValue(slot) => match expression.steps.as_slice() {
+            [] => int(store, scope, slot),
+            [step] => match step {
+                PlainStep::WithNumber(operation, right) => {
+                    let left = int(store, scope, slot)?;
+                    summed_by(operation, left, *right)
+                }
+                _ => None,
+            },
             _ => None,
         },
         _ => None,
