@@ -1,5 +1,5 @@
 -- Values that are found on the spot, seen from the machine: it goes on with the value, or stands where the part of the run left it.
-use Rattle.std.proofs.Common.{◌≡◌, ◌∙◌, refl, sym, ap, subst, arith, ℕ, ◌<◌, ◌≤◌, List, [], ◌∷◌, ◌++◌, length, map, take, true, false, Option, Some, None, Result, Ok, Err}
+use Rattle.std.proofs.Common.{◌≡◌, ◌∙◌, refl, sym, ap, subst, arith, ℕ, ◌<◌, ◌≤◌, List, [], ◌∷◌, ◌++◌, append_assoc, length, map, take, true, false, Option, Some, None, Result, Ok, Err}
 use Rattle.std.specs.Prelude.{reverse, IfOk}
 use Rattle.std.proofs.lemmas.List.{take_at}
 use Rattle.ec_base.specs.declared.line.Line.{Line}
@@ -142,6 +142,9 @@ alone_near t n m new part None left g = near_stop t None left new n g.0 refl g.1
 
 pub taken_back : (fs fs' fs'' : List Frame) (f : Frame) (n : ℕ) → n ≡ length fs → fs' ≡ fs ++ f ∷ [] → fs'' ≡ fs' → take n fs'' ≡ fs
 taken_back fs fs' fs'' f n p q r = (λ i. take (p i) ((r ∙ q) i)) ∙ take_at fs (f ∷ []) (length fs) refl
+
+pub front_back : (fs fs' fs'' more : List Frame) (f : Frame) (n : ℕ) → n ≡ length fs → fs' ≡ fs ++ more → fs'' ≡ fs' ++ f ∷ [] → take n fs'' ≡ fs
+front_back fs fs' fs'' more f n p q r = (λ i. take (p i) (r i)) ∙ (λ i. take (length fs) (q i ++ f ∷ [])) ∙ ap (take (length fs)) (append_assoc fs more (f ∷ [])) ∙ take_at fs (more ++ f ∷ []) (length fs) refl
 
 -- ---- further on
 

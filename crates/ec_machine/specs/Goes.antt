@@ -1,24 +1,28 @@
 -- What a step of the machine keeps: the answer of the whole run.
-use Rattle.std.specs.Prelude.{◌≡◌, ℕ, ◌<◌, List, map, Option, reverse, Result, Ok, Err}
+use Rattle.std.specs.Prelude.{◌≡◌, ℕ, ◌<◌, List, ◌++◌, map, Option, reverse, Result, Ok, Err}
 use Rattle.ec_base.specs.declared.stop.Trap.TheVariants.{Spent}
 use Rattle.ec_code.specs.declared.program.Function.{Function}
-use Rattle.ec_code.specs.Views.{function_view}
+use Rattle.ec_code.specs.declared.statement.Statement.{Statement}
+use Rattle.ec_code.specs.Views.{function_view, statements_view}
 use Rattle.ec_evaluation.specs.Agree.{CountsTurns}
 use Rattle.ec_evaluation.specs.Evaluate.{Context, World, Step as Knowing}
-use Rattle.ec_evaluation.specs.Execute.{meaning}
-use Rattle.ec_evaluation.specs.Results.{Res, over, exits_with}
+use Rattle.ec_evaluation.specs.Execute.{meaning, run_all}
+use Rattle.ec_evaluation.specs.Results.{Res, on_done, over, exits_with}
 use Rattle.ec_evaluation.specs.State.{State, Ending, exited, trapped, turns_spent, stuck}
 use Rattle.ec_evaluation.specs.Whole.{without_atoms}
 use Rattle.ec_memory.specs.declared.store.MakeStop.{MakeStop}
 use Rattle.ec_memory.specs.declared.store.MakeStop.TheVariants as makes
 use Rattle.ec_machine.specs.declared.frame.Focus.{Focus}
 use Rattle.ec_machine.specs.declared.frame.Focus.TheVariants as focus
+use Rattle.ec_machine.specs.declared.frame.Frame.{Frame}
+use Rattle.ec_machine.specs.declared.frame.Frame.TheVariants as frame
+use Rattle.ec_machine.specs.declared.frame.Way.{Way}
 use Rattle.ec_machine.specs.declared.machine.Machine.{Machine}
 use Rattle.ec_machine.specs.declared.stop.End.{End}
 use Rattle.ec_machine.specs.declared.stop.End.TheVariants as ends
 use Rattle.ec_machine.specs.declared.stop.Stop.{Stop}
 use Rattle.ec_machine.specs.declared.stop.Stop.TheVariants as stop
-use Rattle.ec_machine.specs.Frames.{Env, denote, led, resume, without_last}
+use Rattle.ec_machine.specs.Frames.{Env, denote, here, led, outside, plug, resume, without_last}
 use Rattle.ec_objects.specs.Memory.{ValueData}
 use Rattle.ec_resolved.specs.Resolved.{embedded}
 use Rattle.ec_values.specs.Words.{word_view}
@@ -118,3 +122,13 @@ Enters knowing w s old (Ok v) new o next =
     resume knowing w (env_of old) (reverse old.frames) o
     ≡ resume knowing w (env_of new) (reverse new.frames) next
 Enters knowing w s old (Err x) new o next = Stops x (at s new) o
+
+-- the way out of a function waits, behind the statements that stand behind the one that is run
+pub record WaitsOutside (x : Way) (rest : List Statement) (old new : Machine) : Type 0 where
+  pub more : List Frame
+  pub frames : new.frames ≡ old.frames ++ more
+  pub resumes : (knowing : Knowing) (w : World) (o : Res) →
+      resume knowing w (env_of new) (reverse new.frames) o
+      ≡ resume knowing w (outside x (env_of old)) (reverse old.frames)
+      (plug knowing w (env_of old) (frame.Call x) (on_done o
+      (λ u. run_all knowing w (here (env_of old) x.line) (statements_view rest) u)))

@@ -1,9 +1,9 @@
 //! Calls.
 
-ghost use Rattle.std.specs.Prelude.{◌≡◌, ◌≤◌, ◌+◌, ℕ, List, map, Some, slice_get, false};
+ghost use Rattle.std.specs.Prelude.{◌≡◌, ◌≤◌, ◌+◌, ℕ, List, map, IfSome, OnOk, Some, slice_get, false};
 ghost use Rattle.std.specs.Option.{option_copied, option_map};
 ghost use Rattle.ec_code.specs.declared.program.Function.{Function as FunctionData};
-ghost use Rattle.ec_code.specs.Views.{expression_view, full_step_view, function_view, statement_view, statements_view};
+ghost use Rattle.ec_code.specs.Views.{expression_view, full_step_view, full_view, function_view, statement_view, statements_view};
 ghost use Rattle.ec_evaluation.specs.Evaluate.{World, Step as Knowing, calls, eval};
 ghost use Rattle.ec_evaluation.specs.Execute.{called, returning, run, run_all, settle};
 ghost use Rattle.ec_evaluation.specs.Results.{Res, answered, back, done_there, on, on_done, on_value, or_no_value, returned, without_answer};
@@ -13,23 +13,24 @@ ghost use Rattle.ec_functions.specs.Functions.{effect_of, puts_bytes};
 ghost use Rattle.ec_objects.specs.Memory.{end_to};
 ghost use Rattle.ec_plain.specs.Answered.{at, context};
 ghost use Rattle.ec_plain.specs.Steps.{followed};
-ghost use Rattle.ec_resolved.specs.Resolved.{library};
+ghost use Rattle.ec_resolved.specs.Resolved.{library, return};
 ghost use Rattle.ec_values.specs.Words.{word_view};
 ghost use Rattle.ec_machine.specs.Found.{Finds, LeavesNear, found_view};
 ghost use Rattle.ec_machine.specs.Frames.{behind_by, cut, here, last_of, left_by, objects_of, outside, received, waiting, without_last};
-ghost use Rattle.ec_machine.specs.Goes.{Goes, env_of, taken};
+ghost use Rattle.ec_machine.specs.Goes.{Goes, WaitsOutside, env_of, taken};
 ghost use Rattle.ec_machine.specs.Quick.{Answers};
 ghost use Rattle.ec_machine.specs.Weights.{frames_weight, remaining, steps_weight};
 
 use crate::found::{Found, waits};
 use crate::frame::{Callee, Flow, Focus, Frame, Way};
+use crate::loops::full_of;
 use crate::machine::Machine;
 use crate::making::{make_locals, take_turn};
 use crate::quick::{compute, quick_list};
 use crate::scope::Scope;
 use crate::stop::{End, Stop};
-use ec_base::{Line, List, Trap};
-use ec_code::{Expression, FullStep, Function, Statement};
+use ec_base::{Line, List, OutOfMemory, Trap};
+use ec_code::{Expression, Full, FullStep, Function, Statement};
 use ec_formats::Known;
 use ec_memory::Store;
 use ec_stdlib::{Answer, Refusal, call as call_known};
@@ -53,10 +54,12 @@ pub(crate) fn drop_last(values: &mut List<Word>, count: usize)
 
 impl<'p> Machine<'p> {
     /// What becomes of the last values, which are all of those that are collected.
+    #[cycle(called)]
     #[inline(always)]
     pub(crate) fn receive(
         &mut self,
         functions: &'p [Function],
+        levels: u32,
         callee: Callee<'p>,
         count: usize,
         steps: &'p [FullStep],
@@ -73,7 +76,7 @@ impl<'p> Machine<'p> {
     {
         match callee {
             Callee::Function(number, used) => {
-                self.call(functions, number, used, count, steps, left)
+                self.call(functions, levels, number, used, count, steps, left)
             }
             Callee::Known(known) => self.know(known, count, steps, left),
             Callee::Library(number) => waits(left, self.call_library(number, count, steps)),
@@ -171,10 +174,12 @@ impl<'p> Machine<'p> {
     }
 
     /// A function is called with the last values.
+    #[cycle(called)]
     #[inline(always)]
     fn call(
         &mut self,
         functions: &'p [Function],
+        levels: u32,
         number: u32,
         used: bool,
         count: usize,
@@ -191,23 +196,25 @@ impl<'p> Machine<'p> {
             (0) }
     {
         match take_turn(&mut self.turns) {
-            Ok(()) => self.start(functions, number, used, count, steps, left),
+            Ok(()) => self.start(functions, levels, number, used, count, steps, left),
             Err(stop) => waits(left, Err(stop)),
         }
     }
 
     /// A function is called whose turn is taken.
+    #[cycle(called)]
     #[inline(always)]
     fn start(
         &mut self,
         functions: &'p [Function],
+        levels: u32,
         number: u32,
         used: bool,
         count: usize,
         steps: &'p [FullStep],
         left: &mut Result<Focus<'p>, Stop>,
     ) -> Found
-        ensures finds { (all : List FunctionData) → Finds all self.old (taken count (env_of
+        ensures finds { Finds functions.now self.old (taken count (env_of
             self.old)) self.old.line
             (behind_by (here (env_of self.old) self.old.line) steps.now)
             (λ knowing w t. answered self.old.line.0 used (called knowing w self.old.line.0
@@ -217,22 +224,25 @@ impl<'p> Machine<'p> {
         ensures turns { self.new.turns ≤ self.old.turns }
     {
         match function_at(functions, number) {
-            Some(function) => self.begin(function, used, count, steps, left),
+            Some(function) => self.begin(functions, levels, function, used, count, steps, left),
             None => waits(left, Err(Stop::Over(End::Stuck))),
         }
     }
 
     /// A function is begun with the last values. Its turn is taken.
+    #[cycle(called)]
     #[inline(always)]
     fn begin(
         &mut self,
+        functions: &'p [Function],
+        levels: u32,
         function: &'p Function,
         used: bool,
         count: usize,
         steps: &'p [FullStep],
         left: &mut Result<Focus<'p>, Stop>,
     ) -> Found
-        ensures finds { (functions : List FunctionData) → Finds functions self.old (taken count
+        ensures finds { Finds functions.now self.old (taken count
             (env_of self.old)) self.old.line
             (behind_by (here (env_of self.old) self.old.line) steps.now)
             (λ knowing w t. answered self.old.line.0 used (called knowing w self.old.line.0 (Some
@@ -266,15 +276,22 @@ impl<'p> Machine<'p> {
             steps,
         };
         self.first = false;
-        self.in_body(way, left)
+        self.in_body(functions, levels, way, left)
     }
 
     /// The body of a function is run. What of it needs no frame is done here.
+    #[cycle(called)]
     #[inline(always)]
-    fn in_body(&mut self, way: Way<'p>, left: &mut Result<Focus<'p>, Stop>) -> Found
+    fn in_body(
+        &mut self,
+        functions: &'p [Function],
+        levels: u32,
+        way: Way<'p>,
+        left: &mut Result<Focus<'p>, Stop>,
+    ) -> Found
         requires not_first { self.old.first ≡ false }
         requires same_line { way.line ≡ self.old.line }
-        ensures finds { (functions : List FunctionData) → Finds functions self.old
+        ensures finds { Finds functions.now self.old
             (outside way.entry (env_of self.old)) way.entry.line
             (behind_by (here (outside way.entry (env_of self.old)) way.entry.line)
             way.entry.steps.now)
@@ -287,22 +304,32 @@ impl<'p> Machine<'p> {
         let body = way.function.body.as_slice();
         match quick_list(&mut self.store, &self.scope, &mut self.line, body) {
             Ok(None) => self.ended(way, way.function.otherwise, left),
-            Ok(Some(found)) => self.in_statement(way, found.first, found.rest, left),
+            Ok(Some(found)) => self.in_statement(
+                functions,
+                levels,
+                way,
+                found.first,
+                found.rest,
+                left,
+            ),
             Err(stop) => waits(left, Err(stop)),
         }
     }
 
     /// What is left of a statement of a function's body is run. These stand behind it.
+    #[cycle(called)]
     #[inline(always)]
     fn in_statement(
         &mut self,
+        functions: &'p [Function],
+        levels: u32,
         way: Way<'p>,
         first: &'p Statement,
         rest: &'p [Statement],
         left: &mut Result<Focus<'p>, Stop>,
     ) -> Found
         requires not_first { self.old.first ≡ false }
-        ensures finds { (functions : List FunctionData) → Finds functions self.old
+        ensures finds { Finds functions.now self.old
             (outside way.entry (env_of self.old)) way.entry.line
             (behind_by (here (outside way.entry (env_of self.old)) way.entry.line)
             way.entry.steps.now)
@@ -318,8 +345,90 @@ impl<'p> Machine<'p> {
                 self.leave(way);
                 Found::value(value)
             }
-            Ok(None) => waits(left, self.stay(way, first, rest)),
+            Ok(None) => self.in_return(functions, levels, way, first, rest, left),
             Err(stop) => waits(left, Err(stop)),
+        }
+    }
+
+    /// A statement of a function's body that holds a call is run, and these stand behind it. Where it is a `return` its
+    /// expression is evaluated here, within the levels that are left. Else the way out of the function waits in a frame.
+    #[cycle(called)]
+    #[inline(never)]
+    fn in_return(
+        &mut self,
+        functions: &'p [Function],
+        levels: u32,
+        way: Way<'p>,
+        first: &'p Statement,
+        rest: &'p [Statement],
+        left: &mut Result<Focus<'p>, Stop>,
+    ) -> Found
+        requires not_first { self.old.first ≡ false }
+        ensures finds { Finds functions.now self.old
+            (outside way.entry (env_of self.old)) way.entry.line
+            (behind_by (here (outside way.entry (env_of self.old)) way.entry.line)
+            way.entry.steps.now)
+            (λ knowing w t. left_by way.entry (settle w (here (env_of self.old) way.entry.line)
+            (statements_view way.entry.function.now.body) (on_done (run knowing w (here (env_of
+            self.old) self.old.line) (statement_view first.now) t) (λ u. run_all knowing w (here
+            (env_of self.old) way.entry.line) (statements_view rest.now) u))))
+            (found_view result) left.new self.new }
+        ensures turns { self.new.turns ≤ self.old.turns }
+    {
+        match result_of(first) {
+            Some(full) => {
+                if levels > 0 {
+                    self.give_inside(functions, levels - 1, way, full, rest, left)
+                } else {
+                    waits(left, self.stay(way, first, rest))
+                }
+            }
+            None => waits(left, self.stay(way, first, rest)),
+        }
+    }
+
+    /// A function returns the value of an expression that holds a call, before these statements. Where that isn't found on the
+    /// spot, the way out of the function waits in a frame.
+    #[cycle(called)]
+    #[inline(always)]
+    fn give_inside(
+        &mut self,
+        functions: &'p [Function],
+        levels: u32,
+        way: Way<'p>,
+        full: &'p Full,
+        rest: &'p [Statement],
+        left: &mut Result<Focus<'p>, Stop>,
+    ) -> Found
+        requires not_first { self.old.first ≡ false }
+        ensures finds { Finds functions.now self.old
+            (outside way.entry (env_of self.old)) way.entry.line
+            (behind_by (here (outside way.entry (env_of self.old)) way.entry.line)
+            way.entry.steps.now)
+            (λ knowing w t. left_by way.entry (settle w (here (env_of self.old) way.entry.line)
+            (statements_view way.entry.function.now.body) (on_done (on_value (eval knowing w (here
+            (env_of self.old) self.old.line) (full_view full.now) t) (λ v u. returned
+            self.old.first (Some v) u)) (λ u. run_all knowing w (here (env_of self.old)
+            way.entry.line) (statements_view rest.now) u))))
+            (found_view result) left.new self.new }
+        ensures turns { self.new.turns ≤ self.old.turns }
+    {
+        let height = self.frames.len();
+        match self.wait_outside(way, rest) {
+            Ok(()) => (),
+            Err(_) => return waits(left, Err(Stop::OutOfMemory)),
+        }
+        match self.frames.push(Frame::Give) {
+            Ok(()) => (),
+            Err(_) => return waits(left, Err(Stop::OutOfMemory)),
+        }
+        match self.value_of(functions, levels, full, left).get() {
+            Some(value) => {
+                self.frames.truncate(height);
+                self.leave(way);
+                Found::value(value)
+            }
+            None => Found::Waits,
         }
     }
 
@@ -341,13 +450,20 @@ impl<'p> Machine<'p> {
             self.old) way.entry.line) (statements_view rest.now) u))))) result self.new }
         ensures turns { self.new.turns ≡ self.old.turns }
     {
+        self.wait_outside(way, rest)?;
+        Ok(Focus::Runs(first))
+    }
+
+    /// The way out of a function waits in a frame, behind the statements that stand behind the one that is run.
+    #[inline(always)]
+    fn wait_outside(&mut self, way: Way<'p>, rest: &'p [Statement]) -> Result<(), OutOfMemory>
+        ensures waits { OnOk result (WaitsOutside way.entry rest.now self.old self.new) }
+        ensures kept { self.new ≡ record self.old { frames = self.new.frames } }
+    {
         self.frames.push(Frame::Call(way))?;
         match rest {
-            [] => Ok(Focus::Runs(first)),
-            _ => {
-                self.frames.push(Frame::Rest(way.line, rest))?;
-                Ok(Focus::Runs(first))
-            }
+            [] => Ok(()),
+            _ => self.frames.push(Frame::Rest(way.line, rest)),
         }
     }
 
@@ -456,6 +572,21 @@ fn answer_by(
             Err(stop) => Err(stop),
         },
         Expression::Full(_) => Ok(None),
+    }
+}
+
+/// The expression that a `return` gives, if it holds a call.
+#[inline(always)]
+fn result_of(statement: &Statement) -> Option<&Full>
+    ensures { IfSome result (λ full. statement_view statement.now
+        ≡ return (Some (full_view full.now))) }
+{
+    match statement {
+        Statement::Return(value) => match value {
+            Some(expression) => full_of(expression),
+            None => None,
+        },
+        _ => None,
     }
 }
 

@@ -22,6 +22,10 @@ use ec_code::{Binary, Expression, Full, FullStep, Function, Head, Plain, Unary};
 use ec_plain::{Ready, evaluate, evaluate_argument, finish, prepare, unary};
 use ec_values::Word;
 
+/// So many functions deep a `return` is evaluated by calls of the machine's own. Deeper calls of the program wait in frames,
+/// so that it may go as deep as there is memory.
+pub(crate) const LEVELS: u32 = 64;
+
 impl<'p> Machine<'p> {
     /// An expression is evaluated.
     pub(crate) fn evaluate(
@@ -68,17 +72,19 @@ impl<'p> Machine<'p> {
             frames_weight self.old.frames + full_weight full.now }
     {
         let mut left = Err(Stop::OutOfMemory);
-        match self.value_of(functions, full, &mut left).get() {
+        match self.value_of(functions, LEVELS, full, &mut left).get() {
             Some(value) => Ok(Focus::Value(value)),
             None => left,
         }
     }
 
     /// The value of an expression that holds a call, where it is found on the spot.
+    #[cycle(called)]
     #[inline(never)]
     pub(crate) fn value_of(
         &mut self,
         functions: &'p [Function],
+        levels: u32,
         full: &'p Full,
         left: &mut Result<Focus<'p>, Stop>,
     ) -> Found
@@ -91,17 +97,19 @@ impl<'p> Machine<'p> {
             (frames_weight self.old.frames + full_weight full.now) }
     {
         let steps = full.steps.as_slice();
-        match self.begun(functions, &full.head, steps, left).get() {
-            Some(value) => self.follow(functions, steps, value, left),
+        match self.begun(functions, levels, &full.head, steps, left).get() {
+            Some(value) => self.follow(functions, levels, steps, value, left),
             None => Found::Waits,
         }
     }
 
     /// Where an expression begins that holds a call. These steps are behind it.
+    #[cycle(called)]
     #[inline(always)]
     fn begun(
         &mut self,
         functions: &'p [Function],
+        levels: u32,
         head: &'p Head,
         steps: &'p [FullStep],
         left: &mut Result<Focus<'p>, Stop>,
@@ -118,15 +126,39 @@ impl<'p> Machine<'p> {
             Head::Begun(plain) => self.at_first(plain, left),
             Head::Call(function, used, arguments) => {
                 let callee = Callee::Function(*function, *used);
-                self.pass(functions, callee, 0, arguments.as_slice(), steps, left)
+                self.pass(
+                    functions,
+                    levels,
+                    callee,
+                    0,
+                    arguments.as_slice(),
+                    steps,
+                    left,
+                )
             }
             Head::Known(known, arguments) => {
                 let callee = Callee::Known(known);
-                self.pass(functions, callee, 0, arguments.as_slice(), steps, left)
+                self.pass(
+                    functions,
+                    levels,
+                    callee,
+                    0,
+                    arguments.as_slice(),
+                    steps,
+                    left,
+                )
             }
             Head::LibraryCall(number, pointers) => {
                 let callee = Callee::Library(*number);
-                self.pass(functions, callee, 0, pointers.as_slice(), steps, left)
+                self.pass(
+                    functions,
+                    levels,
+                    callee,
+                    0,
+                    pointers.as_slice(),
+                    steps,
+                    left,
+                )
             }
         }
     }
@@ -161,7 +193,7 @@ impl<'p> Machine<'p> {
     {
         let mut left = Err(Stop::OutOfMemory);
         match self
-            .pass(functions, Callee::Object, 0, values, &[], &mut left)
+            .pass(functions, LEVELS, Callee::Object, 0, values, &[], &mut left)
             .get()
         {
             Some(value) => Ok(Focus::Value(value)),
@@ -170,10 +202,12 @@ impl<'p> Machine<'p> {
     }
 
     /// The further arguments of a call are evaluated, behind the last values that wait, of which so many are its own.
+    #[cycle(called)]
     #[inline(never)]
     fn pass(
         &mut self,
         functions: &'p [Function],
+        levels: u32,
         callee: Callee<'p>,
         count: usize,
         arguments: &'p [Expression],
@@ -205,7 +239,7 @@ impl<'p> Machine<'p> {
                 }
             }
         }
-        self.receive(functions, callee, count, steps, left)
+        self.receive(functions, levels, callee, count, steps, left)
     }
 
     /// An argument is evaluated, and these further ones wait for it.
@@ -283,7 +317,7 @@ impl<'p> Machine<'p> {
         self.values.push(value)?;
         let mut left = Err(Stop::OutOfMemory);
         match self
-            .pass(functions, callee, more, arguments, steps, &mut left)
+            .pass(functions, LEVELS, callee, more, arguments, steps, &mut left)
             .get()
         {
             Some(value) => self.go_on(functions, steps, value),
@@ -306,17 +340,22 @@ impl<'p> Machine<'p> {
             frames_weight self.old.frames + steps_weight steps.now }
     {
         let mut left = Err(Stop::OutOfMemory);
-        match self.follow(functions, steps, value, &mut left).get() {
+        match self
+            .follow(functions, LEVELS, steps, value, &mut left)
+            .get()
+        {
             Some(value) => Ok(Focus::Value(value)),
             None => left,
         }
     }
 
     /// What the steps behind a value make of it, where that is found on the spot.
+    #[cycle(called)]
     #[inline(never)]
     fn follow(
         &mut self,
         functions: &'p [Function],
+        levels: u32,
         steps: &'p [FullStep],
         value: Word,
         left: &mut Result<Focus<'p>, Stop>,
@@ -332,7 +371,10 @@ impl<'p> Machine<'p> {
         let mut value = value;
         let mut further = steps;
         while let [first, rest @ ..] = further {
-            match self.follow_first(functions, first, rest, value, left).get() {
+            match self
+                .follow_first(functions, levels, first, rest, value, left)
+                .get()
+            {
                 Some(next) => {
                     value = next;
                     further = rest;
@@ -344,10 +386,12 @@ impl<'p> Machine<'p> {
     }
 
     /// A step behind a value is taken, and others are behind it.
+    #[cycle(called)]
     #[inline(always)]
     fn follow_first(
         &mut self,
         functions: &'p [Function],
+        levels: u32,
         first: &'p FullStep,
         rest: &'p [FullStep],
         value: Word,
@@ -366,7 +410,7 @@ impl<'p> Machine<'p> {
         match first {
             FullStep::One(step) => self.follow_one(step, value, left),
             FullStep::Two(step, right) => {
-                self.follow_two(functions, step, right, rest, value, left)
+                self.follow_two(functions, levels, step, right, rest, value, left)
             }
         }
     }
@@ -386,10 +430,12 @@ impl<'p> Machine<'p> {
     }
 
     /// A step with another expression, and others are behind it.
+    #[cycle(called)]
     #[inline(always)]
     fn follow_two(
         &mut self,
         functions: &'p [Function],
+        levels: u32,
         step: &'p Binary,
         right: &'p Expression,
         rest: &'p [FullStep],
@@ -409,7 +455,7 @@ impl<'p> Machine<'p> {
         match prepare(&self.store, *step, value) {
             Ok(Ready::Done(done)) => Found::value(done),
             Ok(Ready::Waits(old)) => match self
-                .right(functions, step, value, old, right, rest, left)
+                .right(functions, levels, step, value, old, right, rest, left)
                 .get()
             {
                 Some(found) => self.follow_right(step, value, old, found, left),
@@ -420,10 +466,12 @@ impl<'p> Machine<'p> {
     }
 
     /// The value at the right of a step.
+    #[cycle(called)]
     #[inline(always)]
     fn right(
         &mut self,
         functions: &'p [Function],
+        levels: u32,
         step: &'p Binary,
         value: Word,
         old: Word,
@@ -453,7 +501,7 @@ impl<'p> Machine<'p> {
                     Err(_) => return waits(left, Err(Stop::OutOfMemory)),
                 }
                 match full.steps.as_slice() {
-                    [] => match self.begun(functions, &full.head, &[], left).get() {
+                    [] => match self.begun(functions, levels, &full.head, &[], left).get() {
                         Some(found) => {
                             self.frames.truncate(height);
                             Found::value(found)

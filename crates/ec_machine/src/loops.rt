@@ -385,7 +385,7 @@ fn call_of(statement: &Statement) -> Option<&Full>
 
 /// An expression that holds a call.
 #[inline(always)]
-fn full_of(expression: &Expression) -> Option<&Full>
+pub(crate) fn full_of(expression: &Expression) -> Option<&Full>
     ensures { IfSome result (λ full. expression_view expression.now ≡ full_view full.now) }
 {
     match expression {

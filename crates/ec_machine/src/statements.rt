@@ -15,6 +15,7 @@ ghost use Rattle.ec_machine.specs.declared.frame.Frame.TheVariants as frame;
 ghost use Rattle.ec_machine.specs.declared.machine.Machine.{Machine as MachineData};
 ghost use Rattle.ec_machine.specs.Weights.{expression_weight, expressions_weight, frames_weight, full_weight, remaining, optional_weight, statement_weight, statements_weight, test_weight};
 
+use crate::expressions::LEVELS;
 use crate::frame::{Flow, Focus, Frame};
 use crate::labels::holds;
 use crate::machine::Machine;
@@ -163,7 +164,7 @@ impl<'p> Machine<'p> {
     {
         let height = self.frames.len();
         self.frames.push(Frame::Do)?;
-        match self.value_of(functions, full, left).get() {
+        match self.value_of(functions, LEVELS, full, left).get() {
             Some(_) => {
                 self.frames.truncate(height);
                 Ok(Done::All)
@@ -260,7 +261,7 @@ impl<'p> Machine<'p> {
         let height = self.frames.len();
         self.frames.push(Frame::Give)?;
         let mut left = Err(Stop::OutOfMemory);
-        match self.value_of(functions, full, &mut left).get() {
+        match self.value_of(functions, LEVELS, full, &mut left).get() {
             Some(value) => {
                 self.frames.truncate(height);
                 gives(self.first, Some(value))
