@@ -6,6 +6,7 @@ pub mod Line
 pub mod Objects
 pub mod Reading
 pub mod Calls
+pub mod Near
 pub mod Counts
 pub mod Strides
 pub mod Singles

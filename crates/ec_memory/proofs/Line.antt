@@ -12,7 +12,7 @@ use Rattle.ec_objects.specs.Cells.{Cell, part_of, written}
 use Rattle.ec_objects.specs.Memory.{ObjectData, alive, ended, Memory, cells_found, live_bytes, end_to}
 
 -- two numbers are the same, or not
-by_test : {P : Type 0} (a b : ℕ) → (a ≡ b → P) → (a ≢ b → P) → P
+pub by_test : {P : Type 0} (a b : ℕ) → (a ≡ b → P) → (a ≢ b → P) → P
 by_test {P = P} a b same apart = either (a == b) refl
   where
     either : (t : Bool) → (a == b) ≡ t → P
@@ -20,23 +20,23 @@ by_test {P = P} a b same apart = either (a == b) refl
     either false e = apart (grind (arith, nat_tests))
 
 -- the next object is alive
-here : (left number : ℕ) (cells : List Cell) (p : Place) (places : List Place) → p.number ≡ number → objects_of (suc left) number cells (p ∷ places) ≡ alive (take p.size cells) ∷ objects_of left (suc number) (drop p.size cells) places
+pub here : (left number : ℕ) (cells : List Cell) (p : Place) (places : List Place) → p.number ≡ number → objects_of (suc left) number cells (p ∷ places) ≡ alive (take p.size cells) ∷ objects_of left (suc number) (drop p.size cells) places
 here left number cells p places e =
     let test : (p.number == number) ≡ true = grind (arith, nat_tests) in
     ap (λ b. if b then alive (take p.size cells) ∷ objects_of left (suc number) (drop p.size cells) places else ended ∷ objects_of left (suc number) cells (p ∷ places)) test
 
 -- the next object has ended
-gap : (left number : ℕ) (cells : List Cell) (p : Place) (places : List Place) → p.number ≢ number → objects_of (suc left) number cells (p ∷ places) ≡ ended ∷ objects_of left (suc number) cells (p ∷ places)
+pub gap : (left number : ℕ) (cells : List Cell) (p : Place) (places : List Place) → p.number ≢ number → objects_of (suc left) number cells (p ∷ places) ≡ ended ∷ objects_of left (suc number) cells (p ∷ places)
 gap left number cells p places e =
     let test : (p.number == number) ≡ false = grind (arith, nat_tests) in
     ap (λ b. if b then alive (take p.size cells) ∷ objects_of left (suc number) (drop p.size cells) places else ended ∷ objects_of left (suc number) cells (p ∷ places)) test
 
 -- the line behind a number that no place has
-ahead : (number start made end : ℕ) (p : Place) (places : List Place) → InLine number start (p ∷ places) made end → p.number ≢ number → InLine (suc number) start (p ∷ places) made end
+pub ahead : (number start made end : ℕ) (p : Place) (places : List Place) → InLine number start (p ∷ places) made end → p.number ≢ number → InLine (suc number) start (p ∷ places) made end
 ahead number start made end p places line apart = record { rising = omega (arith, line.rising, apart); begins = line.begins; rest = line.rest }
 
 -- the line behind a place that has the number
-behind : (number start made end : ℕ) (p : Place) (places : List Place) → InLine number start (p ∷ places) made end → p.number ≡ number → InLine (suc number) (start + p.size) places made end
+pub behind : (number start made end : ℕ) (p : Place) (places : List Place) → InLine number start (p ∷ places) made end → p.number ≡ number → InLine (suc number) (start + p.size) places made end
 behind number start made end p places line same = ap_line (suc p.number) (suc number) (ap suc same) line.rest
   where
     ap_line : (a b : ℕ) → a ≡ b → InLine a (start + p.size) places made end → InLine b (start + p.size) places made end

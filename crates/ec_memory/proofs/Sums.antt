@@ -44,6 +44,7 @@ added m made cells after places now p at before by view kept e placed adds = rec
   stored = sym (wrote m made cells places now p 4 at (set_cells (encoded (kind_type kind.Int) (number (before +ℤ by)))) after view kept e placed refl adds.stored);
 }
 
+-- and where there is no sum of it, there is none
 pub sum_there : (m : Memory) (made : ℕ) (cells after : List Cell) (places now : List Place) (p at : ℕ) (by : ℤ) (o : Option ℤ) → memory_of made cells places ≡ m → Kept made cells places → now ≡ places → Placed now p 4 at → MatchOption o (HasNoSumAt cells at by) (λ before. AddsAt cells at before by after) → MatchOption o (HasNoSum m p by) (λ before. Adds m p before by (memory_of made after places))
 sum_there m made cells after places now p at by None view kept e placed none = λ before found.
     none before (sym (int_there m made cells places now p at view kept e placed) ∙ found)

@@ -23,12 +23,13 @@ HasNoSum m p by = (before : ℤ) → load m p (kind_type kind.Int) ≡ Ok (numbe
 abbrev pub int_at : List Cell → ℕ → Result ValueData Trap
 int_at cells at = and_then (or_unset (bytes_of (part_of cells at 4))) (λ bytes. Ok (decoded (kind_type kind.Int) bytes))
 
--- the same of the cells from a place on: these are the cells behind it
+-- a number is added to the int that cells hold from a place on, and these are the cells after it
 pub record AddsAt (cells : List Cell) (at : ℕ) (before by : ℤ) (after : List Cell) : Type 0 where
   pub found : int_at cells at ≡ Ok (number before)
   pub fits : IsValue arith.Int (before +ℤ by)
   pub stored : after ≡ written cells at (set_cells (encoded (kind_type kind.Int) (number (before +ℤ by))))
 
+-- whatever they hold there as an int, int doesn't have its sum
 abbrev pub HasNoSumAt : List Cell → ℕ → ℤ → Type 0
 HasNoSumAt cells at by = (before : ℤ) → int_at cells at ≡ Ok (number before)
     → IsValue arith.Int (before +ℤ by) → ⊥

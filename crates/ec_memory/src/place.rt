@@ -1,9 +1,10 @@
 //! The places of the objects that are alive, and what pointers find among them.
 
-ghost use Rattle.std.specs.Prelude.{◌≡◌, ◌≤◌, ◌<◌, ◌+◌, ℕ, true, List, length, IfSome, MatchBool, MatchOption, MatchResult, Err};
+ghost use Rattle.std.specs.Prelude.{◌≡◌, ◌==◌, ◌≤◌, ◌<◌, ◌+◌, ℕ, true, List, length, IfSome, MatchBool, MatchOption, MatchResult, Err};
 ghost use Rattle.ec_base.specs.declared.stop.Trap.TheVariants as trap;
 ghost use Rattle.ec_objects.specs.Cells.{Cell};
-ghost use Rattle.ec_objects.specs.Memory.{object_of, offset_of, object_cells, cells_at};
+ghost use Rattle.ec_objects.specs.Memory.{object_of, offset_of, pointer_to, object_cells, cells_at};
+ghost use Rattle.ec_memory.specs.Near.{PlacedNear};
 ghost use Rattle.ec_memory.specs.Objects.{Behind, Holds, IsAt, IsMissing, IsRising, Kept, Placed, Traps, memory_of};
 
 use ec_base::Trap;
@@ -147,7 +148,10 @@ fn within(size: u32, offset: u32, n: u128) -> bool
 /// the end. There is no search.
 #[inline(always)]
 pub(crate) fn reach_near(places: &[Place], ptr: Ptr, n: usize, behind: usize) -> Option<usize>
-    ensures { IfSome result (λ at. Placed places.now ptr.0 n at) }
+    ensures placed { IfSome result (λ at. Placed places.now ptr.0 n at) }
+    ensures near { MatchOption result
+        ((at : ℕ) → PlacedNear places.now ptr.0 n behind at → ⊥)
+        (PlacedNear places.now ptr.0 n behind) }
 {
     match places.get(places.len().wrapping_sub(behind)) {
         Some(place) => {
@@ -164,8 +168,7 @@ pub(crate) fn reach_near(places: &[Place], ptr: Ptr, n: usize, behind: usize) ->
 /// Whether a pointer leads to the start of the object at a place.
 #[inline(always)]
 fn is_start(place: &Place, ptr: Ptr) -> bool
-    ensures number { result ≡ true → place.now.number ≡ object_of ptr.0 }
-    ensures offset { result ≡ true → offset_of ptr.0 ≡ 0 }
+    ensures { result ≡ (pointer_to place.now.number 0 == ptr.0) }
 {
     place.number as u64 * (1 << 32) == ptr.0
 }

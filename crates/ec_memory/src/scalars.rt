@@ -4,11 +4,12 @@ ghost use Rattle.std.specs.Prelude.{◌≡◌, ◌+◌, ◌≤◌, ◌+ℤ◌, �
 ghost use Rattle.ec_ctypes.specs.Arithmetic.{IsValue};
 ghost use Rattle.ec_ctypes.specs.declared.types.arith.Arith.TheVariants as arith;
 ghost use Rattle.ec_ctypes.specs.views.Types.{ty_view};
-ghost use Rattle.ec_objects.specs.Memory.{ScalarType, scalar_type, Fits, decoded, encoded, number, span, put, load, store};
+ghost use Rattle.ec_objects.specs.Memory.{ScalarType, ValueData, scalar_type, Fits, decoded, encoded, number, span, put, load, store};
 ghost use Rattle.ec_objects.specs.Kinds.{kind_type};
 ghost use Rattle.ec_objects.specs.declared.kind.Kind.TheVariants as kind;
 ghost use Rattle.ec_bytes.specs.Scalars.{AreBytes, signed_bytes, signed_of};
 ghost use Rattle.std.specs.Int.{w32};
+ghost use Rattle.ec_memory.specs.Near.{IsNear};
 ghost use Rattle.ec_memory.specs.Store.{outcome, seen};
 ghost use Rattle.ec_memory.specs.Sums.{Adds, AddsAt, HasNoSum, HasNoSumAt};
 ghost use Rattle.ec_memory.specs.Values.{value_view};
@@ -93,31 +94,38 @@ impl Store {
         }
     }
 
-    /// The number of an `int` at a pointer to the start of an object, found without a search: only where the object is the
-    /// one that is `behind` places from the end of those that are alive, the last being 1, and where it is large enough
-    /// and its bytes are set. Where there is no number nothing is known, and `load_int` tells more.
+    /// The number of an `int` at a pointer, found without a search. There is none unless the pointer leads to the start of the
+    /// object that is the `behind`th from the end of those that are alive, the last being 1, and `load_int` gives it.
     #[inline(always)]
     pub fn load_int_near(&self, ptr: Ptr, behind: usize) -> Option<i32>
-        ensures { IfSome result
+        ensures value { IfSome result
             (λ value. load self.now ptr.0 (kind_type kind.Int) ≡ Ok (number value)) }
+        ensures near { IfSome result (λ _. IsNear self.now ptr.0 behind) }
+        ensures none { result ≡ None → IsNear self.now ptr.0 behind
+            → (it : ValueData) → load self.now ptr.0 (kind_type kind.Int) ≡ Ok it → ⊥ }
     {
         Some(self.read_near::<I32>(ptr, behind)?.0)
     }
 
-    /// The same of a `long`. Where there is no number `load_long` tells more.
+    /// The same of a `long` and `load_long`.
     #[inline(always)]
     pub fn load_long_near(&self, ptr: Ptr, behind: usize) -> Option<i64>
-        ensures { IfSome result
+        ensures value { IfSome result
             (λ value. load self.now ptr.0 (kind_type kind.Long) ≡ Ok (number value)) }
+        ensures near { IfSome result (λ _. IsNear self.now ptr.0 behind) }
+        ensures none { result ≡ None → IsNear self.now ptr.0 behind
+            → (it : ValueData) → load self.now ptr.0 (kind_type kind.Long) ≡ Ok it → ⊥ }
     {
         Some(self.read_near::<I64>(ptr, behind)?.0)
     }
 
-    /// Adds a number to such an `int`, and gives that from before, as `add_int` does. Where there is none nothing is
-    /// changed: `load_int_near` would give none, or `int` doesn't have the sum.
+    /// Adds a number to the `int` at a pointer as `add_int` does, without a search. There is none, and nothing is changed,
+    /// unless the pointer leads to the start of the `behind`th object as for `load_int_near`, and `add_int` gives one.
     #[inline(always)]
     pub fn add_int_near(&mut self, ptr: Ptr, behind: usize, by: i64) -> Option<i32>
         ensures sum { IfSome result (λ before. Adds self.old ptr.0 before by self.new) }
+        ensures near { IfSome result (λ _. IsNear self.old ptr.0 behind) }
+        ensures none { result ≡ None → IsNear self.old ptr.0 behind → HasNoSum self.old ptr.0 by }
         ensures unchanged { result ≡ None → self.new ≡ self.old }
     {
         match reach_near(&self.alive, ptr, 4, behind) {
@@ -201,14 +209,17 @@ impl Store {
         }
     }
 
-    /// The scalar at a pointer to the start of an object, if it is the one so many places from the end of those that are
-    /// alive, it is large enough, and its bytes are set.
+    /// The scalar at a pointer, found without a search, if it leads to the start of the object that is so many places from
+    /// the end of those that are alive, and `read` gives one.
     #[inline(always)]
     fn read_near<T: Scalar>(&self, ptr: Ptr, behind: usize) -> Option<T>
         ensures value { IfSome result
             (λ scalar. Ok scalar ≡ seen T.decode (span self.now ptr.0 T.SIZE)) }
         ensures bytes { IfSome result
             (λ _. (bytes : List ℕ) → span self.now ptr.0 T.SIZE ≡ Ok bytes → AreBytes bytes) }
+        ensures near { IfSome result (λ _. IsNear self.now ptr.0 behind) }
+        ensures none { result ≡ None → IsNear self.now ptr.0 behind
+            → (bytes : List ℕ) → span self.now ptr.0 T.SIZE ≡ Ok bytes → ⊥ }
     {
         match reach_near(&self.alive, ptr, T::SIZE, behind) {
             Some(at) => self.cells.view::<T>(at).get(),
