@@ -180,14 +180,20 @@ fn change_int(store: &mut Store, to: Ptr, update: &Update, by: i64, kind: Kind) 
     }
 }
 
-/// `a += b` and `++` of an `int`, by a number.
+/// `a += b` and `++` of an `int`, by a number, where it stands so many places from the end of the objects alive.
 #[inline(always)]
-pub(crate) fn added(store: &mut Store, to: Ptr, update: &Update, by: i64) -> Option<i64>
+pub(crate) fn added(
+    store: &mut Store,
+    to: Ptr,
+    behind: usize,
+    update: &Update,
+    by: i64,
+) -> Option<i64>
     ensures some { IfSome result (λ z. Changes update.now to.0 by store.old store.new z) }
     ensures none { result ≡ None → store.new ≡ store.old }
 {
     if adds_ints(update) {
-        match store.add_int(to, by) {
+        match store.add_int_near(to, behind, by) {
             Some(before) => {
                 let old = before as i64;
                 Some(given(update, old, old + by))

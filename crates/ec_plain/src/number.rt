@@ -268,7 +268,7 @@ pub(crate) fn int(store: &Store, scope: &[Ptr], slot: u32) -> Option<i64>
     ensures { IfSome result (λ z.
         Leads scope.now (leaf_view (leaf.IntValue slot)) store.now store.now (number z)) }
 {
-    int_at(store, slot_place(scope, slot)?)
+    int_near(store, slot_place(scope, slot)?, behind(scope, slot))
 }
 
 /// The value of a `long` of the function.
@@ -277,7 +277,43 @@ pub(crate) fn long(store: &Store, scope: &[Ptr], slot: u32) -> Option<i64>
     ensures { IfSome result (λ z.
         Leads scope.now (leaf_view (leaf.LongValue slot)) store.now store.now (number z)) }
 {
-    long_at(store, slot_place(scope, slot)?)
+    long_near(store, slot_place(scope, slot)?, behind(scope, slot))
+}
+
+/// How many places from the end of the objects alive that of a slot stands, where no other came behind those in scope.
+#[inline(always)]
+pub(crate) fn behind(scope: &[Ptr], slot: u32) -> usize {
+    scope.len().wrapping_sub(slot as usize)
+}
+
+/// The number of the `int` at a place, which is found without a search where it stands so many from the end.
+#[inline(always)]
+fn int_near(store: &Store, place: Ptr, behind: usize) -> Option<i64>
+    ensures { IfSome result (λ z. loaded store.now place.0 (kind_type kind.Int) ≡ Ok (number z)) }
+{
+    match store.load_int_near(place, behind) {
+        Some(value) => Some(value as i64),
+        None => int_aside(store, place),
+    }
+}
+
+/// The same by a search, which is rare.
+#[inline(never)]
+fn int_aside(store: &Store, place: Ptr) -> Option<i64>
+    ensures { IfSome result (λ z. loaded store.now place.0 (kind_type kind.Int) ≡ Ok (number z)) }
+{
+    int_at(store, place)
+}
+
+/// The number of the `long` at a place, which is found without a search where it stands so many from the end.
+#[inline(always)]
+fn long_near(store: &Store, place: Ptr, behind: usize) -> Option<i64>
+    ensures { IfSome result (λ z. loaded store.now place.0 (kind_type kind.Long) ≡ Ok (number z)) }
+{
+    match store.load_long_near(place, behind) {
+        Some(value) => Some(value),
+        None => long_at(store, place),
+    }
 }
 
 /// The type of the value that a step loads, if it does.

@@ -11,7 +11,7 @@ ghost use Rattle.ec_plain.specs.Numbers.{Leads, StepLeads, Updates};
 ghost use Rattle.ec_plain.specs.Outcomes.{outcome_view};
 
 use crate::effect::added;
-use crate::number::{int, slot_place};
+use crate::number::{behind, int, slot_place};
 use crate::outcome::Outcome;
 use crate::quick::{compared_by, summed_by};
 use crate::whole::evaluate;
@@ -114,7 +114,7 @@ fn changed(store: &mut Store, scope: &[Ptr], expression: &Plain) -> Option<i64>
         Leaf::Slot(slot) => match expression.steps.as_slice() {
             [step] => {
                 let place = slot_place(scope, slot)?;
-                changed_at(store, scope, place, step)
+                changed_at(store, scope, place, behind(scope, slot), step)
             }
             _ => None,
         },
@@ -124,13 +124,19 @@ fn changed(store: &mut Store, scope: &[Ptr], expression: &Plain) -> Option<i64>
 
 /// What a step gives that changes what stands at a place by a number. It is done.
 #[inline(always)]
-fn changed_at(store: &mut Store, scope: &[Ptr], to: Ptr, step: &PlainStep) -> Option<i64>
+fn changed_at(
+    store: &mut Store,
+    scope: &[Ptr],
+    to: Ptr,
+    behind: usize,
+    step: &PlainStep,
+) -> Option<i64>
     ensures some { IfSome result (λ z. StepLeads scope.now (plain_step_view step.now)
         (address to.0) store.old store.new (number z)) }
     ensures none { result ≡ None → store.new ≡ store.old }
 {
     match change_of(store, scope, step) {
-        Some(change) => added(store, to, change.update, change.by),
+        Some(change) => added(store, to, behind, change.update, change.by),
         None => None,
     }
 }

@@ -7,5 +7,5 @@ use Rattle.ec_plain.proofs.number.int.Goals as goal
 
 pub returns : goal.returns
 returns c =
-    value_leads c.args.scope.now (leaf_view (leaf.Slot c.args.slot)) kind.Int c.args.store.now c.in_ok-slot_place.field-0.0 c.int_at.result
-    (c.in_ok-slot_place.ensures c.args.store.now) c.int_at.ensures
+    value_leads c.args.scope.now (leaf_view (leaf.Slot c.args.slot)) kind.Int c.args.store.now c.in_ok-slot_place.field-0.0 c.int_near.result
+    (c.in_ok-slot_place.ensures c.args.store.now) c.int_near.ensures

@@ -7,5 +7,5 @@ use Rattle.ec_plain.proofs.number.long.Goals as goal
 
 pub returns : goal.returns
 returns c =
-    value_leads c.args.scope.now (leaf_view (leaf.Slot c.args.slot)) kind.Long c.args.store.now c.in_ok-slot_place.field-0.0 c.long_at.result
-    (c.in_ok-slot_place.ensures c.args.store.now) c.long_at.ensures
+    value_leads c.args.scope.now (leaf_view (leaf.Slot c.args.slot)) kind.Long c.args.store.now c.in_ok-slot_place.field-0.0 c.long_near.result
+    (c.in_ok-slot_place.ensures c.args.store.now) c.long_near.ensures
