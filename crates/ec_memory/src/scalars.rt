@@ -80,20 +80,6 @@ impl Store {
         Ok(self.read::<I8>(ptr)?.0)
     }
 
-    /// Adds a number to the `int` at a pointer, and gives that from before (ISO/IEC 9899:1999, 6.5.16.2). There is none, and
-    /// nothing is changed, where no `int` can be read there, and where `int` doesn't have the sum.
-    #[inline(always)]
-    pub fn add_int(&mut self, ptr: Ptr, by: i64) -> Option<i32>
-        ensures sum { MatchOption result (HasNoSum self.old ptr.0 by)
-            (λ before. Adds self.old ptr.0 before by self.new) }
-        ensures unchanged { result ≡ None → self.new ≡ self.old }
-    {
-        match reach(&self.alive, ptr, 4) {
-            Ok(at) => add_at(&mut self.cells, at, by),
-            Err(_) => None,
-        }
-    }
-
     /// The number of an `int` at a pointer, found without a search. There is none unless the pointer leads to the start of the
     /// object that is the `behind`th from the end of those that are alive, the last being 1, and `load_int` gives it.
     #[inline(always)]
@@ -119,8 +105,8 @@ impl Store {
         Some(self.read_near::<I64>(ptr, behind)?.0)
     }
 
-    /// Adds a number to the `int` at a pointer as `add_int` does, without a search. There is none, and nothing is changed,
-    /// unless the pointer leads to the start of the `behind`th object as for `load_int_near`, and `add_int` gives one.
+    /// Adds a number to the `int` at a pointer, and gives that from before (ISO/IEC 9899:1999, 6.5.16.2), without a search.
+    /// There is none, and nothing is changed, where `load_int_near` gives none, and where `int` doesn't have the sum.
     #[inline(always)]
     pub fn add_int_near(&mut self, ptr: Ptr, behind: usize, by: i64) -> Option<i32>
         ensures sum { IfSome result (λ before. Adds self.old ptr.0 before by self.new) }
