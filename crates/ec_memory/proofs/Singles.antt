@@ -1,7 +1,6 @@
 -- A byte of an object, as the definition of memory gives it.
-use Rattle.std.proofs.Common.{◌≡◌, ◌∙◌, sym, ap, subst, refl, ℕ, zero, suc, ◌+◌, ◌-◌, ◌<◌, ◌≤◌, List, [], ◌∷◌, length, take, drop, slice_get, Option, Some, None, Result, Ok, Err, arith}
+use Rattle.std.proofs.Common.{◌≡◌, ◌∙◌, sym, ap, subst, refl, ℕ, zero, suc, ◌+◌, ◌-◌, ◌<◌, ◌≤◌, List, [], ◌∷◌, length, take, drop, slice_get, Some, None, Ok, Err, arith}
 use Rattle.std.specs.Prelude.{slice_index}
-use Rattle.ec_base.specs.declared.stop.Trap.{Trap}
 use Rattle.ec_base.specs.declared.stop.Trap.TheVariants.{Outside, Unset}
 use Rattle.ec_memory.specs.declared.place.Place.{Place}
 use Rattle.ec_memory.specs.SingleBytes.{cell_read, byte_behind, cells_left}

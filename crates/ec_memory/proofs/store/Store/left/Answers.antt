@@ -1,5 +1,5 @@
 -- What is left of the object.
-use Rattle.std.proofs.Common.{refl, arith}
+use Rattle.std.proofs.Common.{arith}
 use Rattle.ec_memory.proofs.Calls.{rising_of, object_room}
 use Rattle.ec_memory.proofs.Singles.{left_here}
 use Rattle.ec_memory.proofs.store.Store.left.Goals as goal
