@@ -12,7 +12,7 @@ ghost use Rattle.ec_objects.specs.Memory.{Memory, address, load as loaded, moved
 ghost use Rattle.ec_objects.specs.declared.kind.Kind.TheVariants as kind;
 ghost use Rattle.ec_plain.specs.Numbers.{Follows, FollowsPlace, Leads, Operates, Stands, StepLeads};
 
-use crate::quick::{combined, combined_aside, fitted};
+use crate::quick::{combined, combined_aside, fitted, rest_by};
 use ec_bytes::Ptr;
 use ec_code::{Binary, Leaf, Plain, PlainStep, Unary, small};
 use ec_memory::Store;
@@ -219,7 +219,10 @@ fn with_number(store: &Store, value: i64, step: &PlainStep) -> Option<i64>
         (number value) store.now store.now (number z)) }
 {
     match step {
-        PlainStep::WithNumber(operation, right) => combined_aside(operation, store, value, *right),
+        PlainStep::WithNumber(operation, right) => match rest_by(operation, value, *right) {
+            Some(made) => Some(made),
+            None => combined_aside(operation, store, value, *right),
+        },
         _ => None,
     }
 }

@@ -133,6 +133,21 @@ pub(crate) fn summed_by(operation: &Operation, x: i64, y: i64) -> Option<i64>
     }
 }
 
+/// The remainder of a number by one above 0.
+#[inline(always)]
+pub(crate) fn rest_by(operation: &Operation, x: i64, y: i64) -> Option<i64>
+    ensures { IfSome result (λ z. (m : Memory) →
+        worked (operation_view operation.now) m (number x) (number y) ≡ gives (number z)) }
+{
+    match operation {
+        Operation::Integers(ty, IntegerOperator::Remainder) => {
+            divided(*ty, x, y)?;
+            Some(rest(x, y))
+        }
+        _ => None,
+    }
+}
+
 /// What an operator gives for two numbers of `int`, `long` or `long long`, where it doesn't trap and is found at once.
 #[inline(always)]
 fn integers(ty: Arith, operator: IntegerOperator, x: i64, y: i64) -> Option<i64>
