@@ -61,7 +61,8 @@ makes m cells few room =
     let two : nat_le (live_bytes m + length cells) (2 ^ 28) ≡ true = grind (arith, nat_tests, room) in
     (λ i. if one i && two i then Ok (pointer_to (suc (length m)) 0, m ++ alive cells ∷ []) else Err Spent)
 
-size_small : (k : Kind) → scalar_size (kind_type k) ≤ 8
+-- a value of any of these types takes at most 8 bytes
+pub size_small : (k : Kind) → scalar_size (kind_type k) ≤ 8
 size_small kind.Bool = omega arith
 size_small kind.Char = omega arith
 size_small kind.UChar = omega arith
@@ -98,7 +99,7 @@ module _ (line : ℕ) (s : State) (go : List ℕ → State → Res) (z : ℤ) (t
   abbrev with_value : Memory → Memory
   with_value xs = m ++ alive (int_cells z) ∷ xs
 
-  -- the value is stored yet, or was
+  -- the value has yet to be stored, or was stored
   abbrev before : List ℕ → State → Res
   before qs t = given line (kind_type kind.Int ∷ types) (drop (length ps) qs) (number z ∷ values) t (λ u. go qs u)
 
@@ -110,11 +111,11 @@ module _ (line : ℕ) (s : State) (go : List ℕ → State → Res) (z : ℤ) (t
       ap (drop (length (ps ++ there ∷ []))) (sym (append_assoc ps (there ∷ []) rs))
       ∙ drop_at (ps ++ there ∷ []) rs (length (ps ++ there ∷ [])) refl
 
-  -- an object is made behind, whether the value is stored yet
-  one_more : (k : Kind) (more : List Kind) (xs : Memory) (rs : List ℕ) (there_is : Memory) (rest : List ℕ → State → Res) → HasRoom there_is (suc (length more))
+  -- an object is made behind, whether or not the value was stored
+  one_more : (k : Kind) (more : List Kind) (rs : List ℕ) (there_is : Memory) (rest : List ℕ → State → Res) → HasRoom there_is (suc (length more))
       → made line (map scalar_size (map kind_type (k ∷ more))) (ps ++ there ∷ rs) (at s there_is) rest
       ≡ made line (map scalar_size (map kind_type more)) (ps ++ there ∷ (rs ++ pointer_to (suc (length there_is)) 0 ∷ [])) (at s (there_is ++ alive (unset_cells (scalar_size (kind_type k))) ∷ [])) rest
-  one_more k more xs rs there_is rest room =
+  one_more k more rs there_is rest room =
       let size = scalar_size (kind_type k) in
       let whole = unset_length size in
       let small = size_small k in
@@ -137,12 +138,12 @@ module _ (line : ℕ) (s : State) (go : List ℕ → State → Res) (z : ℤ) (t
       let objects : length (with_value xs) ≡ length (unset xs) = length-append m (alive (int_cells z) ∷ xs) ∙ sym (length-append m (alive (unset_cells 4) ∷ xs)) in
       let bytes : live_bytes (with_value xs) ≡ live_bytes (unset xs) = live_behind m (alive (int_cells z) ∷ xs) ∙ sym (live_behind m (alive (unset_cells 4) ∷ xs)) in
       let less : HasRoom (unset xs ++ o) (length more) = room_behind (unset xs) (unset_cells (scalar_size (kind_type k))) (length more) (omega (arith, whole, size_small k)) room in
-      one_more k more xs rs (unset xs) before room
+      one_more k more rs (unset xs) before room
       ∙ ap (λ n. made line (map scalar_size (map kind_type more)) (ps ++ there ∷ (rs ++ q ∷ [])) (at s n) before) (append_assoc m (alive (unset_cells 4) ∷ xs) o)
       ∙ stored_before more (xs ++ o) (rs ++ q ∷ []) (subst (λ n. HasRoom n (length more)) (append_assoc m (alive (unset_cells 4) ∷ xs) o) less)
       ∙ ap (λ n. made line (map scalar_size (map kind_type more)) (ps ++ there ∷ (rs ++ q ∷ [])) (at s n) behind) (sym (append_assoc m (alive (int_cells z) ∷ xs) o))
       ∙ ap (λ n. made line (map scalar_size (map kind_type more)) (ps ++ there ∷ (rs ++ pointer_to (suc n) 0 ∷ [])) (at s (with_value xs ++ o)) behind) (sym objects)
-      ∙ sym (one_more k more xs rs (with_value xs) behind (omega (arith, objects, room.0), omega (arith, bytes, room.1)))
+      ∙ sym (one_more k more rs (with_value xs) behind (omega (arith, objects, room.0), omega (arith, bytes, room.1)))
 
 -- what is made where there is room
 made_there : (z : ℤ) (count : ℕ) (m n : Memory) (p : ℕ) → with_object m (int_cells z) ≡ Ok (p, n) → HasRoom m (suc count) → ◌≡◌ {A = ℕ × Memory} (pointer_to (suc (length m)) 0, m ++ alive (int_cells z) ∷ []) (p, n)
@@ -165,9 +166,3 @@ next_int line s go z more values m n p ps is room =
 pub next_room : (z : ℤ) (count : ℕ) (m n : Memory) (p : ℕ) → with_object m (int_cells z) ≡ Ok (p, n) → HasRoom m (suc count) → HasRoom n count
 next_room z count m n p is room =
     subst (λ n. HasRoom n count) (ap (λ r. r.1) (made_there z count m n p is room)) (room_behind m (int_cells z) count (omega arith) room)
-
--- where there is room, an int is made
-pub not_spent : (z : ℤ) (count : ℕ) (m : Memory) → HasRoom m (suc count) → with_object m (int_cells z) ≡ Err Spent → ⊥
-not_spent z count m room is =
-    let there : Ok (pointer_to (suc (length m)) 0, m ++ alive (int_cells z) ∷ []) ≡ Err Spent = sym (makes m (int_cells z) (omega (arith, room.0)) (omega (arith, room.1))) ∙ is in
-    cc there

@@ -1,6 +1,6 @@
 //! Objects of blocks and functions, and turns.
 
-ghost use Rattle.std.specs.Prelude.{◌≡◌, ◌≤◌, ◌+◌, ◌^◌, ℕ, ◌++◌, [], ◌∷◌, List, length, drop, map, OnOk, IfSome, Some, Err, slice_get};
+ghost use Rattle.std.specs.Prelude.{◌≡◌, ◌≤◌, ◌+◌, ◌^◌, ◌↔◌, ◌⊎◌, ℕ, ℤ, ◌++◌, [], ◌∷◌, List, length, drop, map, OnOk, OnErr, MatchOption, Some, Ok, Err, slice_get};
 ghost use Rattle.std.specs.Option.{option_map};
 ghost use Rattle.ec_code.specs.Views.{size_view};
 ghost use Rattle.ec_evaluation.specs.Results.{Res, made, given, tried, turn};
@@ -9,12 +9,11 @@ ghost use Rattle.ec_objects.specs.Kinds.{kind_type};
 ghost use Rattle.ec_objects.specs.declared.kind.Kind.{Kind as KindData};
 ghost use Rattle.ec_base.specs.declared.stop.Trap.TheVariants as trap;
 ghost use Rattle.ec_memory.specs.declared.store.MakeStop.TheVariants as stops;
-ghost use Rattle.ec_objects.specs.declared.kind.Kind.TheVariants as kinds;
-ghost use Rattle.ec_objects.specs.Memory.{make, number, scalar_size, with_object};
+ghost use Rattle.ec_objects.specs.Memory.{make, scalar_size, with_object};
 ghost use Rattle.ec_plain.specs.Answered.{at, ending_of, scope_view};
 ghost use Rattle.ec_values.specs.Words.{word_view};
 ghost use Rattle.ec_memory.specs.Room.{HasRoom, int_cells};
-ghost use Rattle.ec_machine.specs.Arguments.{HasMade, with_arguments};
+ghost use Rattle.ec_machine.specs.Arguments.{HasMade, IsInt, MakesArguments, with_arguments};
 ghost use Rattle.ec_machine.specs.Frames.{Grown, objects_of};
 ghost use Rattle.ec_machine.specs.Goes.{IsNoRoom, IsOver, Makes, Passes};
 
@@ -171,7 +170,6 @@ fn make_parameters(store: &mut Store, scope: &mut Scope, kinds: &[Kind]) -> Resu
 fn size_of(kind: Kind) -> u64
     ensures value { result ≡ scalar_size (kind_type kind) }
     ensures some { 1 ≤ result }
-    ensures small { result ≤ 8 }
 {
     match kind {
         Kind::Bool => 1,
@@ -227,10 +225,8 @@ fn make_arguments(
     kinds: &[Kind],
     values: &[Word],
 ) -> Result<(), Stop>
-    ensures made { (s : State) (go : List ℕ → State → Res) → Passes result
-        (with_arguments line.0 kinds.now (map word_view values.now)
-        (scope_view (objects_of scope.old)) (at s store.old) go)
-        (go (scope_view (objects_of scope.new)) (at s store.new)) (at s store.new) }
+    ensures made { MakesArguments line.0 kinds.now (map word_view values.now) result
+        store.old scope.old store.new scope.new }
     ensures grown { OnOk result (Grown scope.old.pointers scope.new.pointers) }
 {
     if store.has_room(kinds.len()) {
@@ -250,10 +246,8 @@ fn make_ints(
     values: &[Word],
 ) -> Result<(), Stop>
     requires room { HasRoom store.old (length kinds.now) }
-    ensures made { (s : State) (go : List ℕ → State → Res) → Passes result
-        (with_arguments line.0 kinds.now (map word_view values.now)
-        (scope_view (objects_of scope.old)) (at s store.old) go)
-        (go (scope_view (objects_of scope.new)) (at s store.new)) (at s store.new) }
+    ensures made { MakesArguments line.0 kinds.now (map word_view values.now) result
+        store.old scope.old store.new scope.new }
     ensures grown { OnOk result (Grown scope.old.pointers scope.new.pointers) }
 {
     let mut kinds = kinds;
@@ -281,10 +275,10 @@ fn make_ints(
     }
 }
 
-/// The number that an `int` gets from this value.
+/// The number that a parameter gets from this value, if it is an `int` and the value a signed number that `int` has.
 #[inline(always)]
 fn int_of(kind: Kind, value: Word) -> Option<i32>
-    ensures { IfSome result (λ z. (kind ≡ kinds.Int) × (word_view value ≡ number z)) }
+    ensures { MatchOption result ((z : ℤ) → IsInt kind value z → ⊥) (IsInt kind value) }
 {
     match kind {
         Kind::Int => match value {
@@ -295,12 +289,16 @@ fn int_of(kind: Kind, value: Word) -> Option<i32>
     }
 }
 
-/// Makes an `int` with this value, and puts it behind the others.
+/// Makes an `int` with this value, and puts it behind the others. After an error the scope is as it was, but an object
+/// for which the scope had no memory is left in the store.
 #[inline(always)]
 fn make_int(store: &mut Store, scope: &mut Scope, value: i32) -> Result<(), MakeStop>
     ensures made { OnOk result (HasMade value store.old scope.old store.new scope.new) }
-    ensures spent { result ≡ Err stops.Spent
-        → with_object store.old (int_cells value) ≡ Err trap.Spent }
+    ensures spent { (result ≡ Err stops.Spent)
+        ↔ (with_object store.old (int_cells value) ≡ Err trap.Spent) }
+    ensures left { OnErr result ((store.new ≡ store.old)
+        ⊎ ((p : ℕ) × (with_object store.old (int_cells value) ≡ Ok (p, store.new)))) }
+    ensures unplaced { OnErr result (scope.new ≡ scope.old) }
 {
     match store.make_int(value) {
         Ok(ptr) => {
@@ -321,10 +319,8 @@ fn make_any(
     kinds: &[Kind],
     values: &[Word],
 ) -> Result<(), Stop>
-    ensures made { (s : State) (go : List ℕ → State → Res) → Passes result
-        (with_arguments line.0 kinds.now (map word_view values.now)
-        (scope_view (objects_of scope.old)) (at s store.old) go)
-        (go (scope_view (objects_of scope.new)) (at s store.new)) (at s store.new) }
+    ensures made { MakesArguments line.0 kinds.now (map word_view values.now) result
+        store.old scope.old store.new scope.new }
     ensures grown { OnOk result (Grown scope.old.pointers scope.new.pointers) }
 {
     let before = scope.objects().len();

@@ -1,6 +1,6 @@
 //! The objects in scope.
 
-ghost use Rattle.std.specs.Prelude.{◌≡◌, ◌+◌, ◌++◌, ◌∷◌, [], OnOk};
+ghost use Rattle.std.specs.Prelude.{◌≡◌, ◌+◌, ◌++◌, ◌∷◌, [], OnOk, OnErr};
 ghost use Rattle.ec_machine.specs.Frames.{cut, objects_of};
 
 use ec_base::{List, OutOfMemory};
@@ -34,13 +34,14 @@ impl Scope {
         &self.pointers.as_slice()[from..]
     }
 
-    /// Puts an object behind the others.
+    /// Puts an object behind the others. After an error, which is that there was no memory, nothing is changed.
     pub fn push(&mut self, ptr: Ptr) -> Result<(), OutOfMemory>
-        ensures { OnOk result (self.new ≡ record {
+        ensures ok { OnOk result (self.new ≡ record {
           pointers = self.old.pointers ++ ptr ∷ [];
           count
               = self.old.count + 1;
         }) }
+        ensures err { OnErr result (self.new ≡ self.old) }
     {
         let Some(count) = self.count.checked_add(1) else {
             return Err(OutOfMemory);

@@ -27,8 +27,8 @@ loop-kinds-preserved c =
     let fits : SFits w32 z = search rules in
     let back : to_z w32 (of_z w32 z) ≡ z = search rules in
     let made : with_object c.loop-kinds.store (int_cells z) ≡ Ok (m.pointer.0, c.make_int.new.store) = ap (λ y. with_object c.loop-kinds.store (int_cells y)) (sym back) ∙ m.made in
-    let first : kinds ≡ kind.Int ∷ more = front_any kinds kind.Bool c.in-len1-up.len_at_least ∙ ap (λ k. k ∷ more) c.in-Some.ensures.0 in
-    let value : map word_view values ≡ number z ∷ map word_view others = ap (map word_view) (front_any values (word.Signed (pos 0)) c.in-len1-up-values.len_at_least) ∙ ap (λ v. v ∷ map word_view others) c.in-Some.ensures.1 in
+    let first : kinds ≡ kind.Int ∷ more = front_any kinds kind.Bool c.in-len1-up.len_at_least ∙ ap (λ k. k ∷ more) c.in-Some.ensures.int in
+    let value : map word_view values ≡ number z ∷ map word_view others = ap (map word_view) (front_any values (word.Signed (pos 0)) c.in-len1-up-values.len_at_least ∙ ap (λ v. v ∷ others) c.in-Some.ensures.signed) in
     let room : HasRoom c.loop-kinds.store (suc (length more)) = subst (λ k. HasRoom c.loop-kinds.store (length k)) first c.loop-kinds.invariant.room in
     record {
       room = next_room z (length more) c.loop-kinds.store c.make_int.new.store m.pointer.0 made room;
