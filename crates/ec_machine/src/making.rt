@@ -1,6 +1,6 @@
 //! Objects of blocks and functions, and turns.
 
-ghost use Rattle.std.specs.Prelude.{◌≡◌, ◌≤◌, ◌+◌, ◌^◌, ◌↔◌, ◌⊎◌, ℕ, ℤ, ◌++◌, [], ◌∷◌, List, length, drop, map, OnOk, OnErr, MatchOption, Some, Ok, Err, slice_get};
+ghost use Rattle.std.specs.Prelude.{◌≡◌, ◌≢◌, ◌≤◌, ◌+◌, ◌^◌, ◌↔◌, ◌⊎◌, ℕ, ℤ, ◌++◌, [], ◌∷◌, List, length, drop, map, OnOk, OnErr, MatchOption, Some, None, Ok, Err, slice_get};
 ghost use Rattle.std.specs.Option.{option_map};
 ghost use Rattle.ec_code.specs.Views.{size_view};
 ghost use Rattle.ec_evaluation.specs.Results.{Res, made, given, tried, turn};
@@ -15,6 +15,7 @@ ghost use Rattle.ec_values.specs.Words.{word_view};
 ghost use Rattle.ec_memory.specs.Room.{HasRoom, int_cells};
 ghost use Rattle.ec_machine.specs.Arguments.{HasMade, IsInt, MakesArguments, with_arguments};
 ghost use Rattle.ec_machine.specs.Frames.{Grown, objects_of};
+ghost use Rattle.ec_machine.specs.declared.stop.Stop.TheVariants as ways;
 ghost use Rattle.ec_machine.specs.Goes.{IsNoRoom, IsOver, Makes, Passes};
 
 use crate::scope::Scope;
@@ -33,6 +34,7 @@ pub fn take_turn(turns: &mut u64) -> Result<(), Stop>
         { turns = turns.new }) }
     ensures fewer { turns.new ≤ turns.old }
     ensures taken { OnOk result (turns.old ≡ turns.new + 1) }
+    ensures memory { result ≢ Err ways.OutOfMemory }
 {
     if *turns == 0 {
         return Err(Stop::Over(End::TurnsSpent));
@@ -130,6 +132,8 @@ fn make_first(store: &mut Store, scope: &mut Scope, kinds: &[Kind]) -> Result<()
         (tried line (make store.old (scalar_size (kind_type kind))) (at s store.old) (λ r. go
         (scope_view (objects_of scope.old) ++ r.0 ∷ []) (at s r.1)))
         (go (scope_view (objects_of scope.new)) (at s store.new)) (at s store.new) }
+    ensures none { slice_get kinds.now 0 ≡ None →
+        (result ≡ Ok tt) × (store.new ≡ store.old) × (scope.new ≡ scope.old) }
     ensures grown { OnOk result (Grown scope.old.pointers scope.new.pointers) }
 {
     match first_kind(kinds) {
@@ -346,10 +350,11 @@ fn give_arguments(
     pointers: &[Ptr],
     values: &[Word],
 ) -> Result<(), Stop>
-    ensures { (s : State) (go : State → Res) → Passes result
+    ensures given { (s : State) (go : State → Res) → Passes result
         (given line.0 (map kind_type kinds.now) (scope_view pointers.now) (map word_view
         values.now) (at s store.old) go)
         (go (at s store.new)) (at s store.new) }
+    ensures memory { result ≢ Err ways.OutOfMemory }
 {
     let mut kinds = kinds;
     let mut pointers = pointers;

@@ -27,4 +27,4 @@ returns-clause-made c = λ s go.
     ∙ ap (λ n. drop n (scope_view all)) count in
     subst (λ o. Passes c.give_arguments.result o (go (scope_view all) (at s c.give_arguments.new.store)) (at s c.give_arguments.new.store))
     (sym (c.in-Ok.ensures.made line s next ∙ ap (λ ps. given line types ps values (at s c.make_parameters.new.store) (λ u. go (scope_view all) u)) (sym place)))
-    (c.give_arguments.ensures s (λ u. go (scope_view all) u))
+    (c.give_arguments.ensures.given s (λ u. go (scope_view all) u))
