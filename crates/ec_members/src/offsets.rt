@@ -180,11 +180,7 @@ fn offset_among(
 }
 
 /// The offset of the member of this name in the struct of this number, found by a walk over its members.
-fn walked_offset(
-    checker: &Checker,
-    number: u32,
-    name: &[u8],
-) -> Result<Option<u64>, OutOfMemory>
+fn walked_offset(checker: &Checker, number: u32, name: &[u8]) -> Result<Option<u64>, OutOfMemory>
     ensures { IfOk result (λ offset. offset
         ≡ offset_in (world_of checker.now) (Some number) name.now) }
 {
