@@ -26,9 +26,9 @@ def by_program(program, texts, written=None):
 
 
 def rules():
-    """The rules of ec_typing that have to be unfolded, by their modules."""
+    """The rules of ec_typing_defs that have to be unfolded, by their modules."""
     found = {}
-    for file in sorted((TOP / "crates/ec_typing/specs").glob("*.antt")):
+    for file in sorted((TOP / "crates/ec_typing_defs/specs").glob("*.antt")):
         names = re.findall(r"^unfoldable pub (\S+) :", file.read_text(), re.M)
         if names:
             found[file.stem] = names

@@ -1,5 +1,5 @@
 #!/usr/bin/env python3
-"""Compares the rows of crates/ec_sqliterows with what SQLite itself answers, by Python's module sqlite3.
+"""Compares the rows of crates/ec_sqlite_rows with what SQLite itself answers, by Python's module sqlite3.
 
 Where the library refuses a statement its state is compared and not its message. A prepared statement that is executed is
 compared by its text. Rows about cursors, files and places that are no file are answered by the link and not by SQLite:
@@ -10,7 +10,7 @@ import sqlite3
 import sys
 from pathlib import Path
 
-ROWS = Path(__file__).resolve().parent.parent / "crates" / "ec_sqliterows"
+ROWS = Path(__file__).resolve().parent.parent / "crates" / "ec_sqlite_rows"
 LINK_ONLY = re.compile(r"(?i)^(prepare|deallocate|connect|close)\b|^text (declare|fetch|close)\b")
 SKIPPED = re.compile(r"('[^']*'|\"[^\"]*\"|/\*.*?\*/|--[^\n]*)|\$(\d)")
 FIRST_WORD = re.compile(r"(?is)(\s|/\*.*?\*/|--[^\n]*\n?)*(\w*)")

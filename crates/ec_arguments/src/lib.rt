@@ -5,8 +5,6 @@
 mod examples;
 mod law;
 
-pub use ec_ctypes;
-pub use ec_ctypes::ec_base;
 pub use examples::{
     connection_examples, descriptor_examples, indicator_examples, list_examples, number_examples,
     place_examples, statement_examples,

@@ -7,8 +7,8 @@ use ec_clex::tokens;
 use ec_csyntax::parse;
 use ec_ctypes::{Emb, Piece, PieceKind};
 use ec_cwrite::write;
+use ec_front::source::read_checked;
 use ec_read_statement::read_statement;
-use ec_source::read_checked;
 use ec_split::split;
 use std::alloc::Global;
 

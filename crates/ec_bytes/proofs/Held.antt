@@ -3,7 +3,7 @@ use Rattle.std.proofs.Common.{◌≡◌, ◌==◌, ◌∙◌, sym, ap, ℕ, ◌+
 use Rattle.std.proofs.Math.Seq.{take-add, take-append-add}
 use Rattle.std.proofs.lemmas.List.{append-nil, drop_all, length-take-le, length-replicate, take-take, drop-take}
 use Rattle.std.specs.List.{list_all}
-use Rattle.ec_objects.specs.Cells.{Cell, part_of, bytes_of, written, set_cells, unset_cells}
+use Rattle.ec_memory_defs.specs.Cells.{Cell, part_of, bytes_of, written, set_cells, unset_cells}
 use Rattle.ec_bytes.specs.Region.{Holds, cells_of, held, run_of}
 use Rattle.ec_bytes.proofs.Cells.{length_cells, join_cells, cells_unset, copied, put_set, read_set, read_unset, take_cells, unset}
 use Rattle.ec_bytes.proofs.Runs.{run_part}

@@ -4,7 +4,7 @@ use Rattle.std.specs.List.{list_all}
 use Rattle.std.proofs.lemmas.Bool.{both_ways}
 use Rattle.std.proofs.lemmas.List.{append-nil, drop-drop}
 use Rattle.std.proofs.Math.Seq.{take-add}
-use Rattle.ec_objects.specs.Cells.{Cell, part_of}
+use Rattle.ec_memory_defs.specs.Cells.{Cell, part_of}
 use Rattle.ec_bytes.specs.Region.{cells_of, run_of}
 use Rattle.ec_bytes.proofs.Cells.{first_unset, part_cells}
 

@@ -1,6 +1,6 @@
 -- A region of memory is a list of cells, of which it keeps the bytes and the marks.
 use Rattle.std.specs.Prelude.{ℕ, zero, suc, ◌≤◌, None, Some, List, [], ◌∷◌, length, take}
-use Rattle.ec_objects.specs.Cells.{Cell}
+use Rattle.ec_memory_defs.specs.Cells.{Cell}
 
 -- the cells of bytes and of marks: a byte is set where its mark is 1
 abbrev pub cells_of : List ℕ → List ℕ → List Cell

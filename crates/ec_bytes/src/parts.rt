@@ -2,12 +2,12 @@
 
 ghost use Rattle.std.specs.Prelude.{◌≡◌, ◌==◌, ◌+◌, ◌≤◌, ◌++◌, ℕ, not, length, replicate, take, drop, OnOk};
 ghost use Rattle.std.specs.List.{list_all};
-ghost use Rattle.ec_objects.specs.Cells.{written};
+ghost use Rattle.ec_memory_defs.specs.Cells.{written};
 ghost use Rattle.ec_bytes.specs.Region.{cells_of, run_of};
 ghost use Rattle.ec_bytes.specs.Scalars.{AreBytes};
 
 use crate::scalar::Scalar;
-use ec_objects::ec_base::OutOfMemory;
+use ec_base::OutOfMemory;
 
 /// The mark of a byte that is set.
 pub(crate) const SET: u8 = 1;

@@ -4,13 +4,13 @@ ghost use Rattle.std.specs.Prelude.{◌≡◌, ◌+◌, ◌*◌, ◌≤◌, [], 
 ghost use Rattle.std.specs.Option.{option_map};
 ghost use Rattle.ec_bytes.specs.Region.{run_of};
 ghost use Rattle.ec_bytes.specs.Scalars.{HoldBytes};
-ghost use Rattle.ec_objects.specs.Cells.{bytes_of, part_of, filled_cells, set_cells, unset_cells, value_of, written};
+ghost use Rattle.ec_memory_defs.specs.Cells.{bytes_of, part_of, filled_cells, set_cells, unset_cells, value_of, written};
 
 use crate::parts::{
     SET, all_set, clear, decode, encode, make_room, part, put, run_length, shift, spread,
 };
 use crate::scalar::Scalar;
-use ec_objects::ec_base::OutOfMemory;
+use ec_base::OutOfMemory;
 use std::alloc::Global;
 use std::marker::Model;
 
@@ -26,7 +26,7 @@ pub struct Region {
 
 impl Model for Region {
     ghost use Rattle.std.specs.Prelude.{List};
-    ghost use Rattle.ec_objects.specs.Cells.{Cell};
+    ghost use Rattle.ec_memory_defs.specs.Cells.{Cell};
     ghost use Rattle.ec_bytes.specs.Region.{Holds, held};
 
     ghost Value = { List Cell };

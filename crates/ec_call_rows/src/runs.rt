@@ -1,7 +1,7 @@
 //! A call over a link that gives one answer.
 
 ghost use Rattle.std.specs.Prelude.{IfSome};
-ghost use Rattle.ec_transfer.specs.Area.{IsArea};
+ghost use Rattle.ec_transfer_defs.specs.Area.{IsArea};
 
 use crate::shows::show;
 use ec_base::{Bytes, Line, List, Name, OutOfMemory};

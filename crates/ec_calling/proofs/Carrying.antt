@@ -7,16 +7,16 @@ use Rattle.ec_arguments.specs.Arguments.{Arg, Cut}
 use Rattle.ec_arguments.specs.Rules.{cut}
 use Rattle.ec_base.specs.declared.line.Line.{Line}
 use Rattle.ec_bytes.specs.declared.scalar.address.Ptr.{Ptr}
-use Rattle.ec_calls.specs.Growth.{state_of as outcome_state}
-use Rattle.ec_calls.specs.Library.{cut_done, if_cut, leads, library_call}
-use Rattle.ec_calls.specs.Outcomes.{Outcome, gives, finished, over as halted}
-use Rattle.ec_calls.specs.Steps.{call_given, called, called_of, given_first, library_step, no_step, settled}
+use Rattle.ec_call_defs.specs.Growth.{state_of as outcome_state}
+use Rattle.ec_call_defs.specs.Library.{cut_done, if_cut, leads, library_call}
+use Rattle.ec_call_defs.specs.Outcomes.{Outcome, gives, finished, over as halted}
+use Rattle.ec_call_defs.specs.Steps.{call_given, called, called_of, given_first, library_step, no_step, settled}
 use Rattle.ec_ctypes.specs.declared.checked.library.LibName.{LibName}
-use Rattle.ec_evaluation.specs.Agree.{Grows, state_of}
-use Rattle.ec_evaluation.specs.Evaluate.{World}
-use Rattle.ec_evaluation.specs.Results.{Res, over, turn}
-use Rattle.ec_evaluation.specs.State.{Answer, Ending, State}
-use Rattle.ec_library_step.proofs.Keeping.{cut_grows, settled_grows, turn_grows}
+use Rattle.ec_meaning_defs.specs.evaluation.Agree.{Grows, state_of}
+use Rattle.ec_meaning_defs.specs.evaluation.Evaluate.{World}
+use Rattle.ec_meaning_defs.specs.evaluation.Results.{Res, over, turn}
+use Rattle.ec_meaning_defs.specs.evaluation.State.{Answer, Ending, State}
+use Rattle.ec_call_defs.proofs.library_step_lemmas.Keeping.{cut_grows, settled_grows, turn_grows}
 use Rattle.ec_link.specs.declared.logged.Logged.{Logged}
 use Rattle.ec_link.specs.declared.rack.Rack.{Rack}
 use Rattle.ec_link.specs.Logged.{Talk}
@@ -24,11 +24,11 @@ use Rattle.ec_machine.specs.declared.stop.End.TheVariants as ends
 use Rattle.ec_machine.specs.declared.stop.Stop.{Stop}
 use Rattle.ec_machine.specs.declared.stop.Stop.TheVariants as stop
 use Rattle.ec_machine.specs.Goes.{IsOver}
-use Rattle.ec_objects.specs.Memory.{Memory, ValueData}
-use Rattle.ec_observed.specs.Observed.{answers_in}
+use Rattle.ec_memory_defs.specs.Memory.{Memory, ValueData}
+use Rattle.ec_meaning_defs.specs.observed.Observed.{answers_in}
 use Rattle.ec_plain.specs.Answered.{at, context, ending_of}
-use Rattle.ec_resolved.specs.Resolved.{Exp}
-use Rattle.ec_running.specs.Sessions.{Answers, Called, Session, holding, placed, saying}
+use Rattle.ec_meaning_defs.specs.resolved.Resolved.{Exp}
+use Rattle.ec_interp.specs.running.Sessions.{Answers, Called, Session, holding, placed, saying}
 use Rattle.ec_runtime.specs.declared.library.Library.{Library}
 use Rattle.ec_runtime.specs.declared.stop.CallStop.{CallStop}
 use Rattle.ec_runtime.specs.declared.stop.CallStop.TheVariants as calls

@@ -3,12 +3,12 @@ use Rattle.std.proofs.Common.{◌≡◌, ◌∙◌, ℕ, suc, ◌+◌, ◌<◌, 
 use Rattle.std.specs.Prelude.{option_map}
 use Rattle.ec_arguments.specs.Arguments.{Arg}
 use Rattle.ec_bytes.specs.declared.scalar.address.Ptr.{Ptr}
-use Rattle.ec_calls.specs.Steps.{given_first}
-use Rattle.ec_evaluation.specs.Evaluate.{World}
-use Rattle.ec_evaluation.specs.State.{State}
-use Rattle.ec_objects.specs.Memory.{Memory, ValueData}
+use Rattle.ec_call_defs.specs.Steps.{given_first}
+use Rattle.ec_meaning_defs.specs.evaluation.Evaluate.{World}
+use Rattle.ec_meaning_defs.specs.evaluation.State.{State}
+use Rattle.ec_memory_defs.specs.Memory.{Memory, ValueData}
 use Rattle.ec_plain.specs.Answered.{at}
-use Rattle.ec_resolved.specs.Resolved.{Exp}
+use Rattle.ec_meaning_defs.specs.resolved.Resolved.{Exp}
 use Rattle.ec_values.specs.Words.{word_view}
 use Rattle.ec_values.specs.declared.word.Stop.{Stop}
 use Rattle.ec_values.specs.declared.word.Word.{Word}

@@ -3,9 +3,9 @@ use Rattle.std.proofs.Common.{◌≡◌, ◌==◌, ap, refl, true, false, inl, i
 use Rattle.std.specs.Prelude.{◌&&◌, not, slice_get}
 use Rattle.std.proofs.lemmas.Bool.{false≢true}
 use Rattle.std.proofs.lemmas.Bool.Decides.{eqb_tells}
-use Rattle.ec_calls.specs.Connections.{same_name}
-use Rattle.ec_calls.specs.Outcomes.{Text}
-use Rattle.ec_evaluation.specs.State.{Connection}
+use Rattle.ec_call_defs.specs.Connections.{same_name}
+use Rattle.ec_call_defs.specs.Outcomes.{Text}
+use Rattle.ec_meaning_defs.specs.evaluation.State.{Connection}
 use Rattle.ec_link.specs.declared.connection.Conn.{Conn}
 use Rattle.ec_link.specs.declared.rack.Rack.{Rack}
 use Rattle.ec_link.specs.Conn.{slot_of}

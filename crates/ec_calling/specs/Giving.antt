@@ -3,15 +3,15 @@ use Rattle.std.specs.Prelude.{◌≡◌, ℕ, Bool, List, ◌∷◌, map, Option
 use Rattle.std.proofs.Common.{Bor}
 use Rattle.ec_arguments.specs.Arguments.{Arg, pointer}
 use Rattle.ec_bytes.specs.declared.scalar.address.Ptr.{Ptr}
-use Rattle.ec_calls.specs.Steps.{arguments_given, given_first, no_step}
+use Rattle.ec_call_defs.specs.Steps.{arguments_given, given_first, no_step}
 use Rattle.ec_cut.specs.Views as cut
 use Rattle.ec_cut.specs.declared.arguments.Argument.{Argument as Given}
-use Rattle.ec_evaluation.specs.Evaluate.{World}
-use Rattle.ec_evaluation.specs.Results.{Res, over}
-use Rattle.ec_evaluation.specs.State.{State}
-use Rattle.ec_objects.specs.Memory.{Memory, ValueData}
+use Rattle.ec_meaning_defs.specs.evaluation.Evaluate.{World}
+use Rattle.ec_meaning_defs.specs.evaluation.Results.{Res, over}
+use Rattle.ec_meaning_defs.specs.evaluation.State.{State}
+use Rattle.ec_memory_defs.specs.Memory.{Memory, ValueData}
 use Rattle.ec_plain.specs.Answered.{at, context, ending_of}
-use Rattle.ec_resolved.specs.Resolved.{Exp, constant}
+use Rattle.ec_meaning_defs.specs.resolved.Resolved.{Exp, constant}
 use Rattle.ec_values.specs.Words.{word_view}
 use Rattle.ec_values.specs.declared.word.Stop.{Stop}
 use Rattle.ec_values.specs.declared.word.Word.{Word}

@@ -1,8 +1,8 @@
 -- Whether the slots of a library's connections are taken and its connections have different slots and names, as a test.
 use Rattle.std.specs.Prelude.{ℕ, ◌==◌, ◌&&◌, Bool, true, false, not, List, [], ◌∷◌, Option, Some, None, slice_get}
-use Rattle.ec_calls.specs.Connections.{same_name}
-use Rattle.ec_calls.specs.Outcomes.{Text}
-use Rattle.ec_evaluation.specs.State.{Connection}
+use Rattle.ec_call_defs.specs.Connections.{same_name}
+use Rattle.ec_call_defs.specs.Outcomes.{Text}
+use Rattle.ec_meaning_defs.specs.evaluation.State.{Connection}
 use Rattle.ec_link.specs.declared.connection.Conn.{Conn}
 use Rattle.ec_link.specs.declared.rack.Rack.{Rack}
 use Rattle.ec_link.specs.Conn.{slot_of}

@@ -5,13 +5,13 @@ use Rattle.std.specs.Borrow.{MutBor}
 use Rattle.std.specs.declared.alloc.Global.{Global}
 use Rattle.std.specs.declared.dyn_box.DynBox.{DynBox}
 use Rattle.ec_arguments.specs.Arguments.{Arg}
-use Rattle.ec_calls.specs.Steps.{library_step}
+use Rattle.ec_call_defs.specs.Steps.{library_step}
 use Rattle.ec_ctypes.specs.declared.checked.library.LibName.{LibName}
-use Rattle.ec_library_step.proofs.Keeping.{library_counts, library_takes_answers}
+use Rattle.ec_call_defs.proofs.library_step_lemmas.Keeping.{library_counts, library_takes_answers}
 use Rattle.ec_link.specs.declared.rack.Rack.{Rack}
 use Rattle.ec_link.specs.Logged.{Talk}
-use Rattle.ec_resolved.specs.Resolved.{Exp}
-use Rattle.ec_running.specs.Sessions.{Suits}
+use Rattle.ec_meaning_defs.specs.resolved.Resolved.{Exp}
+use Rattle.ec_interp.specs.running.Sessions.{Suits}
 use Rattle.ec_runtime.proofs.Moving.{moves_both, moves_not}
 use Rattle.ec_runtime.specs.Calling.{conns_of}
 use Rattle.ec_runtime.specs.declared.library.Library.{Library}

@@ -1,4 +1,3 @@
-pub use Rattle.ec_runtime.specs as ec_runtime
 pub mod Giving
 pub mod Held
 pub mod Laws

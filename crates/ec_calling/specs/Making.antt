@@ -1,15 +1,15 @@
 -- What a library knows of a run, and what a call over it does.
 use Rattle.std.specs.Prelude.{ℕ, Bool, true, false, List, [], ◌++◌, Option, Some, Result}
-use Rattle.ec_evaluation.specs.Evaluate.{World}
-use Rattle.ec_evaluation.specs.Results.{Res, over}
-use Rattle.ec_evaluation.specs.State.{Answer, State, turns_spent}
+use Rattle.ec_meaning_defs.specs.evaluation.Evaluate.{World}
+use Rattle.ec_meaning_defs.specs.evaluation.Results.{Res, over}
+use Rattle.ec_meaning_defs.specs.evaluation.State.{Answer, State, turns_spent}
 use Rattle.ec_link.specs.declared.logged.Logged.{Logged}
 use Rattle.ec_link.specs.declared.rack.Rack.{Rack}
 use Rattle.ec_link.specs.Rack.{log_of}
 use Rattle.ec_machine.specs.declared.stop.Stop.{Stop}
-use Rattle.ec_objects.specs.Memory.{Memory}
-use Rattle.ec_observed.specs.Observed.{answers_in}
-use Rattle.ec_running.specs.Sessions.{Answers, Said, Session, holding, placed, saying}
+use Rattle.ec_memory_defs.specs.Memory.{Memory}
+use Rattle.ec_meaning_defs.specs.observed.Observed.{answers_in}
+use Rattle.ec_interp.specs.running.Sessions.{Answers, Said, Session, holding, placed, saying}
 use Rattle.ec_runtime.specs.Calling.{connections_of}
 use Rattle.ec_runtime.specs.declared.library.Library.{Library}
 

@@ -4,7 +4,7 @@ use Rattle.ec_arguments.specs.Arguments as arg
 use Rattle.ec_arguments.specs.Arguments.{Arg}
 use Rattle.ec_code.specs.Views.{plain_view}
 use Rattle.ec_ctypes.specs.declared.checked.library.LibName.{LibName}
-use Rattle.ec_resolved.specs.Resolved.{Exp, faulty}
+use Rattle.ec_meaning_defs.specs.resolved.Resolved.{Exp, faulty}
 use Rattle.ec_calling.specs.declared.call.Argument.{Argument}
 use Rattle.ec_calling.specs.declared.call.Argument.TheVariants as argument
 use Rattle.ec_calling.specs.declared.call.Call.{Call}

@@ -9,7 +9,7 @@ pub struct Address(pub Ptr);
 
 impl Pointer for Address {
     ghost use Rattle.std.specs.Prelude.{ℕ};
-    ghost use Rattle.ec_calls.specs.Library.{leads};
+    ghost use Rattle.ec_call_defs.specs.Library.{leads};
 
     ghost Data = { ℕ };
 

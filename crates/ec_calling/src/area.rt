@@ -1,7 +1,7 @@
 //! The communication area.
 
 ghost use Rattle.std.specs.Prelude.{◌≡◌, true};
-ghost use Rattle.ec_transfer.specs.Area.{IsArea};
+ghost use Rattle.ec_transfer_defs.specs.Area.{IsArea};
 
 use ec_bytes::Ptr;
 use ec_memory::Store;

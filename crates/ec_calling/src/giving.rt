@@ -4,11 +4,11 @@ ghost use Rattle.std.specs.Prelude.{◌≡◌, true, ◌∷◌, ◌++◌, [], ma
 ghost use Rattle.ec_bytes.specs.declared.scalar.address.Ptr.{Ptr};
 ghost use Rattle.ec_arguments.specs.Arguments.{pointer};
 ghost use Rattle.ec_code.specs.Views.{plain_view};
-ghost use Rattle.ec_calls.specs.Steps.{given_first};
+ghost use Rattle.ec_call_defs.specs.Steps.{given_first};
 ghost use Rattle.ec_calling.specs.Giving.{Gives, GivesOne, TakesValue, all_seen, seen, with_value};
 ghost use Rattle.ec_calling.specs.Views.{argument_view};
-ghost use Rattle.ec_objects.specs.Memory.{Memory};
-ghost use Rattle.ec_resolved.specs.Resolved.{constant};
+ghost use Rattle.ec_memory_defs.specs.Memory.{Memory};
+ghost use Rattle.ec_meaning_defs.specs.resolved.Resolved.{constant};
 ghost use Rattle.ec_values.specs.Words.{word_view};
 
 use crate::address::Address;

@@ -11,5 +11,4 @@ mod serving;
 mod session;
 
 pub use call::{Argument, Call};
-pub use ec_runtime;
 pub use session::Session;

@@ -1,10 +1,10 @@
 //! A call over a rack of links.
 
 ghost use Rattle.std.specs.Prelude.{◌≡◌, ◌≤◌, ℕ, map};
-ghost use Rattle.ec_calls.specs.Library.{library_call};
-ghost use Rattle.ec_calls.specs.Steps.{called, given_first, no_step, settled};
-ghost use Rattle.ec_evaluation.specs.Results.{Res, turn};
-ghost use Rattle.ec_evaluation.specs.State.{State};
+ghost use Rattle.ec_call_defs.specs.Library.{library_call};
+ghost use Rattle.ec_call_defs.specs.Steps.{called, given_first, no_step, settled};
+ghost use Rattle.ec_meaning_defs.specs.evaluation.Results.{Res, turn};
+ghost use Rattle.ec_meaning_defs.specs.evaluation.State.{State};
 ghost use Rattle.ec_link.specs.Links.{faults_by, talk_by};
 ghost use Rattle.ec_machine.specs.Goes.{IsOver};
 ghost use Rattle.ec_plain.specs.Answered.{context, ending_of};

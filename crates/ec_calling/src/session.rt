@@ -9,10 +9,10 @@ use crate::call::Call;
 use crate::making::make;
 use ec_base::Line;
 use ec_bytes::Ptr;
+use ec_interp::running::Library;
 use ec_link::{Link, Rack};
 use ec_machine::{End, Stop};
 use ec_memory::Store;
-use ec_running::Library;
 use ec_runtime::Library as Runtime;
 use ec_values::Word;
 use std::alloc::Global;
@@ -41,7 +41,7 @@ fn call_at<'p>(calls: &'p [Call], number: u32) -> Option<&'p Call>
 
 impl Library for Session<'_, '_> {
     ghost use Rattle.std.specs.Prelude.{map};
-    ghost use Rattle.ec_calls.specs.Steps.{library_step};
+    ghost use Rattle.ec_call_defs.specs.Steps.{library_step};
     ghost use Rattle.ec_calling.specs.Laws.{library_suits, session_goes_on, session_stays};
     ghost use Rattle.ec_calling.specs.Leading.{Leads};
     ghost use Rattle.ec_calling.specs.Making.{known_of};

@@ -3,3 +3,4 @@ pub mod Listed
 pub mod Loops
 pub mod Seeing
 pub mod Told
+pub mod typed_lemmas

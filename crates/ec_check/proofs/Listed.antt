@@ -4,9 +4,9 @@ use Rattle.std.specs.Option.{option_to_list}
 use Rattle.ec_ctypes.specs.declared.types.ty.Ty.{Ty}
 use Rattle.ec_ctypes.specs.trees.Types.{TyData, MemberData}
 use Rattle.ec_language.specs.Letters.{Text}
-use Rattle.ec_typing.specs.Tables.{Named}
+use Rattle.ec_typing_defs.specs.Tables.{Named}
 use Rattle.ec_scopes.specs.Entries.{type_view, named_view}
-use Rattle.ec_typed.specs.Orders.{plain_members}
+use Rattle.ec_check.specs.typed.Orders.{plain_members}
 use Rattle.ec_check.specs.Members.{plain_member}
 
 taken_more : {A B : Type 0} (f : A → B) (xs : List A) (i : ℕ) → map f (take i xs) ++ map f (option_to_list (slice_get xs i)) ≡ map f (take (suc i) xs)

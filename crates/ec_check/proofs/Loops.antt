@@ -11,9 +11,9 @@ use Rattle.ec_ctypes.specs.views.Exprs.{declarator_view, declarators_view}
 use Rattle.ec_ctypes.specs.views.Stmts.{stmt_view, stmts_view}
 use Rattle.ec_ctypes.specs.views.Units.{param_view, top_view}
 use Rattle.ec_language.specs.First.{Violation}
-use Rattle.ec_typing.specs.Worlds.{Place, Out}
-use Rattle.ec_typing.specs.Statements.{Around, object_item, object_items, statement, statements}
-use Rattle.ec_typing.specs.Programs.{param, params, top_rule, tops_rule}
+use Rattle.ec_typing_defs.specs.Worlds.{Place, Out}
+use Rattle.ec_typing_defs.specs.Statements.{Around, object_item, object_items, statement, statements}
+use Rattle.ec_typing_defs.specs.Programs.{param, params, top_rule, tops_rule}
 use Rattle.ec_scopes.specs.declared.state.Checker.{Checker}
 use Rattle.ec_scopes.specs.Entries.{type_view}
 use Rattle.ec_scopes.specs.Seen.{world_of, notes_of, IsDone}

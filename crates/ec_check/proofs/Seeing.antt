@@ -14,9 +14,9 @@ use Rattle.ec_ctypes.specs.trees.Exprs.{ExprData, InitData, BaseData, words, var
 use Rattle.ec_ctypes.specs.trees.Stmts.{StmtData, StmtOption, if_stmt}
 use Rattle.ec_ctypes.specs.views.Exprs.{expr_view, dims_of, dims_view, init_of, init_view, init_option_view, base_view, decl_view, declarator_view, declarators_view, dim_of}
 use Rattle.ec_ctypes.specs.views.Stmts.{stmt_view, kind_view, stmt_option_view}
-use Rattle.ec_typing.specs.Worlds.{Place, Rule, ◌>>◌, scoped}
-use Rattle.ec_typing.specs.Expressions.{base}
-use Rattle.ec_typing.specs.Statements.{Around, specifier, condition, statement, otherwise}
+use Rattle.ec_typing_defs.specs.Worlds.{Place, Rule, ◌>>◌, scoped}
+use Rattle.ec_typing_defs.specs.Expressions.{base}
+use Rattle.ec_typing_defs.specs.Statements.{Around, specifier, condition, statement, otherwise}
 
 pub decl_seen : (d : Decl) → decl_view d ≡ decl (base_view (a.out-Decl d).base) (declarators_view (a.out-Decl d).items) (a.out-Decl d).section (a.out-Decl d).line
 decl_seen d = search (rules, a.the_lemmas)

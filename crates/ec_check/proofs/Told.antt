@@ -8,16 +8,16 @@ use Rattle.ec_ctypes.specs.trees.Types.{StructData}
 use Rattle.ec_ctypes.specs.trees.Units.{UnitData}
 use Rattle.ec_ctypes.specs.trees.Checked.{MarkData}
 use Rattle.ec_ctypes.specs.views.Types.{ty_view, structs_view}
-use Rattle.ec_typing.specs.Worlds.{MembersData, unlisted, begun, listed, StructInfo, World}
-use Rattle.ec_typing.specs.Answers.{checked, violations, stop_of_unit, answer_by, check_answer}
+use Rattle.ec_typing_defs.specs.Worlds.{MembersData, unlisted, begun, listed, StructInfo, World}
+use Rattle.ec_typing_defs.specs.Answers.{checked, violations, stop_of_unit, answer_by, check_answer}
 use Rattle.ec_scopes.specs.declared.structs.StructRow.{StructRow}
 use Rattle.ec_scopes.specs.Structs.{members_view, opened, infos, closings, close_at, close_as, listed_of}
-use Rattle.ec_typed.specs.Orders.{plain_struct, names_view, Stands, IsNumbered}
+use Rattle.ec_check.specs.typed.Orders.{plain_struct, names_view, Stands, IsNumbered}
 use Rattle.ec_check.specs.Answers.{Checks}
 use Rattle.ec_check.proofs.Firsts.{noted_first}
 use Rattle.ec_language.specs.First.{stop_at}
-use Rattle.ec_typing.specs.Tables.{Named}
-use Rattle.ec_typing.specs.Programs.{defined_in, unit_rule, start}
+use Rattle.ec_typing_defs.specs.Tables.{Named}
+use Rattle.ec_typing_defs.specs.Programs.{defined_in, unit_rule, start}
 use Rattle.ec_scopes.specs.declared.state.Checker.{Checker}
 use Rattle.ec_scopes.specs.Seen.{world_of, notes_of, noted, IsDone}
 use Rattle.ec_scopes.specs.Starts.{fresh}

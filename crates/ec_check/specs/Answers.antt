@@ -6,7 +6,7 @@ use Rattle.ec_ctypes.specs.declared.checked.typed.Typed.{Typed}
 use Rattle.ec_ctypes.specs.trees.Units.{UnitData}
 use Rattle.ec_ctypes.specs.trees.Checked.{MarkData}
 use Rattle.ec_ctypes.specs.views.Checked.{typed_view}
-use Rattle.ec_typing.specs.Answers.{check_answer}
+use Rattle.ec_typing_defs.specs.Answers.{check_answer}
 
 -- The program with its types, or the first of its violations. Want of memory alone is free.
 abbrev pub Checks : Bool → UnitData → List ℕ → List MarkData → Result Typed Stop → Type 0

@@ -5,9 +5,9 @@ use Rattle.ec_ctypes.specs.declared.types.ty.Ty.{Ty}
 use Rattle.ec_ctypes.specs.trees.Types.{TyData}
 use Rattle.ec_ctypes.specs.trees.Embedded.{EmbData}
 use Rattle.ec_ctypes.specs.trees.Units.{FuncData}
-use Rattle.ec_typing.specs.Worlds.{Place, EntryData, function, Rule, ◌>>=◌, ◌>>◌, demand, enter, leave, free_name, number_as}
-use Rattle.ec_typing.specs.Statements.{type_or_void}
-use Rattle.ec_typing.specs.Programs.{is_done, begin_function, know_function, params, may_follow, body_rule}
+use Rattle.ec_typing_defs.specs.Worlds.{Place, EntryData, function, Rule, ◌>>=◌, ◌>>◌, demand, enter, leave, free_name, number_as}
+use Rattle.ec_typing_defs.specs.Statements.{type_or_void}
+use Rattle.ec_typing_defs.specs.Programs.{is_done, begin_function, know_function, params, may_follow, body_rule}
 use Rattle.ec_scopes.specs.Entries.{type_view}
 
 abbrev pub types_view : List (Option Ty) → List (Option TyData)

@@ -3,8 +3,8 @@ use Rattle.std.specs.Prelude.{Bool, false, ◌&&◌, Option, Some, None, is_some
 use Rattle.ec_language.specs.Letters.{same_text}
 use Rattle.ec_ctypes.specs.trees.Types.{TyData}
 use Rattle.ec_ctypes.specs.trees.Units.{FuncData, TopData, func_top}
-use Rattle.ec_typing.specs.Types.{int_type, same_type}
-use Rattle.ec_typing.specs.Programs.{is_main}
+use Rattle.ec_typing_defs.specs.Types.{int_type, same_type}
+use Rattle.ec_typing_defs.specs.Programs.{is_main}
 
 abbrev pub is_int_type : Option TyData → Bool
 is_int_type None = false

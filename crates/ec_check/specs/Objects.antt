@@ -3,10 +3,10 @@ use Rattle.std.specs.Prelude.{ℕ, Bool, Option}
 use Rattle.ec_ctypes.specs.trees.Types.{TyData}
 use Rattle.ec_ctypes.specs.trees.Exprs.{InitOption}
 use Rattle.ec_language.specs.Letters.{Text}
-use Rattle.ec_typing.specs.Worlds.{Place, object, Rule, ◌>>=◌, ◌>>◌, ask, declare, know_better, next_number, number_as}
-use Rattle.ec_typing.specs.Operands.{within_rule}
-use Rattle.ec_typing.specs.Expressions.{has_init}
-use Rattle.ec_typing.specs.Statements.{type_or_void, object_rule, initial}
+use Rattle.ec_typing_defs.specs.Worlds.{Place, object, Rule, ◌>>=◌, ◌>>◌, ask, declare, know_better, next_number, number_as}
+use Rattle.ec_typing_defs.specs.Operands.{within_rule}
+use Rattle.ec_typing_defs.specs.Expressions.{has_init}
+use Rattle.ec_typing_defs.specs.Statements.{type_or_void, object_rule, initial}
 
 -- the type of an object is known behind its initializer
 abbrev pub end_object : Place → Bool → ℕ → Text → Option TyData → Rule (Unit {0})

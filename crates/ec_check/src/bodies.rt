@@ -1,17 +1,17 @@
 //! The expressions of statements (ISO/IEC 9899:1999, 6.8).
-#![tactic(auto, using(ec_scopes::proofs::Steps::noting), unfolding(ec_typing::specs::Worlds::chain, ec_typing::specs::Worlds::pure))]
+#![tactic(auto, using(ec_scopes::proofs::Steps::noting), unfolding(ec_typing_defs::specs::Worlds::chain, ec_typing_defs::specs::Worlds::pure))]
 
 ghost use Rattle.std.specs.Prelude.{◌≡◌};
 ghost use Rattle.ec_ctypes.specs.views.Exprs.{expr_view, expr_option_view};
 ghost use Rattle.ec_scopes.specs.Entries.{place_view, type_view};
 ghost use Rattle.ec_scopes.specs.Seen.{world_of, Does};
-ghost use Rattle.ec_typing.specs.Statements as rule;
+ghost use Rattle.ec_typing_defs.specs.Statements as rule;
 
 use ec_base::OutOfMemory;
 use ec_ctypes::{Expr, Ty};
-use ec_initializers::ec_walk::expr;
 use ec_rules::{condition_rule, return_nothing, return_rule, value_rule};
 use ec_scopes::{Checker, Place};
+use ec_walk::expr;
 
 /// A condition.
 pub fn condition(checker: &mut Checker, at: Place, e: &Expr) -> Result<(), OutOfMemory>

@@ -5,19 +5,19 @@ ghost use Rattle.ec_ctypes.specs.views.Checked.{handlers_view};
 ghost use Rattle.ec_ctypes.specs.views.Units.{unit_view};
 ghost use Rattle.ec_language.specs.First.{stop_at};
 ghost use Rattle.ec_scopes.specs.Seen.{world_of, notes_of};
-ghost use Rattle.ec_typed.specs.Orders.{IsNumbered};
-ghost use Rattle.ec_typing.specs.Answers as spec;
+ghost use Rattle.ec_check.specs.typed.Orders.{IsNumbered};
+ghost use Rattle.ec_typing_defs.specs.Answers as spec;
 ghost use Rattle.ec_whenever.specs.Tables.{AnswersFor};
 ghost use Rattle.ec_check.specs.Answers.{Checks};
 
 use crate::defined::add_defined;
 use crate::programs::unit_rule;
 use crate::structs::definitions;
+use crate::typed::{Numbered, make_numbered};
 use ec_base::{OutOfMemory, Stop};
 use ec_ctypes::{HandlerTable, HostTable, Typed, Unit};
-use ec_parts::Statements;
+use ec_embedded_rules::parts::Statements;
 use ec_scopes::{Checker, Table};
-use ec_typed::{Numbered, make_numbered};
 use std::alloc::Global;
 
 // What is known behind a program, and the first of its violations.

@@ -1,19 +1,19 @@
 //! Declarations (ISO/IEC 9899:1999, 6.7).
-#![tactic(auto, using(ec_scopes::proofs::Steps::noting), unfolding(ec_typing::specs::Worlds::chain, ec_typing::specs::Worlds::pure, ec_typing::specs::Worlds::ask, ec_typing::specs::Statements::tag_alone))]
+#![tactic(auto, using(ec_scopes::proofs::Steps::noting), unfolding(ec_typing_defs::specs::Worlds::chain, ec_typing_defs::specs::Worlds::pure, ec_typing_defs::specs::Worlds::ask, ec_typing_defs::specs::Statements::tag_alone))]
 
 ghost use Rattle.std.specs.Prelude.{◌≡◌};
 ghost use Rattle.ec_ctypes.specs.trees.Exprs.{no_declarators};
 ghost use Rattle.ec_ctypes.specs.views.Exprs.{base_view, decl_view, declarators_view};
 ghost use Rattle.ec_scopes.specs.Entries.{place_view, type_view};
 ghost use Rattle.ec_scopes.specs.Seen.{world_of, Does};
-ghost use Rattle.ec_typing.specs.Expressions as expressions;
-ghost use Rattle.ec_typing.specs.Statements as rule;
+ghost use Rattle.ec_typing_defs.specs.Expressions as expressions;
+ghost use Rattle.ec_typing_defs.specs.Statements as rule;
 
 use crate::objects::object_item;
 use ec_base::OutOfMemory;
 use ec_ctypes::{Base, Decl, Declarator, Ty};
-use ec_initializers::ec_walk::base;
 use ec_scopes::{Checker, Place};
+use ec_walk::base;
 
 fn is_varchar(b: &Base) -> bool
     ensures { result ≡ expressions.is_varchar (base_view b.now) }
@@ -85,7 +85,7 @@ fn specifier(
 }
 
 /// A declaration of objects or of a struct, at file level or not.
-#[tactic(auto, using(ec_scopes::proofs::Steps::noting, crate::proofs::Seeing::seeing), unfolding(ec_typing::specs::Worlds::chain, ec_typing::specs::Worlds::pure, ec_typing::specs::Worlds::ask))]
+#[tactic(auto, using(ec_scopes::proofs::Steps::noting, crate::proofs::Seeing::seeing), unfolding(ec_typing_defs::specs::Worlds::chain, ec_typing_defs::specs::Worlds::pure, ec_typing_defs::specs::Worlds::ask))]
 pub fn declaration(checker: &mut Checker, is_global: bool, d: &Decl) -> Result<(), OutOfMemory>
     ensures { Does (λ u. u) (rule.declaration is_global (decl_view d.now) (world_of checker.old))
         checker.old result checker.new }

@@ -3,7 +3,7 @@
 ghost use Rattle.std.specs.Prelude.{◌≡◌, map, OnOk};
 ghost use Rattle.ec_ctypes.specs.views.Exprs.{base_view};
 ghost use Rattle.ec_ctypes.specs.views.Units.{param_view, func_view, top_view};
-ghost use Rattle.ec_typing.specs.Programs as rule;
+ghost use Rattle.ec_typing_defs.specs.Programs as rule;
 ghost use Rattle.ec_scopes.specs.Entries.{type_view};
 ghost use Rattle.ec_check.specs.Mains.{is_int_type, is_named_main, is_main_top};
 

@@ -1,5 +1,5 @@
 //! Functions (ISO/IEC 9899:1999, 6.7.5.3 and 6.9.1).
-#![tactic(auto, using(ec_scopes::proofs::Steps::noting), unfolding(ec_typing::specs::Worlds::chain, ec_typing::specs::Worlds::pure, ec_typing::specs::Worlds::ask, ec_typing::specs::Programs::result_rule, ec_typing::specs::Programs::plain_param, ec_typing::specs::Programs::begin_function, ec_typing::specs::Worlds::know_better))]
+#![tactic(auto, using(ec_scopes::proofs::Steps::noting), unfolding(ec_typing_defs::specs::Worlds::chain, ec_typing_defs::specs::Worlds::pure, ec_typing_defs::specs::Worlds::ask, ec_typing_defs::specs::Programs::result_rule, ec_typing_defs::specs::Programs::plain_param, ec_typing_defs::specs::Programs::begin_function, ec_typing_defs::specs::Worlds::know_better))]
 
 ghost use Rattle.std.specs.Prelude.{◌≡◌, ◌||◌, map, Some, None, option_map, is_some, IfOk};
 ghost use Rattle.ec_ctypes.specs.views.Embedded.{emb_view};
@@ -8,9 +8,9 @@ ghost use Rattle.ec_ctypes.specs.views.Stmts.{stmts_view};
 ghost use Rattle.ec_ctypes.specs.views.Units.{param_view, func_view};
 ghost use Rattle.ec_scopes.specs.Entries.{place_view, type_view, entry_view};
 ghost use Rattle.ec_scopes.specs.Seen.{world_of, IsDone, Does};
-ghost use Rattle.ec_typing.specs.Programs as rule;
-ghost use Rattle.ec_typing.specs.Tables.{find};
-ghost use Rattle.ec_typing.specs.Worlds.{function};
+ghost use Rattle.ec_typing_defs.specs.Programs as rule;
+ghost use Rattle.ec_typing_defs.specs.Tables.{find};
+ghost use Rattle.ec_typing_defs.specs.Worlds.{function};
 ghost use Rattle.ec_check.specs.Functions.{types_view, numbered_as, function_begins, function_known, function_inside};
 
 use crate::labels::add_all_labels;
@@ -19,11 +19,11 @@ use crate::statements::statements;
 use ec_base::{Boxed, FaultKind, List, Name, OutOfMemory};
 use ec_ctypes::{Func, Param, Stmt, Ty};
 use ec_embedded_rules::Around;
-use ec_initializers::ec_walk::{base, lengths};
-use ec_parts::Statements;
+use ec_embedded_rules::parts::Statements;
 use ec_rules::{complete_rule, copy_type, declared_type, elements_rule, within_rule};
 use ec_scopes::{Checker, Entry, Place, Table};
 use ec_type_rules::{is_structure, is_void, same_type};
+use ec_walk::{base, lengths};
 use std::alloc::Global;
 
 fn may_be_result(ty: &Option<Ty>) -> bool

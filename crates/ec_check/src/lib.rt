@@ -12,5 +12,6 @@ mod objects;
 mod programs;
 mod statements;
 mod structs;
+pub mod typed;
 
 pub use checking::check;

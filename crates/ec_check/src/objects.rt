@@ -1,20 +1,20 @@
 //! Objects that are declared (ISO/IEC 9899:1999, 6.7 and 6.7.5).
-#![tactic(auto, using(ec_scopes::proofs::Steps::noting), unfolding(ec_typing::specs::Worlds::chain, ec_typing::specs::Worlds::pure, ec_typing::specs::Worlds::ask, ec_typing::specs::Statements::object_rule))]
+#![tactic(auto, using(ec_scopes::proofs::Steps::noting), unfolding(ec_typing_defs::specs::Worlds::chain, ec_typing_defs::specs::Worlds::pure, ec_typing_defs::specs::Worlds::ask, ec_typing_defs::specs::Statements::object_rule))]
 
 ghost use Rattle.std.specs.Prelude.{◌≡◌, true, false};
 ghost use Rattle.ec_ctypes.specs.views.Types.{ty_view};
 ghost use Rattle.ec_ctypes.specs.views.Exprs.{dims_view, init_option_view, declarator_view};
 ghost use Rattle.ec_scopes.specs.Entries.{place_view, type_view};
 ghost use Rattle.ec_scopes.specs.Seen.{world_of, IsDone, Does};
-ghost use Rattle.ec_typing.specs.Statements as rule;
+ghost use Rattle.ec_typing_defs.specs.Statements as rule;
 ghost use Rattle.ec_check.specs.Objects.{object_of, end_object};
 
 use ec_base::OutOfMemory;
 use ec_ctypes::{Declarator, Expr, Init, Ty};
-use ec_initializers::ec_walk::{last_length, lengths, outer_lengths};
-use ec_initializers::initializer;
 use ec_rules::{complete_rule, copy_type, declared_type, elements_rule, within_rule};
 use ec_scopes::{Checker, Entry, Place};
+use ec_walk::initializers::initializer;
+use ec_walk::{last_length, lengths, outer_lengths};
 
 /// The type, or `void` where there is none.
 pub fn type_or_void(ty: Option<Ty>) -> Ty
@@ -177,7 +177,7 @@ fn end_object(
 }
 
 /// An object, at file level or not, of this base or of a VARCHAR of its own.
-#[tactic(auto, using(ec_scopes::proofs::Steps::noting, crate::proofs::Seeing::seeing), unfolding(ec_typing::specs::Worlds::chain, ec_typing::specs::Worlds::pure, ec_typing::specs::Worlds::ask))]
+#[tactic(auto, using(ec_scopes::proofs::Steps::noting, crate::proofs::Seeing::seeing), unfolding(ec_typing_defs::specs::Worlds::chain, ec_typing_defs::specs::Worlds::pure, ec_typing_defs::specs::Worlds::ask))]
 pub fn object_item(
     checker: &mut Checker,
     at: Place,

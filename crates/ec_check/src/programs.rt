@@ -1,11 +1,11 @@
 //! Programs (ISO/IEC 9899:1999, 6.9).
-#![tactic(auto, using(ec_scopes::proofs::Steps::noting), unfolding(ec_typing::specs::Worlds::chain, ec_typing::specs::Worlds::pure, ec_typing::specs::Programs::main_rule))]
+#![tactic(auto, using(ec_scopes::proofs::Steps::noting), unfolding(ec_typing_defs::specs::Worlds::chain, ec_typing_defs::specs::Worlds::pure, ec_typing_defs::specs::Programs::main_rule))]
 
 ghost use Rattle.std.specs.Prelude.{◌≡◌, map};
 ghost use Rattle.ec_ctypes.specs.views.Embedded.{emb_view};
 ghost use Rattle.ec_ctypes.specs.views.Units.{top_view, unit_view};
 ghost use Rattle.ec_scopes.specs.Seen.{world_of, Does};
-ghost use Rattle.ec_typing.specs.Programs as rule;
+ghost use Rattle.ec_typing_defs.specs.Programs as rule;
 
 use crate::declarations::declaration;
 use crate::defined::has_main;
@@ -13,7 +13,7 @@ use crate::functions::function_rule;
 use ec_base::{FaultKind, OutOfMemory};
 use ec_ctypes::{Top, Unit};
 use ec_embedded_rules::directive_rule;
-use ec_parts::Statements;
+use ec_embedded_rules::parts::Statements;
 use ec_scopes::Checker;
 
 // What stands at the top level.

@@ -1,12 +1,12 @@
 //! The walk over statements (ISO/IEC 9899:1999, 6.8).
-#![tactic(auto, using(ec_scopes::proofs::Steps::noting, ec_ctypes::specs::declared::tree::stmt::Stmt::the_lemmas, ec_ctypes::specs::declared::tree::stmt::StmtKind::the_lemmas), unfolding(ec_typing::specs::Worlds::chain, ec_typing::specs::Worlds::pure))]
+#![tactic(auto, using(ec_scopes::proofs::Steps::noting, ec_ctypes::specs::declared::tree::stmt::Stmt::the_lemmas, ec_ctypes::specs::declared::tree::stmt::StmtKind::the_lemmas), unfolding(ec_typing_defs::specs::Worlds::chain, ec_typing_defs::specs::Worlds::pure))]
 
 ghost use Rattle.std.specs.Prelude.{◌≡◌};
 ghost use Rattle.ec_ctypes.specs.views.Exprs.{expr_view};
 ghost use Rattle.ec_ctypes.specs.views.Stmts.{stmt_view, kind_view, stmts_view, stmt_option_view};
 ghost use Rattle.ec_scopes.specs.Entries.{place_view};
 ghost use Rattle.ec_scopes.specs.Seen.{world_of, Does};
-ghost use Rattle.ec_typing.specs.Statements as rule;
+ghost use Rattle.ec_typing_defs.specs.Statements as rule;
 ghost use Rattle.ec_embedded_rules.specs.Around.{around_view};
 
 use crate::bodies::{condition, optional, optional_condition, return_by};
@@ -41,7 +41,7 @@ fn statement_kind(
     match kind {
         StmtKind::Empty => Ok(()),
         StmtKind::Expr(e) => {
-            let _found = ec_initializers::ec_walk::expr(checker, at, e)?;
+            let _found = ec_walk::expr(checker, at, e)?;
             Ok(())
         }
         StmtKind::Block(ss) => {

@@ -5,7 +5,7 @@ ghost use Rattle.std.specs.Option.{option_to_list};
 ghost use Rattle.ec_ctypes.specs.views.Types.{member_view, struct_view, structs_view};
 ghost use Rattle.ec_scopes.specs.Entries.{type_view, named_view};
 ghost use Rattle.ec_scopes.specs.Structs.{members_view, opened};
-ghost use Rattle.ec_typed.specs.Orders.{plain_members, members_in, plain_struct};
+ghost use Rattle.ec_check.specs.typed.Orders.{plain_members, members_in, plain_struct};
 ghost use Rattle.ec_check.specs.Members.{plain_member};
 
 use crate::objects::type_or_void;

@@ -1,8 +1,8 @@
 //! What the checks say of a program.
 
 use ec_base::{Bytes, OutOfMemory, Stop};
-use ec_read_written::read_written;
-use ec_source::read_checked;
+use ec_front::source::read_checked;
+use ec_front::written::read_written;
 use itoa::Buffer;
 use std::alloc::Global;
 

@@ -1,10 +1,9 @@
 -- The tokens of an embedded statement, as the code has them.
 use Rattle.std.specs.Prelude.{◌≡◌, ℕ, Bool, false, ◌||◌, ◌==◌, List, [], ◌∷◌, ◌++◌, map, codes, Option, if◌then◌else◌}
-use Rattle.ec_language.specs.Letters.{Text, dollar, is_blank, is_quote, begins, begins_with}
+use Rattle.ec_language.specs.Letters.{Text, dollar, is_blank, is_quote, begins, begins_with, is_sql_word_start}
 use Rattle.ec_language.specs.Line.{newlines}
 use Rattle.ec_language.specs.ReadPieces.{passed, sql_end, front, begins_semicolon, begins_gap, begins_escaped}
 use Rattle.ec_language.specs.SqlText.{begins_number}
-use Rattle.ec_language.specs.Letters.{is_sql_word_start}
 use Rattle.ec_language.specs.SqlTokens as sql
 use Rattle.ec_language.specs.ReadTokens.{sql_units}
 use Rattle.ec_clex.specs.declared.sql.SqlClass.{SqlClass}

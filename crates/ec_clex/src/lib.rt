@@ -11,7 +11,6 @@ mod sql;
 mod statements;
 mod words;
 
-pub use ec_split;
 pub use escapes::character;
 pub use lexer::tokens;
 pub use numbers::digits_value;

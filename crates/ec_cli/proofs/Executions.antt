@@ -22,13 +22,13 @@ use Rattle.ec_link.specs.Rack.{slots_of, log_of}
 use Rattle.ec_link.specs.Slot.{states, link_at, talk_at}
 use Rattle.ec_link.specs.SlotState.{ready_slot}
 use Rattle.ec_link.specs.Told.{KeepsTalks, SparesDropped}
-use Rattle.ec_observed.specs.Headline.{IsRead, RefusesAt, ReadsWithin}
-use Rattle.ec_observed.specs.Observed.{answers_in}
-use Rattle.ec_evaluation.specs.State as evaluation
-use Rattle.ec_evaluation.specs.State.{Answer}
+use Rattle.ec_meaning_defs.specs.observed.Headline.{IsRead, RefusesAt, ReadsWithin}
+use Rattle.ec_meaning_defs.specs.observed.Observed.{answers_in}
+use Rattle.ec_meaning_defs.specs.evaluation.State as evaluation
+use Rattle.ec_meaning_defs.specs.evaluation.State.{Answer}
 use Rattle.ec_runtime.specs.Racks.{KeepsLinks}
-use Rattle.ec_execution.specs.Programs.{Executable, meaning}
-use Rattle.ec_execution.specs.Runs.{Runs, RunsPart}
+use Rattle.ec_execution_defs.specs.Programs.{Executable, meaning}
+use Rattle.ec_execution_defs.specs.Runs.{Runs, RunsPart}
 use Rattle.ec_execute.specs.declared.running.RunEnd.{RunEnd}
 use Rattle.ec_execute.specs.declared.running.RunEnd.TheVariants as ends
 use Rattle.ec_execute.specs.declared.executable.Executable as execute

@@ -14,8 +14,8 @@ use Rattle.ec_link.specs.Rack.{slots_of, log_of}
 use Rattle.ec_link.specs.Slot.{states, link_at, talk_at}
 use Rattle.ec_link.specs.Told.{KeepsTalks, SparesDropped}
 use Rattle.ec_link.specs.SlotState.{ready_slot}
-use Rattle.ec_observed.specs.Observed.{answers_in}
-use Rattle.ec_observed.specs.Headline.{RefusesAt, ReadsWithin}
+use Rattle.ec_meaning_defs.specs.observed.Observed.{answers_in}
+use Rattle.ec_meaning_defs.specs.observed.Headline.{RefusesAt, ReadsWithin}
 use Rattle.ec_cli.specs.declared.ending.Ending.{Ending}
 use Rattle.ec_cli.specs.declared.ending.Ending.TheVariants.{Wrote, Exited, Trapped, TurnsSpent, Usage, Refused, Limit, ReadFault, WriteFault, OutOfMemory}
 use Rattle.ec_cli.specs.declared.form.Form.{Form}

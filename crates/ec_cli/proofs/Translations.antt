@@ -5,8 +5,8 @@ use Rattle.ec_base.specs.declared.stop.Stop.TheVariants as stops
 use Rattle.ec_base.specs.Causes.{Rose}
 use Rattle.ec_base.specs.Reading.{ReadsAll}
 use Rattle.ec_base.proofs.Transfers.{ReadsAll-text}
-use Rattle.ec_observed.specs.Headline.{IsRead}
-use Rattle.ec_run.specs.ec_translate.Answers.{TellsTranslation}
+use Rattle.ec_meaning_defs.specs.observed.Headline.{IsRead}
+use Rattle.ec_front.specs.translation.Answers.{TellsTranslation}
 use Rattle.ec_cli.specs.declared.ending.Ending.{Ending}
 use Rattle.ec_cli.specs.declared.ending.Ending.TheVariants.{Wrote, Exited, Trapped, TurnsSpent, Usage, Refused, Limit, ReadFault, WriteFault, OutOfMemory}
 use Rattle.ec_cli.specs.Translating.{refusal_of, IsOfTranslation, TranslatesText, Translates, DecidesTranslation}

@@ -4,13 +4,13 @@ use Rattle.std.specs.String.{string_bytes}
 use Rattle.std.specs.declared.alloc.Global.{Global as Allocator}
 use Rattle.ec_base.specs.declared.stop.Stop.{Stop}
 use Rattle.ec_base.specs.declared.stop.Stop.TheVariants.{Refused, Limit, OutOfMemory}
-use Rattle.ec_evaluation.specs.State.{Answer}
-use Rattle.ec_evaluation.specs.Whole.{Observed}
+use Rattle.ec_meaning_defs.specs.evaluation.State.{Answer}
+use Rattle.ec_meaning_defs.specs.evaluation.Whole.{Observed}
 use Rattle.ec_execute.specs.declared.executable.Executable.{Executable}
 use Rattle.ec_execute.specs.Executables.{executable_view}
-use Rattle.ec_execution.specs.Programs as execution
-use Rattle.ec_execution.specs.Programs.{IsProgram, meaning}
-use Rattle.ec_run.specs.ec_phases.Sources.{BoundProgram}
+use Rattle.ec_execution_defs.specs.Programs as execution
+use Rattle.ec_execution_defs.specs.Programs.{IsProgram, meaning}
+use Rattle.ec_phases_defs.specs.Sources.{BoundProgram}
 use Rattle.ec_run.specs.Runnable.{IsRunnable, source_meaning}
 use Rattle.ec_words.specs.Words.{Word, asked_by}
 use Rattle.ec_cli.specs.declared.form.Form.{Form}

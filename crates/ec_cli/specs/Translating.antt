@@ -11,9 +11,9 @@ use Rattle.ec_base.specs.declared.stop.Stop.{Stop}
 use Rattle.ec_base.specs.declared.stop.Stop.TheVariants as stops
 use Rattle.ec_base.specs.Causes.{Rose}
 use Rattle.ec_base.specs.Putting.{Puts, PutsPart}
-use Rattle.ec_observed.specs.Headline.{IsRead, RefusesAt, IsTooLong, ReadsWithin}
+use Rattle.ec_meaning_defs.specs.observed.Headline.{IsRead, RefusesAt, IsTooLong, ReadsWithin}
 use Rattle.ec_run.specs.Meanings.{KeepsMeaning}
-use Rattle.ec_run.specs.ec_translation.Translations.{IsTranslation}
+use Rattle.ec_phases_defs.specs.translation.Translations.{IsTranslation}
 use Rattle.ec_words.specs.Words.{names_translation}
 use Rattle.ec_cli.specs.declared.ending.Ending.{Ending}
 use Rattle.ec_cli.specs.declared.ending.Ending.TheVariants.{Wrote, Exited, Trapped, TurnsSpent, Usage, Refused, Limit, ReadFault, WriteFault, OutOfMemory}

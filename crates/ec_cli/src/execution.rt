@@ -3,7 +3,7 @@ ghost use Rattle.std.specs.Prelude.{◌≡◌};
 ghost use Rattle.ec_execute.specs.Executables.{executable_view};
 ghost use Rattle.ec_link.specs.Links.{talk_by, faults_by};
 ghost use Rattle.ec_cli.specs.Answers.{IsCrowded};
-ghost use Rattle.ec_execution.specs.Programs.{meaning};
+ghost use Rattle.ec_execution_defs.specs.Programs.{meaning};
 ghost use Rattle.ec_cli.specs.Executing.{ending_of_program, text_refusal, Carries, ExecutesText, Executes};
 ghost use Rattle.ec_cli.specs.Forms.{TellsRun};
 

@@ -9,7 +9,6 @@ mod message;
 mod tool;
 mod translation;
 
-pub use ec_words::{LinkSpec, links_named};
 pub use ending::{Ending, status};
 pub use form::Form;
 pub use tool::ec_main;

@@ -1,4 +1,3 @@
-pub use Rattle.ec_values.specs as ec_values
 pub mod Numbers
 pub mod Trees
 pub mod Objects

@@ -7,9 +7,9 @@ use Rattle.ec_code.specs.declared.step.Leaf.TheVariants as leaf
 use Rattle.ec_code.specs.declared.step.Unary.{Unary}
 use Rattle.ec_code.specs.declared.step.Unary.TheVariants as unary
 use Rattle.ec_code.specs.declared.step.Update.{Update}
-use Rattle.ec_objects.specs.Kinds.{kind_type}
-use Rattle.ec_objects.specs.declared.kind.Kind.TheVariants as kind
-use Rattle.ec_values.specs.ec_resolved.Resolved as of
+use Rattle.ec_memory_defs.specs.Kinds.{kind_type}
+use Rattle.ec_memory_defs.specs.declared.kind.Kind.TheVariants as kind
+use Rattle.ec_meaning_defs.specs.resolved.Resolved as of
 use Rattle.ec_values.specs.Operations.{operation_view}
 use Rattle.ec_values.specs.Words.{word_view}
 

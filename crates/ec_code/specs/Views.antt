@@ -1,12 +1,12 @@
 -- The trees of code, as those of the definition.
 use Rattle.std.specs.Prelude.{ℕ, List, map, option_map}
-use Rattle.ec_objects.specs.Kinds.{kind_type}
-use Rattle.ec_objects.specs.Memory.{number}
+use Rattle.ec_memory_defs.specs.Kinds.{kind_type}
+use Rattle.ec_memory_defs.specs.Memory.{number}
 use Rattle.ec_code.specs.declared.step.Binary.TheVariants as binary
 use Rattle.ec_code.specs.declared.step.Leaf.TheVariants as leaf
-use Rattle.ec_values.specs.ec_resolved.Resolved as of
-use Rattle.ec_values.specs.ec_resolved.Programs as programs
-use Rattle.ec_formats.specs.Known.{known_view}
+use Rattle.ec_meaning_defs.specs.resolved.Resolved as of
+use Rattle.ec_meaning_defs.specs.resolved.Programs as programs
+use Rattle.ec_printf.specs.formats.Known.{known_view}
 use Rattle.ec_values.specs.Words.{word_view}
 use Rattle.ec_code.specs.Trees.{Step, one, two, leaf_view, walked, exps_of, stms_of}
 use Rattle.ec_code.specs.declared.expression.Plain.{Plain, fold-Plain}

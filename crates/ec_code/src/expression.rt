@@ -2,7 +2,7 @@
 
 use crate::step::{Binary, Leaf, Unary, Update};
 use ec_base::List;
-use ec_formats::Known;
+use ec_printf::formats::Known;
 use ec_values::Operation;
 
 /// An expression without calls: where it begins, and the steps that are taken from there.

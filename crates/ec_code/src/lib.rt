@@ -8,8 +8,6 @@ mod program;
 mod statement;
 mod step;
 
-pub use ec_values;
-pub use ec_values::ec_bytes;
 pub use expression::{Expression, Full, FullStep, Head, Plain, PlainStep};
 pub use making::small;
 pub use program::{Function, GlobalVariable, Literal, ObjectSize, Program, Stored};

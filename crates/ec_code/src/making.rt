@@ -1,9 +1,9 @@
 //! Expressions are made from what stands at their left: each operator adds a step.
 
 ghost use Rattle.std.specs.Prelude.{◌≡◌, None, IfOk, IfSome, map};
-ghost use Rattle.ec_values.specs.ec_resolved.Resolved as of;
-ghost use Rattle.ec_formats.specs.Known.{known_view};
-ghost use Rattle.ec_objects.specs.Memory.{number};
+ghost use Rattle.ec_meaning_defs.specs.resolved.Resolved as of;
+ghost use Rattle.ec_printf.specs.formats.Known.{known_view};
+ghost use Rattle.ec_memory_defs.specs.Memory.{number};
 ghost use Rattle.ec_values.specs.Words.{word_view};
 ghost use Rattle.ec_code.specs.Numbers.{IsNoLong};
 ghost use Rattle.ec_code.specs.Trees.{leaf_view, one_made, stepped, two, two_made, walked};
@@ -13,8 +13,8 @@ ghost use Rattle.ec_code.specs.Views.{expression_view, expressions_view, full_st
 use crate::expression::{Expression, Full, FullStep, Head, Plain, PlainStep};
 use crate::step::{Binary, Leaf, Unary};
 use ec_base::{List, OutOfMemory};
-use ec_formats::Known;
-use ec_objects::Kind;
+use ec_memory_defs::Kind;
+use ec_printf::formats::Known;
 use ec_values::Word;
 use std::alloc::Global;
 

@@ -5,7 +5,7 @@ ghost use Rattle.ec_code.specs.Objects.{AreInside, stored_view};
 
 use crate::statement::Statement;
 use ec_base::{Bytes, List, OutOfMemory};
-use ec_objects::Kind;
+use ec_memory_defs::Kind;
 use ec_values::Word;
 use std::alloc::Global;
 use std::marker::Model;
@@ -60,7 +60,7 @@ pub struct GlobalVariable {
 impl Model for GlobalVariable {
     ghost use Rattle.std.specs.Prelude.{◌≤◌, ◌^◌, map};
     ghost use Rattle.ec_code.specs.Objects.{AreInside, stored_view};
-    ghost use Rattle.ec_values.specs.ec_resolved.Programs.{Global as Variable};
+    ghost use Rattle.ec_meaning_defs.specs.resolved.Programs.{Global as Variable};
 
     ghost Value = { Variable };
 

@@ -2,7 +2,7 @@
 
 use ec_base::Bytes;
 use ec_ctypes::Arith;
-use ec_objects::Kind;
+use ec_memory_defs::Kind;
 use ec_values::{Operation, Word};
 
 /// Where an expression begins.

@@ -12,8 +12,8 @@ use Rattle.ec_ctypes.specs.declared.types.arith.Arith.{Arith}
 use Rattle.ec_ctypes.specs.declared.types.arith.Arith.TheVariants.{Bool as Boolean, Char, UChar, Short, UShort, Int, UInt, Long, ULong, LLong, ULLong}
 use Rattle.ec_ctypes.specs.Arithmetic.{least, greatest, IsValue}
 use Rattle.ec_convert.proofs.FieldNumbers.{digits_to}
-use Rattle.ec_transfer.specs.Conversion.{field_number, fits, integer_bytes, number_bytes, field_bytes}
-use Rattle.ec_transfer.specs.Hosts.{integer}
+use Rattle.ec_transfer_defs.specs.Conversion.{field_number, fits, integer_bytes, number_bytes, field_bytes}
+use Rattle.ec_transfer_defs.specs.Hosts.{integer}
 
 -- digits without a sign
 plain : (ds : List ℕ) (n : ℕ) → IsNumeral 10 ds → digits_value 10 ds ≡ n → field_number ds ≡ Some (pos n)

@@ -16,7 +16,7 @@ use Rattle.ec_ctypes.specs.declared.types.arith.Arith.{Arith}
 use Rattle.ec_ctypes.specs.declared.types.arith.Arith.TheVariants.{Bool as Boolean, Char, UChar, Short, UShort, Int, UInt, Long, ULong, LLong, ULLong}
 use Rattle.ec_ctypes.specs.Arithmetic.{is_signed, least, greatest, IsValue}
 use Rattle.ec_convert.specs.Pieces.{fitting}
-use Rattle.ec_transfer.specs.Conversion.{are_digits, field_number, fits, integer_bytes, number_bytes}
+use Rattle.ec_transfer_defs.specs.Conversion.{are_digits, field_number, fits, integer_bytes, number_bytes}
 
 model : IsNumeralModel (λ ds. all_ascii_digits ds ≡ true) (digits_value 10)
 model = numerals_by_value (λ ds. all_ascii_digits ds ≡ true) tells_all_ascii_digits

@@ -3,8 +3,8 @@ use Rattle.std.specs.Prelude.{◌≡◌, ℕ, Bool, true, List, Option, Some, No
 use Rattle.ec_base.specs.declared.stop.Trap.{Trap}
 use Rattle.ec_convert.specs.declared.stop.ConvStop.{ConvStop}
 use Rattle.ec_convert.specs.declared.stop.ConvStop.TheVariants as stops
-use Rattle.ec_objects.specs.Memory.{Memory}
-use Rattle.ec_transfer.specs.Conversion.{trapped, refused, Stored}
+use Rattle.ec_memory_defs.specs.Memory.{Memory}
+use Rattle.ec_transfer_defs.specs.Conversion.{trapped, refused, Stored}
 
 -- a text, or the trap in its place; memory may be wanted for a text alone
 abbrev pub GivesText : Result (List ℕ) ConvStop → Result (List ℕ) Trap → Type 0

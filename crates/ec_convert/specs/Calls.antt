@@ -4,9 +4,9 @@ use Rattle.ec_convert.specs.Answers.{GivesParameter, leaves}
 use Rattle.ec_convert.specs.Host.{given_host}
 use Rattle.ec_convert.specs.declared.host.HostPlace.{HostPlace}
 use Rattle.ec_convert.specs.declared.stop.ConvStop.{ConvStop}
-use Rattle.ec_objects.specs.Memory.{Memory}
-use Rattle.ec_transfer.specs.Conversion.{parameter, field_stored}
-use Rattle.ec_transfer.specs.Hosts.{HostData}
+use Rattle.ec_memory_defs.specs.Memory.{Memory}
+use Rattle.ec_transfer_defs.specs.Conversion.{parameter, field_stored}
+use Rattle.ec_transfer_defs.specs.Hosts.{HostData}
 
 -- the answer is the parameter that the host gives
 abbrev pub Sends : HostPlace → Memory → Result (Option (List ℕ)) ConvStop → Type 0

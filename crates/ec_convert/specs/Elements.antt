@@ -1,7 +1,7 @@
 -- What elements hold, in the words of the definitions.
 use Rattle.ec_convert.specs.declared.element.Element.{Element}
 use Rattle.ec_convert.specs.declared.element.Element.TheVariants as of
-use Rattle.ec_transfer.specs.Hosts.{Holding, integer, truth, characters, pointed, counted}
+use Rattle.ec_transfer_defs.specs.Hosts.{Holding, integer, truth, characters, pointed, counted}
 
 abbrev pub held_by : Element → Holding
 held_by (of.Integer t) = integer t

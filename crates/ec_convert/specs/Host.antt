@@ -7,7 +7,7 @@ use Rattle.ec_convert.specs.declared.host.Host.{Host}
 use Rattle.ec_convert.specs.declared.host.HostPlace.{HostPlace}
 use Rattle.ec_convert.specs.declared.host.Indicator.{Indicator}
 use Rattle.ec_convert.specs.Elements.{held_by}
-use Rattle.ec_transfer.specs.Hosts.{Holding, holding, indicator_type, IndicatorData, HostData}
+use Rattle.ec_transfer_defs.specs.Hosts.{Holding, holding, indicator_type, IndicatorData, HostData}
 
 abbrev pub indicator_view : Indicator → IndicatorData
 indicator_view i = record { kind = i.kind; place = i.at.0; step = i.step }

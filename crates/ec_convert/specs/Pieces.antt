@@ -5,9 +5,9 @@ use Rattle.ec_convert.specs.declared.piece.Piece.TheVariants as piece
 use Rattle.ec_ctypes.specs.declared.types.arith.Arith.{Arith}
 use Rattle.ec_ctypes.specs.declared.types.arith.Arith.TheVariants.{Int}
 use Rattle.ec_ctypes.specs.Arithmetic.{IsValue}
-use Rattle.ec_transfer.specs.declared.finding.Finding.{Finding}
-use Rattle.ec_transfer.specs.Conversion.{integer_bytes, fits}
-use Rattle.ec_transfer.specs.Hosts.{Holding, integer, truth, characters, pointed, counted}
+use Rattle.ec_transfer_defs.specs.declared.finding.Finding.{Finding}
+use Rattle.ec_transfer_defs.specs.Conversion.{integer_bytes, fits}
+use Rattle.ec_transfer_defs.specs.Hosts.{Holding, integer, truth, characters, pointed, counted}
 
 -- the bytes that are stored
 abbrev pub piece_bytes : List ℕ → Piece → List ℕ

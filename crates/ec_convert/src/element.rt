@@ -2,14 +2,14 @@
 
 ghost use Rattle.std.specs.Prelude.{◌≡◌, ◌≤◌, ◌^◌, true, option_map, IfSome};
 ghost use Rattle.ec_ctypes.specs.Arithmetic.{is_signed};
-ghost use Rattle.ec_objects.specs.Memory.{integer_type};
-ghost use Rattle.ec_objects.specs.Kinds.{kind_type};
-ghost use Rattle.ec_transfer.specs.Hosts.{holding, of_length, indicator_type};
+ghost use Rattle.ec_memory_defs.specs.Memory.{integer_type};
+ghost use Rattle.ec_memory_defs.specs.Kinds.{kind_type};
+ghost use Rattle.ec_transfer_defs.specs.Hosts.{holding, of_length, indicator_type};
 ghost use Rattle.ec_convert.specs.Elements.{held_by};
 ghost use Rattle.ec_convert.specs.Pieces.{IsBounded};
 
 use ec_ctypes::{Arith, Sym};
-use ec_objects::Kind;
+use ec_memory_defs::Kind;
 
 /// What one element of a host holds.
 #[derive(Clone, Copy, Debug, PartialEq, Eq)]

@@ -7,8 +7,8 @@ ghost use Rattle.ec_convert.specs.Elements.{held_by};
 ghost use Rattle.ec_convert.specs.Host.{host_view, indicator_view, given_host};
 ghost use Rattle.ec_ctypes.specs.declared.types.arith.Arith.TheVariants.{Int};
 ghost use Rattle.ec_memory.specs.Store.{seen};
-ghost use Rattle.ec_objects.specs.Memory.{and_then, text_at};
-ghost use Rattle.ec_transfer.specs.Conversion.{parameter, is_null, element_text, address_at, number_at, counted_text};
+ghost use Rattle.ec_memory_defs.specs.Memory.{and_then, text_at};
+ghost use Rattle.ec_transfer_defs.specs.Conversion.{parameter, is_null, element_text, address_at, number_at, counted_text};
 
 use crate::element::Element;
 use crate::host::{Host, HostPlace, Indicator, host_of};

@@ -6,8 +6,8 @@ ghost use Rattle.ec_convert.specs.Answers.{GivesText};
 ghost use Rattle.ec_convert.specs.Pieces.{fitting};
 ghost use Rattle.ec_memory.specs.Store.{seen};
 ghost use Rattle.ec_memory.specs.Values.{value_view};
-ghost use Rattle.ec_objects.specs.Memory.{and_then, number_of};
-ghost use Rattle.ec_transfer.specs.Conversion.{number_at, address_at, field_number, truth_text};
+ghost use Rattle.ec_memory_defs.specs.Memory.{and_then, number_of};
+ghost use Rattle.ec_transfer_defs.specs.Conversion.{number_at, address_at, field_number, truth_text};
 
 use crate::element::kind_of;
 use crate::stop::ConvStop;
@@ -15,7 +15,7 @@ use ec_base::{Bytes, Trap};
 use ec_bytes::Ptr;
 use ec_ctypes::Arith;
 use ec_memory::{Store, Value};
-use ec_objects::Kind;
+use ec_memory_defs::Kind;
 use itoa::Buffer;
 use std::alloc::Global;
 

@@ -9,7 +9,7 @@ ghost use Rattle.ec_convert.specs.Elements.{held_by};
 ghost use Rattle.ec_convert.specs.Host.{host_view, indicator_view, given_host, IsTold};
 ghost use Rattle.ec_convert.specs.Pieces.{piece_bytes, IsPiece, IsBounded};
 ghost use Rattle.ec_memory.specs.Store.{outcome, seen};
-ghost use Rattle.ec_transfer.specs.Conversion.{field_stored, null_stored, bytes_stored, field_bytes, told, told_length, with_bytes, with_indicator, bytes_place};
+ghost use Rattle.ec_transfer_defs.specs.Conversion.{field_stored, null_stored, bytes_stored, field_bytes, told, told_length, with_bytes, with_indicator, bytes_place};
 
 use crate::element::Element;
 use crate::host::{Host, HostPlace, Indicator, host_of};
@@ -20,7 +20,7 @@ use ec_base::Trap;
 use ec_bytes::Ptr;
 use ec_ctypes::Arith;
 use ec_memory::Store;
-use ec_transfer::Finding;
+use ec_transfer_defs::Finding;
 
 /// Stores a field in the element of a row, the first being 0, and says whether it was cut. It takes no memory.
 ///

@@ -6,9 +6,9 @@ ghost use Rattle.ec_ctypes.specs.Arithmetic.{IsValue};
 ghost use Rattle.ec_convert.specs.Elements.{held_by};
 ghost use Rattle.ec_convert.specs.Pieces.{piece_bytes, IsPiece, bytes_or, IsBounded};
 ghost use Rattle.ec_memory.specs.Store.{outcome};
-ghost use Rattle.ec_objects.specs.Memory.{put};
-ghost use Rattle.ec_transfer.specs.Conversion.{field_bytes, is_cut, integer_bytes, number_bytes, truth_bytes, field_number};
-ghost use Rattle.ec_transfer.specs.Hosts.{characters, counted};
+ghost use Rattle.ec_memory_defs.specs.Memory.{put};
+ghost use Rattle.ec_transfer_defs.specs.Conversion.{field_bytes, is_cut, integer_bytes, number_bytes, truth_bytes, field_number};
+ghost use Rattle.ec_transfer_defs.specs.Hosts.{characters, counted};
 
 use crate::element::{Element, kind_of};
 use crate::numbers::number_in;
@@ -16,7 +16,7 @@ use ec_base::Trap;
 use ec_bytes::Ptr;
 use ec_ctypes::Arith;
 use ec_memory::{Store, Value};
-use ec_transfer::Finding;
+use ec_transfer_defs::Finding;
 
 /// The bytes that a field stores, by what is taken of the field.
 #[derive(Clone, Copy, Debug)]

@@ -1,12 +1,11 @@
 -- What is read goes by its form.
 use Rattle.std.proofs.Common.{◌≡◌, ℕ, refl}
 use Rattle.ec_ctypes.specs.declared.text.token.Punct.TheVariants as p
-use Rattle.ec_language.specs.Productions.{Start}
+use Rattle.ec_language.specs.Productions.{Start, start_of}
 use Rattle.ec_language.specs.Syntax.{limits}
 use Rattle.ec_grammar.specs.declared.kind.Kind.{Kind}
 use Rattle.ec_grammar.specs.declared.kind.Kind.TheVariants as k
 use Rattle.ec_grammar.specs.Input.{State, kind_at, kind_next}
-use Rattle.ec_language.specs.Productions.{start_of}
 use Rattle.ec_grammar.specs.ReadDeclarations.{nested}
 use Rattle.ec_grammar.specs.ReadStatements.{statement, statement_by, block_item, block_item_by, item, item_by, external, nested_statements}
 use Rattle.ec_csyntax.specs.declared.forms.ItemForm.TheVariants as form

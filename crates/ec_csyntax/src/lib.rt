@@ -10,5 +10,4 @@ mod statements;
 mod texts;
 mod units;
 
-pub use ec_exact;
 pub use programs::parse;

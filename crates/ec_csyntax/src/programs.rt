@@ -13,10 +13,10 @@ ghost use Rattle.ec_csyntax.specs.Answers.{GivesUnlessNoMemory};
 
 use crate::units::unit;
 use ec_base::{FaultKind, LimitKind, Line, List, Stop};
+use ec_cdeclare::Cursor;
 use ec_ctypes::{Token, Unit};
-use ec_declarations::Cursor;
-use ec_exact::readings_are_exact;
 use ec_grammar::Failure;
+use ec_grammar::exact::readings_are_exact;
 use std::alloc::Global;
 
 /// The line of the token at which so many are left, itself among them.

@@ -1,4 +1,3 @@
-pub use Rattle.ec_base.specs as ec_base
 pub mod Arithmetic
 pub mod Layout
 pub mod LayoutExamples

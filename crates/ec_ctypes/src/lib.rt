@@ -16,7 +16,6 @@ pub use copies::{
     copy_action, copy_base, copy_decl, copy_dims, copy_expr, copy_exprs, copy_init, copy_param,
     copy_ty, same_ty,
 };
-pub use ec_base;
 pub use embedded::{Action, Cond, Emb, EmbKind, Host, Input, Ins, Item, Outs, Part, TextArg};
 pub use text::{Piece, PieceKind, Punct, Tok, Token};
 pub use tree::{

@@ -3,8 +3,8 @@ use Rattle.std.proofs.Common.{◌≡◌, ℕ, zero, suc, List, [], ◌∷◌, Op
 use Rattle.std.proofs.lemmas.Bool.Decides.{nat_tests}
 use Rattle.std.specs.Prelude.{◌&&◌, nat_eq}
 use Rattle.std.specs.Int.{next_multiple_of}
-use Rattle.ec_arguments.specs.ec_ctypes.declared.checked.library.Sym.{Sym}
-use Rattle.ec_arguments.specs.ec_ctypes.declared.checked.library.Sym.TheVariants as sym
+use Rattle.ec_ctypes.specs.declared.checked.library.Sym.{Sym}
+use Rattle.ec_ctypes.specs.declared.checked.library.Sym.TheVariants as sym
 use Rattle.ec_arguments.specs.Arguments.{Arg, TextArg, absent, word, held, Indicator, Member, host, constant, descriptor, Call, Cut}
 use Rattle.ec_arguments.specs.Reading.{indicator_of, constant_of, descriptor_of, member_of, to_end}
 use Rattle.ec_arguments.specs.Rules.{are_inputs, are_hosts, are_outputs, fits_place, is_given_text, chars_size, without_length, varchar_size, is_call, ruled}

@@ -1,8 +1,8 @@
 -- Members and items, one behind the other, beside a loop that reads them.
 use Rattle.std.proofs.Common.{◌≡◌, ℕ, suc, ◌+◌, ◌-◌, ◌<◌, ◌≤◌, List, [], ◌∷◌, ◌++◌, Option, Some, None, Bool, true, false, refl, ap, sym, ◌∙◌, arith, append_assoc}
 use Rattle.std.proofs.lemmas.List.{append-nil}
-use Rattle.ec_arguments.specs.ec_ctypes.declared.checked.library.Sym.{Sym}
-use Rattle.ec_arguments.specs.ec_ctypes.declared.embedded.emb.Item.{Item}
+use Rattle.ec_ctypes.specs.declared.checked.library.Sym.{Sym}
+use Rattle.ec_ctypes.specs.declared.embedded.emb.Item.{Item}
 use Rattle.ec_arguments.specs.Arguments.{Arg, Member, ItemMember}
 use Rattle.ec_arguments.specs.Reading.{Read, and_then, before, begins_with, behind_first, next_symbol, next_member, next_members, next_items, item_of, ends_items}
 use Rattle.ec_cut.specs.Cases.{with_front, one_item}

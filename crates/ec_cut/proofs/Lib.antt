@@ -1,2 +1,3 @@
 pub mod CasesAre
 pub mod Found
+pub mod written_lemmas

@@ -1,7 +1,7 @@
 -- The steps of reading and of the rules, with a test where a definition has a case for each symbol or each number.
 use Rattle.std.specs.Prelude.{ℕ, nat_eq, ◌&&◌, Bool, true, false, List, [], ◌∷◌, ◌++◌, Option, Some, None}
-use Rattle.ec_arguments.specs.ec_ctypes.declared.checked.library.Sym.{Sym}
-use Rattle.ec_arguments.specs.ec_ctypes.declared.checked.library.Sym.TheVariants as sym
+use Rattle.ec_ctypes.specs.declared.checked.library.Sym.{Sym}
+use Rattle.ec_ctypes.specs.declared.checked.library.Sym.TheVariants as sym
 use Rattle.ec_arguments.specs.Arguments.{Arg, TextArg, absent, word, held, Indicator, Member, host, constant, descriptor, ItemMember, Call}
 use Rattle.ec_arguments.specs.Reading.{Read, and_then, before, next_symbol, next_member, item_of, ends_inputs, ends_outputs, ends_items}
 use Rattle.ec_arguments.specs.Rules.{is_given_text, is_single, fits_place, is_call}

@@ -1,6 +1,6 @@
 -- Arguments and calls of code, in the words of the definitions. `bytes` is what a literal stands for, and `view` what a pointer does.
 use Rattle.std.specs.Prelude.{ℕ, List, map, Option, option_map}
-use Rattle.ec_arguments.specs.ec_ctypes.declared.embedded.emb.Item.{Item}
+use Rattle.ec_ctypes.specs.declared.embedded.emb.Item.{Item}
 use Rattle.ec_arguments.specs.Arguments as spec
 use Rattle.ec_cut.specs.declared.arguments.Argument.{Argument}
 use Rattle.ec_cut.specs.declared.arguments.Argument.TheVariants as args

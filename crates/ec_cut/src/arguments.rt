@@ -1,7 +1,7 @@
 //! Arguments, and the calls that they are cut into.
 
-use ec_arguments::ec_base::List;
-use ec_arguments::ec_ctypes::{Item, Sym};
+use ec_base::List;
+use ec_ctypes::{Item, Sym};
 
 /// An argument, by what it is. The bytes of a literal are a `B`, and a pointer is an `A`.
 #[derive(Clone, Copy, Debug)]

@@ -20,8 +20,8 @@ use crate::pointers::{Literal, Pointer};
 use crate::reading::{next_int, next_text};
 use crate::rules::is_call;
 use crate::statements::next_statement;
-use ec_arguments::ec_base::OutOfMemory;
-use ec_arguments::ec_ctypes::LibName;
+use ec_base::OutOfMemory;
+use ec_ctypes::LibName;
 use std::alloc::Global;
 
 /// How many arguments are left.

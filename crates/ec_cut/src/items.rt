@@ -11,8 +11,8 @@ use crate::lists::{End, at_end, pass};
 use crate::members::next_member;
 use crate::pointers::{Literal, Pointer};
 use crate::reading::next_symbol;
-use ec_arguments::ec_base::{List, OutOfMemory};
-use ec_arguments::ec_ctypes::{Item, Sym};
+use ec_base::{List, OutOfMemory};
+use ec_ctypes::{Item, Sym};
 use std::alloc::Global;
 
 /// The item of a symbol.

@@ -12,6 +12,7 @@ mod pointers;
 mod reading;
 mod rules;
 mod statements;
+pub mod written;
 
 pub use arguments::{Argument, Call, Cut, Indicator, Member, Place, Statement, Text};
 pub use cutting::cut;

@@ -9,8 +9,8 @@ ghost use Rattle.ec_cut.specs.Views.{left_view, members_view};
 use crate::arguments::{Argument, Front, Member};
 use crate::members::next_member;
 use crate::pointers::{Literal, Pointer};
-use ec_arguments::ec_base::{List, OutOfMemory};
-use ec_arguments::ec_ctypes::Sym;
+use ec_base::{List, OutOfMemory};
+use ec_ctypes::Sym;
 use std::alloc::Global;
 
 /// What ends a list.

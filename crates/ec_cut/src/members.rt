@@ -9,7 +9,7 @@ ghost use Rattle.ec_cut.specs.Views.{text_view, indicators_view, member_view};
 use crate::arguments::{Front, Indicator, Member, Place, Text};
 use crate::pointers::{Literal, Pointer};
 use crate::reading::{next_long, next_symbol, next_text};
-use ec_arguments::ec_ctypes::Sym;
+use ec_ctypes::Sym;
 
 fn is_no_indicator(sym: Sym) -> bool
     ensures { result ≡ cases.is_no_indicator sym }

@@ -7,7 +7,7 @@ ghost use Rattle.ec_cut.specs.Views.{indicator_view, place_view};
 
 use crate::arguments::{Indicator, Place};
 use crate::pointers::Pointer;
-use ec_arguments::ec_ctypes::Sym;
+use ec_ctypes::Sym;
 
 /// The greatest number in a call.
 const GREATEST: u64 = 1 << 24;

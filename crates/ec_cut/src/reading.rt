@@ -5,7 +5,7 @@ ghost use Rattle.ec_cut.specs.Reads.{Reads, ReadsText, same};
 
 use crate::arguments::{Argument, Front, Text};
 use crate::pointers::{Literal, Pointer};
-use ec_arguments::ec_ctypes::Sym;
+use ec_ctypes::Sym;
 
 pub(crate) fn next_symbol<B: Literal + Copy, A: Pointer + Copy>(
     front: &mut Front<'_, B, A>,

@@ -9,7 +9,7 @@ ghost use Rattle.ec_cut.specs.Views.{text_view, member_view, members_view, items
 use crate::arguments::{Call, Member, Statement, Text};
 use crate::numbers::{fits_place, is_single};
 use crate::pointers::{Literal, Pointer};
-use ec_arguments::ec_ctypes::Item;
+use ec_ctypes::Item;
 
 /// Whether it is NULL, a literal, or a pointer to characters.
 fn is_optional_text<B: Literal + Copy, A: Pointer + Copy>(text: &Text<B, A>) -> bool

@@ -8,7 +8,7 @@ ghost use Rattle.ec_cut.specs.Views.{statement_view};
 use crate::arguments::{Front, Statement};
 use crate::pointers::{Literal, Pointer};
 use crate::reading::{next_literal, next_symbol, next_text};
-use ec_arguments::ec_ctypes::Sym;
+use ec_ctypes::Sym;
 
 /// A statement, by its symbol.
 fn statement_of<B: Literal + Copy, A: Pointer + Copy>(

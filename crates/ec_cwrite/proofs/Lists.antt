@@ -6,8 +6,8 @@ use Rattle.ec_language.specs.Letters.{Text}
 use Rattle.ec_ctypes.specs.declared.text.token.Punct.{Punct}
 use Rattle.ec_ctypes.specs.declared.tree.expr.Expr.{Expr}
 use Rattle.ec_ctypes.specs.trees.Exprs.{ExprData}
-use Rattle.ec_writing.specs.Chunks.{Chunks, text_of}
-use Rattle.ec_writing.specs.Expressions.{star_chunks, at_height, expr_chunks, mark}
+use Rattle.ec_writing_defs.specs.Chunks.{Chunks, text_of}
+use Rattle.ec_writing_defs.specs.Expressions.{star_chunks, at_height, expr_chunks, mark}
 use Rattle.ec_cwrite.specs.Lists.{dim_part}
 use Rattle.ec_cwrite.specs.Writes.{Writes}
 use Rattle.ec_cwrite.proofs.Writing.{both, text_append}

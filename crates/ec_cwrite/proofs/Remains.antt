@@ -2,9 +2,9 @@
 use Rattle.std.specs.Prelude.{ℕ, zero, suc, List}
 use Rattle.ec_ctypes.specs.trees.Exprs.{ExprList, InitList, DeclaratorList}
 use Rattle.ec_ctypes.specs.trees.Units.{ParamData}
-use Rattle.ec_writing.specs.Chunks.{Chunks}
-use Rattle.ec_writing.specs.Expressions.{list_chunks, more_chunks, inits_chunks, more_inits_chunks, declarators_chunks, more_declarators_chunks}
-use Rattle.ec_writing.specs.Programs.{some_params_chunks, more_params_chunks}
+use Rattle.ec_writing_defs.specs.Chunks.{Chunks}
+use Rattle.ec_writing_defs.specs.Expressions.{list_chunks, more_chunks, inits_chunks, more_inits_chunks, declarators_chunks, more_declarators_chunks}
+use Rattle.ec_writing_defs.specs.Programs.{some_params_chunks, more_params_chunks}
 
 abbrev pub exprs_from : ℕ → ExprList → Chunks
 exprs_from zero es = list_chunks es

@@ -1,7 +1,7 @@
 -- Chunks that are written one after the other.
 use Rattle.std.proofs.Common.{◌≡◌, [], ◌∷◌, ◌++◌, refl, ap, sym, ◌∙◌, append_assoc, append-nil}
 use Rattle.ec_language.specs.Letters.{Text}
-use Rattle.ec_writing.specs.Chunks.{Chunk, Chunks, chunk_text, text_of}
+use Rattle.ec_writing_defs.specs.Chunks.{Chunk, Chunks, chunk_text, text_of}
 use Rattle.ec_cwrite.specs.Writes.{Writes}
 
 pub text_append : (cs ds : Chunks) → text_of (cs ++ ds) ≡ text_of cs ++ text_of ds

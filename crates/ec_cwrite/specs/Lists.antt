@@ -4,8 +4,8 @@ use Rattle.ec_ctypes.specs.declared.text.token.Punct.TheVariants as p
 use Rattle.ec_ctypes.specs.declared.tree.expr.Expr.{Expr}
 use Rattle.ec_ctypes.specs.trees.Exprs.{ExprData}
 use Rattle.ec_ctypes.specs.views.Exprs.{dim_of, expr_option_view}
-use Rattle.ec_writing.specs.Chunks.{blank, line_end, Chunks}
-use Rattle.ec_writing.specs.Expressions.{mark, word, in_parens, expr_chunks, dim_chunks}
+use Rattle.ec_writing_defs.specs.Chunks.{blank, line_end, Chunks}
+use Rattle.ec_writing_defs.specs.Expressions.{mark, word, in_parens, expr_chunks, dim_chunks}
 
 -- the comma before an element that is not the first
 abbrev pub comma_chunks : Bool → Chunks

@@ -1,7 +1,7 @@
 -- What a function that writes has written.
 use Rattle.std.specs.Prelude.{◌≡◌, ◌++◌}
 use Rattle.ec_language.specs.Letters.{Text}
-use Rattle.ec_writing.specs.Chunks.{Chunks, text_of}
+use Rattle.ec_writing_defs.specs.Chunks.{Chunks, text_of}
 
 -- These chunks stand behind what was there.
 pub record Writes (old new : Text) (cs : Chunks) : Type 0 where

@@ -5,7 +5,7 @@ ghost use Rattle.ec_ctypes.specs.trees.Exprs.{tagged, struct_base, many};
 ghost use Rattle.ec_ctypes.specs.views.Exprs.{expr_view, exprs_view, base_view, decl_view, decls_view, declarator_view, declarators_view, dims_view, init_view, inits_view, init_option_view};
 ghost use Rattle.ec_cwrite.specs.Lists.{comma_chunks, lead_chunks, dim_part};
 ghost use Rattle.ec_cwrite.specs.Writes.{Writes};
-ghost use Rattle.ec_writing.specs.Expressions.{at_height, before_dot, word_chunks, more_word_chunks, star_chunks, stars_behind, struct_head, base_chunks, members_chunks, type_chunks, in_parens, arguments, expr_chunks, list_chunks, dims_chunks, init_chunks, inits_chunks, initializer_chunks, declarator_chunks, declarators_chunks, decl_chunks};
+ghost use Rattle.ec_writing_defs.specs.Expressions.{at_height, before_dot, word_chunks, more_word_chunks, star_chunks, stars_behind, struct_head, base_chunks, members_chunks, type_chunks, in_parens, arguments, expr_chunks, list_chunks, dims_chunks, init_chunks, inits_chunks, initializer_chunks, declarator_chunks, declarators_chunks, decl_chunks};
 
 use crate::marks::{
     OR, POSTFIX, height_of, mark_of, mark_of_assignment, mark_of_bump, mark_of_unary, rank_height,

@@ -1,4 +1,4 @@
-//! The written C of a program: each tree is put at the end of a text, as `ec_writing` has it.
+//! The written C of a program: each tree is put at the end of a text, as `ec_writing_defs` has it.
 #![tactic(auto)]
 
 mod expressions;

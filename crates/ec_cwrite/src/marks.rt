@@ -2,7 +2,7 @@
 
 ghost use Rattle.std.specs.Prelude.{◌≡◌};
 ghost use Rattle.ec_ctypes.specs.views.Exprs.{expr_view};
-ghost use Rattle.ec_writing.specs.Expressions.{ranked, rank_of, tighter, height, level, binary_mark, assign_mark, unary_mark, bump_mark};
+ghost use Rattle.ec_writing_defs.specs.Expressions.{ranked, rank_of, tighter, height, level, binary_mark, assign_mark, unary_mark, bump_mark};
 
 use ec_ctypes::{BinOp, Expr, Punct, UnOp};
 

@@ -6,7 +6,7 @@ ghost use Rattle.ec_ctypes.specs.views.Exprs.{decl_view};
 ghost use Rattle.ec_ctypes.specs.views.Stmts.{stmts_view};
 ghost use Rattle.ec_ctypes.specs.views.Units.{param_view, func_view, top_view, unit_view};
 ghost use Rattle.ec_cwrite.specs.Writes.{Writes};
-ghost use Rattle.ec_writing.specs.Programs.{param_name, param_chunks, some_params_chunks, params_inside, params_chunks, body_chunks, func_chunks, top_chunks, tops_chunks, written_text};
+ghost use Rattle.ec_writing_defs.specs.Programs.{param_name, param_chunks, some_params_chunks, params_inside, params_chunks, body_chunks, func_chunks, top_chunks, tops_chunks, written_text};
 
 use crate::expressions::{
     push_base, push_comma, push_decl, push_dims, push_stars, push_stars_behind,

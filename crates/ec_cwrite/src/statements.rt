@@ -7,9 +7,9 @@ ghost use Rattle.ec_ctypes.specs.views.Exprs.{expr_view, expr_option_view, decl_
 ghost use Rattle.ec_ctypes.specs.views.Stmts.{stmt_view, kind_view, stmts_view, stmt_option_view};
 ghost use Rattle.ec_cwrite.specs.Lists.{if_head};
 ghost use Rattle.ec_cwrite.specs.Writes.{Writes};
-ghost use Rattle.ec_writing.specs.Chunks.{blank, line_end};
-ghost use Rattle.ec_writing.specs.Expressions.{mark, word, in_parens, expr_chunks};
-ghost use Rattle.ec_writing.specs.Programs.{option_chunks, return_chunks, head_chunks, stmt_chunks, kind_chunks, items_chunks, else_chunks, block_chunks};
+ghost use Rattle.ec_writing_defs.specs.Chunks.{blank, line_end};
+ghost use Rattle.ec_writing_defs.specs.Expressions.{mark, word, in_parens, expr_chunks};
+ghost use Rattle.ec_writing_defs.specs.Programs.{option_chunks, return_chunks, head_chunks, stmt_chunks, kind_chunks, items_chunks, else_chunks, block_chunks};
 
 use crate::expressions::{push_decl, push_expr};
 use crate::text::{push_blank, push_line, push_line_end, push_mark, push_word};

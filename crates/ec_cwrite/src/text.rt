@@ -4,8 +4,8 @@ ghost use Rattle.std.specs.Prelude.{◌≡◌, ◌++◌, [], ◌∷◌, ◌<◌,
 ghost use Rattle.std.specs.Fmt.{decimal};
 ghost use Rattle.ec_ctypes.specs.trees.Tokens.{integer_token, character_token, string_token, include_token};
 ghost use Rattle.ec_ctypes.specs.views.Types.{ty_view};
-ghost use Rattle.ec_writing.specs.Chunks.{the, blank, line_end, line_mark, suffix, quoted_byte, quoted, byte_of};
-ghost use Rattle.ec_writing.specs.Expressions.{mark, word};
+ghost use Rattle.ec_writing_defs.specs.Chunks.{the, blank, line_end, line_mark, suffix, quoted_byte, quoted, byte_of};
+ghost use Rattle.ec_writing_defs.specs.Expressions.{mark, word};
 ghost use Rattle.ec_cwrite.specs.Writes.{Writes};
 
 use ec_base::{Bytes, Line, OutOfMemory};

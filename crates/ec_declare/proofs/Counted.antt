@@ -4,7 +4,7 @@ use Rattle.ec_ctypes.specs.trees.Exprs.{DeclaratorList, no_declarators, declarat
 use Rattle.ec_ctypes.specs.trees.Stmts.{StmtData, stmt, StmtKindData, empty_stmt, expr_stmt, block_stmt, if_stmt, while_stmt, do_stmt, for_stmt, break_stmt, continue_stmt, return_stmt, goto_stmt, label_stmt, decl_stmt, emb_stmt, mark_stmt, StmtList, no_stmts, stmts, StmtOption, no_stmt, some_stmt}
 use Rattle.ec_ctypes.specs.trees.Units.{ParamData, FuncData, TopData, include_top, directive_top, decl_top, func_top, mark_top}
 use Rattle.ec_declare.specs.Counting.{CountData, none_so_far, kept_if, counted, count_items, count_decl, count_stmt, count_kind, count_stmts, count_stmt_option, count_params, count_body, count_function, count_top, count_tops}
-use Rattle.ec_sections.specs.Declared.{DeclaredData, Declared, declared_items, declared_by, declared_in, declared_in_kind, declared_in_all, declared_in_option, declared_params, declared_in_body, declared_function, declared_in_top, declared_in_tops, numbers_from}
+use Rattle.ec_host_defs.specs.sections.Declared.{DeclaredData, Declared, declared_items, declared_by, declared_in, declared_in_kind, declared_in_all, declared_in_option, declared_params, declared_in_body, declared_function, declared_in_top, declared_in_tops, numbers_from}
 
 abbrev count_all : Declared → CountData → CountData
 count_all [] c = c

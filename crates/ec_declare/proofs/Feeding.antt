@@ -3,7 +3,7 @@ use Rattle.std.proofs.Common.{◌≡◌, [], ◌∷◌, ◌++◌, refl, arith, �
 use Rattle.ec_declare.specs.Scanning.{ScanData, step, feed}
 use Rattle.ec_ctypes.specs.trees.Exprs.{ExprData, binary}
 use Rattle.ec_ctypes.specs.declared.tree.expr.BinOp.{BinOp}
-use Rattle.ec_sections.specs.Places.{PlaceData, Places, of_expr}
+use Rattle.ec_host_defs.specs.sections.Places.{PlaceData, Places, of_expr}
 
 pub fed_nothing : (s : ScanData) → feed [] s ≡ s
 unfolding feed

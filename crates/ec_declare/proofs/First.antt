@@ -10,9 +10,9 @@ use Rattle.ec_base.specs.declared.stop.Stop.{Stop}
 use Rattle.ec_base.specs.declared.stop.Stop.TheVariants.{Refused}
 use Rattle.ec_language.specs.First.{Violation, rank, comes_before, earlier, first_of, stop_at}
 use Rattle.ec_declare.specs.Scanning.{ScanData, at_start, or_else, fault_of, stop_on, waiting, step, feed, stop_by, stop_of}
-use Rattle.ec_sections.specs.Answers.{fault_unless, faults_of, is_none_open, is_closed, depth_behind, section_behind, faults_at, violations_at, violations_from}
-use Rattle.ec_sections.specs.Places.{PlaceData, holds, mark, Places}
-use Rattle.ec_sections.specs.Uses.{UsesData}
+use Rattle.ec_host_defs.specs.sections.Answers.{fault_unless, faults_of, is_none_open, is_closed, depth_behind, section_behind, faults_at, violations_at, violations_from}
+use Rattle.ec_host_defs.specs.sections.Places.{PlaceData, holds, mark, Places}
+use Rattle.ec_host_defs.specs.sections.Uses.{UsesData}
 
 -- ---- the first of violations whose places rise
 

@@ -1,6 +1,6 @@
 -- Uses of VARCHAR, joined.
 use Rattle.std.proofs.Common.{◌≡◌, Bool, true, false, ◌||◌, refl}
-use Rattle.ec_sections.specs.Uses.{UsesData, nowhere, ◌&◌}
+use Rattle.ec_host_defs.specs.sections.Uses.{UsesData, nowhere, ◌&◌}
 
 or_none : (a : Bool) → (a || false) ≡ a
 or_none true = refl

@@ -6,8 +6,8 @@ use Rattle.ec_ctypes.specs.trees.Stmts.{StmtData, stmt, StmtKindData, empty_stmt
 use Rattle.ec_ctypes.specs.trees.Units.{ParamData, FuncData, TopData, include_top, directive_top, decl_top, func_top, mark_top}
 use Rattle.ec_declare.specs.Scanning.{ScanData, step, feed}
 use Rattle.ec_declare.specs.Walking.{walk_expr, walk_exprs, walk_base, walk_decls, walk_decl, walk_declarators, walk_declarator, walk_dims, walk_dim, walk_init_option, walk_init, walk_inits, walk_option, walk_stmt, walk_kind, walk_stmts, walk_stmt_option, walk_params, walk_body, walk_function, walk_top, walk_tops}
-use Rattle.ec_sections.specs.Places.{Places, holds, mark, of_expr, of_exprs, of_base, of_decls, of_decl, of_declarators, of_declarator, of_dims, of_dim, of_init_option, of_init, of_inits, of_option, of_stmt, of_kind, of_stmts, of_stmt_option, of_params, of_body, of_function, of_top, of_tops}
-use Rattle.ec_sections.specs.Uses.{◌&◌, in_base, in_declarators, in_kind, in_function}
+use Rattle.ec_host_defs.specs.sections.Places.{Places, holds, mark, of_expr, of_exprs, of_base, of_decls, of_decl, of_declarators, of_declarator, of_dims, of_dim, of_init_option, of_init, of_inits, of_option, of_stmt, of_kind, of_stmts, of_stmt_option, of_params, of_body, of_function, of_top, of_tops}
+use Rattle.ec_host_defs.specs.sections.Uses.{◌&◌, in_base, in_declarators, in_kind, in_function}
 use Rattle.ec_declare.proofs.Feeding.{fed}
 
 joined : (ps qs : Places) (w x y : ScanData) → x ≡ feed ps w → y ≡ feed qs x → y ≡ feed (ps ++ qs) w

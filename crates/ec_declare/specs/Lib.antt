@@ -1,4 +1,3 @@
-pub use Rattle.ec_sections.specs as ec_sections
 pub mod Answers
 pub mod Counting
 pub mod Scanning

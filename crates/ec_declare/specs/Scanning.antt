@@ -5,8 +5,8 @@ use Rattle.ec_base.specs.declared.fault.FaultKind.TheVariants.{F9, F13}
 use Rattle.ec_base.specs.declared.line.Line.{Line}
 use Rattle.ec_base.specs.declared.stop.Stop.{Stop}
 use Rattle.ec_base.specs.declared.stop.Stop.TheVariants.{Refused}
-use Rattle.ec_sections.specs.Places.{PlaceData, holds, mark, Places}
-use Rattle.ec_sections.specs.Uses.{UsesData}
+use Rattle.ec_host_defs.specs.sections.Places.{PlaceData, holds, mark, Places}
+use Rattle.ec_host_defs.specs.sections.Uses.{UsesData}
 
 -- how many sections are open, whether the last mark opens one, the line of the outermost open mark where no fault stands before it, and the first fault but for open marks
 pub record ScanData : Type 0 where

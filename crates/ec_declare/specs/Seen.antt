@@ -7,8 +7,8 @@ use Rattle.ec_declare.specs.declared.scan.Scan.{Scan}
 use Rattle.ec_declare.specs.declared.counting.Count.{Count}
 use Rattle.ec_declare.specs.Counting.{CountData}
 use Rattle.ec_declare.specs.Scanning.{ScanData}
-use Rattle.ec_sections.specs.Lengths.{Plain}
-use Rattle.ec_sections.specs.Uses.{UsesData}
+use Rattle.ec_host_defs.specs.sections.Lengths.{Plain}
+use Rattle.ec_host_defs.specs.sections.Uses.{UsesData}
 use Rattle.ec_type_rules.specs.Views.{constant_view}
 
 abbrev pub plain_view : PlainConstant → Plain

@@ -5,8 +5,8 @@ use Rattle.ec_ctypes.specs.trees.Exprs.{ExprData, integer, character, string, id
 use Rattle.ec_ctypes.specs.trees.Stmts.{StmtData, stmt, StmtKindData, empty_stmt, expr_stmt, block_stmt, if_stmt, while_stmt, do_stmt, for_stmt, break_stmt, continue_stmt, return_stmt, goto_stmt, label_stmt, decl_stmt, emb_stmt, mark_stmt, StmtList, no_stmts, stmts, StmtOption, no_stmt, some_stmt}
 use Rattle.ec_ctypes.specs.trees.Units.{ParamData, FuncData, TopData, include_top, directive_top, decl_top, func_top, mark_top}
 use Rattle.ec_declare.specs.Scanning.{ScanData, step}
-use Rattle.ec_sections.specs.Places.{holds, mark}
-use Rattle.ec_sections.specs.Uses.{◌&◌, in_base, in_declarators, in_kind, in_function}
+use Rattle.ec_host_defs.specs.sections.Places.{holds, mark}
+use Rattle.ec_host_defs.specs.sections.Uses.{◌&◌, in_base, in_declarators, in_kind, in_function}
 
 abbrev mutual
   pub walk_expr : ExprData → ScanData → ScanData

@@ -3,9 +3,9 @@
 ghost use Rattle.std.specs.Prelude.{◌≡◌, false, IfOk, map};
 ghost use Rattle.ec_ctypes.specs.views.Units.{top_view, unit_view};
 ghost use Rattle.ec_declare.specs.Answers.{Told};
-ghost use Rattle.ec_sections.specs.Answers.{hosts_answer, violations_from};
-ghost use Rattle.ec_sections.specs.Declared.{functions_of, hosts_of};
-ghost use Rattle.ec_sections.specs.Places.{of_tops};
+ghost use Rattle.ec_host_defs.specs.sections.Answers.{hosts_answer, violations_from};
+ghost use Rattle.ec_host_defs.specs.sections.Declared.{functions_of, hosts_of};
+ghost use Rattle.ec_host_defs.specs.sections.Places.{of_tops};
 ghost use Rattle.ec_language.specs.First.{first_of, stop_at};
 
 use crate::counting::count_in;

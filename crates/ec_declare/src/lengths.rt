@@ -4,8 +4,8 @@ ghost use Rattle.std.specs.Prelude.{◌≡◌};
 ghost use Rattle.ec_ctypes.specs.views.Exprs.{expr_view, expr_option_view, dim_of, dims_view};
 ghost use Rattle.ec_ctypes.specs.views.Types.{ty_view};
 ghost use Rattle.ec_declare.specs.Seen.{plain_option_view};
-ghost use Rattle.ec_sections.specs.Lengths as spec;
-ghost use Rattle.ec_sections.specs.ec_typing.Types as rule;
+ghost use Rattle.ec_host_defs.specs.sections.Lengths as spec;
+ghost use Rattle.ec_typing_defs.specs.Types as rule;
 
 use ec_ctypes::{Arith, BinOp, Expr, Ty, UnOp, promote, usual};
 use ec_type_rules::{Constant, binary_constant, unary_constant};

@@ -6,8 +6,8 @@ ghost use Rattle.ec_ctypes.specs.views.Stmts.{stmt_view, kind_view, stmts_view, 
 ghost use Rattle.ec_ctypes.specs.views.Units.{param_view, func_view, top_view};
 ghost use Rattle.ec_declare.specs.Seen.{scan_view, uses_view};
 ghost use Rattle.ec_declare.specs.Walking as spec;
-ghost use Rattle.ec_sections.specs.Uses as uses;
-ghost use Rattle.ec_sections.specs.Uses.{◌&◌};
+ghost use Rattle.ec_host_defs.specs.sections.Uses as uses;
+ghost use Rattle.ec_host_defs.specs.sections.Uses.{◌&◌};
 
 use crate::scan::Scan;
 use crate::uses::{Uses, in_base, in_declarators, in_function, in_kind};

@@ -4,7 +4,7 @@ ghost use Rattle.std.specs.Prelude.{◌≡◌, OnOk};
 ghost use Rattle.ec_declare.specs.Scanning as spec;
 ghost use Rattle.ec_declare.specs.Scanning.{at_start};
 ghost use Rattle.ec_declare.specs.Seen.{scan_view, uses_view};
-ghost use Rattle.ec_sections.specs.Places.{holds, mark};
+ghost use Rattle.ec_host_defs.specs.sections.Places.{holds, mark};
 
 use crate::uses::Uses;
 use ec_base::{FaultKind, Line, OutOfMemory, Stop};

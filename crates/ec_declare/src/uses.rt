@@ -5,8 +5,8 @@ ghost use Rattle.ec_ctypes.specs.views.Exprs.{expr_view, expr_option_view, exprs
 ghost use Rattle.ec_ctypes.specs.views.Stmts.{kind_view};
 ghost use Rattle.ec_ctypes.specs.views.Units.{param_view, func_view};
 ghost use Rattle.ec_declare.specs.Seen.{uses_view};
-ghost use Rattle.ec_sections.specs.Uses as spec;
-ghost use Rattle.ec_sections.specs.Uses.{◌&◌};
+ghost use Rattle.ec_host_defs.specs.sections.Uses as spec;
+ghost use Rattle.ec_host_defs.specs.sections.Uses.{◌&◌};
 
 use crate::lengths::ends_in_length;
 use ec_ctypes::{Base, Declarator, Expr, Func, Init, Param, StmtKind};

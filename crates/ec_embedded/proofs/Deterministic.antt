@@ -1,6 +1,6 @@
 -- In each form the next token tells the choice.
 use Rattle.std.proofs.Common.{◌≡◌, true, refl}
-use Rattle.ec_shapes.specs.ReadShapes.{is_deterministic}
+use Rattle.ec_embedded.specs.shapes.ReadShapes.{is_deterministic}
 use Rattle.ec_embedded.specs.Terminals.{alphabet}
 use Rattle.ec_embedded.specs.Connections.{user_form, plain_tail, parted_tail, target_form, connect_form, set_connection_form, disconnect_form, autocommit_form}
 use Rattle.ec_embedded.specs.Descriptors.{item_form, got_form, other_item_form, set_item_form, assigned_form, setting_form, behind_host_form, set_value_form, allocate_form, get_form, set_form}

@@ -2,16 +2,16 @@
 use Rattle.std.proofs.Common.{◌≡◌, ℕ, suc, ◌-◌, Bool, true, false, List, [], ◌∷◌, ◌++◌, drop, length, refl, ap, sym, ◌∙◌, subst, codes, Option, Some, None, arith, length-append}
 use Rattle.std.proofs.lemmas.Bool.{false≢true}
 use Rattle.std.proofs.Math.Seq.{drop-append_seam}
-use Rattle.ec_language.specs.ec_ctypes.trees.Embedded.{EmbKindData}
-use Rattle.ec_shapes.specs.declared.failure.Failure.TheVariants as failure
-use Rattle.ec_shapes.specs.Beginnings.{Beginning, Begins, beginning}
-use Rattle.ec_shapes.specs.ReadShapes.{done, stopped, stuck, and_then, is_deterministic, read, last, dead_at, over_at, judged}
-use Rattle.ec_shapes.specs.Shapes.{Judged, tree, Judges}
-use Rattle.ec_shapes.proofs.Beginnings.{begins, once}
-use Rattle.ec_shapes.proofs.Exact.{exact, last_is, over_last}
-use Rattle.ec_shapes.proofs.Firsts.{yes_second}
-use Rattle.ec_shapes.proofs.Single.{single}
-use Rattle.ec_shapes.proofs.Stopped.{Explains, explain}
+use Rattle.ec_ctypes.specs.trees.Embedded.{EmbKindData}
+use Rattle.ec_embedded.specs.declared.shapes.failure.Failure.TheVariants as failure
+use Rattle.ec_embedded.specs.shapes.Beginnings.{Beginning, Begins, beginning}
+use Rattle.ec_embedded.specs.shapes.ReadShapes.{done, stopped, stuck, and_then, is_deterministic, read, last, dead_at, over_at, judged}
+use Rattle.ec_embedded.specs.shapes.Shapes.{Judged, tree, Judges}
+use Rattle.ec_embedded.proofs.shapes_lemmas.Beginnings.{begins, once}
+use Rattle.ec_embedded.proofs.shapes_lemmas.Exact.{exact, last_is, over_last}
+use Rattle.ec_embedded.proofs.shapes_lemmas.Firsts.{yes_second}
+use Rattle.ec_embedded.proofs.shapes_lemmas.Single.{single}
+use Rattle.ec_embedded.proofs.shapes_lemmas.Stopped.{Explains, explain}
 use Rattle.ec_language.specs.Letters.{Text}
 use Rattle.ec_language.specs.SqlTokens.{SqlToken}
 use Rattle.ec_embedded.specs.Findings.{Found, stops, passes, found_in}

@@ -4,10 +4,10 @@ use Rattle.std.specs.Prelude.{is_some}
 use Rattle.ec_base.specs.declared.fault.FaultKind.TheVariants.{F9}
 use Rattle.ec_base.specs.declared.stop.Stop.{Stop}
 use Rattle.ec_base.specs.declared.stop.Stop.TheVariants.{Refused}
-use Rattle.ec_language.specs.ec_ctypes.declared.text.piece.Piece.{Piece}
-use Rattle.ec_language.specs.ec_ctypes.trees.Embedded.{TextArgData, EmbData}
-use Rattle.ec_shapes.specs.Beginnings.{beginning}
-use Rattle.ec_shapes.specs.ReadShapes.{done, stopped, read}
+use Rattle.ec_ctypes.specs.declared.text.piece.Piece.{Piece}
+use Rattle.ec_ctypes.specs.trees.Embedded.{TextArgData, EmbData}
+use Rattle.ec_embedded.specs.shapes.Beginnings.{beginning}
+use Rattle.ec_embedded.specs.shapes.ReadShapes.{done, stopped, read}
 use Rattle.ec_language.specs.Tokens.{HasSqlTokens}
 use Rattle.ec_language.proofs.StatementTokens.{one_sql_answer, has_tokens}
 use Rattle.ec_embedded.specs.Answers.{IsSaid, left_out, taken, IsAnswer, alone, behind_at, nameless, placed, end_line, StatementOrStop}

@@ -2,7 +2,7 @@
 use Rattle.std.proofs.Common.{◌≡◌, Bool, true, false, not, List, [], ◌∷◌, map, refl, ap, sym, ◌∙◌, subst}
 use Rattle.std.proofs.lemmas.Bool.{false≢true, eqb-true}
 use Rattle.std.specs.Prelude.{◌&&◌, nat_eq}
-use Rattle.ec_shapes.proofs.Firsts.{yes_first, yes_second, no_first, no_second}
+use Rattle.ec_embedded.proofs.shapes_lemmas.Firsts.{yes_first, yes_second, no_first, no_second}
 use Rattle.ec_language.specs.Letters.{Text, lower, same_text, same_word}
 use Rattle.ec_language.specs.SqlTokens.{SqlToken}
 use Rattle.ec_embedded.specs.Terminals.{Sort, word, fitting, whole, number, character, quote, name, mark, sort_of, is_word_among, Test, none, all, among, but, passes, Terminal, is, none_among, all_among, tests_apart, sorts, apart_in, apart}

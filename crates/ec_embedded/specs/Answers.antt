@@ -4,10 +4,10 @@ use Rattle.ec_base.specs.declared.fault.FaultKind.TheVariants.{F9}
 use Rattle.ec_base.specs.declared.line.Line.{Line}
 use Rattle.ec_base.specs.declared.stop.Stop.{Stop}
 use Rattle.ec_base.specs.declared.stop.Stop.TheVariants.{Refused}
-use Rattle.ec_language.specs.ec_ctypes.declared.text.piece.Piece.{Piece}
-use Rattle.ec_language.specs.ec_ctypes.trees.Embedded.{TextArgData, EmbKindData, EmbData}
-use Rattle.ec_shapes.specs.Beginnings.{Beginning, Begins}
-use Rattle.ec_shapes.specs.Shapes.{Judged, tree, dead, short, over, Judges}
+use Rattle.ec_ctypes.specs.declared.text.piece.Piece.{Piece}
+use Rattle.ec_ctypes.specs.trees.Embedded.{TextArgData, EmbKindData, EmbData}
+use Rattle.ec_embedded.specs.shapes.Beginnings.{Beginning, Begins}
+use Rattle.ec_embedded.specs.shapes.Shapes.{Judged, tree, dead, short, over, Judges}
 use Rattle.ec_language.specs.Line.{newlines}
 use Rattle.ec_language.specs.SqlTokens.{SqlToken}
 use Rattle.ec_language.specs.Tokens.{SqlTokens}

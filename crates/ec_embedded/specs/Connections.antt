@@ -1,8 +1,8 @@
 -- Statements on connections: CONNECT, SET CONNECTION, DISCONNECT and SET AUTOCOMMIT (PostgreSQL manual, "Managing Database Connections"), as shapes, with the tree that each makes.
 use Rattle.std.specs.Prelude.{true, false, List, [], ◌∷◌, ◌++◌, codes, Option, Some, None, if◌then◌else◌}
 use Rattle.std.proofs.Common.{inl, inr}
-use Rattle.ec_language.specs.ec_ctypes.trees.Embedded.{TextArgData, word_arg, EmbKindData, connect, set_connection, disconnect, autocommit}
-use Rattle.ec_shapes.specs.Shapes.{nothing, one, both, either, many}
+use Rattle.ec_ctypes.specs.trees.Embedded.{TextArgData, word_arg, EmbKindData, connect, set_connection, disconnect, autocommit}
+use Rattle.ec_embedded.specs.shapes.Shapes.{nothing, one, both, either, many}
 use Rattle.ec_language.specs.Letters.{Text, same_word}
 use Rattle.ec_language.specs.SqlTokens.{SqlToken}
 use Rattle.ec_embedded.specs.Terminals.{Terminal, reference, keyword, parted_word, word_but, sign, colon, plain_quote, target_start, target_more, target_behind}

@@ -1,11 +1,11 @@
 -- Statements on SQL descriptors: ALLOCATE, GET and SET (PostgreSQL manual, "Using Descriptor Areas"), as shapes, with the tree that each makes. DEALLOCATE stands beside that of prepared statements.
 use Rattle.std.specs.Prelude.{List, [], ◌∷◌, map, codes, Option, Some, None}
 use Rattle.std.proofs.Common.{inl, inr}
-use Rattle.ec_language.specs.ec_ctypes.declared.embedded.emb.Item.{Item}
-use Rattle.ec_language.specs.ec_ctypes.declared.embedded.emb.Item.TheVariants as item
-use Rattle.ec_language.specs.ec_ctypes.trees.Embedded.{HostData, InputData, host_input, EmbKindData, allocate_area, get_count, get_items, set_count, set_items}
-use Rattle.ec_language.specs.ec_ctypes.trees.Exprs.{ExprData}
-use Rattle.ec_shapes.specs.Shapes.{one, both, either}
+use Rattle.ec_ctypes.specs.declared.embedded.emb.Item.{Item}
+use Rattle.ec_ctypes.specs.declared.embedded.emb.Item.TheVariants as item
+use Rattle.ec_ctypes.specs.trees.Embedded.{HostData, InputData, host_input, EmbKindData, allocate_area, get_count, get_items, set_count, set_items}
+use Rattle.ec_ctypes.specs.trees.Exprs.{ExprData}
+use Rattle.ec_embedded.specs.shapes.Shapes.{one, both, either}
 use Rattle.ec_language.specs.SqlTokens.{SqlToken}
 use Rattle.ec_embedded.specs.Terminals.{input, reference, sign}
 use Rattle.ec_embedded.specs.References.{Form, Of, row, choice, further, listed, gathered, word, named, reference_form, host_form, host_of, text_form, text_of, spelled_text_form, spelled_text_of, constant_form, constant_of, value_form, value_of, spelled_value_form, spelled_value_of}

@@ -1,18 +1,17 @@
 -- WHENEVER and INCLUDE, and how DECLARE of a cursor begins (PostgreSQL manual, "Error Handling" and "Embedded SQL Commands"), as shapes, with what each makes.
-use Rattle.std.specs.Prelude.{[], ◌∷◌, codes}
+use Rattle.std.specs.Prelude.{[], ◌∷◌, codes, ℤ, pos, Option, Some, None}
 use Rattle.std.proofs.Common.{inl, inr}
-use Rattle.ec_language.specs.ec_ctypes.declared.embedded.emb.Cond.{Cond}
-use Rattle.ec_language.specs.ec_ctypes.declared.embedded.emb.Cond.TheVariants as cond
-use Rattle.ec_language.specs.ec_ctypes.trees.Embedded.{ActionData, continue_action, goto_action, print_action, stop_action, break_action, next_action, call_action, EmbKindData, whenever, include_sqlca}
-use Rattle.ec_language.specs.ec_ctypes.trees.Exprs.{ExprData, character, ExprList, no_exprs}
-use Rattle.ec_language.specs.ec_ctypes.views.Exprs.{exprs_of}
-use Rattle.ec_shapes.specs.Shapes.{one, both, either}
+use Rattle.ec_ctypes.specs.declared.embedded.emb.Cond.{Cond}
+use Rattle.ec_ctypes.specs.declared.embedded.emb.Cond.TheVariants as cond
+use Rattle.ec_ctypes.specs.trees.Embedded.{ActionData, continue_action, goto_action, print_action, stop_action, break_action, next_action, call_action, EmbKindData, whenever, include_sqlca}
+use Rattle.ec_ctypes.specs.trees.Exprs.{ExprData, character, ExprList, no_exprs}
+use Rattle.ec_ctypes.specs.views.Exprs.{exprs_of}
+use Rattle.ec_embedded.specs.shapes.Shapes.{one, both, either}
 use Rattle.ec_language.specs.Constants.{character_value}
 use Rattle.ec_language.specs.Letters.{Text}
 use Rattle.ec_language.specs.Productions as c
 use Rattle.ec_embedded.specs.Terminals.{any_word, other_word, fitting_number, character_constant, sign}
 use Rattle.ec_embedded.specs.References.{Form, Of, row, choice, optional, listed, gathered, word, decimal_constant}
-use Rattle.std.specs.Prelude.{ℤ, pos, Option, Some, None}
 
 -- ---- WHENEVER
 

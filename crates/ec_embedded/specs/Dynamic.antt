@@ -1,8 +1,8 @@
 -- Statements on prepared statements and cursors: PREPARE, EXECUTE, DEALLOCATE and OPEN (PostgreSQL manual, "Dynamic SQL" and "Using Cursors"), as shapes, with the tree that each makes.
 use Rattle.std.specs.Prelude.{[], ◌∷◌, codes}
 use Rattle.std.proofs.Common.{inl, inr}
-use Rattle.ec_language.specs.ec_ctypes.trees.Embedded.{listed_ins, OutsData, no_outs, EmbKindData, open_cursor, execute_immediate, prepare, execute, deallocate, free_area}
-use Rattle.ec_shapes.specs.Shapes.{nothing, one, both, either}
+use Rattle.ec_ctypes.specs.trees.Embedded.{listed_ins, OutsData, no_outs, EmbKindData, open_cursor, execute_immediate, prepare, execute, deallocate, free_area}
+use Rattle.ec_embedded.specs.shapes.Shapes.{nothing, one, both, either}
 use Rattle.ec_language.specs.Letters.{Text}
 use Rattle.ec_embedded.specs.Terminals.{any_word, other_word, word_but}
 use Rattle.ec_embedded.specs.References.{Form, Of, row, choice, optional, word, text_form, text_of, statement_text_form, statement_text_of, ins_form, ins_of, outs_form, outs_of, using_form, using_of}

@@ -4,8 +4,8 @@ use Rattle.ec_base.specs.declared.fault.FaultKind.TheVariants.{F8, F9}
 use Rattle.ec_base.specs.declared.stop.Stop.{Stop}
 use Rattle.ec_base.specs.declared.stop.Stop.TheVariants.{Refused}
 use Prim.Native.String.{String}
-use Rattle.ec_language.specs.ec_ctypes.trees.Embedded.{HostData, TextArgData, PartData, bytes_part, host_part, EmbKindData}
-use Rattle.ec_language.specs.ec_ctypes.trees.Exprs.{identifier}
+use Rattle.ec_ctypes.specs.trees.Embedded.{HostData, TextArgData, PartData, bytes_part, host_part, EmbKindData}
+use Rattle.ec_ctypes.specs.trees.Exprs.{identifier}
 use Rattle.ec_language.specs.Line.{newlines}
 use Rattle.ec_language.specs.ReadTokens.{statement_units}
 use Rattle.ec_language.specs.SqlTokens.{SqlToken}

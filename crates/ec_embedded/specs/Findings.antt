@@ -4,9 +4,9 @@ use Rattle.ec_base.specs.declared.fault.FaultKind.TheVariants.{F8}
 use Rattle.ec_base.specs.declared.fault.LimitKind.TheVariants.{L4}
 use Rattle.ec_base.specs.declared.stop.Stop.{Stop}
 use Rattle.ec_base.specs.declared.stop.Stop.TheVariants.{Refused, Limit}
-use Rattle.ec_language.specs.ec_ctypes.trees.Embedded.{TextArgData, EmbKindData}
-use Rattle.ec_shapes.specs.declared.failure.Failure.TheVariants as failure
-use Rattle.ec_shapes.specs.ReadShapes.{done, stopped, last}
+use Rattle.ec_ctypes.specs.trees.Embedded.{TextArgData, EmbKindData}
+use Rattle.ec_embedded.specs.declared.shapes.failure.Failure.TheVariants as failure
+use Rattle.ec_embedded.specs.shapes.ReadShapes.{done, stopped, last}
 use Rattle.ec_embedded.specs.ServerText.{Tokens, Reading}
 use Rattle.ec_embedded.specs.Terminals.{is, any_word}
 

@@ -1,11 +1,11 @@
 -- That a form is read exactly, and that each statement has one answer.
 use Rattle.std.specs.Prelude.{◌≡◌, ℕ, Result}
 use Rattle.ec_base.specs.declared.stop.Stop.{Stop}
-use Rattle.ec_language.specs.ec_ctypes.declared.text.piece.Piece.{Piece}
-use Rattle.ec_language.specs.ec_ctypes.trees.Embedded.{EmbData}
+use Rattle.ec_ctypes.specs.declared.text.piece.Piece.{Piece}
+use Rattle.ec_ctypes.specs.trees.Embedded.{EmbData}
 use Rattle.ec_language.specs.SqlTokens.{SqlToken}
-use Rattle.ec_shapes.specs.Shapes.{Judged, Judges}
-use Rattle.ec_shapes.specs.ReadShapes.{read, judged}
+use Rattle.ec_embedded.specs.shapes.Shapes.{Judged, Judges}
+use Rattle.ec_embedded.specs.shapes.ReadShapes.{read, judged}
 use Rattle.ec_language.specs.Tokens.{HasSqlTokens}
 use Rattle.ec_embedded.specs.Answers.{IsAnswer, StatementOrStop}
 use Rattle.ec_embedded.specs.References.{Form, Of}

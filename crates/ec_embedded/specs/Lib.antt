@@ -12,3 +12,4 @@ pub mod SentText
 pub mod ServerText
 pub mod Statements
 pub mod Terminals
+pub mod shapes

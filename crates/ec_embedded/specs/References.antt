@@ -1,11 +1,11 @@
 -- References to host variables, names, values and lists of them: what the forms of embedded statements are made of.
 use Rattle.std.specs.Prelude.{◌-◌, ◌^◌, true, false, nat_lt, List, [], ◌∷◌, ◌++◌, take, drop, length, fold, codes, ◌⊎◌, Option, Some, None, if◌then◌else◌, ◌==◌}
 use Rattle.std.proofs.Common.{inl, inr}
-use Rattle.ec_language.specs.ec_ctypes.declared.types.arith.Arith.TheVariants.{Int, Long}
-use Rattle.ec_language.specs.ec_ctypes.trees.Embedded.{HostData, TextArgData, word_arg, host_arg, host_with_indicator, InputData, host_input, const_input, InsData, listed_ins, area_ins, OutsData, listed_outs, area_outs}
-use Rattle.ec_language.specs.ec_ctypes.trees.Exprs.{ExprData, integer, identifier, index, member, arrow}
-use Rattle.ec_language.specs.ec_ctypes.trees.Types.{arithmetic}
-use Rattle.ec_shapes.specs.Shapes.{Shape, nothing, one, both, either, many, Tree}
+use Rattle.ec_ctypes.specs.declared.types.arith.Arith.TheVariants.{Int, Long}
+use Rattle.ec_ctypes.specs.trees.Embedded.{HostData, TextArgData, word_arg, host_arg, host_with_indicator, InputData, host_input, const_input, InsData, listed_ins, area_ins, OutsData, listed_outs, area_outs}
+use Rattle.ec_ctypes.specs.trees.Exprs.{ExprData, integer, identifier, index, member, arrow}
+use Rattle.ec_ctypes.specs.trees.Types.{arithmetic}
+use Rattle.ec_embedded.specs.shapes.Shapes.{Shape, nothing, one, both, either, many, Tree}
 use Rattle.ec_language.specs.Constants.{digits_value}
 use Rattle.ec_language.specs.Letters.{Text, single_quote}
 use Rattle.ec_language.specs.SqlTokens.{SqlToken}

@@ -1,6 +1,6 @@
 -- The text of a statement as it is sent: each host stands for as many parameters as it has leaves (PostgreSQL manual, "PREPARE": parameters are `$1`, `$2` and so on).
 use Rattle.std.specs.Prelude.{ℕ, zero, suc, ◌+◌, List, [], ◌∷◌, ◌++◌, codes, decimal}
-use Rattle.ec_language.specs.ec_ctypes.trees.Embedded.{HostData, PartData, bytes_part, host_part}
+use Rattle.ec_ctypes.specs.trees.Embedded.{HostData, PartData, bytes_part, host_part}
 use Rattle.ec_language.specs.Letters.{Text, dollar}
 
 -- so many parameters from this number on, with a comma and a blank between them

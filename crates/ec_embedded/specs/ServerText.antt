@@ -1,11 +1,11 @@
 -- Statements that pass to the server (PostgreSQL manual, "Running SQL Commands"): any tokens. References to host variables stand for parameters, and the list of an INTO is cut out of the text.
 use Rattle.std.specs.Prelude.{ℕ, zero, suc, ◌-◌, Bool, true, false, not, ◌&&◌, ◌||◌, ◌==◌, List, [], ◌∷◌, ◌++◌, drop, length, codes, Some, None, if◌then◌else◌}
-use Rattle.ec_shapes.specs.ReadShapes.{Outcome, done, stuck, over_limit, and_then}
+use Rattle.ec_embedded.specs.shapes.ReadShapes.{Outcome, done, stuck, over_limit, and_then}
 use Rattle.ec_language.specs.Letters.{Text}
 use Rattle.ec_language.specs.SqlTokens.{SqlToken}
 use Rattle.ec_embedded.specs.Terminals.{Counts, step_by, Begins, input, reference, suffix, is, keyword, any_word, glued_word, sign, suffix_sign, glued_sign, glued_number, plain_quote}
-use Rattle.ec_language.specs.ec_ctypes.trees.Embedded.{HostData, TextArgData, word_arg, OutsData, no_outs, listed_outs, area_outs, PartData, bytes_part, host_part, EmbKindData, server_text, trans}
-use Rattle.ec_language.specs.ec_ctypes.trees.Exprs.{ExprData, identifier, index, member, arrow}
+use Rattle.ec_ctypes.specs.trees.Embedded.{HostData, TextArgData, word_arg, OutsData, no_outs, listed_outs, area_outs, PartData, bytes_part, host_part, EmbKindData, server_text, trans}
+use Rattle.ec_ctypes.specs.trees.Exprs.{ExprData, identifier, index, member, arrow}
 use Rattle.ec_embedded.specs.References.{unquoted, text_of_host, decimal_constant}
 
 abbrev pub Tokens : Type 0

@@ -2,9 +2,9 @@
 use Rattle.std.specs.Prelude.{ℕ, ◌-◌, Bool, true, false, List, [], ◌∷◌, ◌++◌, drop, length, codes, Option, Some, None, is_some, Err, if◌then◌else◌}
 use Rattle.ec_base.specs.declared.fault.FaultKind.TheVariants.{F9}
 use Rattle.ec_base.specs.declared.stop.Stop.TheVariants.{Refused}
-use Rattle.ec_language.specs.ec_ctypes.trees.Embedded.{TextArgData, bytes_part, EmbKindData, declare_cursor}
-use Rattle.ec_shapes.specs.Shapes.{both}
-use Rattle.ec_shapes.specs.ReadShapes.{Outcome, done, stopped, stuck, and_then, read}
+use Rattle.ec_ctypes.specs.trees.Embedded.{TextArgData, bytes_part, EmbKindData, declare_cursor}
+use Rattle.ec_embedded.specs.shapes.Shapes.{both}
+use Rattle.ec_embedded.specs.shapes.ReadShapes.{Outcome, done, stopped, stuck, and_then, read}
 use Rattle.ec_language.specs.Letters.{Text}
 use Rattle.ec_embedded.specs.Terminals.{alphabet, Counts, no_counts, is, any_word}
 use Rattle.ec_embedded.specs.References.{Form, Of, word, text_form}

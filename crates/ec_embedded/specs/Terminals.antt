@@ -1,6 +1,6 @@
 -- What the forms of embedded statements tell of a token, and what is counted in them.
 use Rattle.std.specs.Prelude.{ℕ, suc, ◌^◌, Bool, true, false, not, nat_le, nat_lt, ◌==◌, List, [], ◌∷◌, codes, Option, Some, None, is_some, if◌then◌else◌}
-use Rattle.ec_shapes.specs.Shapes.{Alphabet}
+use Rattle.ec_embedded.specs.shapes.Shapes.{Alphabet}
 use Rattle.ec_language.specs.Constants.{digits_value, character_value}
 use Rattle.ec_language.specs.Letters.{Text, is_digit, each, begins, single_quote, same_word}
 use Rattle.ec_language.specs.SqlTokens.{SqlToken, SqlClass}

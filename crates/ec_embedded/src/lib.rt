@@ -3,6 +3,7 @@
 
 mod examples;
 mod laws;
+pub mod shapes;
 
 pub use examples::{
     connection_examples, cursor_examples, descriptor_examples, directive_examples,

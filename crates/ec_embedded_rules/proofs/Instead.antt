@@ -3,7 +3,7 @@ use Rattle.std.proofs.Common.{◌≡◌, ◌∙◌, Bool, true, false, cond, Lis
 use Rattle.ec_base.specs.declared.fault.FaultKind.{FaultKind}
 use Rattle.ec_base.specs.declared.stop.Stop.TheVariants.{Refused}
 use Rattle.ec_language.specs.First.{Violation, comes_before}
-use Rattle.ec_typing.specs.Worlds.{Place, Rule, instead}
+use Rattle.ec_typing_defs.specs.Worlds.{Place, Rule, instead}
 use Rattle.ec_scopes.specs.declared.state.Checker.{Checker}
 use Rattle.ec_scopes.specs.Seen.{world_of, notes_of, noted, noted_one, noted_instead, IsDone}
 

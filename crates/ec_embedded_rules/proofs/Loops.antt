@@ -1,12 +1,12 @@
 -- Loops over references.
 use Rattle.std.proofs.Common.{◌≡◌, ◌∙◌, ℕ, ◌+◌, ◌<◌, List, ◌++◌, length, drop, map, get_or, Option, ap, sym}
 use Rattle.ec_language.specs.First.{Violation}
-use Rattle.ec_statement_parts.specs.References.{all_names, names_in}
-use Rattle.ec_parts.specs.declared.gathering.Reference.{Reference}
-use Rattle.ec_parts.specs.Views.{reference_view}
-use Rattle.ec_typing.specs.Worlds.{Place, Out, World, chain}
-use Rattle.ec_typing.specs.Embedded.{reference_rule, members_rule, references_rule, denoted_in}
-use Rattle.ec_typing.specs.Operands.{OperandData}
+use Rattle.ec_typing_defs.specs.statement_parts.References.{all_names, names_in}
+use Rattle.ec_embedded_rules.specs.declared.parts.gathering.Reference.{Reference}
+use Rattle.ec_embedded_rules.specs.parts.Views.{reference_view}
+use Rattle.ec_typing_defs.specs.Worlds.{Place, Out, World, chain}
+use Rattle.ec_typing_defs.specs.Embedded.{reference_rule, members_rule, references_rule, denoted_in}
+use Rattle.ec_typing_defs.specs.Operands.{OperandData}
 use Rattle.ec_scopes.specs.declared.state.Checker.{Checker}
 use Rattle.ec_scopes.specs.Seen.{world_of, notes_of, IsDone}
 use Rattle.ec_scopes.proofs.Loops.{drop_item}

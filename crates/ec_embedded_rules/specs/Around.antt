@@ -1,7 +1,7 @@
 -- What stands round a statement, as the definitions see it.
 use Rattle.std.specs.Prelude.{map}
 use Rattle.ec_ctypes.specs.views.Embedded.{emb_view}
-use Rattle.ec_typing.specs.Statements.{Around as AroundData}
+use Rattle.ec_typing_defs.specs.Statements.{Around as AroundData}
 use Rattle.ec_scopes.specs.Entries.{type_view}
 use Rattle.ec_embedded_rules.specs.declared.surroundings.Around.{Around}
 

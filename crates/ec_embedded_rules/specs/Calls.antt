@@ -1,8 +1,8 @@
 -- Calls that actions make.
 use Rattle.ec_ctypes.specs.trees.Exprs.{ExprList, call}
 use Rattle.ec_language.specs.Letters.{Text}
-use Rattle.ec_typing.specs.Worlds.{Place, Rule, ◌>>◌, pure}
-use Rattle.ec_typing.specs.Expressions.{expr}
+use Rattle.ec_typing_defs.specs.Worlds.{Place, Rule, ◌>>◌, pure}
+use Rattle.ec_typing_defs.specs.Expressions.{expr}
 
 -- the call of the function of this name, whose value is not used
 abbrev pub called : Place → Text → ExprList → Rule (Unit {0})

@@ -1,5 +1,5 @@
 //! The actions that hold at embedded statements (PostgreSQL manual, "Setting Callbacks").
-#![tactic(auto, using(ec_scopes::proofs::Steps::noting), unfolding(ec_typing::specs::Worlds::chain, ec_typing::specs::Worlds::pure))]
+#![tactic(auto, using(ec_scopes::proofs::Steps::noting), unfolding(ec_typing_defs::specs::Worlds::chain, ec_typing_defs::specs::Worlds::pure))]
 
 ghost use Rattle.std.specs.Prelude.{◌≡◌, Some, map};
 ghost use Rattle.ec_base.specs.declared.fault.FaultKind.TheVariants.{F30};
@@ -8,14 +8,14 @@ ghost use Rattle.ec_ctypes.specs.views.Exprs.{exprs_view};
 ghost use Rattle.ec_embedded_rules.specs.Calls.{called};
 ghost use Rattle.ec_scopes.specs.Entries.{place_view};
 ghost use Rattle.ec_scopes.specs.Seen.{world_of, Does};
-ghost use Rattle.ec_statement_parts.specs.Handlers.{handler};
-ghost use Rattle.ec_typing.specs.Embedded as rule;
-ghost use Rattle.ec_typing.specs.Worlds.{instead};
+ghost use Rattle.ec_typing_defs.specs.statement_parts.Handlers.{handler};
+ghost use Rattle.ec_typing_defs.specs.Embedded as rule;
+ghost use Rattle.ec_typing_defs.specs.Worlds.{instead};
 
+use crate::parts::is_directive;
 use crate::surroundings::Around;
 use ec_base::{FaultKind, OutOfMemory};
 use ec_ctypes::{Action, Cond, Emb, Expr};
-use ec_parts::is_directive;
 use ec_scopes::{Checker, Place};
 use ec_walk::call;
 

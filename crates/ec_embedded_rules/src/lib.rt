@@ -3,11 +3,11 @@
 #![tactic(auto)]
 
 mod actions;
+pub mod parts;
 mod references;
 mod statements;
 mod surroundings;
 mod variables;
 
-pub use ec_parts;
 pub use statements::{directive_rule, embedded_at};
 pub use surroundings::{Around, as_body, as_item, looping};

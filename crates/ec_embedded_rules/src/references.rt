@@ -1,19 +1,19 @@
 //! The references of embedded statements (PostgreSQL manual, "Using Host Variables").
-#![tactic(auto, using(ec_scopes::proofs::Steps::noting), unfolding(ec_typing::specs::Worlds::chain, ec_typing::specs::Worlds::pure, ec_typing::specs::Worlds::ask, ec_typing::specs::Embedded::reference_rule, ec_typing::specs::Embedded::members_rule))]
+#![tactic(auto, using(ec_scopes::proofs::Steps::noting), unfolding(ec_typing_defs::specs::Worlds::chain, ec_typing_defs::specs::Worlds::pure, ec_typing_defs::specs::Worlds::ask, ec_typing_defs::specs::Embedded::reference_rule, ec_typing_defs::specs::Embedded::members_rule))]
 
 ghost use Rattle.std.specs.Prelude.{◌≡◌, map};
 ghost use Rattle.ec_ctypes.specs.views.Exprs.{expr_view};
-ghost use Rattle.ec_parts.specs.Views.{reference_view};
+ghost use Rattle.ec_embedded_rules.specs.parts.Views.{reference_view};
 ghost use Rattle.ec_rules.specs.Seen.{operand_view};
 ghost use Rattle.ec_scopes.specs.Entries.{place_view, type_view};
 ghost use Rattle.ec_scopes.specs.Seen.{world_of, IsDone, Does};
-ghost use Rattle.ec_typing.specs.Embedded as rule;
-ghost use Rattle.ec_typing.specs.Worlds.{look_up};
+ghost use Rattle.ec_typing_defs.specs.Embedded as rule;
+ghost use Rattle.ec_typing_defs.specs.Worlds.{look_up};
 
+use crate::parts::Reference;
 use ec_base::{LimitKind, OutOfMemory};
 use ec_ctypes::{Expr, Ty};
 use ec_known::is_known_function;
-use ec_parts::Reference;
 use ec_rules::Operand;
 use ec_scopes::{Checker, Entry, Place};
 use ec_walk::expr;

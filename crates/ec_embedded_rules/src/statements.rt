@@ -1,29 +1,29 @@
 //! Embedded statements and directives.
-#![tactic(auto, using(ec_scopes::proofs::Steps::noting), unfolding(ec_typing::specs::Worlds::chain, ec_typing::specs::Worlds::pure))]
+#![tactic(auto, using(ec_scopes::proofs::Steps::noting), unfolding(ec_typing_defs::specs::Worlds::chain, ec_typing_defs::specs::Worlds::pure))]
 
 ghost use Rattle.std.specs.Prelude.{◌≡◌, ◌++◌, Some, map, slice_get};
 ghost use Rattle.ec_ctypes.specs.views.Embedded.{emb_view};
 ghost use Rattle.ec_embedded_rules.specs.Around.{around_view};
-ghost use Rattle.ec_parts.specs.Views.{reference_view};
+ghost use Rattle.ec_embedded_rules.specs.parts.Views.{reference_view};
 ghost use Rattle.ec_scopes.specs.Entries.{place_view};
 ghost use Rattle.ec_scopes.specs.Seen.{world_of, Does};
-ghost use Rattle.ec_statement_parts.specs.References.{all_names, names_of_option};
-ghost use Rattle.ec_statement_parts.specs.Cursors.{declare_opened};
-ghost use Rattle.ec_typing.specs.Embedded as embedded;
-ghost use Rattle.ec_typing.specs.Programs as programs;
-ghost use Rattle.ec_typing.specs.Statements as rule;
+ghost use Rattle.ec_typing_defs.specs.statement_parts.References.{all_names, names_of_option};
+ghost use Rattle.ec_typing_defs.specs.statement_parts.Cursors.{declare_opened};
+ghost use Rattle.ec_typing_defs.specs.Embedded as embedded;
+ghost use Rattle.ec_typing_defs.specs.Programs as programs;
+ghost use Rattle.ec_typing_defs.specs.Statements as rule;
 
 use crate::actions::handlers_rule;
+use crate::parts::{Reference, Statements, is_directive, references};
 use crate::references::references_rule;
 use crate::surroundings::Around;
 use crate::variables::denoted;
 use ec_base::{FaultKind, OutOfMemory};
 use ec_ctypes::Emb;
-use ec_parts::{Reference, Statements, is_directive, references};
 use ec_scopes::{Checker, Place, Table};
 
 // Keeps what the variables in these references denote, and those of the cursor that the statement opens.
-#[tactic(auto, using(ec_scopes::proofs::Steps::noting), unfolding(ec_typing::specs::Worlds::change, ec_typing::specs::Embedded::denote))]
+#[tactic(auto, using(ec_scopes::proofs::Steps::noting), unfolding(ec_typing_defs::specs::Worlds::change, ec_typing_defs::specs::Embedded::denote))]
 fn denote(
     checker: &mut Checker,
     all: &Statements<'_>,

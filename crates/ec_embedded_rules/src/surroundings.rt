@@ -1,11 +1,11 @@
 //! What stands round a statement.
 
 ghost use Rattle.std.specs.Prelude.{◌≡◌};
-ghost use Rattle.ec_typing.specs.Statements as rule;
+ghost use Rattle.ec_typing_defs.specs.Statements as rule;
 ghost use Rattle.ec_embedded_rules.specs.Around.{around_view};
 
+use crate::parts::Statements;
 use ec_ctypes::Ty;
-use ec_parts::Statements;
 use ec_scopes::Table;
 
 /// What stands round a statement.

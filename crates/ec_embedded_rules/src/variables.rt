@@ -4,15 +4,15 @@
 ghost use Rattle.std.specs.Prelude.{◌≡◌, ◌++◌, map, IfOk, OnOk};
 ghost use Rattle.ec_ctypes.specs.views.Embedded.{emb_view};
 ghost use Rattle.ec_ctypes.specs.views.Exprs.{expr_view};
-ghost use Rattle.ec_parts.specs.Views.{reference_view};
+ghost use Rattle.ec_embedded_rules.specs.parts.Views.{reference_view};
 ghost use Rattle.ec_scopes.specs.Seen.{world_of};
-ghost use Rattle.ec_statement_parts.specs.Cursors.{declare_opened};
-ghost use Rattle.ec_statement_parts.specs.References.{names_in, all_names, names_of, names_of_option};
-ghost use Rattle.ec_typing.specs.Embedded.{denoted_in};
+ghost use Rattle.ec_typing_defs.specs.statement_parts.Cursors.{declare_opened};
+ghost use Rattle.ec_typing_defs.specs.statement_parts.References.{names_in, all_names, names_of, names_of_option};
+ghost use Rattle.ec_typing_defs.specs.Embedded.{denoted_in};
 
+use crate::parts::{Reference, Statements, references};
 use ec_base::{List, OutOfMemory};
 use ec_ctypes::{Emb, Expr};
-use ec_parts::{Reference, Statements, references};
 use ec_scopes::Checker;
 
 // The variable of a reference, and those that are its indexes.

@@ -14,13 +14,13 @@ use Rattle.ec_link.specs.Rack.{slots_of, log_of}
 use Rattle.ec_link.specs.Slot.{states}
 use Rattle.ec_link.specs.SlotState.{ready_slot}
 use Rattle.ec_calling.specs.Making.{known_of}
-use Rattle.ec_execution.specs.ec_calls.Steps.{library_step}
-use Rattle.ec_evaluation.specs.Whole.{program_meaning}
-use Rattle.ec_execution.specs.Programs.{Executable, meaning}
+use Rattle.ec_call_defs.specs.Steps.{library_step}
+use Rattle.ec_meaning_defs.specs.evaluation.Whole.{program_meaning}
+use Rattle.ec_execution_defs.specs.Programs.{Executable, meaning}
 use Rattle.ec_interp.specs.declared.end.RunEnd.{RunEnd as MachineEnd}
 use Rattle.ec_interp.specs.Ran as ran
-use Rattle.ec_objects.specs.Memory.{Memory}
-use Rattle.ec_observed.specs.Observed.{answers_in}
+use Rattle.ec_memory_defs.specs.Memory.{Memory}
+use Rattle.ec_meaning_defs.specs.observed.Observed.{answers_in}
 use Rattle.ec_runtime.specs.Calling.{Opens, TakesFirst, conns_of}
 use Rattle.ec_runtime.specs.Racks.{AllTaken, GivesAll, Moves}
 use Rattle.ec_runtime.proofs.Moving.{moves_not}

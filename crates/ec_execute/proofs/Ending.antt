@@ -4,15 +4,15 @@ use Rattle.std.specs.Io.KnownBytes.{Appends, Keeps}
 use Rattle.ec_base.specs.Causes.{Rose}
 use Rattle.ec_base.specs.Putting.{Puts, Took}
 use Rattle.ec_base.proofs.Transfers.{Puts-none, Took-puts}
-use Rattle.ec_evaluation.specs.State.{Ending}
-use Rattle.ec_evaluation.specs.Whole.{Observed}
+use Rattle.ec_meaning_defs.specs.evaluation.State.{Ending}
+use Rattle.ec_meaning_defs.specs.evaluation.Whole.{Observed}
 use Rattle.ec_link.specs.declared.logged.Logged.{Logged}
-use Rattle.ec_objects.specs.Memory.{Memory}
-use Rattle.ec_observed.specs.Run.{IsFront}
+use Rattle.ec_memory_defs.specs.Memory.{Memory}
+use Rattle.ec_meaning_defs.specs.observed.Run.{IsFront}
 use Rattle.ec_interp.specs.declared.end.RunEnd.{RunEnd as MachineEnd}
 use Rattle.ec_interp.specs.declared.end.RunEnd.TheVariants as machine
 use Rattle.ec_interp.specs.Ran as ran
-use Rattle.ec_execution.specs.Runs.{Runs, RunsPart}
+use Rattle.ec_execution_defs.specs.Runs.{Runs, RunsPart}
 use Rattle.ec_execute.specs.declared.running.RunEnd.{RunEnd}
 use Rattle.ec_execute.specs.declared.running.RunEnd.TheVariants as ends
 use Rattle.ec_execute.specs.Ends.{Performs, end_of}

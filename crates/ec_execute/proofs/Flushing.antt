@@ -6,7 +6,7 @@ use Rattle.std.specs.Io.KnownBytes.{Keeps}
 use Rattle.ec_base.specs.Causes.{Rose}
 use Rattle.ec_link.specs.declared.rack.Rack.{Rack}
 use Rattle.ec_link.specs.Logged.{Talk}
-use Rattle.ec_execution.specs.Programs.{Executable}
+use Rattle.ec_execution_defs.specs.Programs.{Executable}
 use Rattle.ec_execute.specs.declared.running.RunEnd.{RunEnd}
 use Rattle.ec_execute.specs.declared.running.RunEnd.TheVariants as ends
 use Rattle.ec_execute.specs.Runs.{Ran}

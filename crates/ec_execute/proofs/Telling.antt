@@ -9,14 +9,14 @@ use Rattle.ec_ctypes.specs.views.Checked.{typed_view}
 use Rattle.ec_ctypes.specs.views.Embedded.{emb_view}
 use Rattle.ec_language.specs.First.{Violation, comes_before, earlier, first_of, stop_at}
 use Rattle.ec_language.specs.Letters.{Text}
-use Rattle.ec_sections.specs.Answers.{hosts_answer}
-use Rattle.ec_typing.specs.Answers.{answer_by, checked, stop_of_unit, violations}
-use Rattle.ec_typing.specs.Worlds.{World}
-use Rattle.ec_read_written.specs.Answers as reading
-use Rattle.ec_execution.specs.ec_written.Written.{plain, checked_with, checked_plain, checked_written, ReadsWritten}
-use Rattle.ec_execution.specs.Laws.{HasOneProgram}
-use Rattle.ec_execution.specs.Programs.{resolved}
-use Rattle.ec_execution.specs.Programs.IsProgram.{left_of}
+use Rattle.ec_host_defs.specs.sections.Answers.{hosts_answer}
+use Rattle.ec_typing_defs.specs.Answers.{answer_by, checked, stop_of_unit, violations}
+use Rattle.ec_typing_defs.specs.Worlds.{World}
+use Rattle.ec_front.specs.written.Answers as reading
+use Rattle.ec_phases_defs.specs.written.Written.{plain, checked_with, checked_plain, checked_written, ReadsWritten}
+use Rattle.ec_execution_defs.specs.Laws.{HasOneProgram}
+use Rattle.ec_execution_defs.specs.Programs.{resolved}
+use Rattle.ec_execution_defs.specs.Programs.IsProgram.{left_of}
 use Rattle.ec_execute.specs.Answers.{Is, TellsProgram, IsOnlyProgram}
 use Rattle.ec_execute.specs.declared.executable.Executable.{Executable}
 

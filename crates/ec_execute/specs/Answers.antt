@@ -3,8 +3,8 @@ use Rattle.std.specs.Prelude.{◌≡◌, ⊤, Result, Ok, Err}
 use Rattle.ec_base.specs.declared.stop.Stop.{Stop}
 use Rattle.ec_base.specs.declared.stop.Stop.TheVariants.{Refused, Limit, OutOfMemory}
 use Rattle.ec_language.specs.Letters.{Text}
-use Rattle.ec_execution.specs.Programs as of
-use Rattle.ec_execution.specs.Programs.{IsProgram}
+use Rattle.ec_execution_defs.specs.Programs as of
+use Rattle.ec_execution_defs.specs.Programs.{IsProgram}
 use Rattle.ec_execute.specs.declared.executable.Executable.{Executable}
 use Rattle.ec_execute.specs.Executables.{executable_view}
 

@@ -1,12 +1,12 @@
 -- How the run of a program is left.
 use Rattle.std.specs.Prelude.{◌≡◌, ◌⊎◌, ℕ, List, Option}
 use Rattle.ec_base.specs.Causes.{Rose}
-use Rattle.ec_evaluation.specs.State.{exited, trapped, turns_spent}
-use Rattle.ec_evaluation.specs.Whole.{Observed}
+use Rattle.ec_meaning_defs.specs.evaluation.State.{exited, trapped, turns_spent}
+use Rattle.ec_meaning_defs.specs.evaluation.Whole.{Observed}
 use Rattle.ec_link.specs.declared.logged.Logged.{Logged}
 use Rattle.ec_interp.specs.declared.end.RunEnd.{RunEnd as MachineEnd}
 use Rattle.ec_interp.specs.declared.end.RunEnd.TheVariants as machine
-use Rattle.ec_execution.specs.Runs.{Runs, RunsPart}
+use Rattle.ec_execution_defs.specs.Runs.{Runs, RunsPart}
 use Rattle.ec_execute.specs.declared.running.RunEnd.{RunEnd}
 use Rattle.ec_execute.specs.declared.running.RunEnd.TheVariants as ends
 

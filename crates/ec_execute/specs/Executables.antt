@@ -2,7 +2,7 @@
 use Rattle.std.specs.Prelude.{map}
 use Rattle.ec_calling.specs.Views.{call_view}
 use Rattle.ec_code.specs.Views.{program_view}
-use Rattle.ec_execution.specs.Programs as of
+use Rattle.ec_execution_defs.specs.Programs as of
 use Rattle.ec_execute.specs.declared.executable.Executable.{Executable}
 
 abbrev pub executable_view : Executable → of.Executable

@@ -10,9 +10,9 @@ use Rattle.ec_link.specs.Logged.{Talk}
 use Rattle.ec_link.specs.Rack.{slots_of, log_of}
 use Rattle.ec_link.specs.Slot.{states}
 use Rattle.ec_link.specs.SlotState.{ready_slot}
-use Rattle.ec_observed.specs.Observed.{answers_in}
-use Rattle.ec_execution.specs.Programs.{Executable, meaning}
-use Rattle.ec_evaluation.specs.Whole.{ready_connections, ready_name}
+use Rattle.ec_meaning_defs.specs.observed.Observed.{answers_in}
+use Rattle.ec_execution_defs.specs.Programs.{Executable, meaning}
+use Rattle.ec_meaning_defs.specs.evaluation.Whole.{ready_connections, ready_name}
 use Rattle.ec_runtime.specs.Calling.{TakesFirst, connections_of, conns_of}
 use Rattle.ec_runtime.specs.Racks.{AllTaken, GivesAll, Moves}
 use Rattle.ec_runtime.specs.declared.library.Library.{Library}

@@ -4,12 +4,12 @@ ghost use Rattle.std.specs.Prelude.{◌≡◌, IfSome, map};
 ghost use Rattle.ec_calling.specs.Views as made;
 ghost use Rattle.ec_code.specs.Views.{expression_view};
 ghost use Rattle.ec_arguments.specs.Arguments.{pointer};
-ghost use Rattle.ec_storage.specs.Stored as stored;
+ghost use Rattle.ec_resolve_values.specs.storage.Stored as stored;
 
 use ec_base::List;
 use ec_calling::{Argument, Call};
 use ec_code::Expression;
-use ec_storage::{Argument as Stored, LibraryCall};
+use ec_resolve_values::storage::{Argument as Stored, LibraryCall};
 use std::alloc::Global;
 
 // A pointer. There is none by an expression that holds a call.

@@ -6,7 +6,6 @@ mod executable;
 mod reading;
 mod running;
 
-pub use ec_execution::ec_library_calls;
 pub use executable::Executable;
 pub use reading::read_program;
 pub use running::{RunEnd, run};

@@ -4,9 +4,9 @@ ghost use Rattle.std.specs.Prelude.{◌≡◌, true, [], Ok, IfSome, map};
 ghost use Rattle.ec_code.specs.Views.{program_view};
 ghost use Rattle.ec_ctypes.specs.views.Checked.{typed_view};
 ghost use Rattle.ec_ctypes.specs.views.Units.{unit_view};
-ghost use Rattle.ec_typing.specs.Answers.{violations};
-ghost use Rattle.ec_execution.specs.Programs.{resolved};
-ghost use Rattle.ec_storage.specs.Stored as stored;
+ghost use Rattle.ec_typing_defs.specs.Answers.{violations};
+ghost use Rattle.ec_execution_defs.specs.Programs.{resolved};
+ghost use Rattle.ec_resolve_values.specs.storage.Stored as stored;
 ghost use Rattle.ec_execute.specs.Answers.{Is, TellsProgram, IsOnlyProgram};
 ghost use Rattle.ec_execute.specs.Executables.{executable_view};
 
@@ -14,11 +14,11 @@ use crate::calls::calls_of;
 use crate::executable::Executable;
 use ec_base::{FaultKind, Stop};
 use ec_ctypes::Typed;
-use ec_execution::ec_library_calls::first_unmade_call;
-use ec_execution::written_programs_are_single;
-use ec_function_forms::resolve;
-use ec_read_written::read_written;
-use ec_storage::Resolved;
+use ec_execution_defs::library_calls::first_unmade_call;
+use ec_execution_defs::written_programs_are_single;
+use ec_front::written::read_written;
+use ec_resolve::resolve;
+use ec_resolve_values::storage::Resolved;
 use std::alloc::Global;
 
 // A program that is resolved, with its calls as they are made.
@@ -37,7 +37,7 @@ fn linked(alloc: Global, resolved: Resolved) -> Option<Executable>
 
 // What is left of a program that was checked. That pointers which aren't evaluated before their calls are evaluated without
 // calls is sure; it isn't proved, and there is no memory for a program with another.
-#[tactic(auto, unfolding(ec_function_forms::specs::Clean::FindsNothing, ec_function_forms::specs::Clean::resolved_form, ec_function_forms::specs::Clean::called_form))]
+#[tactic(auto, unfolding(ec_resolve::specs::Clean::FindsNothing, ec_resolve::specs::Clean::resolved_form, ec_resolve::specs::Clean::called_form))]
 fn resolve_checked(alloc: Global, typed: &Typed) -> Result<Executable, Stop>
     requires no_statements { typed.now.unit.embs ≡ [] }
     requires no_violations { violations true (unit_view typed.now.unit) ≡ [] }

@@ -14,15 +14,15 @@ use Rattle.ec_ctypes.specs.views.Checked.{typed_view, bound_view}
 use Rattle.ec_ctypes.specs.views.Embedded.{emb_view}
 use Rattle.ec_ctypes.specs.views.Stmts.{stmt_view, stmts_view}
 use Rattle.ec_language.specs.Letters.{Text}
-use Rattle.ec_statement_parts.specs.Cursors.{declare_opened}
-use Rattle.ec_expansion.specs.Calls.{prepared_in, call_by}
-use Rattle.ec_expansion.specs.Lines.{line_after_tops}
-use Rattle.ec_expansion.specs.Programs.{block_of, block_for, unit_of}
-use Rattle.ec_expansion.specs.Statements.{before_stmts, written_kind, written_item, written_items}
-use Rattle.ec_expansion.proofs.LinesBehind.{tops_line}
+use Rattle.ec_typing_defs.specs.statement_parts.Cursors.{declare_opened}
+use Rattle.ec_expansion_defs.specs.Calls.{prepared_in, call_by}
+use Rattle.ec_expansion_defs.specs.Lines.{line_after_tops}
+use Rattle.ec_expansion_defs.specs.Programs.{block_of, block_for, unit_of}
+use Rattle.ec_expansion_defs.specs.Statements.{before_stmts, written_kind, written_item, written_items}
+use Rattle.ec_expansion_defs.proofs.LinesBehind.{tops_line}
 use Rattle.ec_expand.specs.Blocks.{written_at}
 use Rattle.ec_expand.specs.Items.{is_plain_kind, other_item}
-use Rattle.ec_written_blocks.proofs.Listed.{listed}
+use Rattle.ec_expand_blocks.proofs.Listed.{listed}
 
 -- ---- statements
 

@@ -4,7 +4,7 @@ use Rattle.ec_ctypes.specs.declared.checked.bound.Bound.{Bound}
 use Rattle.ec_ctypes.specs.declared.checked.typed.Typed.{Typed}
 use Rattle.ec_ctypes.specs.trees.Stmts.{StmtKindData}
 use Rattle.ec_ctypes.specs.views.Checked.{typed_view, bound_view}
-use Rattle.ec_expansion.specs.Programs.{embedded}
+use Rattle.ec_expansion_defs.specs.Programs.{embedded}
 
 abbrev pub written_at : Typed → List Bound → ℕ → Option StmtKindData
 written_at typed bounds =

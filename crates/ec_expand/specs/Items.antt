@@ -3,8 +3,8 @@ use Rattle.std.specs.Prelude.{ℕ, Bool, true, false, List, [], Option}
 use Rattle.ec_base.specs.declared.line.Line.{Line}
 use Rattle.ec_ctypes.specs.trees.Stmts.{StmtData, StmtKindData, decl_stmt, emb_stmt, mark_stmt}
 use Rattle.ec_ctypes.specs.trees.Units.{ParamData}
-use Rattle.ec_expansion.specs.Declarations.{written_base, written_dims, written_decl}
-use Rattle.ec_expansion.specs.Statements.{decl_stmts, optional_stmt}
+use Rattle.ec_expansion_defs.specs.Declarations.{written_base, written_dims, written_decl}
+use Rattle.ec_expansion_defs.specs.Statements.{decl_stmts, optional_stmt}
 
 -- it is written as one statement
 abbrev pub is_plain_kind : StmtKindData → Bool

@@ -5,17 +5,17 @@ ghost use Rattle.std.specs.Option.{option_copied};
 ghost use Rattle.ec_ctypes.specs.views.Checked.{handlers_view, bound_view};
 ghost use Rattle.ec_ctypes.specs.views.Embedded.{emb_view};
 ghost use Rattle.ec_ctypes.specs.views.Stmts.{kind_view};
-ghost use Rattle.ec_cursors.specs.Declares.{declare_numbers};
+ghost use Rattle.ec_expand_blocks.specs.cursors.Declares.{declare_numbers};
 ghost use Rattle.ec_expand.specs.Blocks.{written_at};
-ghost use Rattle.ec_expansion.specs.Calls.{prepared_in, call_by};
-ghost use Rattle.ec_expansion.specs.Programs.{block_of};
+ghost use Rattle.ec_expansion_defs.specs.Calls.{prepared_in, call_by};
+ghost use Rattle.ec_expansion_defs.specs.Programs.{block_of};
 ghost use Rattle.ec_whenever.specs.Tables.{is_sorted};
 
 use ec_base::{List, Name, OutOfMemory};
 use ec_ctypes::{Bound, Emb, EmbKind, HandlerTable, StmtKind, Typed};
-use ec_cursors::CursorTable;
-use ec_written_blocks::block_with;
-use ec_written_calls::call_of;
+use ec_expand_blocks::block_with;
+use ec_expand_blocks::cursors::CursorTable;
+use ec_expand_calls::call_of;
 use std::alloc::Global;
 
 /// A program, with what is bound for its statements and the DECLAREs of the cursors that they open.

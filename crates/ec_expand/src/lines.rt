@@ -2,7 +2,7 @@
 
 ghost use Rattle.std.specs.Prelude.{◌≡◌, IfOk, suc};
 ghost use Rattle.ec_ctypes.specs.views.Stmts.{stmt_view, kind_view, stmts_view, stmt_option_view};
-ghost use Rattle.ec_expansion.specs.Lines as lines;
+ghost use Rattle.ec_expansion_defs.specs.Lines as lines;
 
 use ec_base::{Boxed, List, OutOfMemory};
 use ec_ctypes::{Stmt, StmtKind};

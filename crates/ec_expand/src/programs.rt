@@ -7,9 +7,9 @@ ghost use Rattle.ec_ctypes.specs.views.Stmts.{stmts_view};
 ghost use Rattle.ec_ctypes.specs.views.Units.{param_view, func_view, top_view, unit_view};
 ghost use Rattle.ec_expand.specs.Blocks.{written_at};
 ghost use Rattle.ec_expand.specs.Items.{param_of};
-ghost use Rattle.ec_expansion.specs.Lines as lines;
-ghost use Rattle.ec_expansion.specs.Programs.{unit_of, written_program};
-ghost use Rattle.ec_expansion.specs.Statements as spec;
+ghost use Rattle.ec_expansion_defs.specs.Lines as lines;
+ghost use Rattle.ec_expansion_defs.specs.Programs.{unit_of, written_program};
+ghost use Rattle.ec_expansion_defs.specs.Statements as spec;
 ghost use Rattle.ec_language.specs.Productions.{line_of};
 ghost use Rattle.ec_whenever.specs.Tables.{is_sorted};
 
@@ -18,8 +18,8 @@ use crate::lines::{line_after_all, next};
 use crate::statements::written_items;
 use ec_base::{Boxed, Line, List, Name, OutOfMemory};
 use ec_ctypes::{Bound, Decl, Func, Param, Stmt, Top, Typed, Unit};
-use ec_cursors::cursors;
-use ec_written_declarations::{push_globals, written_base, written_dims};
+use ec_expand_blocks::cursors::cursors;
+use ec_expand_declarations::{push_globals, written_base, written_dims};
 use std::alloc::Global;
 
 // ---- functions

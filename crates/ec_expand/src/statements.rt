@@ -7,16 +7,16 @@ ghost use Rattle.ec_ctypes.specs.views.Exprs.{expr_view, expr_option_view};
 ghost use Rattle.ec_ctypes.specs.views.Stmts.{stmt_view, kind_view, stmts_view, stmt_option_view};
 ghost use Rattle.ec_expand.specs.Blocks.{written_at};
 ghost use Rattle.ec_expand.specs.Items.{is_plain_kind, other_item};
-ghost use Rattle.ec_expansion.specs.Declarations as written;
-ghost use Rattle.ec_expansion.specs.Lines as lines;
-ghost use Rattle.ec_expansion.specs.Statements as spec;
+ghost use Rattle.ec_expansion_defs.specs.Declarations as written;
+ghost use Rattle.ec_expansion_defs.specs.Lines as lines;
+ghost use Rattle.ec_expansion_defs.specs.Statements as spec;
 
 use crate::blocks::Blocks;
 use crate::lines::line_after;
 use ec_base::{Boxed, Line, List, Name, OutOfMemory};
 use ec_ctypes::{Expr, ForParts, Stmt, StmtKind};
-use ec_written_blocks::on_line;
-use ec_written_declarations::{push_objects, written_expr};
+use ec_expand_blocks::on_line;
+use ec_expand_declarations::{push_objects, written_expr};
 use std::alloc::Global;
 
 // ---- parts

@@ -1,1 +1,4 @@
-pub mod Phases
+pub mod source_lemmas
+pub mod translation_lemmas
+pub mod unit_lemmas
+pub mod written_lemmas

@@ -1,1 +1,4 @@
-pub mod Answers
+pub mod source
+pub mod translation
+pub mod unit
+pub mod written

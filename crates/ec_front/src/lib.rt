@@ -1,6 +1,8 @@
-//! The phases of the front end, one after the other: pieces, tokens, syntax.
+//! The front end: C that is read, sources that are read and checked, written C that is read and checked, and sources that
+//! are translated.
 #![tactic(auto)]
 
-mod reading;
-
-pub use reading::{read_unit, read_written};
+pub mod source;
+pub mod translation;
+pub mod unit;
+pub mod written;

@@ -1,6 +1,6 @@
 -- What a token is to the grammar.
 use Rattle.std.specs.Prelude.{Bool, true, false, List, [], ◌∷◌, codes}
-use Rattle.ec_language.specs.ec_ctypes.trees.Tokens.{TokData, word_token, integer_token, character_token, string_token, punct_token, include_token, emb_token, section_start, section_end, end_token}
+use Rattle.ec_ctypes.specs.trees.Tokens.{TokData, word_token, integer_token, character_token, string_token, punct_token, include_token, emb_token, section_start, section_end, end_token}
 use Rattle.ec_language.specs.Letters.{Text, same_text, is_among}
 use Rattle.ec_language.specs.Keywords.{type_words, varchar_words}
 use Rattle.ec_language.specs.Productions.{Terminal, same_punct}

@@ -1,6 +1,6 @@
 -- Lists whose items stand behind commas.
 use Rattle.std.specs.Prelude.{ℕ, zero, suc, List, [], ◌∷◌, ◌++◌, length, if◌then◌else◌}
-use Rattle.ec_language.specs.ec_ctypes.declared.text.token.Punct.TheVariants as p
+use Rattle.ec_ctypes.specs.declared.text.token.Punct.TheVariants as p
 use Rattle.ec_grammar.specs.declared.kind.Kind.TheVariants as k
 use Rattle.ec_grammar.specs.Input.{Parser, ◌>>=◌, ◌>>◌, pure, peek, expect}
 use Rattle.ec_grammar.specs.Starts.{is_comma}

@@ -1,8 +1,8 @@
 -- What is read one level deeper than where it stands.
 use Rattle.std.specs.Prelude.{ℕ, List, Option}
-use Rattle.ec_language.specs.ec_ctypes.trees.Exprs.{ExprData, BaseData, InitData, DeclData}
-use Rattle.ec_language.specs.ec_ctypes.trees.Stmts.{StmtData}
-use Rattle.ec_language.specs.ec_ctypes.trees.Units.{ParamData}
+use Rattle.ec_ctypes.specs.trees.Exprs.{ExprData, BaseData, InitData, DeclData}
+use Rattle.ec_ctypes.specs.trees.Stmts.{StmtData}
+use Rattle.ec_ctypes.specs.trees.Units.{ParamData}
 use Rattle.ec_language.specs.Productions.{ForHead}
 use Rattle.ec_grammar.specs.Input.{Parser}
 

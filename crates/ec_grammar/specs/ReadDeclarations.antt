@@ -1,9 +1,9 @@
 -- Types, declarators and declarations, read from the front.
 use Rattle.std.specs.Prelude.{ℕ, zero, suc, ◌+◌, List, [], ◌∷◌, ◌++◌, length, Option, Some, None, if◌then◌else◌}
-use Rattle.ec_language.specs.ec_ctypes.declared.text.token.Punct.TheVariants as p
-use Rattle.ec_language.specs.ec_ctypes.trees.Exprs.{ExprData, BaseData, words, varchar, tagged, struct_base, InitData, one, many, DeclaratorData, declarator, DeclData}
-use Rattle.ec_language.specs.ec_ctypes.trees.Units.{ParamData}
-use Rattle.ec_language.specs.ec_ctypes.views.Exprs.{dims_of, inits_of, init_of, declarators_of, decls_of}
+use Rattle.ec_ctypes.specs.declared.text.token.Punct.TheVariants as p
+use Rattle.ec_ctypes.specs.trees.Exprs.{ExprData, BaseData, words, varchar, tagged, struct_base, InitData, one, many, DeclaratorData, declarator, DeclData}
+use Rattle.ec_ctypes.specs.trees.Units.{ParamData}
+use Rattle.ec_ctypes.specs.views.Exprs.{dims_of, inits_of, init_of, declarators_of, decls_of}
 use Rattle.ec_language.specs.Letters.{Text}
 use Rattle.ec_language.specs.Productions.{derivations, declared, without_void, text_of, ForStart, for_expression, for_declaration, ForHead, or_rank}
 use Rattle.ec_language.specs.Grammar.{Limits}

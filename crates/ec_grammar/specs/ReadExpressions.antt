@@ -1,12 +1,12 @@
 -- Expressions, read from the front: one function for each symbol of the grammar. A loop has so many turns at most, and what it has found so far.
 use Rattle.std.specs.Prelude.{ℕ, zero, suc, Bool, true, false, List, [], ◌∷◌, length, Option, Some, None, if◌then◌else◌}
-use Rattle.ec_language.specs.ec_ctypes.declared.text.token.Punct.TheVariants as p
-use Rattle.ec_language.specs.ec_ctypes.declared.tree.expr.UnOp.{UnOp}
-use Rattle.ec_language.specs.ec_ctypes.declared.tree.expr.UnOp.TheVariants as un
-use Rattle.ec_language.specs.ec_ctypes.declared.tree.expr.BinOp.{BinOp}
-use Rattle.ec_language.specs.ec_ctypes.declared.tree.expr.BinOp.TheVariants as bin
-use Rattle.ec_language.specs.ec_ctypes.trees.Exprs.{ExprData, integer, character, string, unary, binary, assign, bump, call, call_other, index, member, arrow, cast, size_type, size_expr}
-use Rattle.ec_language.specs.ec_ctypes.views.Exprs.{exprs_of}
+use Rattle.ec_ctypes.specs.declared.text.token.Punct.TheVariants as p
+use Rattle.ec_ctypes.specs.declared.tree.expr.UnOp.{UnOp}
+use Rattle.ec_ctypes.specs.declared.tree.expr.UnOp.TheVariants as un
+use Rattle.ec_ctypes.specs.declared.tree.expr.BinOp.{BinOp}
+use Rattle.ec_ctypes.specs.declared.tree.expr.BinOp.TheVariants as bin
+use Rattle.ec_ctypes.specs.trees.Exprs.{ExprData, integer, character, string, unary, binary, assign, bump, call, call_other, index, member, arrow, cast, size_type, size_expr}
+use Rattle.ec_ctypes.specs.views.Exprs.{exprs_of}
 use Rattle.ec_language.specs.Productions.{operations, Primary, named, bare_name, text_of, number_of, type_in, character_in, Rank, or_rank, and_rank, bit_or_rank, bit_xor_rank, bit_and_rank, equal_rank, relation_rank, shift_rank, add_rank, multiply_rank}
 use Rattle.ec_language.specs.Grammar.{Limits}
 use Rattle.ec_grammar.specs.declared.kind.Kind.{Kind}

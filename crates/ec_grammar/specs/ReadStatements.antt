@@ -1,11 +1,11 @@
 -- Statements and whole programs, read from the front.
 use Rattle.std.specs.Prelude.{ℕ, zero, true, false, suc, List, [], ◌∷◌, ◌++◌, length, Option, Some, None, if◌then◌else◌}
-use Rattle.ec_language.specs.ec_ctypes.declared.text.token.Punct.TheVariants as p
-use Rattle.ec_language.specs.ec_ctypes.trees.Exprs.{ExprData}
-use Rattle.ec_language.specs.ec_ctypes.trees.Stmts.{StmtData, stmt, empty_stmt, expr_stmt, block_stmt, if_stmt, while_stmt, do_stmt, for_stmt, break_stmt, continue_stmt, return_stmt, goto_stmt, label_stmt, decl_stmt, emb_stmt, mark_stmt, StmtList}
-use Rattle.ec_language.specs.ec_ctypes.trees.Units.{TopData, include_top, directive_top, mark_top, UnitData}
-use Rattle.ec_language.specs.ec_ctypes.views.Exprs.{dims_of, init_of, declarators_of}
-use Rattle.ec_language.specs.ec_ctypes.views.Stmts.{stmts_of, stmt_of}
+use Rattle.ec_ctypes.specs.declared.text.token.Punct.TheVariants as p
+use Rattle.ec_ctypes.specs.trees.Exprs.{ExprData}
+use Rattle.ec_ctypes.specs.trees.Stmts.{StmtData, stmt, empty_stmt, expr_stmt, block_stmt, if_stmt, while_stmt, do_stmt, for_stmt, break_stmt, continue_stmt, return_stmt, goto_stmt, label_stmt, decl_stmt, emb_stmt, mark_stmt, StmtList}
+use Rattle.ec_ctypes.specs.trees.Units.{TopData, include_top, directive_top, mark_top, UnitData}
+use Rattle.ec_ctypes.specs.views.Exprs.{dims_of, init_of, declarators_of}
+use Rattle.ec_ctypes.specs.views.Stmts.{stmts_of, stmt_of}
 use Rattle.ec_language.specs.Letters.{Text}
 use Rattle.ec_language.specs.Productions.{Start, at, line_of, text_of, number_of, ForStart, for_expression, for_declaration, ForHead, BehindName, function, object, external_top}
 use Rattle.ec_language.specs.Grammar.{Limits}

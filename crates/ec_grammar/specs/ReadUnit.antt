@@ -1,12 +1,12 @@
 -- The plain reading of a list of tokens, and what it answers.
 use Rattle.std.specs.Prelude.{ℕ, List, [], ◌∷◌, length, ◌==◌, Result, Ok, Err, if◌then◌else◌}
-use Rattle.ec_language.specs.ec_base.declared.fault.FaultKind.TheVariants.{F7}
-use Rattle.ec_language.specs.ec_base.declared.fault.LimitKind.TheVariants.{L3}
-use Rattle.ec_language.specs.ec_base.declared.line.Line.{Line}
-use Rattle.ec_language.specs.ec_base.declared.stop.Stop.{Stop}
-use Rattle.ec_language.specs.ec_base.declared.stop.Stop.TheVariants as stop
-use Rattle.ec_language.specs.ec_ctypes.trees.Tokens.{TokenData}
-use Rattle.ec_language.specs.ec_ctypes.trees.Units.{UnitData}
+use Rattle.ec_base.specs.declared.fault.FaultKind.TheVariants.{F7}
+use Rattle.ec_base.specs.declared.fault.LimitKind.TheVariants.{L3}
+use Rattle.ec_base.specs.declared.line.Line.{Line}
+use Rattle.ec_base.specs.declared.stop.Stop.{Stop}
+use Rattle.ec_base.specs.declared.stop.Stop.TheVariants as stop
+use Rattle.ec_ctypes.specs.trees.Tokens.{TokenData}
+use Rattle.ec_ctypes.specs.trees.Units.{UnitData}
 use Rattle.ec_language.specs.Productions.{placed}
 use Rattle.ec_language.specs.Grammar.{PlacedTokens, no_counts}
 use Rattle.ec_language.specs.Syntax.{limits}

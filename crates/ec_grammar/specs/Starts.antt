@@ -1,6 +1,6 @@
 -- What the parts of a program begin with.
 use Rattle.std.specs.Prelude.{Bool, true, false}
-use Rattle.ec_language.specs.ec_ctypes.declared.text.token.Punct.TheVariants as p
+use Rattle.ec_ctypes.specs.declared.text.token.Punct.TheVariants as p
 use Rattle.ec_grammar.specs.declared.kind.Kind.{Kind}
 use Rattle.ec_grammar.specs.declared.kind.Kind.TheVariants as k
 

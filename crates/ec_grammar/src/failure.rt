@@ -1,6 +1,6 @@
 ghost use Rattle.std.specs.Prelude.{◌≡◌};
 
-use ec_language::ec_base::OutOfMemory;
+use ec_base::OutOfMemory;
 use std::alloc::AllocError;
 
 /// Why tokens have no tree. The token is told by how many tokens are left, itself among them.

@@ -1,4 +1,4 @@
-use ec_language::ec_ctypes::Punct;
+use ec_ctypes::Punct;
 
 /// What a token is to the grammar: its punctuation mark, its keyword, or its class.
 #[derive(Clone, Copy, Debug, PartialEq, Eq)]

@@ -1,6 +1,7 @@
 //! A plain reading of the grammar, token by token, that is proved to answer as the grammar has it.
 #![tactic(auto)]
 
+pub mod exact;
 mod failure;
 mod kind;
 mod laws;

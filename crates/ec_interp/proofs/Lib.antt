@@ -1,1 +1,3 @@
 pub mod Whole
+pub mod opening_lemmas
+pub mod running_lemmas

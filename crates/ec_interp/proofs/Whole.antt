@@ -4,29 +4,29 @@ use Rattle.ec_base.specs.declared.stop.Trap.TheVariants as traps
 use Rattle.ec_code.specs.declared.program.Program.{Program}
 use Rattle.ec_code.specs.Views.{program_view}
 use Rattle.ec_link.specs.declared.logged.Logged.{Logged}
-use Rattle.ec_observed.specs.Observed.{answers_in}
-use Rattle.ec_evaluation.specs.Agree.{CountsTurns, Grows, state_of}
-use Rattle.ec_evaluation.specs.Evaluate.{Step as Knowing}
-use Rattle.ec_evaluation.specs.Results.{Res, value, on, broke, continued, went, back, over}
-use Rattle.ec_evaluation.specs.State.{Answer, Ending, State, trapped}
-use Rattle.ec_evaluation.specs.Whole.{Observed, main_run, observed, opening_state, program_meaning, seen, whole, whole_within}
-use Rattle.ec_evaluation.proofs.WholeRuns.{enough_turns}
+use Rattle.ec_meaning_defs.specs.observed.Observed.{answers_in}
+use Rattle.ec_meaning_defs.specs.evaluation.Agree.{CountsTurns, Grows, state_of}
+use Rattle.ec_meaning_defs.specs.evaluation.Evaluate.{Step as Knowing}
+use Rattle.ec_meaning_defs.specs.evaluation.Results.{Res, value, on, broke, continued, went, back, over}
+use Rattle.ec_meaning_defs.specs.evaluation.State.{Answer, Ending, State, trapped}
+use Rattle.ec_meaning_defs.specs.evaluation.Whole.{Observed, main_run, observed, opening_state, program_meaning, seen, whole, whole_within}
+use Rattle.ec_meaning_defs.proofs.evaluation_lemmas.WholeRuns.{enough_turns}
 use Rattle.ec_machine.specs.declared.machine.Machine.{Machine}
 use Rattle.ec_machine.specs.declared.stop.End.{End}
 use Rattle.ec_machine.specs.declared.stop.End.TheVariants as ends
 use Rattle.ec_machine.specs.Goes.{at, ending_view, tasks}
 use Rattle.ec_memory.specs.declared.store.MakeStop.{MakeStop}
 use Rattle.ec_memory.specs.declared.store.MakeStop.TheVariants as makes
-use Rattle.ec_objects.specs.Memory.{Memory}
-use Rattle.ec_opening.specs.Opens.{Opens}
-use Rattle.ec_resolved.specs.Programs.{opening_objects, Program as Resolved}
-use Rattle.ec_running.specs.declared.halt.Halt.{Halt}
-use Rattle.ec_running.specs.declared.halt.Halt.TheVariants as halt
-use Rattle.ec_running.specs.LibraryRuns.{BeginsWith, HaltsWith, IsOverWith, grown}
-use Rattle.ec_running.specs.Printing.{Prints}
-use Rattle.ec_running.specs.Runs.{Run}
-use Rattle.ec_running.specs.Sessions.{Session, placed}
-use Rattle.ec_running.proofs.Leading.{grown_none, prints_none, said_none}
+use Rattle.ec_memory_defs.specs.Memory.{Memory}
+use Rattle.ec_interp.specs.opening.Opens.{Opens}
+use Rattle.ec_meaning_defs.specs.resolved.Programs.{opening_objects, Program as Resolved}
+use Rattle.ec_interp.specs.declared.running.halt.Halt.{Halt}
+use Rattle.ec_interp.specs.declared.running.halt.Halt.TheVariants as halt
+use Rattle.ec_interp.specs.running.LibraryRuns.{BeginsWith, HaltsWith, IsOverWith, grown}
+use Rattle.ec_interp.specs.running.Printing.{Prints}
+use Rattle.ec_interp.specs.running.Runs.{Run}
+use Rattle.ec_interp.specs.running.Sessions.{Session, placed}
+use Rattle.ec_interp.proofs.running_lemmas.Leading.{grown_none, prints_none, said_none}
 use Rattle.ec_interp.specs.declared.end.RunEnd.{RunEnd}
 use Rattle.ec_interp.specs.declared.end.RunEnd.TheVariants as end
 use Rattle.ec_interp.specs.Ends.{halt_of, stopped}

@@ -3,8 +3,8 @@ use Rattle.ec_base.specs.declared.stop.Trap.TheVariants as traps
 use Rattle.ec_machine.specs.declared.stop.End.TheVariants as ends
 use Rattle.ec_memory.specs.declared.store.MakeStop.{MakeStop}
 use Rattle.ec_memory.specs.declared.store.MakeStop.TheVariants as makes
-use Rattle.ec_running.specs.declared.halt.Halt.{Halt}
-use Rattle.ec_running.specs.declared.halt.Halt.TheVariants as halt
+use Rattle.ec_interp.specs.declared.running.halt.Halt.{Halt}
+use Rattle.ec_interp.specs.declared.running.halt.Halt.TheVariants as halt
 use Rattle.ec_interp.specs.declared.end.RunEnd.{RunEnd}
 use Rattle.ec_interp.specs.declared.end.RunEnd.TheVariants as end
 

@@ -1,2 +1,4 @@
 pub mod Ends
 pub mod Ran
+pub mod opening
+pub mod running

@@ -1,14 +1,14 @@
 -- What a whole run leaves, beside what its program means.
 use Rattle.std.specs.Prelude.{◌≡◌, ℕ, List, [], ◌++◌, Option, Some, None}
 use Rattle.ec_link.specs.declared.logged.Logged.{Logged}
-use Rattle.ec_observed.specs.Observed.{answers_in}
-use Rattle.ec_resolved.specs.Programs.{Program}
-use Rattle.ec_evaluation.specs.Evaluate.{Step as Knowing}
-use Rattle.ec_evaluation.specs.State.{Answer, Ending, exited, trapped, turns_spent, stuck}
-use Rattle.ec_evaluation.specs.Whole.{Observed, program_meaning, ready_connections, ready_name}
-use Rattle.ec_objects.specs.Memory.{Memory}
-use Rattle.ec_running.specs.Printing.{Prints, PrintsLast}
-use Rattle.ec_running.specs.Sessions.{Said, Session}
+use Rattle.ec_meaning_defs.specs.observed.Observed.{answers_in}
+use Rattle.ec_meaning_defs.specs.resolved.Programs.{Program}
+use Rattle.ec_meaning_defs.specs.evaluation.Evaluate.{Step as Knowing}
+use Rattle.ec_meaning_defs.specs.evaluation.State.{Answer, Ending, exited, trapped, turns_spent, stuck}
+use Rattle.ec_meaning_defs.specs.evaluation.Whole.{Observed, program_meaning, ready_connections, ready_name}
+use Rattle.ec_memory_defs.specs.Memory.{Memory}
+use Rattle.ec_interp.specs.running.Printing.{Prints, PrintsLast}
+use Rattle.ec_interp.specs.running.Sessions.{Said, Session}
 use Rattle.ec_interp.specs.declared.end.RunEnd.{RunEnd}
 use Rattle.ec_interp.specs.declared.end.RunEnd.TheVariants as end
 use Rattle.ec_interp.specs.declared.machine.Machine.{Machine}

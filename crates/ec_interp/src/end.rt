@@ -3,10 +3,10 @@
 ghost use Rattle.std.specs.Prelude.{◌≡◌};
 ghost use Rattle.ec_interp.specs.Ends.{halt_of, stopped};
 
+use crate::running::Halt;
 use ec_base::{Line, Trap};
 use ec_machine::End;
 use ec_memory::MakeStop;
-use ec_running::Halt;
 
 /// How a run ended, or why it was given up.
 #[derive(Clone, Copy)]

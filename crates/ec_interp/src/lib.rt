@@ -4,6 +4,8 @@
 
 mod end;
 mod machine;
+pub mod opening;
+pub mod running;
 
 pub use end::RunEnd;
 pub use machine::Machine;

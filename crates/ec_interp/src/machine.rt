@@ -3,19 +3,19 @@
 ghost use Rattle.std.specs.Prelude.{◌≡◌, [], map, slice_get};
 ghost use Rattle.std.specs.Option.{option_copied, option_map};
 ghost use Rattle.ec_code.specs.Views.{function_view, program_view};
-ghost use Rattle.ec_evaluation.specs.Whole.{main_run};
+ghost use Rattle.ec_meaning_defs.specs.evaluation.Whole.{main_run};
 ghost use Rattle.ec_machine.specs.Goes.{at, tasks};
-ghost use Rattle.ec_running.specs.LibraryRuns.{HaltsWith};
+ghost use Rattle.ec_interp.specs.running.LibraryRuns.{HaltsWith};
 ghost use Rattle.ec_interp.specs.Ends.{halt_of};
 ghost use Rattle.ec_interp.specs.Ran.{IsNew, RanOver};
 
 use crate::end::{RunEnd, end_of, unopened};
+use crate::opening::open_program;
+use crate::running::{Library, run_main_with};
 use ec_base::Sink;
 use ec_code::{Function, Program};
 use ec_machine::Machine as Frames;
 use ec_memory::Store;
-use ec_opening::open_program;
-use ec_running::{Library, run_main_with};
 use std::alloc::Global;
 
 /// A machine for a program. It isn't let go by itself: `give_up` takes it apart.

@@ -2,12 +2,12 @@
 use Rattle.std.proofs.Common.{◌≡◌, ◌∙◌, ℕ, ◌+◌, ◌<◌, ◌≤◌, Bool, true, false, List, [], ◌∷◌, ◌++◌, drop, length, get_or, Option, Some, cond, refl, sym, ap, add-one}
 use Rattle.std.proofs.Math.Seq.{drop-cons}
 use Rattle.std.proofs.lemmas.List.{drop_all, append-nil}
-use Rattle.ec_cut.specs.ec_arguments.Arguments.{Arg}
+use Rattle.ec_arguments.specs.Arguments.{Arg}
 use Rattle.ec_ctypes.specs.declared.tree.expr.Expr.{Expr}
 use Rattle.ec_ctypes.specs.declared.types.ty.Ty.{Ty}
 use Rattle.ec_ctypes.specs.views.Exprs.{exprs_view}
-use Rattle.ec_typing.specs.ec_language.Letters.{Text, same_text}
-use Rattle.ec_typing.specs.Library.{named_among, arguments_of_call}
+use Rattle.ec_language.specs.Letters.{Text, same_text}
+use Rattle.ec_typing_defs.specs.Library.{named_among, arguments_of_call}
 use Rattle.ec_known.specs.Taking.{types_view}
 use Rattle.ec_known.proofs.Tables.{same_text_sym}
 

@@ -4,9 +4,9 @@ use Rattle.std.specs.Option.{option_and_then}
 use Rattle.std.proofs.Math.Seq.{drop-cons}
 use Rattle.ec_ctypes.specs.declared.tree.expr.Expr.{Expr}
 use Rattle.ec_ctypes.specs.views.Exprs.{expr_view, exprs_view}
-use Rattle.ec_typing.specs.ec_language.Letters.{Text, same_text}
-use Rattle.ec_typing.specs.Tables.{Named, find, is_one_of}
-use Rattle.ec_typing.specs.Known.{KnownData, names_in, literal_in, literal_at}
+use Rattle.ec_language.specs.Letters.{Text, same_text}
+use Rattle.ec_typing_defs.specs.Tables.{Named, find, is_one_of}
+use Rattle.ec_typing_defs.specs.Known.{KnownData, names_in, literal_in, literal_at}
 use Rattle.ec_known.specs.declared.functions.Signature.{Signature}
 use Rattle.ec_known.specs.Functions.{signature_view, row_view}
 

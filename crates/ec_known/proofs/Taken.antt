@@ -1,8 +1,8 @@
 -- Needs are compared with types one after the other.
 use Rattle.std.proofs.Common.{◌≡◌, ◌∙◌, ℕ, Bool, true, false, ◌&&◌, [], ◌∷◌, ◌++◌, Option, Some, None, option_map, cond, refl, sym, ap}
 use Rattle.std.specs.Option.{option_and_then}
-use Rattle.ec_typing.specs.ec_language.Letters.{Text}
-use Rattle.ec_typing.specs.Formats.{NeedData, Needs, meets, meet_all, conversion, needs_within}
+use Rattle.ec_language.specs.Letters.{Text}
+use Rattle.ec_typing_defs.specs.Formats.{NeedData, Needs, meets, meet_all, conversion, needs_within}
 use Rattle.ec_known.specs.Taking.{Types, taken_one, taken, met_by, conversion_needs}
 
 pub taken-append : (ns ms : Needs) (ts : Types) → taken (ns ++ ms) ts ≡ option_and_then (taken ms) (taken ns ts)

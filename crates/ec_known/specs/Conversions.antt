@@ -1,7 +1,7 @@
 -- What the code of conversions stands for.
 use Rattle.std.specs.Prelude.{Bool, true, false, [], ◌∷◌, ◌++◌, Option, Some, None}
-use Rattle.ec_typing.specs.ec_language.Letters.{Text}
-use Rattle.ec_typing.specs.Formats.{NeedData, exact_int, short_integer, long_integer, text_need, Needs}
+use Rattle.ec_language.specs.Letters.{Text}
+use Rattle.ec_typing_defs.specs.Formats.{NeedData, exact_int, short_integer, long_integer, text_need, Needs}
 use Rattle.ec_known.specs.declared.conversions.Need.{Need}
 use Rattle.ec_known.specs.declared.conversions.Need.TheVariants.{ExactInt, ShortInteger, LongInteger, Text as Letters}
 use Rattle.ec_known.specs.declared.conversions.Front.{Front}

@@ -1,5 +1,5 @@
 -- Which arguments are no expressions, as the code has it.
-use Rattle.ec_typing.specs.Known.{ArgumentsData, all_expressions, stream_first, with_symbols}
+use Rattle.ec_typing_defs.specs.Known.{ArgumentsData, all_expressions, stream_first, with_symbols}
 use Rattle.ec_known.specs.declared.arguments.Arguments.{Arguments}
 use Rattle.ec_known.specs.declared.arguments.Arguments.TheVariants.{AllExpressions, StreamFirst, WithSymbols}
 

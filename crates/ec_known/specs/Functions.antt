@@ -3,9 +3,9 @@ use Rattle.std.specs.Prelude.{map}
 use Rattle.std.proofs.Common.{Bor}
 use Rattle.ec_ctypes.specs.trees.Types.{TyData, void}
 use Rattle.ec_ctypes.specs.views.Types.{ty_view}
-use Rattle.ec_typing.specs.ec_language.Letters.{Text}
-use Rattle.ec_typing.specs.Types.{int_type, size_type}
-use Rattle.ec_typing.specs.Known.{KnownData, plain, formatted, text_type, memory_type}
+use Rattle.ec_language.specs.Letters.{Text}
+use Rattle.ec_typing_defs.specs.Types.{int_type, size_type}
+use Rattle.ec_typing_defs.specs.Known.{KnownData, plain, formatted, text_type, memory_type}
 use Rattle.ec_known.specs.declared.functions.Simple.{Simple}
 use Rattle.ec_known.specs.declared.functions.Simple.TheVariants.{Void, Int, Size, Text as Letters, Memory}
 use Rattle.ec_known.specs.declared.functions.Signature.{Signature}

@@ -1,4 +1,3 @@
-pub use Rattle.ec_typing.specs as ec_typing
 pub mod Conversions
 pub mod Forms
 pub mod Functions

@@ -1,11 +1,11 @@
 -- The arguments of calls of the library, as the definitions see them.
 use Rattle.std.specs.Prelude.{Bool, List}
 use Rattle.std.proofs.Common.{Bor}
-use Rattle.ec_cut.specs.ec_arguments.Arguments.{Arg}
+use Rattle.ec_arguments.specs.Arguments.{Arg}
 use Rattle.ec_cut.specs.ByType.{itself}
 use Rattle.ec_cut.specs.Views.{argument_view, arguments_view}
 use Rattle.ec_cut.specs.declared.arguments.Argument.{Argument}
-use Rattle.ec_typing.specs.ec_language.Letters.{Text}
+use Rattle.ec_language.specs.Letters.{Text}
 
 -- the bytes of a literal
 abbrev pub bytes_of : Bor Text → Text

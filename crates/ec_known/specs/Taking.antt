@@ -3,8 +3,8 @@ use Rattle.std.specs.Prelude.{ℕ, Bool, false, List, [], ◌∷◌, ◌++◌, m
 use Rattle.ec_ctypes.specs.declared.types.ty.Ty.{Ty}
 use Rattle.ec_ctypes.specs.trees.Types.{TyData}
 use Rattle.ec_ctypes.specs.views.Types.{ty_view}
-use Rattle.ec_typing.specs.ec_language.Letters.{Text}
-use Rattle.ec_typing.specs.Formats.{NeedData, Needs, meets, meet_all, conversion, needs_within}
+use Rattle.ec_language.specs.Letters.{Text}
+use Rattle.ec_typing_defs.specs.Formats.{NeedData, Needs, meets, meet_all, conversion, needs_within}
 use Rattle.ec_known.specs.declared.formats.Reading.{Reading}
 use Rattle.ec_known.specs.declared.formats.Step.{Step}
 use Rattle.ec_known.specs.declared.formats.Step.TheVariants.{Done, Next}

@@ -4,8 +4,8 @@
 ghost use Rattle.std.specs.Prelude.{◌≡◌, map, slice_get};
 ghost use Rattle.std.specs.Option.{option_copied};
 ghost use Rattle.ec_ctypes.specs.views.Exprs.{expr_view, exprs_view};
-ghost use Rattle.ec_typing.specs.Known as spec;
-ghost use Rattle.ec_typing.specs.Tables as tables;
+ghost use Rattle.ec_typing_defs.specs.Known as spec;
+ghost use Rattle.ec_typing_defs.specs.Tables as tables;
 ghost use Rattle.ec_known.specs.Forms.{arguments_view};
 
 use crate::functions::takes_stream;

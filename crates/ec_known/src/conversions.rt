@@ -2,7 +2,7 @@
 
 ghost use Rattle.std.specs.Prelude.{◌≡◌, length, option_map};
 ghost use Rattle.std.specs.Option.{option_copied};
-ghost use Rattle.ec_typing.specs.Formats as spec;
+ghost use Rattle.ec_typing_defs.specs.Formats as spec;
 ghost use Rattle.ec_known.specs.Conversions.{need_view, front_view, letter_view, precise_view, conversion_view};
 
 /// What an argument of a format has to be.

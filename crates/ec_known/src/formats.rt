@@ -4,8 +4,8 @@ ghost use Rattle.std.specs.Prelude.{◌≡◌, ℕ, suc, Some, option_map};
 ghost use Rattle.std.specs.Option.{option_copied};
 ghost use Rattle.ec_ctypes.specs.trees.Types.{arithmetic, pointer};
 ghost use Rattle.ec_ctypes.specs.views.Types.{ty_view};
-ghost use Rattle.ec_typing.specs.Formats as spec;
-ghost use Rattle.ec_typing.specs.Types as types;
+ghost use Rattle.ec_typing_defs.specs.Formats as spec;
+ghost use Rattle.ec_typing_defs.specs.Types as types;
 ghost use Rattle.ec_known.specs.Conversions.{need_view, needs_in, optional_need, starred};
 ghost use Rattle.ec_known.specs.Taking.{types_view, taken, taken_one, met_by, conversion_needs, is_met, stepped};
 

@@ -2,13 +2,13 @@
 
 ghost use Rattle.std.specs.Prelude.{◌≡◌, map, Some, option_map, is_some, IfOk};
 ghost use Rattle.ec_ctypes.specs.views.Types.{ty_view};
-ghost use Rattle.ec_typing.specs.Known as spec;
-ghost use Rattle.ec_typing.specs.Tables.{find, is_one_of};
+ghost use Rattle.ec_typing_defs.specs.Known as spec;
+ghost use Rattle.ec_typing_defs.specs.Tables.{find, is_one_of};
 ghost use Rattle.ec_known.specs.Functions.{simple_type, signature_view, known_view, row_view};
 
 use crate::words::is_word;
+use ec_base::{Boxed, List, OutOfMemory};
 use ec_ctypes::Ty;
-use ec_ctypes::ec_base::{Boxed, List, OutOfMemory};
 use std::alloc::Global;
 
 // The types of the known functions' parameters and results.

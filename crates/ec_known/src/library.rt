@@ -4,14 +4,14 @@ ghost use Rattle.std.specs.Prelude.{◌≡◌, IfOk, option_map};
 ghost use Rattle.ec_ctypes.specs.Texts.{symbol_text, library_text};
 ghost use Rattle.ec_ctypes.specs.views.Exprs.{expr_view, exprs_view};
 ghost use Rattle.ec_ctypes.specs.views.Types.{ty_view};
-ghost use Rattle.ec_typing.specs.Known as known;
-ghost use Rattle.ec_typing.specs.Library as spec;
+ghost use Rattle.ec_typing_defs.specs.Known as known;
+ghost use Rattle.ec_typing_defs.specs.Library as spec;
 ghost use Rattle.ec_known.specs.Library.{seen, all_seen};
 ghost use Rattle.ec_known.specs.Taking.{types_view};
 
 use crate::formats::is_character;
 use crate::words::is_word;
-use ec_ctypes::ec_base::{List, OutOfMemory};
+use ec_base::{List, OutOfMemory};
 use ec_ctypes::{Expr, LibName, Sym, Ty};
 use ec_cut::{Argument, cut};
 use std::alloc::Global;

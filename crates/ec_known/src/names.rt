@@ -1,9 +1,9 @@
 //! The names that may not be declared.
 
 ghost use Rattle.std.specs.Prelude.{◌≡◌, map};
-ghost use Rattle.ec_typing.specs.ec_language.Letters.{same_text};
-ghost use Rattle.ec_typing.specs.Known as spec;
-ghost use Rattle.ec_typing.specs.Tables as tables;
+ghost use Rattle.ec_language.specs.Letters.{same_text};
+ghost use Rattle.ec_typing_defs.specs.Known as spec;
+ghost use Rattle.ec_typing_defs.specs.Tables as tables;
 
 use crate::functions::is_function_name;
 use crate::words::{begins_with, is_one_of};

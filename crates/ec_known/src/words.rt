@@ -1,9 +1,9 @@
 //! Tables of words.
 
 ghost use Rattle.std.specs.Prelude.{◌≡◌, map};
-ghost use Rattle.ec_typing.specs.ec_language.Letters.{same_text};
-ghost use Rattle.ec_typing.specs.Known as spec;
-ghost use Rattle.ec_typing.specs.Tables.{is_one_of};
+ghost use Rattle.ec_language.specs.Letters.{same_text};
+ghost use Rattle.ec_typing_defs.specs.Known as spec;
+ghost use Rattle.ec_typing_defs.specs.Tables.{is_one_of};
 
 /// Whether the text is this word.
 pub fn is_word(word: &str, text: &[u8]) -> bool

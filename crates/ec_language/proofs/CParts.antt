@@ -1,6 +1,6 @@
 -- The parts of C text: `c_parts` are the ones that the definition allows.
 use Rattle.std.proofs.Common.{◌≡◌, ℕ, zero, suc, ◌≤◌, Bool, false, List, [], ◌∷◌, ◌++◌, length, Option, Some, None, Result, Err, refl, sym, ap, ◌∙◌, arith, length-append}
-use Rattle.ec_ctypes.specs.ec_base.declared.fault.FaultKind.{FaultKind}
+use Rattle.ec_base.specs.declared.fault.FaultKind.{FaultKind}
 use Rattle.ec_ctypes.specs.trees.Tokens.{TokData}
 use Rattle.ec_language.specs.Letters.{Text, is_empty}
 use Rattle.ec_language.specs.Lexemes.{is_fresh_after}

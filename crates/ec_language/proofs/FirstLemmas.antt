@@ -3,11 +3,11 @@ use Rattle.std.proofs.Common.{◌≡◌, ℕ, suc, ◌<◌, ◌≤◌, Bool, tru
 use mathlib.Core.Logic.{inl, inr}
 use Rattle.std.specs.Prelude.{refl}
 use Rattle.std.proofs.lemmas.Bool.Decides.{nat_tests}
-use Rattle.ec_ctypes.specs.ec_base.declared.fault.FaultKind.{FaultKind}
-use Rattle.ec_ctypes.specs.ec_base.declared.fault.FaultKind.TheVariants as fault
-use Rattle.ec_ctypes.specs.ec_base.declared.fault.LimitKind.TheVariants.{L2}
-use Rattle.ec_ctypes.specs.ec_base.declared.stop.Stop.{Stop}
-use Rattle.ec_ctypes.specs.ec_base.declared.stop.Stop.TheVariants.{Refused, Limit}
+use Rattle.ec_base.specs.declared.fault.FaultKind.{FaultKind}
+use Rattle.ec_base.specs.declared.fault.FaultKind.TheVariants as fault
+use Rattle.ec_base.specs.declared.fault.LimitKind.TheVariants.{L2}
+use Rattle.ec_base.specs.declared.stop.Stop.{Stop}
+use Rattle.ec_base.specs.declared.stop.Stop.TheVariants.{Refused, Limit}
 use Rattle.ec_ctypes.specs.trees.Tokens.{TokData, TokenData}
 use Rattle.ec_language.specs.Tokens.{Part, numbered, numbered_part, with_token, token, max_tokens}
 use Rattle.ec_language.specs.First.{Violation, comes_before, IsFirst, IsAmong, first_of, earlier, rank, fault_number, violations_of, fault_in, limit_at, stop_of, stop_at}

@@ -4,7 +4,7 @@ use Rattle.std.specs.Prelude.{codes}
 use Rattle.std.specs.List.{concat}
 use Rattle.ec_ctypes.specs.declared.text.piece.PieceKind.{PieceKind}
 use Rattle.ec_ctypes.specs.declared.text.piece.PieceKind.TheVariants.{InPlace}
-use Rattle.ec_ctypes.specs.ec_base.declared.fault.FaultKind.TheVariants.{F2}
+use Rattle.ec_base.specs.declared.fault.FaultKind.TheVariants.{F2}
 use Rattle.ec_language.specs.Letters.{Text, semicolon, is_empty}
 use Rattle.ec_language.specs.CText.{CUnits}
 use Rattle.ec_language.specs.Pieces as pieces

@@ -3,7 +3,7 @@ use Rattle.std.proofs.Common.{◌≡◌, ℕ, suc, Bool, true, false, not, ◌&&
 use Rattle.std.specs.Prelude.{codes, ◌==◌, nat_le, option_map, if◌then◌else◌}
 use Rattle.std.specs.List.{concat}
 use Rattle.std.proofs.lemmas.Bool.Decides.{nat_tests}
-use Rattle.ec_ctypes.specs.ec_base.declared.fault.FaultKind.{FaultKind}
+use Rattle.ec_base.specs.declared.fault.FaultKind.{FaultKind}
 use Rattle.ec_ctypes.specs.trees.Tokens.{TokData, include_token}
 use Rattle.ec_language.specs.Letters.{Text, newline, is_blank, is_digit, is_word_start, is_quote, is_not_newline, is_empty, begins, begins_with, each}
 use Rattle.ec_language.specs.Lexemes.{Class, comment, class_of, Longest, IncludeLine, is_line_number, is_line_directive, directive_number}

@@ -2,10 +2,10 @@
 use Rattle.std.proofs.Common.{◌≡◌, ℕ, suc, ◌+◌, ◌≤◌, ◌<◌, Bool, true, false, ◌==◌, List, [], ◌∷◌, length, Option, Some, None, Result, Ok, Err, if◌then◌else◌, refl, ◌⊎◌, inl, inr, sym, ap, ◌∙◌, arith}
 use Rattle.std.proofs.lemmas.Bool.{eq-eqb}
 use Rattle.std.proofs.lemmas.Bool.Decides.{nat_tests}
-use Rattle.ec_ctypes.specs.ec_base.declared.fault.FaultKind.{FaultKind}
-use Rattle.ec_ctypes.specs.ec_base.declared.fault.LimitKind.TheVariants.{L2}
-use Rattle.ec_ctypes.specs.ec_base.declared.stop.Stop.{Stop}
-use Rattle.ec_ctypes.specs.ec_base.declared.stop.Stop.TheVariants.{Limit}
+use Rattle.ec_base.specs.declared.fault.FaultKind.{FaultKind}
+use Rattle.ec_base.specs.declared.fault.LimitKind.TheVariants.{L2}
+use Rattle.ec_base.specs.declared.stop.Stop.{Stop}
+use Rattle.ec_base.specs.declared.stop.Stop.TheVariants.{Limit}
 use Rattle.ec_ctypes.specs.declared.text.piece.Piece.{Piece}
 use Rattle.ec_ctypes.specs.trees.Tokens.{TokData, end_token, TokenData}
 use Rattle.ec_language.specs.Tokens.{Part, token, with_token, max_tokens, is_full, part_within, numbered_within, numbered, TokensWithin, join_strings, without_head}

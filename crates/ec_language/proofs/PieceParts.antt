@@ -2,8 +2,8 @@
 use Rattle.std.proofs.Common.{◌≡◌, ℕ, zero, suc, ◌+◌, ◌<◌, Bool, true, false, List, [], ◌∷◌, ◌++◌, length, Some, None, Result, Ok, Err, refl, sym, ap, ◌∙◌, subst, arith, append_assoc, append-nil}
 use Rattle.std.specs.Prelude.{codes, ⊤, if◌then◌else◌}
 use Rattle.std.specs.List.{concat, list_any}
-use Rattle.ec_ctypes.specs.ec_base.declared.fault.FaultKind.TheVariants.{F9}
-use Rattle.ec_ctypes.specs.ec_base.declared.stop.Stop.{Stop}
+use Rattle.ec_base.specs.declared.fault.FaultKind.TheVariants.{F9}
+use Rattle.ec_base.specs.declared.stop.Stop.{Stop}
 use Rattle.ec_ctypes.specs.declared.text.piece.PieceKind.{PieceKind}
 use Rattle.ec_ctypes.specs.declared.text.piece.PieceKind.TheVariants.{C, Emb, InPlace, SectionStart, SectionEnd}
 use Rattle.ec_ctypes.specs.declared.text.piece.Piece.{Piece}

@@ -4,10 +4,10 @@ use Rattle.std.proofs.lemmas.List.{append-nil, take-append-le}
 use Rattle.std.proofs.Math.Seq.{take-append_seam, take-length}
 use Rattle.std.proofs.Math.Dec.{leb}
 use Rattle.std.proofs.lemmas.Bool.{leb-true, leb-false}
-use Rattle.ec_ctypes.specs.ec_base.declared.fault.FaultKind.TheVariants.{F7}
-use Rattle.ec_ctypes.specs.ec_base.declared.fault.LimitKind.TheVariants.{L3}
-use Rattle.ec_ctypes.specs.ec_base.declared.stop.Stop.{Stop}
-use Rattle.ec_ctypes.specs.ec_base.declared.stop.Stop.TheVariants.{Refused, Limit}
+use Rattle.ec_base.specs.declared.fault.FaultKind.TheVariants.{F7}
+use Rattle.ec_base.specs.declared.fault.LimitKind.TheVariants.{L3}
+use Rattle.ec_base.specs.declared.stop.Stop.{Stop}
+use Rattle.ec_base.specs.declared.stop.Stop.TheVariants.{Refused, Limit}
 use Rattle.ec_ctypes.specs.trees.Tokens.{TokenData}
 use Rattle.ec_ctypes.specs.trees.Units.{UnitData}
 use Rattle.ec_language.specs.Productions.{Placed, placed, unit}

@@ -2,7 +2,7 @@
 use Rattle.std.specs.Prelude.{ℕ, zero, ◌+◌, Bool, true, false, not, ℤ, pos, List, [], ◌∷◌, map, codes, Option, Some, None, fold, if◌then◌else◌}
 use Prim.Native.String.{String}
 use denote.Enum.Bare.{sameb}
-use Rattle.ec_ctypes.specs.ec_base.declared.line.Line.{Line}
+use Rattle.ec_base.specs.declared.line.Line.{Line}
 use Rattle.ec_ctypes.specs.contracts.text.token.Punct.{the_type}
 use Rattle.ec_ctypes.specs.declared.text.token.Punct.{Punct}
 use Rattle.ec_ctypes.specs.declared.text.token.Punct.TheVariants as p

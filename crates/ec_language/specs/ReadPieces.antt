@@ -1,7 +1,7 @@
 -- A plain reading of a text: its pieces, or its first fault. It goes through the text from the front, and says of each part what stands behind it.
 use Rattle.std.specs.Prelude.{ℕ, zero, suc, pred, ◌+◌, ◌-◌, Bool, true, false, ◌&&◌, ◌||◌, ◌==◌, List, [], ◌∷◌, length, take, drop, codes, Option, Some, None, Result, Ok, Err, if◌then◌else◌}
-use Rattle.ec_ctypes.specs.ec_base.declared.fault.FaultKind.{FaultKind}
-use Rattle.ec_ctypes.specs.ec_base.declared.fault.FaultKind.TheVariants.{F1, F2, F3}
+use Rattle.ec_base.specs.declared.fault.FaultKind.{FaultKind}
+use Rattle.ec_base.specs.declared.fault.FaultKind.TheVariants.{F1, F2, F3}
 use Rattle.ec_ctypes.specs.declared.text.piece.PieceKind.{PieceKind}
 use Rattle.ec_ctypes.specs.declared.text.piece.PieceKind.TheVariants.{C, Emb, InPlace, SectionStart, SectionEnd}
 use Rattle.ec_ctypes.specs.declared.text.piece.Piece.{Piece}

@@ -1,9 +1,9 @@
 -- All readings of a list of tokens, by lists of successes, and whether a list is a front: functions that compute what the grammar derives.
 use Rattle.std.specs.Prelude.{◌≡◌, ◌⊎◌, ℕ, zero, suc, ◌*◌, Bool, true, false, ◌&&◌, List, [], ◌∷◌, ◌++◌, length, Option, Some, None}
-use Rattle.ec_ctypes.specs.ec_base.declared.fault.FaultKind.TheVariants.{F7}
-use Rattle.ec_ctypes.specs.ec_base.declared.fault.LimitKind.TheVariants.{L3}
-use Rattle.ec_ctypes.specs.ec_base.declared.stop.Stop.{Stop}
-use Rattle.ec_ctypes.specs.ec_base.declared.stop.Stop.TheVariants.{Refused, Limit}
+use Rattle.ec_base.specs.declared.fault.FaultKind.TheVariants.{F7}
+use Rattle.ec_base.specs.declared.fault.LimitKind.TheVariants.{L3}
+use Rattle.ec_base.specs.declared.stop.Stop.{Stop}
+use Rattle.ec_base.specs.declared.stop.Stop.TheVariants.{Refused, Limit}
 use Rattle.ec_language.specs.Productions.{Placed, start_of, is, Sym, unit, Value, Element, tok, count, sym, nest, whole, own, Row, Node, Nodes, Follows, Production, productions}
 use Rattle.ec_language.specs.Grammar.{PlacedTokens, Limits, Counts, no_counts, behind_counted, is_within, in_expression, behind_expression, in_declarator, behind_declarator}
 

@@ -1,8 +1,8 @@
 -- A plain reading of a text: its tree, or what the first phase that finds something refuses.
 use Rattle.std.specs.Prelude.{Bool, true, false, nat_lt, length, Result, Ok, Err}
-use Rattle.ec_ctypes.specs.ec_base.declared.fault.LimitKind.TheVariants.{L6}
-use Rattle.ec_ctypes.specs.ec_base.declared.stop.Stop.{Stop}
-use Rattle.ec_ctypes.specs.ec_base.declared.stop.Stop.TheVariants.{Refused, Limit}
+use Rattle.ec_base.specs.declared.fault.LimitKind.TheVariants.{L6}
+use Rattle.ec_base.specs.declared.stop.Stop.{Stop}
+use Rattle.ec_base.specs.declared.stop.Stop.TheVariants.{Refused, Limit}
 use Rattle.ec_ctypes.specs.trees.Units.{UnitData}
 use Rattle.ec_language.specs.Letters.{Text}
 use Rattle.ec_language.specs.First.{max_text}

@@ -1,6 +1,6 @@
 -- The tree of a program with a declaration in a section, an embedded statement and a call.
 use Rattle.std.specs.Prelude.{ℕ, true, false, [], ◌∷◌, codes, Some}
-use Rattle.ec_ctypes.specs.ec_base.declared.line.Line.{Line}
+use Rattle.ec_base.specs.declared.line.Line.{Line}
 use Rattle.ec_ctypes.specs.trees.Exprs.{string, call, no_exprs, exprs, no_dims, no_init, declarator, no_declarators, declarators, decl}
 use Rattle.ec_ctypes.specs.trees.Stmts.{StmtData, stmt, StmtKindData, expr_stmt, emb_stmt, return_stmt, no_stmts, stmts}
 use Rattle.ec_ctypes.specs.trees.Units.{decl_top, func_top, mark_top, UnitData}

@@ -1,9 +1,9 @@
 -- The tree of a list of tokens, or why there is none: a token with which no program goes on, or a limit.
 use Rattle.std.specs.Prelude.{◌≡◌, ◌≢◌, ◌≤◌, ℕ, List, [], ◌∷◌, ◌++◌, length, take, Result, Ok, Err}
-use Rattle.ec_ctypes.specs.ec_base.declared.fault.FaultKind.TheVariants.{F7}
-use Rattle.ec_ctypes.specs.ec_base.declared.fault.LimitKind.TheVariants.{L3}
-use Rattle.ec_ctypes.specs.ec_base.declared.stop.Stop.{Stop}
-use Rattle.ec_ctypes.specs.ec_base.declared.stop.Stop.TheVariants.{Refused, Limit}
+use Rattle.ec_base.specs.declared.fault.FaultKind.TheVariants.{F7}
+use Rattle.ec_base.specs.declared.fault.LimitKind.TheVariants.{L3}
+use Rattle.ec_base.specs.declared.stop.Stop.{Stop}
+use Rattle.ec_base.specs.declared.stop.Stop.TheVariants.{Refused, Limit}
 use Rattle.ec_ctypes.specs.trees.Tokens.{TokenData, end_token}
 use Rattle.ec_ctypes.specs.trees.Units.{UnitData}
 use Rattle.ec_language.specs.Productions.{Placed, placed, unit}

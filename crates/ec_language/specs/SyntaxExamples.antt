@@ -1,8 +1,8 @@
 -- Lists of tokens for the examples of the grammar, written as texts with a blank between any two tokens.
 use Rattle.std.specs.Prelude.{ℕ, zero, suc, ◌==◌, Bool, true, false, List, [], ◌∷◌, ◌++◌, map, codes, Option, Some, None}
 use Prim.Native.String.{String}
-use Rattle.ec_ctypes.specs.ec_base.declared.line.Line.{Line}
-use Rattle.ec_ctypes.specs.ec_base.declared.stop.Stop.{Stop}
+use Rattle.ec_base.specs.declared.line.Line.{Line}
+use Rattle.ec_base.specs.declared.stop.Stop.{Stop}
 use Rattle.ec_ctypes.specs.declared.text.token.Punct.{Punct}
 use Rattle.ec_ctypes.specs.declared.text.token.Punct.TheVariants.{LeftBrace, LeftParen, RightParen}
 use Rattle.ec_ctypes.specs.declared.types.arith.Arith.{Arith}

@@ -1,9 +1,9 @@
 -- Words for rows of texts and their tokens.
 use Rattle.std.specs.Prelude.{ℕ, suc, Bool, false, List, [], ◌∷◌, map, codes, Result, Ok, Err}
 use Prim.Native.String.{String}
-use Rattle.ec_ctypes.specs.ec_base.declared.fault.FaultKind.{FaultKind}
-use Rattle.ec_ctypes.specs.ec_base.declared.stop.Stop.{Stop}
-use Rattle.ec_ctypes.specs.ec_base.declared.stop.Stop.TheVariants.{Refused}
+use Rattle.ec_base.specs.declared.fault.FaultKind.{FaultKind}
+use Rattle.ec_base.specs.declared.stop.Stop.{Stop}
+use Rattle.ec_base.specs.declared.stop.Stop.TheVariants.{Refused}
 use Rattle.ec_ctypes.specs.declared.text.piece.PieceKind.TheVariants.{C, Emb}
 use Rattle.ec_ctypes.specs.declared.text.piece.Piece.{Piece}
 use Rattle.ec_ctypes.specs.declared.text.token.Punct.{Punct}

@@ -1,9 +1,9 @@
 //! Which fault or limit comes first, as the contracts of functions that do nothing.
 
 ghost use Rattle.std.specs.Prelude.{◌≡◌, ◌^◌, ◌<◌, ℕ, Bool, true, false, List, [], ◌∷◌, length, Option, Some, None, Err};
-ghost use Rattle.ec_ctypes.specs.ec_base.declared.fault.FaultKind.TheVariants.{F4, F5, F7};
-ghost use Rattle.ec_ctypes.specs.ec_base.declared.fault.LimitKind.TheVariants.{L2, L3, L6};
-ghost use Rattle.ec_ctypes.specs.ec_base.declared.stop.Stop.TheVariants.{Refused, Limit};
+ghost use Rattle.ec_base.specs.declared.fault.FaultKind.TheVariants.{F4, F5, F7};
+ghost use Rattle.ec_base.specs.declared.fault.LimitKind.TheVariants.{L2, L3, L6};
+ghost use Rattle.ec_base.specs.declared.stop.Stop.TheVariants.{Refused, Limit};
 ghost use Rattle.ec_language.specs.Tokens.{Part, numbered};
 ghost use Rattle.ec_language.specs.First.{Violation, comes_before, IsFirst, IsAmong, first_of, stop_of, stop_at, violations_of, Reads, max_text};
 

@@ -11,8 +11,6 @@ mod syntax_laws;
 mod token_examples;
 mod token_laws;
 
-pub use ec_ctypes;
-pub use ec_ctypes::ec_base;
 pub use first_examples::{
     first_is_first, order_examples, tokens_stop_at_the_first, too_long_comes_first,
 };

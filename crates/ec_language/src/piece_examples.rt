@@ -1,7 +1,7 @@
 //! What C text and SQL text are made of, as the contracts of functions that do nothing.
 
 ghost use Rattle.std.specs.Prelude.{◌≡◌, ℕ, true, false, [], ◌∷◌, codes, Some, None, List};
-ghost use Rattle.ec_ctypes.specs.ec_base.declared.fault.FaultKind.TheVariants.{F1, F2, F3};
+ghost use Rattle.ec_base.specs.declared.fault.FaultKind.TheVariants.{F1, F2, F3};
 ghost use Rattle.ec_language.specs.CText.{is_word, is_block_comment, is_quoted};
 ghost use Rattle.ec_language.specs.SqlText.{is_sql_quoted, is_escaped, is_sql_comment};
 ghost use Rattle.ec_language.specs.Pieces.{behind_start, Pieces};

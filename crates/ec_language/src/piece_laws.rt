@@ -1,7 +1,7 @@
 //! What holds of the pieces of every text, as the contracts of functions that do nothing.
 
 ghost use Rattle.std.specs.Prelude.{◌≡◌, ◌⊎◌, ℕ, List, Ok, Err};
-ghost use Rattle.ec_ctypes.specs.ec_base.declared.fault.FaultKind.{FaultKind};
+ghost use Rattle.ec_base.specs.declared.fault.FaultKind.{FaultKind};
 ghost use Rattle.ec_ctypes.specs.declared.text.piece.Piece.{Piece};
 ghost use Rattle.ec_language.specs.Pieces.{Pieces};
 ghost use Rattle.ec_language.specs.PieceFaults.{PieceFault};

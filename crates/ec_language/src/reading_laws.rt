@@ -1,8 +1,8 @@
 //! How whole texts are read, as the contracts of functions that do nothing.
 
 ghost use Rattle.std.specs.Prelude.{false, codes, Ok, Err};
-ghost use Rattle.ec_ctypes.specs.ec_base.declared.fault.FaultKind.TheVariants.{F2, F5, F7};
-ghost use Rattle.ec_ctypes.specs.ec_base.declared.stop.Stop.TheVariants.{Refused};
+ghost use Rattle.ec_base.specs.declared.fault.FaultKind.TheVariants.{F2, F5, F7};
+ghost use Rattle.ec_base.specs.declared.stop.Stop.TheVariants.{Refused};
 ghost use Rattle.ec_language.specs.First.{Reads};
 ghost use Rattle.ec_language.specs.ReadText.{read_text};
 ghost use Rattle.ec_language.specs.ReadingExample.{example_unit};

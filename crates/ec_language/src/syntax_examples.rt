@@ -2,9 +2,9 @@
 //! tokens, and each text has exactly the readings that are listed.
 
 ghost use Rattle.std.specs.Prelude.{◌≡◌, true, false, List, [], ◌∷◌, Option, Some, None, codes};
-ghost use Rattle.ec_ctypes.specs.ec_base.declared.fault.FaultKind.TheVariants.{F7};
-ghost use Rattle.ec_ctypes.specs.ec_base.declared.fault.LimitKind.TheVariants.{L3};
-ghost use Rattle.ec_ctypes.specs.ec_base.declared.stop.Stop.TheVariants.{Refused, Limit};
+ghost use Rattle.ec_base.specs.declared.fault.FaultKind.TheVariants.{F7};
+ghost use Rattle.ec_base.specs.declared.fault.LimitKind.TheVariants.{L3};
+ghost use Rattle.ec_base.specs.declared.stop.Stop.TheVariants.{Refused, Limit};
 ghost use Rattle.ec_ctypes.specs.declared.tree.expr.BinOp.TheVariants as bin;
 ghost use Rattle.ec_ctypes.specs.trees.Exprs.{binary, assign, bump, call, call_other, index, member, cast, size_type, size_expr, no_exprs, exprs, open_dim, no_dims, dims, one, many, no_inits, inits, no_init, some_init, decl, no_declarators};
 ghost use Rattle.ec_ctypes.specs.trees.Stmts.{block_stmt, if_stmt, for_stmt, decl_stmt, no_stmts, stmts, no_stmt, some_stmt};

@@ -1,7 +1,7 @@
 //! What is computed of the syntax is what the grammar derives, as the contracts of functions that do nothing.
 
 ghost use Rattle.std.specs.Prelude.{◌≡◌, ◌↔◌, true, List, Some, Ok, Err};
-ghost use Rattle.ec_ctypes.specs.ec_base.declared.stop.Stop.{Stop};
+ghost use Rattle.ec_base.specs.declared.stop.Stop.{Stop};
 ghost use Rattle.ec_ctypes.specs.trees.Tokens.{TokenData};
 ghost use Rattle.ec_ctypes.specs.trees.Units.{UnitData};
 ghost use Rattle.ec_language.specs.Grammar.{PlacedTokens, Limits, DerivesWithin, FrontWithin, Derives, Front};

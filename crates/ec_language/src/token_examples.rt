@@ -1,10 +1,10 @@
 //! What tokens are worth, as the contracts of functions that do nothing.
 
 ghost use Rattle.std.specs.Prelude.{◌≡◌, ℕ, ◌^◌, ◌-◌, ◌++◌, pos, negsuc, true, false, List, [], ◌∷◌, codes, Some, None, Ok, Err};
-ghost use Rattle.ec_ctypes.specs.ec_base.declared.fault.FaultKind.{FaultKind};
-ghost use Rattle.ec_ctypes.specs.ec_base.declared.fault.FaultKind.TheVariants.{F4, F5, F6, F9};
-ghost use Rattle.ec_ctypes.specs.ec_base.declared.fault.LimitKind.TheVariants.{L2};
-ghost use Rattle.ec_ctypes.specs.ec_base.declared.stop.Stop.TheVariants.{Refused, Limit};
+ghost use Rattle.ec_base.specs.declared.fault.FaultKind.{FaultKind};
+ghost use Rattle.ec_base.specs.declared.fault.FaultKind.TheVariants.{F4, F5, F6, F9};
+ghost use Rattle.ec_base.specs.declared.fault.LimitKind.TheVariants.{L2};
+ghost use Rattle.ec_base.specs.declared.stop.Stop.TheVariants.{Refused, Limit};
 ghost use Rattle.ec_ctypes.specs.declared.text.piece.PieceKind.TheVariants.{C, Emb, InPlace};
 ghost use Rattle.ec_ctypes.specs.declared.types.arith.Arith.TheVariants.{Int, UInt, Long, ULong, ULLong};
 ghost use Rattle.ec_ctypes.specs.declared.text.token.Punct.TheVariants as mark;

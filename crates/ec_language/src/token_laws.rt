@@ -1,10 +1,10 @@
 //! What holds of every text and its tokens, as the contracts of functions that do nothing.
 
 ghost use Rattle.std.specs.Prelude.{◌≡◌, ℕ, ◌++◌, Bool, true, false, List, Option, Some, None, Result, Err, ◌⊎◌};
-ghost use Rattle.ec_ctypes.specs.ec_base.declared.fault.FaultKind.{FaultKind};
-ghost use Rattle.ec_ctypes.specs.ec_base.declared.fault.LimitKind.TheVariants.{L2};
-ghost use Rattle.ec_ctypes.specs.ec_base.declared.stop.Stop.{Stop};
-ghost use Rattle.ec_ctypes.specs.ec_base.declared.stop.Stop.TheVariants.{Limit};
+ghost use Rattle.ec_base.specs.declared.fault.FaultKind.{FaultKind};
+ghost use Rattle.ec_base.specs.declared.fault.LimitKind.TheVariants.{L2};
+ghost use Rattle.ec_base.specs.declared.stop.Stop.{Stop};
+ghost use Rattle.ec_base.specs.declared.stop.Stop.TheVariants.{Limit};
 ghost use Rattle.ec_ctypes.specs.declared.text.piece.Piece.{Piece};
 ghost use Rattle.ec_ctypes.specs.trees.Tokens.{TokData, TokenData};
 ghost use Rattle.ec_language.specs.Letters.{Text};

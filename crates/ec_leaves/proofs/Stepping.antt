@@ -1,16 +1,15 @@
 -- Ways through one member more.
 use Rattle.std.proofs.Common.{◌≡◌, ℕ, zero, suc, List, [], ◌∷◌, ◌++◌, map, Option, Some, None, option_map, refl, ap, ◌∙◌, append_assoc, length, Bool, true, false}
-use Rattle.std.specs.Prelude.{slice_get}
+use Rattle.std.specs.Prelude.{slice_get, option_and_then}
 use Rattle.ec_language.specs.Letters.{Text}
 use Rattle.ec_leaves.specs.declared.parts.Frame.{Frame}
 use Rattle.ec_leaves.specs.Adding.{leaf_under, behind}
 use Rattle.ec_leaves.specs.Seen.{leaf_at}
 use Rattle.ec_ctypes.specs.trees.Types.{TyData, void, arithmetic, pointer, array, structure, StructData}
-use Rattle.ec_hosts.specs.Elements.{is_element, plain_struct}
-use Rattle.ec_hosts.specs.Leaves as spec
-use Rattle.ec_hosts.specs.Leaves.{LeafData, Path, Way, with_step, ways, ways_within, is_pointer, array_shape, many_structs, elements, one_struct, one_element, other_shape, shape_of_host}
+use Rattle.ec_host_defs.specs.Elements.{is_element, plain_struct}
+use Rattle.ec_host_defs.specs.Leaves as spec
+use Rattle.ec_host_defs.specs.Leaves.{LeafData, Path, Way, with_step, ways, ways_within, is_pointer, array_shape, many_structs, elements, one_struct, one_element, other_shape, shape_of_host}
 use Rattle.ec_leaves.specs.Cases.{one_leaves, many_leaves, elements_by, array_by, other_by, leaves_by}
-use Rattle.std.specs.Prelude.{option_and_then}
 
 pub got_mapped : {A B : Type 0} (f : A → B) (xs : List A) (k : ℕ) → slice_get (map f xs) k ≡ option_map f (slice_get xs k)
 got_mapped f [] k = refl

@@ -4,8 +4,8 @@ use Rattle.std.proofs.lemmas.Bool.Decides.{nat_tests}
 use Rattle.std.specs.Prelude.{slice_get, option_and_then, nat_le}
 use Rattle.ec_language.specs.Letters.{Text}
 use Rattle.ec_ctypes.specs.trees.Types.{TyData, void, arithmetic, pointer, array, structure, MemberData, StructData}
-use Rattle.ec_hosts.specs.Elements.{is_element, plain_struct, plain_number, plain_if}
-use Rattle.ec_hosts.specs.Leaves.{LeafData, Path, Way, both, with_step, member_ways, members_ways, ways_within, ways}
+use Rattle.ec_host_defs.specs.Elements.{is_element, plain_struct, plain_number, plain_if}
+use Rattle.ec_host_defs.specs.Leaves.{LeafData, Path, Way, both, with_step, member_ways, members_ways, ways_within, ways}
 use Rattle.ec_leaves.specs.declared.parts.Frame.{Frame}
 use Rattle.ec_leaves.specs.declared.parts.Step.{Step}
 use Rattle.ec_leaves.specs.Adding.{behind, leaf_under}

@@ -2,7 +2,7 @@
 use Rattle.std.specs.Prelude.{Bool, true, false, List, ◌++◌, map, Option, Some, None, option_map}
 use Rattle.ec_leaves.specs.declared.parts.Frame.{Frame}
 use Rattle.ec_leaves.specs.Seen.{leaf_at}
-use Rattle.ec_hosts.specs.Leaves.{LeafData, Path, Way}
+use Rattle.ec_host_defs.specs.Leaves.{LeafData, Path, Way}
 
 -- a way behind these members
 abbrev pub under : Path → Way → Way

@@ -1,8 +1,8 @@
 -- The leaves of a type, case by case.
 use Rattle.std.specs.Prelude.{ℕ, Bool, true, false, List, [], ◌∷◌, map, Option, Some, None, option_map}
 use Rattle.ec_ctypes.specs.trees.Types.{TyData, void, arithmetic, pointer, array, structure, StructData}
-use Rattle.ec_hosts.specs.Elements.{is_element, plain_struct}
-use Rattle.ec_hosts.specs.Leaves.{LeafData, own_leaf, leaf_of_struct, leaf_of_structs, ways, is_pointer}
+use Rattle.ec_host_defs.specs.Elements.{is_element, plain_struct}
+use Rattle.ec_host_defs.specs.Leaves.{LeafData, own_leaf, leaf_of_struct, leaf_of_structs, ways, is_pointer}
 
 -- of a struct that stands for its members
 abbrev pub one_leaves : List StructData → Option ℕ → Option (List LeafData)

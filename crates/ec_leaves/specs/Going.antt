@@ -1,7 +1,7 @@
 -- Going through the members of a struct, and of the structs that it holds, one member a turn.
 use Rattle.std.specs.Prelude.{◌≡◌, ℕ, ◌-◌, List, [], ◌∷◌, ◌++◌, map, drop, length, slice_get, Option, Some, None, option_and_then}
 use Rattle.ec_ctypes.specs.trees.Types.{MemberData, StructData}
-use Rattle.ec_hosts.specs.Leaves.{LeafData, Path, members_ways, ways_within}
+use Rattle.ec_host_defs.specs.Leaves.{LeafData, Path, members_ways, ways_within}
 use Rattle.ec_leaves.specs.declared.parts.Frame.{Frame}
 use Rattle.ec_leaves.specs.declared.parts.Step.{Step}
 use Rattle.ec_leaves.specs.declared.parts.Walk.{Walk}

@@ -3,7 +3,7 @@ use Rattle.ec_ctypes.specs.views.Types.{ty_view}
 use Rattle.ec_leaves.specs.declared.parts.Leaf.{Leaf}
 use Rattle.ec_leaves.specs.declared.parts.Frame.{Frame}
 use Rattle.ec_leaves.specs.declared.parts.Frame.TheVariants.{Single, Many}
-use Rattle.ec_hosts.specs.Leaves.{LeafData, Way, leaf_of_struct, leaf_of_structs}
+use Rattle.ec_host_defs.specs.Leaves.{LeafData, Way, leaf_of_struct, leaf_of_structs}
 
 abbrev pub leaf_view : Leaf → LeafData
 leaf_view l = record {

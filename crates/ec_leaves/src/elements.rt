@@ -3,7 +3,7 @@
 ghost use Rattle.std.specs.Prelude.{◌≡◌, map, option_map, slice_get};
 ghost use Rattle.std.specs.Option.{option_copied};
 ghost use Rattle.ec_ctypes.specs.views.Types.{ty_view, member_view, struct_view, structs_view};
-ghost use Rattle.ec_hosts.specs.Elements as spec;
+ghost use Rattle.ec_host_defs.specs.Elements as spec;
 
 use ec_base::Name;
 use ec_ctypes::{StructDef, Structs, Sym, Ty};

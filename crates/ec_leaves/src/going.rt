@@ -3,8 +3,8 @@
 ghost use Rattle.std.specs.Prelude.{◌≡◌, ◌<◌, ◌+◌, ◌-◌, nat_le, [], ◌∷◌, ◌++◌, false, true, drop, map, length, slice_get, Some, None, IfOk, OnOk, option_map};
 ghost use Rattle.std.specs.Option.{option_copied};
 ghost use Rattle.ec_ctypes.specs.views.Types.{ty_view, member_view, structs_view};
-ghost use Rattle.ec_hosts.specs.Elements as elements;
-ghost use Rattle.ec_hosts.specs.Leaves as hosts;
+ghost use Rattle.ec_host_defs.specs.Elements as elements;
+ghost use Rattle.ec_host_defs.specs.Leaves as hosts;
 ghost use Rattle.ec_leaves.specs.Adding.{added};
 ghost use Rattle.ec_leaves.specs.Going as spec;
 ghost use Rattle.ec_leaves.specs.Seen.{leaf_view, leaf_at};

@@ -4,7 +4,7 @@ ghost use Rattle.std.specs.Prelude.{◌≡◌, IfOk, Some, None};
 ghost use Rattle.ec_ctypes.specs.views.Checked.{place_view};
 ghost use Rattle.ec_ctypes.specs.views.Exprs.{expr_view};
 ghost use Rattle.ec_ctypes.specs.views.Types.{ty_view, structs_view};
-ghost use Rattle.ec_hosts.specs.Places as spec;
+ghost use Rattle.ec_host_defs.specs.Places as spec;
 ghost use Rattle.ec_leaves.specs.Seen.{leaf_view};
 
 use crate::elements::symbol_of;

@@ -2,8 +2,8 @@
 
 ghost use Rattle.std.specs.Prelude.{◌≡◌, [], ◌∷◌, map, IfOk, option_map};
 ghost use Rattle.ec_ctypes.specs.views.Types.{ty_view, structs_view};
-ghost use Rattle.ec_hosts.specs.Elements.{is_element, plain_struct};
-ghost use Rattle.ec_hosts.specs.Leaves as spec;
+ghost use Rattle.ec_host_defs.specs.Elements.{is_element, plain_struct};
+ghost use Rattle.ec_host_defs.specs.Leaves as spec;
 ghost use Rattle.ec_leaves.specs.Cases.{one_leaves, many_leaves, elements_by, array_by, other_by, leaves_by};
 ghost use Rattle.ec_leaves.specs.Seen.{leaf_view};
 

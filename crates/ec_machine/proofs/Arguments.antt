@@ -4,14 +4,14 @@ use Rattle.std.specs.Prelude.{nat_le, nat_lt, if◌then◌else◌, ◌&&◌, sli
 use Rattle.std.proofs.lemmas.Bool.Decides.{nat_tests}
 use Rattle.std.proofs.lemmas.List.{drop_at, length-append, length-replicate}
 use Rattle.ec_base.specs.declared.stop.Trap.TheVariants.{Outside, Spent}
-use Rattle.ec_evaluation.specs.Results.{Res, changed, given, made, tried}
-use Rattle.ec_evaluation.specs.State.{State}
+use Rattle.ec_meaning_defs.specs.evaluation.Results.{Res, changed, given, made, tried}
+use Rattle.ec_meaning_defs.specs.evaluation.State.{State}
 use Rattle.ec_memory.specs.Room.{HasRoom, int_cells}
-use Rattle.ec_objects.specs.Cells.{Cell, unset_cells, written}
-use Rattle.ec_objects.specs.Kinds.{kind_type}
-use Rattle.ec_objects.specs.declared.kind.Kind.{Kind}
-use Rattle.ec_objects.specs.declared.kind.Kind.TheVariants as kind
-use Rattle.ec_objects.specs.Memory.{Memory, ObjectData, ScalarType, ValueData, alive, and_then, cells_found, ended, live_bytes, number, object_cells, object_of, offset_of, pointer_to, scalar_size, store, with_object}
+use Rattle.ec_memory_defs.specs.Cells.{Cell, unset_cells, written}
+use Rattle.ec_memory_defs.specs.Kinds.{kind_type}
+use Rattle.ec_memory_defs.specs.declared.kind.Kind.{Kind}
+use Rattle.ec_memory_defs.specs.declared.kind.Kind.TheVariants as kind
+use Rattle.ec_memory_defs.specs.Memory.{Memory, ObjectData, ScalarType, ValueData, alive, and_then, cells_found, ended, live_bytes, number, object_cells, object_of, offset_of, pointer_to, scalar_size, store, with_object}
 use Rattle.ec_plain.specs.Answered.{at}
 use Rattle.ec_machine.specs.Arguments.{with_arguments}
 

@@ -11,15 +11,15 @@ use Rattle.ec_code.specs.declared.expression.Plain.{Plain}
 use Rattle.ec_code.specs.declared.step.Binary.{Binary}
 use Rattle.ec_code.specs.declared.step.Unary.{Unary}
 use Rattle.ec_code.specs.Views.{expression_view, expressions_view, full_step_view, full_view, head_view, plain_view}
-use Rattle.ec_evaluation.specs.Evaluate.{Context, World, Step as Knowing, calls, eval, collect}
-use Rattle.ec_evaluation.specs.Results.{value, answered, done_there, without_answer}
-use Rattle.ec_evaluation.specs.State.{State}
-use Rattle.ec_formats.specs.declared.known.Known.{Known}
-use Rattle.ec_formats.specs.Known.{known_view}
-use Rattle.ec_functions.specs.Functions.{effect_of}
+use Rattle.ec_meaning_defs.specs.evaluation.Evaluate.{Context, World, Step as Knowing, calls, eval, collect}
+use Rattle.ec_meaning_defs.specs.evaluation.Results.{value, answered, done_there, without_answer}
+use Rattle.ec_meaning_defs.specs.evaluation.State.{State}
+use Rattle.ec_printf.specs.declared.formats.known.Known.{Known}
+use Rattle.ec_printf.specs.formats.Known.{known_view}
+use Rattle.ec_meaning_defs.specs.functions.Functions.{effect_of}
 use Rattle.ec_plain.specs.Steps.{followed, one_on, two_on}
 use Rattle.ec_plain.proofs.Walks.{walk_leads}
-use Rattle.ec_resolved.specs.Resolved.{library}
+use Rattle.ec_meaning_defs.specs.resolved.Resolved.{library}
 use Rattle.ec_values.specs.Words.{word_view}
 use Rattle.ec_values.specs.declared.word.Word.{Word}
 use Rattle.ec_machine.proofs.Views.{view-Plain, view-Full, view-full, view-Begun, view-Call, view-Known, view-LibraryCall, view-One, view-Two}

@@ -6,14 +6,14 @@ use Rattle.ec_base.specs.declared.line.Line.{Line}
 use Rattle.ec_base.specs.declared.stop.Trap.TheVariants.{NoValue}
 use Rattle.ec_code.specs.declared.expression.FullStep.{FullStep}
 use Rattle.ec_code.specs.declared.program.Function.{Function}
-use Rattle.ec_evaluation.specs.Evaluate.{World, Step as Knowing}
+use Rattle.ec_meaning_defs.specs.evaluation.Evaluate.{World, Step as Knowing}
 use Rattle.ec_code.specs.Views.{full_step_view}
-use Rattle.ec_evaluation.specs.Results.{Res, back, done_there, ended_to, no_value, on_value, over, value}
-use Rattle.ec_evaluation.specs.State.{Ending, State, stuck, trapped}
-use Rattle.ec_formats.specs.declared.known.Known.{Known}
-use Rattle.ec_formats.specs.Known.{known_view}
-use Rattle.ec_functions.specs.Functions.{effect_of}
-use Rattle.ec_objects.specs.Memory.{ValueData, end_to}
+use Rattle.ec_meaning_defs.specs.evaluation.Results.{Res, back, done_there, ended_to, no_value, on_value, over, value}
+use Rattle.ec_meaning_defs.specs.evaluation.State.{Ending, State, stuck, trapped}
+use Rattle.ec_printf.specs.declared.formats.known.Known.{Known}
+use Rattle.ec_printf.specs.formats.Known.{known_view}
+use Rattle.ec_meaning_defs.specs.functions.Functions.{effect_of}
+use Rattle.ec_memory_defs.specs.Memory.{ValueData, end_to}
 use Rattle.ec_plain.proofs.Walks.{followed_over}
 use Rattle.ec_values.specs.Words.{word_view}
 use Rattle.ec_values.specs.declared.word.Word.{Word}

@@ -1,15 +1,15 @@
 -- A task among tasks of more turns than are left is what its parts do among these same tasks.
 use Rattle.std.proofs.Common.{◌≡◌, ℕ, zero, suc, ◌+◌, ◌<◌, ◌≤◌, inr, List, [], ◌∷◌, map, refl, sym, ap, ◌∙◌, subst, arith}
-use Rattle.ec_resolved.specs.Programs.{Function}
-use Rattle.ec_resolved.specs.Resolved.{Stm, on_line, nothing, evaluate, declare, initialize, block, choose, loop, leave, next, return, goto, label, embedded_statement, Stms, no_stms, stms}
-use Rattle.ec_evaluation.specs.State.{Answer, State, turns_spent}
-use Rattle.ec_evaluation.specs.Results.{Res, over, turn}
-use Rattle.ec_evaluation.specs.Evaluate.{Task, calls, turn_of, look_for, World, Step}
-use Rattle.ec_evaluation.specs.Execute.{act, meaning, started}
-use Rattle.ec_evaluation.specs.Expanded.{written, written_all, written_function, written_task, itself}
-use Rattle.ec_evaluation.specs.Agree.{richer, before_goto, Beside, beside, Same, same_value, same_on, same_broke, same_continued, same_went, same_back, same_over, stops_first, Endings, Kept, Alike, before, Related, Agree, Never, Any, Below, state_of, CountsTurns}
-use Rattle.ec_evaluation.proofs.Induction.{act_good, turn_same}
-use Rattle.ec_evaluation.proofs.WholeRuns.{alike, plain}
+use Rattle.ec_meaning_defs.specs.resolved.Programs.{Function}
+use Rattle.ec_meaning_defs.specs.resolved.Resolved.{Stm, on_line, nothing, evaluate, declare, initialize, block, choose, loop, leave, next, return, goto, label, embedded_statement, Stms, no_stms, stms}
+use Rattle.ec_meaning_defs.specs.evaluation.State.{Answer, State, turns_spent}
+use Rattle.ec_meaning_defs.specs.evaluation.Results.{Res, over, turn}
+use Rattle.ec_meaning_defs.specs.evaluation.Evaluate.{Task, calls, turn_of, look_for, World, Step}
+use Rattle.ec_meaning_defs.specs.evaluation.Execute.{act, meaning, started}
+use Rattle.ec_meaning_defs.specs.evaluation.Expanded.{written, written_all, written_function, written_task, itself}
+use Rattle.ec_meaning_defs.specs.evaluation.Agree.{richer, before_goto, Beside, beside, Same, same_value, same_on, same_broke, same_continued, same_went, same_back, same_over, stops_first, Endings, Kept, Alike, before, Related, Agree, Never, Any, Below, state_of, CountsTurns}
+use Rattle.ec_meaning_defs.proofs.evaluation_lemmas.Induction.{act_good, turn_same}
+use Rattle.ec_meaning_defs.proofs.evaluation_lemmas.WholeRuns.{alike, plain}
 
 -- ---- a program that is written as itself
 

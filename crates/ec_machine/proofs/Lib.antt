@@ -1,4 +1,3 @@
-pub use Rattle.ec_plain.proofs as ec_plain_proofs
 pub mod Arguments
 pub mod Evaluating
 pub mod Finding

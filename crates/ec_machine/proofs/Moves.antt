@@ -8,14 +8,14 @@ use Rattle.ec_code.specs.declared.program.Function.{Function}
 use Rattle.ec_code.specs.Trees.{Step}
 use Rattle.ec_code.specs.Views.{full_step_view, statements_view}
 use Rattle.ec_code.specs.declared.statement.Statement.{Statement}
-use Rattle.ec_resolved.specs.Operations.{is_true}
-use Rattle.ec_resolved.specs.Resolved.{Exp, Stm}
+use Rattle.ec_meaning_defs.specs.resolved.Operations.{is_true}
+use Rattle.ec_meaning_defs.specs.resolved.Resolved.{Exp, Stm}
 use Rattle.ec_base.specs.declared.line.Line.{Line}
-use Rattle.ec_evaluation.specs.Evaluate.{Context, World, Step as Knowing, turn_of, eval}
-use Rattle.ec_evaluation.specs.Execute.{tested, again, settle}
-use Rattle.ec_evaluation.specs.Results.{Res, on, over, on_value, closing, ended_to}
-use Rattle.ec_evaluation.specs.State.{State, Ending}
-use Rattle.ec_objects.specs.Memory.{ValueData}
+use Rattle.ec_meaning_defs.specs.evaluation.Evaluate.{Context, World, Step as Knowing, turn_of, eval}
+use Rattle.ec_meaning_defs.specs.evaluation.Execute.{tested, again, settle}
+use Rattle.ec_meaning_defs.specs.evaluation.Results.{Res, on, over, on_value, closing, ended_to}
+use Rattle.ec_meaning_defs.specs.evaluation.State.{State, Ending}
+use Rattle.ec_memory_defs.specs.Memory.{ValueData}
 use Rattle.ec_plain.specs.Answered.{scope_view}
 use Rattle.ec_plain.specs.Steps.{followed, step_on}
 use Rattle.ec_plain.proofs.Walks.{followed_over}

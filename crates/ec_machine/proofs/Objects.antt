@@ -1,11 +1,11 @@
 -- Objects that are made, and those that are not.
 use Rattle.std.proofs.Common.{◌≡◌, ◌∙◌, sym, ap, ℕ, ◌+◌, List, [], ◌∷◌, ◌++◌, Ok, Err}
 use Rattle.ec_bytes.specs.declared.scalar.address.Ptr.{Ptr}
-use Rattle.ec_evaluation.specs.Results.{Res, over, tried}
-use Rattle.ec_evaluation.specs.State.{State}
+use Rattle.ec_meaning_defs.specs.evaluation.Results.{Res, over, tried}
+use Rattle.ec_meaning_defs.specs.evaluation.State.{State}
 use Rattle.ec_memory.specs.declared.store.MakeStop.{MakeStop}
 use Rattle.ec_memory.specs.declared.store.MakeStop.TheVariants as makes
-use Rattle.ec_objects.specs.Memory.{Memory, make}
+use Rattle.ec_memory_defs.specs.Memory.{Memory, make}
 use Rattle.ec_plain.specs.Answered.{at, scope_view}
 use Rattle.ec_machine.specs.declared.scope.Scope.{Scope}
 use Rattle.ec_machine.specs.declared.stop.Stop.{Stop}

@@ -9,11 +9,11 @@ use Rattle.ec_code.specs.declared.step.Binary.{Binary}
 use Rattle.ec_code.specs.declared.step.Unary.{Unary}
 use Rattle.ec_code.specs.Trees.{Step}
 use Rattle.ec_code.specs.Views.{expression_view, full_step_view}
-use Rattle.ec_evaluation.specs.Evaluate.{Context, World, Step as Knowing}
-use Rattle.ec_evaluation.specs.Results.{Res, value, over, done_there, or_no_value}
-use Rattle.ec_evaluation.specs.State.{Ending, State}
-use Rattle.ec_functions.specs.Functions.{Channel, standard_output, standard_error, puts_bytes}
-use Rattle.ec_objects.specs.Memory.{Memory, ValueData}
+use Rattle.ec_meaning_defs.specs.evaluation.Evaluate.{Context, World, Step as Knowing}
+use Rattle.ec_meaning_defs.specs.evaluation.Results.{Res, value, over, done_there, or_no_value}
+use Rattle.ec_meaning_defs.specs.evaluation.State.{Ending, State}
+use Rattle.ec_meaning_defs.specs.functions.Functions.{Channel, standard_output, standard_error, puts_bytes}
+use Rattle.ec_memory_defs.specs.Memory.{Memory, ValueData}
 use Rattle.ec_plain.specs.Steps.{followed, one_on, two_on}
 use Rattle.ec_values.specs.Words.{word_view}
 use Rattle.ec_values.specs.declared.word.Word.{Word}

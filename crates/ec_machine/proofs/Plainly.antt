@@ -5,10 +5,10 @@ use Rattle.ec_bytes.specs.declared.scalar.address.Ptr.{Ptr}
 use Rattle.ec_code.specs.declared.expression.Plain.{Plain}
 use Rattle.ec_code.specs.declared.program.Function.{Function}
 use Rattle.ec_code.specs.Views.{plain_view}
-use Rattle.ec_evaluation.specs.Evaluate.{World, Step as Knowing, eval}
-use Rattle.ec_evaluation.specs.Results.{Res, over, value}
-use Rattle.ec_evaluation.specs.State.{Ending, State}
-use Rattle.ec_objects.specs.Memory.{Memory}
+use Rattle.ec_meaning_defs.specs.evaluation.Evaluate.{World, Step as Knowing, eval}
+use Rattle.ec_meaning_defs.specs.evaluation.Results.{Res, over, value}
+use Rattle.ec_meaning_defs.specs.evaluation.State.{Ending, State}
+use Rattle.ec_memory_defs.specs.Memory.{Memory}
 use Rattle.ec_plain.specs.Answered.{at as over_memory, answered, context, ending_of}
 use Rattle.ec_values.specs.Words.{word_view}
 use Rattle.ec_values.specs.declared.word.Stop.{Stop as NoValue}

@@ -6,15 +6,15 @@ use Rattle.ec_bytes.specs.declared.scalar.address.Ptr.{Ptr}
 use Rattle.ec_code.specs.declared.expression.Plain.{Plain}
 use Rattle.ec_code.specs.declared.program.Function.{Function}
 use Rattle.ec_code.specs.Views.{plain_view}
-use Rattle.ec_evaluation.specs.Evaluate.{Context, World, Step as Knowing, eval, turn_of}
+use Rattle.ec_meaning_defs.specs.evaluation.Evaluate.{Context, World, Step as Knowing, eval, turn_of}
 use Rattle.ec_code.specs.declared.statement.Statement.{Statement}
-use Rattle.ec_evaluation.specs.Execute.{again, tested}
-use Rattle.ec_evaluation.specs.Results.{Res, back, on, over, value, on_done, on_value}
-use Rattle.ec_evaluation.specs.State.{Ending, State}
-use Rattle.ec_objects.specs.Memory.{Memory, ValueData}
+use Rattle.ec_meaning_defs.specs.evaluation.Execute.{again, tested}
+use Rattle.ec_meaning_defs.specs.evaluation.Results.{Res, back, on, over, value, on_done, on_value}
+use Rattle.ec_meaning_defs.specs.evaluation.State.{Ending, State}
+use Rattle.ec_memory_defs.specs.Memory.{Memory, ValueData}
 use Rattle.ec_plain.specs.Answered.{at as over_memory, answered, context, ending_of}
-use Rattle.ec_resolved.specs.Operations.{is_true}
-use Rattle.ec_resolved.specs.Resolved.{Exp, Stm}
+use Rattle.ec_meaning_defs.specs.resolved.Operations.{is_true}
+use Rattle.ec_meaning_defs.specs.resolved.Resolved.{Exp, Stm}
 use Rattle.ec_values.specs.Words.{word_view}
 use Rattle.ec_values.specs.declared.word.Stop.{Stop as NoValue}
 use Rattle.ec_values.specs.declared.word.Word.{Word}

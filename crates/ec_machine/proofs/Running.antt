@@ -10,13 +10,13 @@ use Rattle.ec_code.specs.declared.statement.Loop.{Loop, out-Loop}
 use Rattle.ec_code.specs.declared.statement.Statement.{Statement}
 use Rattle.ec_code.specs.declared.statement.Statement.TheVariants as statement
 use Rattle.ec_code.specs.Views.{expression_view, expressions_view, size_view, loop_view, statement_view, statements_view}
-use Rattle.ec_evaluation.specs.Evaluate.{Context, World, Step as Knowing, turn_of, eval}
-use Rattle.ec_evaluation.specs.Execute.{run, run_all, look, look_all, tested, declared, initialized, enter, returning}
-use Rattle.ec_evaluation.specs.Results.{Res, value, on, broke, continued, went, back, over, turn, on_done}
-use Rattle.ec_evaluation.specs.State.{State, stuck}
-use Rattle.ec_resolved.specs.Labels.{holds}
-use Rattle.ec_resolved.specs.Resolved.{Stm}
-use Rattle.ec_resolved.specs.Resolved as of
+use Rattle.ec_meaning_defs.specs.evaluation.Evaluate.{Context, World, Step as Knowing, turn_of, eval}
+use Rattle.ec_meaning_defs.specs.evaluation.Execute.{run, run_all, look, look_all, tested, declared, initialized, enter, returning}
+use Rattle.ec_meaning_defs.specs.evaluation.Results.{Res, value, on, broke, continued, went, back, over, turn, on_done}
+use Rattle.ec_meaning_defs.specs.evaluation.State.{State, stuck}
+use Rattle.ec_meaning_defs.specs.resolved.Labels.{holds}
+use Rattle.ec_meaning_defs.specs.resolved.Resolved.{Stm}
+use Rattle.ec_meaning_defs.specs.resolved.Resolved as of
 use Rattle.ec_machine.specs.declared.frame.Frame.TheVariants as frame
 use Rattle.ec_machine.specs.Frames.{Env, here, plug, test_of, behind_of, body_of}
 use Rattle.ec_machine.specs.Goes.{Fits}

@@ -3,11 +3,11 @@ use Rattle.std.proofs.Common.{◌≡◌, ◌∙◌, sym, ap, subst, ℕ, ◌<◌
 use Rattle.ec_code.specs.declared.program.Function.{Function}
 use Rattle.ec_code.specs.declared.statement.Statement.{Statement}
 use Rattle.ec_code.specs.Views.{function_view, statements_view}
-use Rattle.ec_evaluation.specs.Evaluate.{Context, Task, World, Step as Knowing, look_for}
-use Rattle.ec_evaluation.specs.Execute.{act, started, settle, look_all}
-use Rattle.ec_evaluation.specs.Results.{Res, went}
-use Rattle.ec_evaluation.specs.State.{State}
-use Rattle.ec_resolved.specs.Labels.{holds_any}
+use Rattle.ec_meaning_defs.specs.evaluation.Evaluate.{Context, Task, World, Step as Knowing, look_for}
+use Rattle.ec_meaning_defs.specs.evaluation.Execute.{act, started, settle, look_all}
+use Rattle.ec_meaning_defs.specs.evaluation.Results.{Res, went}
+use Rattle.ec_meaning_defs.specs.evaluation.State.{State}
+use Rattle.ec_meaning_defs.specs.resolved.Labels.{holds_any}
 use Rattle.ec_machine.specs.declared.machine.Machine.{Machine}
 use Rattle.ec_machine.specs.declared.stop.Stop.{Stop}
 use Rattle.ec_machine.specs.Goes.{Fits, Stops, at, tasks}

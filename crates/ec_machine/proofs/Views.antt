@@ -18,9 +18,9 @@ use Rattle.ec_code.specs.declared.step.Binary.{Binary}
 use Rattle.ec_code.specs.declared.step.Unary.{Unary}
 use Rattle.ec_code.specs.Trees.{one, two, walked}
 use Rattle.ec_code.specs.Views.{expression_view, expressions_view, full_step_view, full_view, head_view, plain_view, size_view, statement_view, statements_view, loop_view}
-use Rattle.ec_formats.specs.declared.known.Known.{Known}
-use Rattle.ec_formats.specs.Known.{known_view}
-use Rattle.ec_resolved.specs.Resolved as of
+use Rattle.ec_printf.specs.declared.formats.known.Known.{Known}
+use Rattle.ec_printf.specs.formats.Known.{known_view}
+use Rattle.ec_meaning_defs.specs.resolved.Resolved as of
 use Rattle.ec_machine.specs.Frames.{test_of, behind_of, body_of}
 
 pub view-OnLine : (line : Line) (x : Statement) → statement_view (statement.OnLine line x) ≡ of.on_line line.0 (statement_view x)

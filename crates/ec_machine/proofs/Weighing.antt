@@ -15,7 +15,7 @@ use Rattle.ec_code.specs.declared.statement.Statement.{Statement, the_lemmas}
 use Rattle.ec_code.specs.declared.statement.Statement.TheVariants as statement
 use Rattle.ec_code.specs.declared.step.Binary.{Binary}
 use Rattle.ec_code.specs.declared.step.Unary.{Unary}
-use Rattle.ec_formats.specs.declared.known.Known.{Known}
+use Rattle.ec_printf.specs.declared.formats.known.Known.{Known}
 use Rattle.ec_machine.specs.declared.frame.Flow.{Flow}
 use Rattle.ec_machine.specs.declared.frame.Flow.TheVariants as flow
 use Rattle.ec_machine.specs.declared.frame.Focus.{Focus}

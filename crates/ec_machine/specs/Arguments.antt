@@ -1,13 +1,13 @@
 -- Parameters that are made with their values.
 use Rattle.std.specs.Prelude.{◌≡◌, ◌+◌, ℕ, ℤ, [], ◌∷◌, ◌++◌, List, map, length, drop, Result, Ok}
 use Rattle.ec_bytes.specs.declared.scalar.address.Ptr.{Ptr}
-use Rattle.ec_evaluation.specs.Results.{Res, given, made}
-use Rattle.ec_evaluation.specs.State.{State}
+use Rattle.ec_meaning_defs.specs.evaluation.Results.{Res, given, made}
+use Rattle.ec_meaning_defs.specs.evaluation.State.{State}
 use Rattle.ec_memory.specs.Room.{int_cells}
-use Rattle.ec_objects.specs.Kinds.{kind_type}
-use Rattle.ec_objects.specs.declared.kind.Kind.{Kind}
-use Rattle.ec_objects.specs.declared.kind.Kind.TheVariants as kind
-use Rattle.ec_objects.specs.Memory.{Fits, Memory, ValueData, number, scalar_size, with_object}
+use Rattle.ec_memory_defs.specs.Kinds.{kind_type}
+use Rattle.ec_memory_defs.specs.declared.kind.Kind.{Kind}
+use Rattle.ec_memory_defs.specs.declared.kind.Kind.TheVariants as kind
+use Rattle.ec_memory_defs.specs.Memory.{Fits, Memory, ValueData, number, scalar_size, with_object}
 use Rattle.ec_plain.specs.Answered.{at, scope_view}
 use Rattle.ec_values.specs.declared.word.Word.{Word}
 use Rattle.ec_values.specs.declared.word.Word.TheVariants as word

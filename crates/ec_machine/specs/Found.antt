@@ -2,9 +2,9 @@
 use Rattle.std.specs.Prelude.{◌≡◌, ℕ, ◌<◌, ◌≤◌, List, Option, Some, None, Result, Ok, Err}
 use Rattle.ec_base.specs.declared.line.Line.{Line}
 use Rattle.ec_code.specs.declared.program.Function.{Function}
-use Rattle.ec_evaluation.specs.Evaluate.{World, Step as Knowing}
-use Rattle.ec_evaluation.specs.Results.{Res, value, on_value}
-use Rattle.ec_evaluation.specs.State.{State}
+use Rattle.ec_meaning_defs.specs.evaluation.Evaluate.{World, Step as Knowing}
+use Rattle.ec_meaning_defs.specs.evaluation.Results.{Res, value, on_value}
+use Rattle.ec_meaning_defs.specs.evaluation.State.{State}
 use Rattle.ec_values.specs.Words.{word_view}
 use Rattle.ec_values.specs.declared.word.Word.{Word}
 use Rattle.ec_values.specs.declared.word.Word.TheVariants as word

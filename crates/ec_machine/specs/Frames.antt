@@ -5,17 +5,17 @@ use Rattle.ec_bytes.specs.declared.scalar.address.Ptr.{Ptr}
 use Rattle.ec_code.specs.declared.expression.FullStep.{FullStep}
 use Rattle.ec_code.specs.declared.statement.Loop.{Loop, out-Loop}
 use Rattle.ec_code.specs.Views.{expression_view, expressions_view, full_step_view, statement_view, statements_view}
-use Rattle.ec_evaluation.specs.Evaluate.{Context, World, Step as Knowing, calls, turn_of, eval, collect}
-use Rattle.ec_evaluation.specs.Execute.{run, run_all, look, tested, again, settle}
-use Rattle.ec_evaluation.specs.Results.{Res, value, on, broke, continued, went, back, on_value, on_done, after_body, closing, function_end, answered, without_answer, returned, finished, done_there}
-use Rattle.ec_evaluation.specs.State.{State}
-use Rattle.ec_formats.specs.Known.{channel_view, known_view}
-use Rattle.ec_functions.specs.Functions.{effect_of, puts_bytes}
-use Rattle.ec_objects.specs.Memory.{ValueData}
+use Rattle.ec_meaning_defs.specs.evaluation.Evaluate.{Context, World, Step as Knowing, calls, turn_of, eval, collect}
+use Rattle.ec_meaning_defs.specs.evaluation.Execute.{run, run_all, look, tested, again, settle}
+use Rattle.ec_meaning_defs.specs.evaluation.Results.{Res, value, on, broke, continued, went, back, on_value, on_done, after_body, closing, function_end, answered, without_answer, returned, finished, done_there}
+use Rattle.ec_meaning_defs.specs.evaluation.State.{State}
+use Rattle.ec_printf.specs.formats.Known.{channel_view, known_view}
+use Rattle.ec_meaning_defs.specs.functions.Functions.{effect_of, puts_bytes}
+use Rattle.ec_memory_defs.specs.Memory.{ValueData}
 use Rattle.ec_plain.specs.Answered.{context}
 use Rattle.ec_plain.specs.Steps.{followed, both_on}
-use Rattle.ec_resolved.specs.Operations.{is_true}
-use Rattle.ec_resolved.specs.Resolved.{Exp, Stm, library}
+use Rattle.ec_meaning_defs.specs.resolved.Operations.{is_true}
+use Rattle.ec_meaning_defs.specs.resolved.Resolved.{Exp, Stm, library}
 use Rattle.ec_values.specs.Words.{word_view}
 use Rattle.ec_values.specs.declared.word.Word.{Word}
 use Rattle.ec_base.specs.declared.line.Line.{Line}

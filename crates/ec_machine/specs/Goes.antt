@@ -4,12 +4,12 @@ use Rattle.ec_base.specs.declared.stop.Trap.TheVariants.{Spent}
 use Rattle.ec_code.specs.declared.program.Function.{Function}
 use Rattle.ec_code.specs.declared.statement.Statement.{Statement}
 use Rattle.ec_code.specs.Views.{function_view, statements_view}
-use Rattle.ec_evaluation.specs.Agree.{CountsTurns}
-use Rattle.ec_evaluation.specs.Evaluate.{Context, World, Step as Knowing}
-use Rattle.ec_evaluation.specs.Execute.{meaning, run_all}
-use Rattle.ec_evaluation.specs.Results.{Res, on_done, over, exits_with}
-use Rattle.ec_evaluation.specs.State.{State, Ending, exited, trapped, turns_spent, stuck}
-use Rattle.ec_evaluation.specs.Whole.{without_atoms}
+use Rattle.ec_meaning_defs.specs.evaluation.Agree.{CountsTurns}
+use Rattle.ec_meaning_defs.specs.evaluation.Evaluate.{Context, World, Step as Knowing}
+use Rattle.ec_meaning_defs.specs.evaluation.Execute.{meaning, run_all}
+use Rattle.ec_meaning_defs.specs.evaluation.Results.{Res, on_done, over, exits_with, value}
+use Rattle.ec_meaning_defs.specs.evaluation.State.{State, Ending, exited, trapped, turns_spent, stuck}
+use Rattle.ec_meaning_defs.specs.evaluation.Whole.{without_atoms}
 use Rattle.ec_memory.specs.declared.store.MakeStop.{MakeStop}
 use Rattle.ec_memory.specs.declared.store.MakeStop.TheVariants as makes
 use Rattle.ec_machine.specs.declared.frame.Focus.{Focus}
@@ -23,10 +23,9 @@ use Rattle.ec_machine.specs.declared.stop.End.TheVariants as ends
 use Rattle.ec_machine.specs.declared.stop.Stop.{Stop}
 use Rattle.ec_machine.specs.declared.stop.Stop.TheVariants as stop
 use Rattle.ec_machine.specs.Frames.{Env, denote, here, led, outside, plug, resume, without_last}
-use Rattle.ec_objects.specs.Memory.{ValueData}
-use Rattle.ec_resolved.specs.Resolved.{embedded}
+use Rattle.ec_memory_defs.specs.Memory.{ValueData}
+use Rattle.ec_meaning_defs.specs.resolved.Resolved.{embedded}
 use Rattle.ec_values.specs.Words.{word_view}
-use Rattle.ec_evaluation.specs.Results.{value}
 
 -- the tasks of a program, for runs of at most so many turns
 abbrev pub tasks : Knowing → List Function → ℕ → World

@@ -1,4 +1,3 @@
-pub use Rattle.ec_plain.specs as ec_plain
 pub mod Arguments
 pub mod Found
 pub mod Frames

@@ -7,11 +7,11 @@ use Rattle.ec_code.specs.declared.statement.Loop.{Loop}
 use Rattle.ec_code.specs.declared.statement.Statement.{Statement}
 use Rattle.ec_code.specs.declared.expression.Expression.{Expression}
 use Rattle.ec_code.specs.Views.{expressions_view, plain_view}
-use Rattle.ec_evaluation.specs.Evaluate.{World, Step as Knowing, turn_of, eval, collect}
-use Rattle.ec_evaluation.specs.Execute.{again, run, tested}
-use Rattle.ec_evaluation.specs.Results.{Res, value, on, back, on_value, on_done, after_body}
-use Rattle.ec_evaluation.specs.State.{State}
-use Rattle.ec_objects.specs.Memory.{Memory, ValueData}
+use Rattle.ec_meaning_defs.specs.evaluation.Evaluate.{World, Step as Knowing, turn_of, eval, collect}
+use Rattle.ec_meaning_defs.specs.evaluation.Execute.{again, run, tested}
+use Rattle.ec_meaning_defs.specs.evaluation.Results.{Res, value, on, back, on_value, on_done, after_body}
+use Rattle.ec_meaning_defs.specs.evaluation.State.{State}
+use Rattle.ec_memory_defs.specs.Memory.{Memory, ValueData}
 use Rattle.ec_values.specs.Words.{word_view}
 use Rattle.ec_values.specs.declared.word.Word.{Word}
 use Rattle.ec_machine.specs.declared.frame.Callee.{Callee}

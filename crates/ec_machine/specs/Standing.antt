@@ -2,10 +2,10 @@
 use Rattle.std.specs.Prelude.{◌≡◌, ℕ, List, Option, Some, None}
 use Rattle.ec_code.specs.declared.statement.Statement.{Statement}
 use Rattle.ec_code.specs.Views.{statement_view, statements_view}
-use Rattle.ec_evaluation.specs.Evaluate.{Context, World, Step as Knowing}
-use Rattle.ec_evaluation.specs.Execute.{run_all, look, look_all}
-use Rattle.ec_evaluation.specs.Results.{on, on_done}
-use Rattle.ec_evaluation.specs.State.{State}
+use Rattle.ec_meaning_defs.specs.evaluation.Evaluate.{Context, World, Step as Knowing}
+use Rattle.ec_meaning_defs.specs.evaluation.Execute.{run_all, look, look_all}
+use Rattle.ec_meaning_defs.specs.evaluation.Results.{on, on_done}
+use Rattle.ec_meaning_defs.specs.evaluation.State.{State}
 use Rattle.ec_machine.specs.declared.labels.Standing.{Standing}
 
 -- what is done from a label on, among statements: nothing where none holds it

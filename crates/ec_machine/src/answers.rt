@@ -4,16 +4,16 @@ ghost use Rattle.std.specs.Prelude.{◌≡◌, ◌≤◌, ◌+◌, List, Err, tr
 ghost use Rattle.std.specs.Option.{option_map};
 ghost use Rattle.ec_code.specs.declared.program.Function.{Function as FunctionData};
 ghost use Rattle.ec_code.specs.Views.{statement_view, statements_view};
-ghost use Rattle.ec_evaluation.specs.Evaluate.{turn_of};
-ghost use Rattle.ec_evaluation.specs.Execute.{again, look_all, run, run_all, settle};
-ghost use Rattle.ec_evaluation.specs.Results.{after_body, back, on, on_done, value as valued, went};
-ghost use Rattle.ec_resolved.specs.Operations.{is_true};
+ghost use Rattle.ec_meaning_defs.specs.evaluation.Evaluate.{turn_of};
+ghost use Rattle.ec_meaning_defs.specs.evaluation.Execute.{again, look_all, run, run_all, settle};
+ghost use Rattle.ec_meaning_defs.specs.evaluation.Results.{after_body, back, on, on_done, value as valued, went};
+ghost use Rattle.ec_meaning_defs.specs.resolved.Operations.{is_true};
 ghost use Rattle.ec_values.specs.Words.{word_view};
 ghost use Rattle.ec_machine.specs.Frames.{behind_by, behind_of, below, body_of, here, led, left_by, outside, plug, test_of};
 ghost use Rattle.ec_machine.specs.Goes.{Goes, env_of};
 ghost use Rattle.ec_machine.specs.declared.stop.End.TheVariants as ends;
 ghost use Rattle.ec_machine.specs.declared.stop.Stop.TheVariants as stops;
-ghost use Rattle.ec_objects.specs.Memory.{end_to};
+ghost use Rattle.ec_memory_defs.specs.Memory.{end_to};
 ghost use Rattle.ec_machine.specs.Weights.{statement_weight, again_weight, flow_weight, frame_answer, frame_weight, frames_answer, frames_weight, remaining, statements_weight, steps_weight};
 
 use crate::calls::drop_last;

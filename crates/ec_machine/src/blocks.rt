@@ -3,9 +3,9 @@
 ghost use Rattle.std.specs.Prelude.{◌≡◌, ◌≤◌, ◌+◌, IfSome, List, []};
 ghost use Rattle.ec_code.specs.declared.program.Function.{Function as FunctionData};
 ghost use Rattle.ec_code.specs.Views.{statement_view, statements_view};
-ghost use Rattle.ec_evaluation.specs.Execute.{again, enter, run, run_all, settle};
-ghost use Rattle.ec_evaluation.specs.Results.{after_body, closing, on_done};
-ghost use Rattle.ec_resolved.specs.Resolved.{block};
+ghost use Rattle.ec_meaning_defs.specs.evaluation.Execute.{again, enter, run, run_all, settle};
+ghost use Rattle.ec_meaning_defs.specs.evaluation.Results.{after_body, closing, on_done};
+ghost use Rattle.ec_meaning_defs.specs.resolved.Resolved.{block};
 ghost use Rattle.ec_machine.specs.Frames.{behind_of, body_of, here, test_of};
 ghost use Rattle.ec_machine.specs.Goes.{Goes, env_of};
 ghost use Rattle.ec_machine.specs.Quick.{Onward, behind_body};

@@ -3,8 +3,8 @@
 ghost use Rattle.std.specs.Prelude.{◌≡◌, ◌≤◌, ◌+◌, ◌∷◌, ◌++◌, [], ℕ, List, map};
 ghost use Rattle.ec_code.specs.declared.program.Function.{Function as FunctionData};
 ghost use Rattle.ec_code.specs.Views.{expression_view, expressions_view, full_step_view, full_view, head_view, plain_view};
-ghost use Rattle.ec_evaluation.specs.Evaluate.{collect, eval};
-ghost use Rattle.ec_evaluation.specs.Results.{on, on_value, value as valued};
+ghost use Rattle.ec_meaning_defs.specs.evaluation.Evaluate.{collect, eval};
+ghost use Rattle.ec_meaning_defs.specs.evaluation.Results.{on, on_value, value as valued};
 ghost use Rattle.ec_plain.specs.Steps.{both_on, followed, one_on, step_on, two_on};
 ghost use Rattle.ec_values.specs.Words.{word_view};
 ghost use Rattle.ec_machine.specs.Found.{Finds, FindsAlone, LeavesNear, found_view};

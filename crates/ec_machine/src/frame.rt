@@ -2,7 +2,7 @@
 
 use ec_base::Line;
 use ec_code::{Binary, Expression, FullStep, Function, Loop, Statement};
-use ec_formats::{Channel, Known};
+use ec_printf::formats::{Channel, Known};
 use ec_values::Word;
 
 /// What becomes of values that are collected.

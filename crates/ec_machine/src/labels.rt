@@ -2,7 +2,7 @@
 
 ghost use Rattle.std.specs.Prelude.{◌≡◌, ◌≤◌, ◌+◌, IfSome};
 ghost use Rattle.ec_code.specs.Views.{statement_view, statements_view};
-ghost use Rattle.ec_resolved.specs.Labels.{holds, holds_any};
+ghost use Rattle.ec_meaning_defs.specs.resolved.Labels.{holds, holds_any};
 ghost use Rattle.ec_machine.specs.Standing.{IsStanding};
 ghost use Rattle.ec_machine.specs.Weights.{statement_weight, statements_weight};
 

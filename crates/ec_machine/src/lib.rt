@@ -20,7 +20,6 @@ mod step;
 mod stop;
 
 pub use calls::last;
-pub use ec_plain;
 pub use frame::{Callee, Flow, Focus, Frame, Way};
 pub use labels::{holds, holds_any};
 pub use machine::Machine;

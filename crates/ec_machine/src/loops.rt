@@ -1,13 +1,13 @@
 //! Lists of statements, blocks and loops.
 
 ghost use Rattle.std.specs.Prelude.{◌≡◌, ◌≤◌, ◌<◌, ◌+◌, ℕ, List, map, IfSome, OnOk};
-ghost use Rattle.ec_resolved.specs.Resolved.{evaluate as evaluated};
+ghost use Rattle.ec_meaning_defs.specs.resolved.Resolved.{evaluate as evaluated};
 ghost use Rattle.ec_code.specs.declared.program.Function.{Function as FunctionData};
 ghost use Rattle.ec_code.specs.Views.{expression_view, full_view, size_view, statement_view, statements_view};
-ghost use Rattle.ec_evaluation.specs.Evaluate.{Context, World, Step as Knowing, eval, turn_of};
-ghost use Rattle.ec_evaluation.specs.Execute.{again, enter, look_all, run, run_all, tested};
-ghost use Rattle.ec_evaluation.specs.Results.{Res, after_body, on, on_done, on_value};
-ghost use Rattle.ec_evaluation.specs.State.{State};
+ghost use Rattle.ec_meaning_defs.specs.evaluation.Evaluate.{Context, World, Step as Knowing, eval, turn_of};
+ghost use Rattle.ec_meaning_defs.specs.evaluation.Execute.{again, enter, look_all, run, run_all, tested};
+ghost use Rattle.ec_meaning_defs.specs.evaluation.Results.{Res, after_body, on, on_done, on_value};
+ghost use Rattle.ec_meaning_defs.specs.evaluation.State.{State};
 ghost use Rattle.ec_machine.specs.Found.{StandsAt};
 ghost use Rattle.ec_machine.specs.Frames.{behind_of, body_of, evaluated_for, here, test_of};
 ghost use Rattle.ec_machine.specs.Goes.{Enters, Goes, at, env_of};

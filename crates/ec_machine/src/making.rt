@@ -3,13 +3,13 @@
 ghost use Rattle.std.specs.Prelude.{◌≡◌, ◌≢◌, ◌≤◌, ◌+◌, ◌^◌, ◌↔◌, ◌⊎◌, ℕ, ℤ, ◌++◌, [], ◌∷◌, List, length, drop, map, OnOk, OnErr, MatchOption, Some, None, Ok, Err, slice_get};
 ghost use Rattle.std.specs.Option.{option_map};
 ghost use Rattle.ec_code.specs.Views.{size_view};
-ghost use Rattle.ec_evaluation.specs.Results.{Res, made, given, tried, turn};
-ghost use Rattle.ec_evaluation.specs.State.{State};
-ghost use Rattle.ec_objects.specs.Kinds.{kind_type};
-ghost use Rattle.ec_objects.specs.declared.kind.Kind.{Kind as KindData};
+ghost use Rattle.ec_meaning_defs.specs.evaluation.Results.{Res, made, given, tried, turn};
+ghost use Rattle.ec_meaning_defs.specs.evaluation.State.{State};
+ghost use Rattle.ec_memory_defs.specs.Kinds.{kind_type};
+ghost use Rattle.ec_memory_defs.specs.declared.kind.Kind.{Kind as KindData};
 ghost use Rattle.ec_base.specs.declared.stop.Trap.TheVariants as trap;
 ghost use Rattle.ec_memory.specs.declared.store.MakeStop.TheVariants as stops;
-ghost use Rattle.ec_objects.specs.Memory.{make, scalar_size, with_object};
+ghost use Rattle.ec_memory_defs.specs.Memory.{make, scalar_size, with_object};
 ghost use Rattle.ec_plain.specs.Answered.{at, ending_of, scope_view};
 ghost use Rattle.ec_values.specs.Words.{word_view};
 ghost use Rattle.ec_memory.specs.Room.{HasRoom, int_cells};
@@ -24,7 +24,7 @@ use ec_base::{Line, Trap};
 use ec_bytes::Ptr;
 use ec_code::{Function, ObjectSize};
 use ec_memory::{MakeStop, Store};
-use ec_objects::Kind;
+use ec_memory_defs::Kind;
 use ec_values::{Stop as NoValue, Word, store as stored};
 
 /// Takes a turn, if one is left.

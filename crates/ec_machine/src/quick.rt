@@ -2,12 +2,12 @@
 
 ghost use Rattle.std.specs.Prelude.{◌≤◌, ◌+◌, Bool, IfOk, IfSome, true, false};
 ghost use Rattle.ec_code.specs.Views.{expression_view, plain_view, statement_view, statements_view};
-ghost use Rattle.ec_evaluation.specs.Evaluate.{World, Step as Knowing, eval};
-ghost use Rattle.ec_evaluation.specs.Execute.{run, run_all};
-ghost use Rattle.ec_evaluation.specs.Results.{Res, on_value};
-ghost use Rattle.ec_evaluation.specs.State.{State};
+ghost use Rattle.ec_meaning_defs.specs.evaluation.Evaluate.{World, Step as Knowing, eval};
+ghost use Rattle.ec_meaning_defs.specs.evaluation.Execute.{run, run_all};
+ghost use Rattle.ec_meaning_defs.specs.evaluation.Results.{Res, on_value};
+ghost use Rattle.ec_meaning_defs.specs.evaluation.State.{State};
 ghost use Rattle.ec_plain.specs.Answered.{at, context};
-ghost use Rattle.ec_resolved.specs.Operations.{is_true};
+ghost use Rattle.ec_meaning_defs.specs.resolved.Operations.{is_true};
 ghost use Rattle.ec_values.specs.Words.{word_view};
 ghost use Rattle.ec_machine.specs.Frames.{objects_of};
 ghost use Rattle.ec_machine.specs.Quick.{Asks, Begins, Computes, IsLighter, Leaves, LeavesSome, PassesOver, Says};

@@ -3,9 +3,9 @@
 ghost use Rattle.std.specs.Prelude.{◌≡◌, ◌<◌, ◌≤◌, ℕ, List, [], Some};
 ghost use Rattle.ec_code.specs.declared.program.Function.{Function as FunctionData};
 ghost use Rattle.ec_code.specs.Views.{function_view};
-ghost use Rattle.ec_evaluation.specs.Evaluate.{Step as Knowing};
-ghost use Rattle.ec_evaluation.specs.State.{State};
-ghost use Rattle.ec_evaluation.specs.Whole.{main_run};
+ghost use Rattle.ec_meaning_defs.specs.evaluation.Evaluate.{Step as Knowing};
+ghost use Rattle.ec_meaning_defs.specs.evaluation.State.{State};
+ghost use Rattle.ec_meaning_defs.specs.evaluation.Whole.{main_run};
 ghost use Rattle.ec_machine.specs.Goes.{Fits, Stands, at, tasks};
 
 use crate::frame::{Flow, Focus, Frame};

@@ -4,9 +4,9 @@ ghost use Rattle.std.specs.Prelude.{◌≡◌, ◌≤◌, ◌+◌, ℕ, List, ma
 ghost use Rattle.std.specs.Option.{option_map};
 ghost use Rattle.ec_code.specs.declared.program.Function.{Function as FunctionData};
 ghost use Rattle.ec_code.specs.Views.{expression_view, expressions_view, full_view, loop_view, plain_view, size_view, statement_view, statements_view};
-ghost use Rattle.ec_evaluation.specs.Evaluate.{eval};
-ghost use Rattle.ec_evaluation.specs.Execute.{declared, enter, initialized, look, look_all, returning, run, run_all};
-ghost use Rattle.ec_evaluation.specs.Results.{on, on_value, returned, turn, went};
+ghost use Rattle.ec_meaning_defs.specs.evaluation.Evaluate.{eval};
+ghost use Rattle.ec_meaning_defs.specs.evaluation.Execute.{declared, enter, initialized, look, look_all, returning, run, run_all};
+ghost use Rattle.ec_meaning_defs.specs.evaluation.Results.{on, on_value, returned, turn, went};
 ghost use Rattle.ec_values.specs.Words.{word_view};
 ghost use Rattle.ec_machine.specs.Found.{Does, DoesNear};
 ghost use Rattle.ec_machine.specs.Frames.{evaluated_for, here};

@@ -3,8 +3,8 @@
 ghost use Rattle.std.specs.Prelude.{◌≡◌, ◌≤◌, ◌<◌, ◌+◌, ◌⊎◌, ℕ, List, map, IfOk};
 ghost use Rattle.std.specs.Option.{option_map};
 ghost use Rattle.ec_code.specs.declared.program.Function.{Function as FunctionData};
-ghost use Rattle.ec_evaluation.specs.Results.{finished, value as valued};
-ghost use Rattle.ec_evaluation.specs.State.{State};
+ghost use Rattle.ec_meaning_defs.specs.evaluation.Results.{finished, value as valued};
+ghost use Rattle.ec_meaning_defs.specs.evaluation.State.{State};
 ghost use Rattle.ec_values.specs.Words.{word_view};
 ghost use Rattle.ec_machine.specs.Frames.{denote, led};
 ghost use Rattle.ec_machine.specs.Goes.{Ends, Goes, env_of};

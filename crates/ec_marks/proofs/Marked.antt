@@ -1,8 +1,8 @@
 -- One step is what the definition does with its bytes.
 use Rattle.std.proofs.Common.{◌≡◌, ℕ, zero, suc, Bool, true, false, [], ◌∷◌, ◌++◌, ◌≤◌, ◌+◌, length, drop, get_or, add-one, length-drop, codes, decimal, refl, sym, ap, ◌∙◌, subst, append_assoc, arith}
 use Rattle.std.specs.Prelude.{◌==◌, ◌&&◌, ◌||◌}
-use Rattle.ec_calls.specs.Outcomes.{Text}
-use Rattle.ec_calls.specs.Marks.{Where, between, behind_e, in_word, in_number, quoted, escaped, dashed, commented, marked}
+use Rattle.ec_call_defs.specs.Outcomes.{Text}
+use Rattle.ec_call_defs.specs.Marks.{Where, between, behind_e, in_word, in_number, quoted, escaped, dashed, commented, marked}
 use Rattle.ec_marks.specs.Steps.{Taken, mark, one, two, behind, opens_comment, closes_comment, opens_dashed, outside, after_first, begins_word, begins_number, goes_on_word, goes_on_number, step, depth}
 
 -- what becomes of a text whose first byte takes this step

@@ -1,6 +1,6 @@
 -- One step through a text that is prepared: what is taken of it, and where the byte behind that stands.
 use Rattle.std.specs.Prelude.{ℕ, zero, suc, ◌==◌, ◌&&◌, ◌||◌, nat_le, nat_lt, Bool, true, false, List, [], ◌∷◌}
-use Rattle.ec_calls.specs.Marks.{Where, between, behind_e, in_word, in_number, quoted, escaped, dashed, commented}
+use Rattle.ec_call_defs.specs.Marks.{Where, between, behind_e, in_word, in_number, quoted, escaped, dashed, commented}
 
 -- a mark, behind which nothing goes on; a byte as it stands; or a byte and this one behind it
 pub data Taken : Type 0 where

@@ -1,5 +1,5 @@
 -- Places and steps, in the words of the definitions.
-use Rattle.ec_calls.specs.Marks.{Where, between, behind_e, in_word, in_number, quoted, escaped, dashed, commented}
+use Rattle.ec_call_defs.specs.Marks.{Where, between, behind_e, in_word, in_number, quoted, escaped, dashed, commented}
 use Rattle.ec_marks.specs.declared.place.Place.{Place}
 use Rattle.ec_marks.specs.declared.place.Place.TheVariants as places
 use Rattle.ec_marks.specs.declared.step.Step.{Step}

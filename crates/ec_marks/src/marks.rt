@@ -1,7 +1,7 @@
 //! A text with its marks as parameters.
 
 ghost use Rattle.std.specs.Prelude.{◌≡◌, ◌++◌, codes, decimal, drop, IfOk, OnOk};
-ghost use Rattle.ec_calls.specs.Marks.{with_marks};
+ghost use Rattle.ec_call_defs.specs.Marks.{with_marks};
 
 use crate::place::Place;
 use crate::step::{Step, step_from};

@@ -16,8 +16,8 @@ use Rattle.ec_memory.specs.Store.{first_cells, seen}
 use Rattle.ec_memory.proofs.Line.{rising, lies, count_objects, count_bytes, made_more, line_more, line_less, ended_behind, sizes, starts_at, all_sizes}
 use Rattle.ec_memory.proofs.Objects.{read_at, write_at, room, read_placed, write_placed, held_object, held_length}
 use Rattle.ec_memory.proofs.Reading.{span_placed, text_held, left_cells}
-use Rattle.ec_objects.specs.Cells.{Cell, bytes_of, value_of, part_of, written, filled_cells, unset_cells}
-use Rattle.ec_objects.specs.Memory.{alive, Memory, and_then, object_of, offset_of, pointer_to, object_cells, cells_at, or_unset, span, text_of, text_at, front_of, text_up_to, with_cells, copy, moved, live_bytes, last_number, with_object, end_to}
+use Rattle.ec_memory_defs.specs.Cells.{Cell, bytes_of, value_of, part_of, written, filled_cells, unset_cells}
+use Rattle.ec_memory_defs.specs.Memory.{alive, Memory, and_then, object_of, offset_of, pointer_to, object_cells, cells_at, or_unset, span, text_of, text_at, front_of, text_up_to, with_cells, copy, moved, live_bytes, last_number, with_object, end_to}
 
 -- places as they are read from the list
 pub rising_of : (made : ℕ) (cells : List Cell) (places now : List Place) → Kept made cells places → now ≡ places → IsRising now

@@ -1,7 +1,7 @@
 -- How many bytes an object may have.
 use Rattle.std.proofs.Common.{◌≡◌, ℕ, zero, suc, ◌-◌, ◌≤◌, List, [], ◌∷◌, length, slice_get, Option, Some, None, Ok, sym, ap, arith}
-use Rattle.ec_objects.specs.Cells.{Cell}
-use Rattle.ec_objects.specs.Memory.{ObjectData, alive, ended, Memory, object_cells, cells_found, live_bytes}
+use Rattle.ec_memory_defs.specs.Cells.{Cell}
+use Rattle.ec_memory_defs.specs.Memory.{ObjectData, alive, ended, Memory, object_cells, cells_found, live_bytes}
 
 -- an object's cells are among those that are alive
 pub live_within : (m : Memory) (i : ℕ) (cells : List Cell) → slice_get m i ≡ Some (alive cells) → length cells ≤ live_bytes m

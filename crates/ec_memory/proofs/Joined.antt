@@ -1,7 +1,7 @@
 -- Pieces that are written one behind the other.
 use Rattle.std.proofs.Common.{◌≡◌, ◌∙◌, sym, ap, refl, ℕ, zero, suc, ◌+◌, ◌≤◌, List, [], ◌∷◌, ◌++◌, length, take, drop, replicate, Some, arith, length-append, append_assoc}
 use Rattle.std.proofs.lemmas.List.{drop-drop, length-take-le, take_at, drop_at, map-append, length-replicate}
-use Rattle.ec_objects.specs.Cells.{Cell, written, set_cells, filled_cells}
+use Rattle.ec_memory_defs.specs.Cells.{Cell, written, set_cells, filled_cells}
 
 -- two pieces, the second right behind the first, are one
 pub written_behind : {X : Type 0} (xs : List X) (at k : ℕ) (a b : List X) → at ≤ length xs → k ≡ at + length a → written (written xs at a) k b ≡ written xs at (a ++ b)

@@ -1,4 +1,3 @@
-pub use Rattle.ec_ctypes.proofs as ec_ctypes_proofs
 pub mod Numbers
 pub mod Pieces
 pub mod Joined

@@ -8,8 +8,8 @@ use Rattle.ec_memory.specs.declared.place.Place.{Place}
 use Rattle.ec_memory.specs.Objects.{objects_of, InLine, number_at, IsRising, IsMissing, Behind}
 use Rattle.ec_bytes.proofs.Places.{front_written, rest_written}
 use Rattle.ec_memory.proofs.Pieces.{part_dropped, drop_joined, drop_written, take_written}
-use Rattle.ec_objects.specs.Cells.{Cell, part_of, written}
-use Rattle.ec_objects.specs.Memory.{ObjectData, alive, ended, Memory, cells_found, live_bytes, end_to}
+use Rattle.ec_memory_defs.specs.Cells.{Cell, part_of, written}
+use Rattle.ec_memory_defs.specs.Memory.{ObjectData, alive, ended, Memory, cells_found, live_bytes, end_to}
 
 -- two numbers are the same, or not
 pub by_test : {P : Type 0} (a b : ℕ) → (a ≡ b → P) → (a ≢ b → P) → P

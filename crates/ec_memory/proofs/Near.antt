@@ -11,8 +11,8 @@ use Rattle.ec_memory.specs.Objects.{objects_of, memory_of, InLine, IsMissing, Ke
 use Rattle.ec_memory.proofs.Line.{by_test, here, gap, ahead, behind, line_ends, lies}
 use Rattle.ec_memory.proofs.Objects.{missing_object, no_access, null_object, outside_object}
 use Rattle.ec_memory.proofs.Reading.{span_trapped}
-use Rattle.ec_objects.specs.Cells.{Cell}
-use Rattle.ec_objects.specs.Memory.{Memory, ScalarType, ValueData, and_then, decoded, load, object_of, offset_of, object_cells, cells_at, scalar_size, span}
+use Rattle.ec_memory_defs.specs.Cells.{Cell}
+use Rattle.ec_memory_defs.specs.Memory.{Memory, ScalarType, ValueData, and_then, decoded, load, object_of, offset_of, object_cells, cells_at, scalar_size, span}
 
 -- as many objects are alive as have places
 living_all : (left number start made end : ℕ) (cells : List Cell) (places : List Place) → InLine number start places made end → left + number ≡ suc made → living (objects_of left number cells places) ≡ length places

@@ -10,7 +10,7 @@ use Rattle.ec_ctypes.specs.declared.types.arith.Arith.TheVariants.{Long, ULong, 
 use Rattle.ec_ctypes.specs.declared.types.ty.Ty.{the_lemmas}
 use Rattle.ec_ctypes.specs.declared.types.ty.Ty as Ty
 use Rattle.ec_ctypes.specs.views.Types.{ty_view}
-use Rattle.ec_objects.specs.Memory.{scalar_type, ValueData, number, address, integer_type, Fits, little_endian}
+use Rattle.ec_memory_defs.specs.Memory.{scalar_type, ValueData, number, address, integer_type, Fits, little_endian}
 
 -- the number of eight bytes, as std reads it
 whole : (bytes : List ℕ) → length bytes ≡ 8 → from_le_bytes w64 bytes ≡ little_endian bytes

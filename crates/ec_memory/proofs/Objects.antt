@@ -9,8 +9,8 @@ use Rattle.ec_memory.specs.declared.place.Place.{Place}
 use Rattle.ec_memory.specs.Objects.{memory_of, Kept, IsMissing, Holds, Placed}
 use Rattle.ec_memory.proofs.Line.{lies, object_at, missing_at, written_at}
 use Rattle.ec_memory.proofs.Pieces.{part_part}
-use Rattle.ec_objects.specs.Cells.{Cell, part_of, written}
-use Rattle.ec_objects.specs.Memory.{alive, Memory, and_then, object_of, offset_of, object_cells, cells_found, cells_at, with_cells}
+use Rattle.ec_memory_defs.specs.Cells.{Cell, part_of, written}
+use Rattle.ec_memory_defs.specs.Memory.{alive, Memory, and_then, object_of, offset_of, object_cells, cells_found, cells_at, with_cells}
 
 -- n cells of what was found, from an offset on
 abbrev pub read_at : ℕ → ℕ → Result (List Cell) Trap → Result (List Cell) Trap

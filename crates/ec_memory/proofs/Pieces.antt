@@ -2,7 +2,7 @@
 use Rattle.std.proofs.Common.{◌≡◌, ◌∙◌, sym, ap, refl, ℕ, zero, suc, ◌+◌, ◌-◌, ◌≤◌, List, [], ◌∷◌, ◌++◌, length, take, drop, arith, length-append}
 use Rattle.std.proofs.lemmas.List.{drop-drop, length-take-le, take_at, drop_at, take-take, drop-take}
 use Rattle.std.proofs.Math.Seq.{take-add}
-use Rattle.ec_objects.specs.Cells.{part_of, written}
+use Rattle.ec_memory_defs.specs.Cells.{part_of, written}
 
 -- a part of what is left behind others
 pub part_dropped : {X : Type 0} (xs : List X) (s o n : ℕ) → s ≤ o → part_of (drop s xs) (o - s) n ≡ part_of xs o n

@@ -11,8 +11,8 @@ use Rattle.ec_memory.specs.declared.place.Place.{Place}
 use Rattle.ec_memory.specs.Objects.{memory_of, Kept, Holds, Placed}
 use Rattle.ec_memory.proofs.Objects.{read_at, read_placed, held_object}
 use Rattle.ec_memory.proofs.Pieces.{part_part}
-use Rattle.ec_objects.specs.Cells.{Cell, bytes_of, part_of}
-use Rattle.ec_objects.specs.Memory.{Memory, and_then, object_of, offset_of, object_cells, cells_at, or_unset, span, text_of, text_at, front_of}
+use Rattle.ec_memory_defs.specs.Cells.{Cell, bytes_of, part_of}
+use Rattle.ec_memory_defs.specs.Memory.{Memory, and_then, object_of, offset_of, object_cells, cells_at, or_unset, span, text_of, text_at, front_of}
 
 -- the bytes of cells, or that one of them is unset
 abbrev pub read_bytes : List Cell → Result (List ℕ) Trap

@@ -6,8 +6,8 @@ use Rattle.ec_memory.specs.declared.place.Place.{Place}
 use Rattle.ec_memory.specs.SingleBytes.{cell_read, byte_behind, cells_left}
 use Rattle.ec_memory.specs.Objects.{memory_of, Kept, Holds}
 use Rattle.ec_memory.proofs.Objects.{held_object, held_length}
-use Rattle.ec_objects.specs.Cells.{Cell, part_of, bytes_of}
-use Rattle.ec_objects.specs.Memory.{Memory, and_then, object_of, offset_of}
+use Rattle.ec_memory_defs.specs.Cells.{Cell, part_of, bytes_of}
+use Rattle.ec_memory_defs.specs.Memory.{Memory, and_then, object_of, offset_of}
 
 -- an item of a part
 got_take : {X : Type 0} (xs : List X) (n i : ℕ) → i < n → slice_get (take n xs) i ≡ slice_get xs i

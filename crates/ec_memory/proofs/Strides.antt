@@ -6,8 +6,8 @@ use Rattle.std.proofs.Math.Nat.{mul-le-mul_right}
 use Rattle.std.proofs.lemmas.Bool.Decides.{nat_tests}
 use Rattle.ec_base.specs.declared.stop.Trap.{Trap}
 use Rattle.ec_base.specs.declared.stop.Trap.TheVariants.{Outside, Unset}
-use Rattle.ec_objects.specs.Cells.{Cell, bytes_of, part_of}
-use Rattle.ec_objects.specs.Memory.{Memory, and_then, object_of, offset_of, object_cells, cells_at, or_unset, span, extent, live_bytes}
+use Rattle.ec_memory_defs.specs.Cells.{Cell, bytes_of, part_of}
+use Rattle.ec_memory_defs.specs.Memory.{Memory, and_then, object_of, offset_of, object_cells, cells_at, or_unset, span, extent, live_bytes}
 use Rattle.ec_memory.specs.Objects.{Reaches, cells_or_none, cells_of_pointer}
 use Rattle.ec_memory.specs.Store.{seen}
 use Rattle.ec_memory.proofs.Objects.{read_at, read_fits}

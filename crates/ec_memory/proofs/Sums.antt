@@ -4,10 +4,10 @@ use Rattle.std.specs.Option.{option_map, MatchOption}
 use Rattle.ec_ctypes.specs.Arithmetic.{IsValue}
 use Rattle.ec_ctypes.specs.declared.types.arith.Arith.TheVariants as arith
 use Rattle.ec_bytes.specs.Scalars.{AreBytes, HoldBytes}
-use Rattle.ec_objects.specs.Cells.{Cell, bytes_of, part_of, set_cells, value_of}
-use Rattle.ec_objects.specs.Kinds.{kind_type}
-use Rattle.ec_objects.specs.declared.kind.Kind.TheVariants as kind
-use Rattle.ec_objects.specs.Memory.{Memory, and_then, decoded, encoded, load, number, or_unset}
+use Rattle.ec_memory_defs.specs.Cells.{Cell, bytes_of, part_of, set_cells, value_of}
+use Rattle.ec_memory_defs.specs.Kinds.{kind_type}
+use Rattle.ec_memory_defs.specs.declared.kind.Kind.TheVariants as kind
+use Rattle.ec_memory_defs.specs.Memory.{Memory, and_then, decoded, encoded, load, number, or_unset}
 use Rattle.ec_memory.specs.declared.place.Place.{Place}
 use Rattle.ec_memory.specs.Objects.{memory_of, Kept, Placed}
 use Rattle.ec_memory.specs.Sums.{Adds, AddsAt, HasNoSum, HasNoSumAt, int_at}

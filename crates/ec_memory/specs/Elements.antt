@@ -2,7 +2,7 @@
 use Rattle.std.specs.Prelude.{◌≡◌, ℕ, ◌+◌, ◌*◌}
 use Rattle.std.specs.Borrow.{MutBor}
 use Rattle.ec_bytes.specs.declared.scalar.Scalar.{Ghosts}
-use Rattle.ec_objects.specs.Memory.{Memory}
+use Rattle.ec_memory_defs.specs.Memory.{Memory}
 use Rattle.ec_memory.specs.declared.elements.Elements.{Elements}
 
 module _ {T : Type 0} {g : Ghosts T} where

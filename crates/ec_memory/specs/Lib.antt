@@ -1,5 +1,3 @@
-pub use Rattle.ec_ctypes.specs as ec_ctypes
-pub use Rattle.ec_objects.specs as ec_objects
 pub mod SingleBytes
 pub mod Objects
 pub mod Near

@@ -2,7 +2,7 @@
 use Rattle.std.specs.Prelude.{◌≡◌, ◌≤◌, ℕ, Bool, false, ℤ, pos, ◌+ℤ◌, ◌*ℤ◌, int_le, ◌&&◌, unsigned_abs, Result, Ok, Err, if◌then◌else◌}
 use Rattle.ec_base.specs.declared.stop.Trap.{Trap}
 use Rattle.ec_base.specs.declared.stop.Trap.TheVariants.{Outside}
-use Rattle.ec_objects.specs.Memory.{pointer_to, object_of, offset_of}
+use Rattle.ec_memory_defs.specs.Memory.{pointer_to, object_of, offset_of}
 
 -- an offset lies in the object or one past its end
 abbrev pub is_within : ℕ → ℤ → Bool

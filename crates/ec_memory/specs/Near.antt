@@ -1,7 +1,7 @@
 -- Objects by how many of those that are alive are not before them.
 use Rattle.std.specs.Prelude.{◌≡◌, ℕ, suc, ◌+◌, ◌-◌, ◌≤◌, List, [], ◌∷◌, length, drop, slice_get, Some}
 use Rattle.ec_memory.specs.declared.place.Place.{Place}
-use Rattle.ec_objects.specs.Memory.{alive, ended, Memory, object_of, offset_of, pointer_to}
+use Rattle.ec_memory_defs.specs.Memory.{alive, ended, Memory, object_of, offset_of, pointer_to}
 
 -- how many objects are alive
 abbrev pub living : Memory → ℕ

@@ -2,8 +2,8 @@
 use Rattle.std.specs.Prelude.{◌≡◌, ◌≢◌, ℕ, zero, suc, ◌+◌, ◌^◌, ◌≤◌, ◌<◌, ◌==◌, if◌then◌else◌, List, [], ◌∷◌, length, take, drop, slice_get, get_or, Some, Result, Ok, Err, is_ok, true}
 use Rattle.ec_base.specs.declared.stop.Trap.{Trap}
 use Rattle.ec_memory.specs.declared.place.Place.{Place}
-use Rattle.ec_objects.specs.Cells.{Cell}
-use Rattle.ec_objects.specs.Memory.{alive, ended, Memory, object_of, offset_of, object_cells, extent}
+use Rattle.ec_memory_defs.specs.Cells.{Cell}
+use Rattle.ec_memory_defs.specs.Memory.{alive, ended, Memory, object_of, offset_of, object_cells, extent}
 
 -- the objects from a number on, of which so many are left: each has the next place and its cells, or has ended
 abbrev pub objects_of : ℕ → ℕ → List Cell → List Place → Memory

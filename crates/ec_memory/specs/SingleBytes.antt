@@ -2,8 +2,8 @@
 use Rattle.std.specs.Prelude.{ℕ, ◌+◌, ◌-◌, length, slice_get, Option, Some, None, Result, Ok, Err}
 use Rattle.ec_base.specs.declared.stop.Trap.{Trap}
 use Rattle.ec_base.specs.declared.stop.Trap.TheVariants.{Outside, Unset}
-use Rattle.ec_objects.specs.Cells.{Cell}
-use Rattle.ec_objects.specs.Memory.{Memory, and_then, object_cells, object_of, offset_of}
+use Rattle.ec_memory_defs.specs.Cells.{Cell}
+use Rattle.ec_memory_defs.specs.Memory.{Memory, and_then, object_cells, object_of, offset_of}
 
 -- what a cell reads as, where there is one
 abbrev pub cell_read : Option Cell → Result ℕ Trap

@@ -1,8 +1,8 @@
 -- What a call on a memory gives, as the definition of memory gives it.
 use Rattle.std.specs.Prelude.{ℕ, Bool, true, false, List, Result, Ok, Err}
 use Rattle.ec_base.specs.declared.stop.Trap.{Trap}
-use Rattle.ec_objects.specs.Cells.{Cell, filled_cells, unset_cells}
-use Rattle.ec_objects.specs.Memory.{Memory}
+use Rattle.ec_memory_defs.specs.Cells.{Cell, filled_cells, unset_cells}
+use Rattle.ec_memory_defs.specs.Memory.{Memory}
 
 -- the memory behind a call that changes it, or the trap
 abbrev pub outcome : {A : Type 0} → Result A Trap → Memory → Result Memory Trap

@@ -3,10 +3,10 @@ use Rattle.std.specs.Prelude.{◌≡◌, ◌+ℤ◌, ℕ, ℤ, List, Result, Ok}
 use Rattle.ec_base.specs.declared.stop.Trap.{Trap}
 use Rattle.ec_ctypes.specs.Arithmetic.{IsValue}
 use Rattle.ec_ctypes.specs.declared.types.arith.Arith.TheVariants as arith
-use Rattle.ec_objects.specs.Cells.{Cell, bytes_of, part_of, set_cells, written}
-use Rattle.ec_objects.specs.Kinds.{kind_type}
-use Rattle.ec_objects.specs.declared.kind.Kind.TheVariants as kind
-use Rattle.ec_objects.specs.Memory.{Memory, ValueData, and_then, decoded, encoded, load, number, or_unset, store}
+use Rattle.ec_memory_defs.specs.Cells.{Cell, bytes_of, part_of, set_cells, written}
+use Rattle.ec_memory_defs.specs.Kinds.{kind_type}
+use Rattle.ec_memory_defs.specs.declared.kind.Kind.TheVariants as kind
+use Rattle.ec_memory_defs.specs.Memory.{Memory, ValueData, and_then, decoded, encoded, load, number, or_unset, store}
 
 -- the number from before is read as an int, and the sum is stored as one, which has it
 pub record Adds (m : Memory) (p : ℕ) (before by : ℤ) (n : Memory) : Type 0 where

@@ -2,7 +2,7 @@
 use Rattle.std.specs.Prelude.{ℤ, pos}
 use Rattle.ec_memory.specs.declared.value.Value.{Value}
 use Rattle.ec_memory.specs.declared.value.Value.TheVariants as of
-use Rattle.ec_objects.specs.Memory.{ValueData, number, address}
+use Rattle.ec_memory_defs.specs.Memory.{ValueData, number, address}
 
 -- the value of the definition
 abbrev pub value_view : Value → ValueData

@@ -2,7 +2,7 @@ ghost use Rattle.std.specs.Prelude.{◌≡◌, ◌+◌, ◌*◌, ◌^◌, ◌≤
 ghost use Rattle.std.specs.Result.{result_err};
 ghost use Rattle.std.specs.Borrow.{sem, RestsIfErr};
 ghost use Rattle.ec_base.specs.declared.stop.Trap.TheVariants as trap;
-ghost use Rattle.ec_objects.specs.Memory.{offset_of, cells_at, extent, span, put};
+ghost use Rattle.ec_memory_defs.specs.Memory.{offset_of, cells_at, extent, span, put};
 ghost use Rattle.ec_memory.specs.Objects.{Reaches};
 ghost use Rattle.ec_memory.specs.Store.{seen};
 

@@ -4,7 +4,7 @@ ghost use Rattle.std.specs.Prelude.{◌≡◌, ◌↔◌, ◌++◌, ◌∷◌, [
 ghost use Rattle.ec_base.specs.declared.stop.Trap.TheVariants as trap;
 ghost use Rattle.ec_memory.specs.declared.store.MakeStop.TheVariants as stops;
 ghost use Rattle.ec_memory.specs.Room.{HasRoom, int_cells};
-ghost use Rattle.ec_objects.specs.Memory.{with_object};
+ghost use Rattle.ec_memory_defs.specs.Memory.{with_object};
 
 use crate::place::Place;
 use crate::scalars::scalar_of;

@@ -13,9 +13,6 @@ mod store;
 mod texts;
 mod value;
 
-pub use ec_bytes;
-pub use ec_ctypes;
-pub use ec_objects;
 pub use elements::Elements;
 pub use pointers::{difference, order};
 pub use store::{MakeStop, Store};

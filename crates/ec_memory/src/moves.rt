@@ -2,7 +2,7 @@
 
 ghost use Rattle.std.specs.Prelude.{◌≡◌, ◌≤◌, pos, ◌*ℤ◌, MatchOption, SomeIff, FitsSigned, ◌^◌};
 ghost use Rattle.std.specs.Int.{w128};
-ghost use Rattle.ec_objects.specs.Memory.{pointer_to, object_of, offset_of};
+ghost use Rattle.ec_memory_defs.specs.Memory.{pointer_to, object_of, offset_of};
 ghost use Rattle.ec_memory.specs.Store.{seen};
 ghost use Rattle.ec_memory.specs.Moves.{IsOffset, LiesOutside, moved_within, offset_behind};
 

@@ -1,8 +1,8 @@
 //! Bytes in parts that are put as one access.
 
 ghost use Rattle.std.specs.Prelude.{◌≡◌, ◌+◌, ◌≤◌, ◌++◌, length, replicate, OnErr};
-ghost use Rattle.ec_objects.specs.Cells.{set_cells, written};
-ghost use Rattle.ec_objects.specs.Memory.{put};
+ghost use Rattle.ec_memory_defs.specs.Cells.{set_cells, written};
+ghost use Rattle.ec_memory_defs.specs.Memory.{put};
 ghost use Rattle.ec_memory.specs.Store.{outcome};
 
 use crate::place::reach;

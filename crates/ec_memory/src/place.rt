@@ -2,8 +2,8 @@
 
 ghost use Rattle.std.specs.Prelude.{◌≡◌, ◌==◌, ◌≤◌, ◌<◌, ◌+◌, ℕ, true, List, length, IfSome, MatchBool, MatchOption, MatchResult, Err};
 ghost use Rattle.ec_base.specs.declared.stop.Trap.TheVariants as trap;
-ghost use Rattle.ec_objects.specs.Cells.{Cell};
-ghost use Rattle.ec_objects.specs.Memory.{object_of, offset_of, pointer_to, object_cells, cells_at};
+ghost use Rattle.ec_memory_defs.specs.Cells.{Cell};
+ghost use Rattle.ec_memory_defs.specs.Memory.{object_of, offset_of, pointer_to, object_cells, cells_at};
 ghost use Rattle.ec_memory.specs.Near.{PlacedNear};
 ghost use Rattle.ec_memory.specs.Objects.{Behind, Holds, IsAt, IsMissing, IsRising, Kept, Placed, Traps, memory_of};
 

@@ -1,7 +1,7 @@
 //! Two pointers against one another.
 
 ghost use Rattle.std.specs.Prelude.{◌≡◌, ◌^◌, ◌≤◌};
-ghost use Rattle.ec_objects.specs.Memory.{difference, order};
+ghost use Rattle.ec_memory_defs.specs.Memory.{difference, order};
 
 use crate::place::{number_of, offset_in};
 use ec_base::Trap;

@@ -4,9 +4,9 @@ ghost use Rattle.std.specs.Prelude.{◌≡◌, ◌+◌, ◌≤◌, ◌+ℤ◌, �
 ghost use Rattle.ec_ctypes.specs.Arithmetic.{IsValue};
 ghost use Rattle.ec_ctypes.specs.declared.types.arith.Arith.TheVariants as arith;
 ghost use Rattle.ec_ctypes.specs.views.Types.{ty_view};
-ghost use Rattle.ec_objects.specs.Memory.{ScalarType, ValueData, scalar_type, Fits, decoded, encoded, number, span, put, load, store};
-ghost use Rattle.ec_objects.specs.Kinds.{kind_type};
-ghost use Rattle.ec_objects.specs.declared.kind.Kind.TheVariants as kind;
+ghost use Rattle.ec_memory_defs.specs.Memory.{ScalarType, ValueData, scalar_type, Fits, decoded, encoded, number, span, put, load, store};
+ghost use Rattle.ec_memory_defs.specs.Kinds.{kind_type};
+ghost use Rattle.ec_memory_defs.specs.declared.kind.Kind.TheVariants as kind;
 ghost use Rattle.ec_bytes.specs.Scalars.{AreBytes, signed_bytes, signed_of};
 ghost use Rattle.std.specs.Int.{w32};
 ghost use Rattle.ec_memory.specs.Near.{IsNear};
@@ -20,7 +20,7 @@ use crate::value::{Held, Value};
 use ec_base::Trap;
 use ec_bytes::{Flag, I8, I16, I32, I64, Ptr, Region, Scalar, U8, U16, U32, U64};
 use ec_ctypes::Ty;
-use ec_objects::Kind;
+use ec_memory_defs::Kind;
 
 impl Store {
     /// The value at a pointer, read as one access (ISO/IEC 9899:1999, 6.2.6, 6.3.2.1). `ty` is its type: an integer type or a

@@ -4,7 +4,7 @@ ghost use Rattle.std.specs.Prelude.{◌≡◌, ◌+◌, ◌^◌, ◌≤◌, ◌<
 ghost use Rattle.std.specs.Result.{result_err};
 ghost use Rattle.ec_base.specs.declared.stop.Trap.TheVariants as trap;
 ghost use Rattle.ec_memory.specs.declared.store.MakeStop.TheVariants as stops;
-ghost use Rattle.ec_objects.specs.Memory.{cells_at, live_bytes, span, text_at, text_up_to, moved, pointer_to, put, fill, unset, copy, make, make_zeroed, with_object, last_number, end_to};
+ghost use Rattle.ec_memory_defs.specs.Memory.{cells_at, live_bytes, span, text_at, text_up_to, moved, pointer_to, put, fill, unset, copy, make, make_zeroed, with_object, last_number, end_to};
 ghost use Rattle.ec_memory.specs.Store.{first_cells, outcome, seen};
 
 use crate::moves::{moved_to, moved_wide_to};
@@ -50,7 +50,7 @@ pub struct Store {
 }
 
 impl Model for Store {
-    ghost use Rattle.ec_objects.specs.Memory.{Memory};
+    ghost use Rattle.ec_memory_defs.specs.Memory.{Memory};
 
     ghost Value = { Memory };
 

@@ -1,8 +1,8 @@
 //! Texts in the cells of an object.
 
 ghost use Rattle.std.specs.Prelude.{◌≡◌, ◌+◌, ◌≤◌, ◌<◌, length};
-ghost use Rattle.ec_objects.specs.Cells.{part_of};
-ghost use Rattle.ec_objects.specs.Memory.{front_of, text_of};
+ghost use Rattle.ec_memory_defs.specs.Cells.{part_of};
+ghost use Rattle.ec_memory_defs.specs.Memory.{front_of, text_of};
 ghost use Rattle.ec_memory.specs.Store.{seen};
 
 use ec_base::Trap;

@@ -2,7 +2,7 @@
 
 ghost use Rattle.std.specs.Prelude.{◌≡◌, ℕ, ◌<◌, List, length, slice_index, refl};
 ghost use Rattle.ec_ctypes.specs.declared.types.arith.Arith.TheVariants as arith;
-ghost use Rattle.ec_objects.specs.Memory.{ScalarType, integer_type, pointer_type, scalar_size, Fits, decoded, encoded};
+ghost use Rattle.ec_memory_defs.specs.Memory.{ScalarType, integer_type, pointer_type, scalar_size, Fits, decoded, encoded};
 ghost use Rattle.ec_memory.specs.Values.{value_view, number_in};
 
 use ec_bytes::{Flag, I8, I16, I32, I64, Ptr, Scalar, U8, U16, U32, U64};

@@ -6,7 +6,7 @@ ghost use Rattle.std.specs.Prelude.{◌≡◌};
 
 use ec_bytes::Ptr;
 use ec_memory::{MakeStop, Store, Value};
-use ec_objects::Kind;
+use ec_memory_defs::Kind;
 use std::env;
 use std::process::ExitCode;
 

@@ -4,8 +4,8 @@ use Rattle.std.proofs.lemmas.List.{append-nil}
 use Rattle.ec_ctypes.specs.declared.checked.bound.Place.{Place}
 use Rattle.ec_ctypes.specs.trees.Checked.{PlaceData}
 use Rattle.ec_ctypes.specs.views.Checked.{place_view}
-use Rattle.ec_hosts.specs.Bound.{Made, made, then}
-use Rattle.ec_hosts.specs.Programs.{Denoted}
+use Rattle.ec_host_defs.specs.Bound.{Made, made, then}
+use Rattle.ec_host_defs.specs.Programs.{Denoted}
 use Rattle.ec_params.specs.Adding.{Adds}
 
 abbrev pub Makes : Type 0

@@ -6,11 +6,11 @@ use Rattle.ec_base.specs.declared.fault.FaultKind.TheVariants.{F27}
 use Rattle.ec_ctypes.specs.trees.Checked.{TypedData}
 use Rattle.ec_ctypes.specs.trees.Embedded.{EmbKindData, EmbData, connect, set_connection, disconnect, autocommit, trans, server_text, declare_cursor, open_cursor, execute_immediate, prepare, execute, deallocate, allocate_area, free_area, get_count, get_items, set_count, set_items, whenever, include_sqlca}
 use Rattle.ec_language.specs.Letters.{Text}
-use Rattle.ec_statement_parts.specs.Cursors.{declared_cursor, opened_cursor, declared_above, declare_opened}
-use Rattle.ec_hosts.specs.Bound.{program_of, faults_of, bound_answer, statement_bound, answer_by}
-use Rattle.ec_hosts.specs.Faults.{fault_unless, open_faults, opening_faults, declaring_faults, row_at, uses_faults}
-use Rattle.ec_hosts.specs.Programs.{Denoted}
-use Rattle.ec_hosts.specs.Uses.{uses_of}
+use Rattle.ec_typing_defs.specs.statement_parts.Cursors.{declared_cursor, opened_cursor, declared_above, declare_opened}
+use Rattle.ec_host_defs.specs.Bound.{program_of, faults_of, bound_answer, statement_bound, answer_by}
+use Rattle.ec_host_defs.specs.Faults.{fault_unless, open_faults, opening_faults, declaring_faults, row_at, uses_faults}
+use Rattle.ec_host_defs.specs.Programs.{Denoted}
+use Rattle.ec_host_defs.specs.Uses.{uses_of}
 use Rattle.ec_params.specs.Answers.{opening_by, declaring_by, opened_by, faults_by, answer_with, above_at, above_of, stop_for}
 use Rattle.ec_params.specs.Least.{least}
 use Rattle.ec_params.specs.Tables.{named_cursor}

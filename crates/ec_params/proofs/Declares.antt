@@ -5,8 +5,8 @@ use Rattle.std.specs.Prelude.{slice_get, nat_eq, if◌then◌else◌, ◌&&◌}
 use Rattle.ec_ctypes.specs.trees.Embedded.{EmbData}
 use Rattle.ec_embedded.proofs.Sound.{texts_equal}
 use Rattle.ec_language.specs.Letters.{Text, lower, same_text, same_word}
-use Rattle.ec_statement_parts.specs.Cursors.{declared_cursor, declare_from, declared_above}
-use Rattle.ec_typing.specs.Tables.{Named, find, put}
+use Rattle.ec_typing_defs.specs.statement_parts.Cursors.{declared_cursor, declare_from, declared_above}
+use Rattle.ec_typing_defs.specs.Tables.{Named, find, put}
 use Rattle.ec_params.specs.Tables.{named_cursor, found_in, with_declared, aboves}
 
 abbrev pub or_else : Option ℕ → Option ℕ → Option ℕ

@@ -5,7 +5,7 @@ use Rattle.std.specs.Prelude.{nat_lt, ◌==◌, ◌&&◌, ◌||◌}
 use Rattle.ec_base.specs.declared.fault.FaultKind.{FaultKind}
 use Rattle.ec_ctypes.specs.trees.Embedded.{EmbData}
 use Rattle.ec_language.specs.First.{fault_number, earlier, first_of, stop_at}
-use Rattle.ec_hosts.specs.Bound.{violation_at}
+use Rattle.ec_host_defs.specs.Bound.{violation_at}
 use Rattle.ec_params.specs.Answers.{stop_for}
 use Rattle.ec_params.specs.Least.{lower, least}
 

@@ -2,7 +2,7 @@
 use Rattle.std.proofs.Common.{◌≡◌, ℕ, zero, suc, ◌≤◌, ◌<◌, Bool, true, false, List, [], ◌∷◌, ◌++◌, length, refl, sym, ap, ◌∙◌, arith}
 use Rattle.std.proofs.lemmas.Bool.Decides.{nat_tests}
 use Rattle.std.specs.Prelude.{◌||◌, ◌==◌, slice_set}
-use Rattle.ec_hosts.specs.Programs.{is_among}
+use Rattle.ec_host_defs.specs.Programs.{is_among}
 use Rattle.ec_params.specs.Numbers.{mark, marked, flag_at}
 
 -- a flag more that isn't set

@@ -1,6 +1,6 @@
 -- Names in joined references.
 use Rattle.std.proofs.Common.{◌≡◌, ℕ, ◌+◌, List, [], ◌∷◌, ◌++◌, length, map, drop, refl, ap, ◌∙◌, length-append, arith}
-use Rattle.ec_statement_parts.specs.References.{ReferenceData, References, all_names, names_in, of_all, of_input}
+use Rattle.ec_typing_defs.specs.statement_parts.References.{ReferenceData, References, all_names, names_in, of_all, of_input}
 use Rattle.ec_ctypes.specs.declared.embedded.host.Input.{Input}
 use Rattle.ec_ctypes.specs.views.Embedded.{input_view}
 use Rattle.ec_params.specs.Naming.{names_among}

@@ -3,9 +3,9 @@ use Rattle.std.proofs.Common.{◌≡◌, ℕ, suc, ◌+◌, Bool, true, false, L
 use Rattle.std.specs.Prelude.{slice_get, option_and_then, if◌then◌else◌}
 use Rattle.ec_ctypes.specs.trees.Types.{TyData, MemberData, StructData}
 use Rattle.ec_embedded.proofs.Sound.{texts_equal}
-use Rattle.ec_hosts.specs.Programs.{member_among}
+use Rattle.ec_host_defs.specs.Programs.{member_among}
 use Rattle.ec_language.specs.Letters.{Text, same_text}
-use Rattle.ec_typing.specs.Tables.{Named, find, put}
+use Rattle.ec_typing_defs.specs.Tables.{Named, find, put}
 use Rattle.ec_params.specs.Listed.{with_member, with_members, places_of}
 use Rattle.ec_params.proofs.Declares.{or_else, find_put, joined, none_right}
 

@@ -6,10 +6,10 @@ use Rattle.std.specs.Fmt.{decimal}
 use Rattle.ec_ctypes.specs.trees.Embedded.{HostData, PartData, bytes_part, host_part}
 use Rattle.ec_embedded.specs.SentText.{parameters}
 use Rattle.ec_language.specs.Letters.{Text, dollar}
-use Rattle.ec_hosts.specs.Bound.{sent_from, pairs_of}
-use Rattle.ec_hosts.specs.Faults.{host_count}
-use Rattle.ec_hosts.specs.Leaves.{LeafData, paired}
-use Rattle.ec_hosts.specs.Programs.{ProgramData, Denoted}
+use Rattle.ec_host_defs.specs.Bound.{sent_from, pairs_of}
+use Rattle.ec_host_defs.specs.Faults.{host_count}
+use Rattle.ec_host_defs.specs.Leaves.{LeafData, paired}
+use Rattle.ec_host_defs.specs.Programs.{ProgramData, Denoted}
 use Rattle.ec_leaves.specs.declared.parts.Leaf.{Leaf}
 use Rattle.ec_leaves.specs.Seen.{leaf_view}
 use Rattle.ec_params.specs.declared.sending.Sending.{Sending as SendingText}

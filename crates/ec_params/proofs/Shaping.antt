@@ -1,8 +1,8 @@
 -- What is kept of shapes is enough for the faults.
 use Rattle.std.proofs.Common.{◌≡◌, List, Option, Some, None, option_map, [], refl}
 use Rattle.ec_ctypes.specs.trees.Types.{TyData, StructData}
-use Rattle.ec_hosts.specs.Faults.{shape_faults, typed_faults}
-use Rattle.ec_hosts.specs.Leaves.{ShapeData, one_element, elements, one_struct, many_structs, shape_of_host}
+use Rattle.ec_host_defs.specs.Faults.{shape_faults, typed_faults}
+use Rattle.ec_host_defs.specs.Leaves.{ShapeData, one_element, elements, one_struct, many_structs, shape_of_host}
 use Rattle.ec_params.specs.Shapes.{plain_shape, faults_by, faults_of_shape}
 
 by_shape : (structs : List StructData) (t i : TyData) (s : ShapeData) (o : Option ShapeData) → faults_by structs t i (plain_shape s) (option_map plain_shape o) ≡ shape_faults structs t i s o

@@ -5,10 +5,10 @@ use Rattle.std.specs.Prelude.{slice_get, option_and_then, ◌&&◌, ◌==◌, is
 use Rattle.std.specs.List.{list_all}
 use Rattle.ec_language.specs.Letters.{Text}
 use Rattle.ec_ctypes.specs.trees.Types.{TyData, void, arithmetic, pointer, array, structure, MemberData, StructData}
-use Rattle.ec_hosts.specs.Elements.{is_element, is_indicator, plain_struct}
-use Rattle.ec_hosts.specs.Faults as faults
-use Rattle.ec_hosts.specs.Leaves as hosts
-use Rattle.ec_hosts.specs.Leaves.{LeafData, Way, both, with_step, member_ways, members_ways, ways_within, ways, leaf_of_struct, leaf_of_structs, is_pointer}
+use Rattle.ec_host_defs.specs.Elements.{is_element, is_indicator, plain_struct}
+use Rattle.ec_host_defs.specs.Faults as faults
+use Rattle.ec_host_defs.specs.Leaves as hosts
+use Rattle.ec_host_defs.specs.Leaves.{LeafData, Way, both, with_step, member_ways, members_ways, ways_within, ways, leaf_of_struct, leaf_of_structs, is_pointer}
 use Rattle.ec_leaves.specs.Cases.{leaves_by, other_by, array_by, elements_by, one_leaves, many_leaves}
 use Rattle.ec_leaves.proofs.Stepping.{all_cases}
 use Rattle.ec_params.specs.declared.tallies.Tally.{Tally}

@@ -2,10 +2,10 @@
 use Rattle.std.proofs.Common.{◌≡◌, ℕ, ◌+◌, [], ◌∷◌, ◌++◌, take, drop, Option, Some, None, arith, refl, sym, ap, ◌∙◌, append_assoc}
 use Rattle.std.proofs.lemmas.List.{append-nil, drop-drop}
 use Rattle.ec_base.specs.declared.fault.FaultKind.{FaultKind}
-use Rattle.ec_hosts.specs.Faults.{uses_faults, host_faults, host_count, value_part, indicator_part}
+use Rattle.ec_host_defs.specs.Faults.{uses_faults, host_faults, host_count, value_part, indicator_part}
 use Rattle.ec_params.specs.Least.{lower_of, least}
-use Rattle.ec_hosts.specs.Programs.{ProgramData, Denoted, names_count, option_count}
-use Rattle.ec_hosts.specs.Uses.{Uses, RoleData}
+use Rattle.ec_host_defs.specs.Programs.{ProgramData, Denoted, names_count, option_count}
+use Rattle.ec_host_defs.specs.Uses.{Uses, RoleData}
 use Rattle.ec_ctypes.specs.trees.Embedded.{HostData}
 use Rattle.ec_params.proofs.Lowest.{joined, lowest_of}
 use Rattle.ec_params.specs.declared.walk.Walk.{Walk}

@@ -4,9 +4,9 @@ use Rattle.ec_ctypes.specs.declared.checked.bound.Place.{Place}
 use Rattle.ec_ctypes.specs.trees.Checked.{PlaceData}
 use Rattle.ec_ctypes.specs.trees.Exprs.{ExprData}
 use Rattle.ec_ctypes.specs.views.Checked.{place_view}
-use Rattle.ec_hosts.specs.Bound.{Made}
-use Rattle.ec_hosts.specs.Leaves.{Pair, paired}
-use Rattle.ec_hosts.specs.Programs.{Denoted}
+use Rattle.ec_host_defs.specs.Bound.{Made}
+use Rattle.ec_host_defs.specs.Leaves.{Pair, paired}
+use Rattle.ec_host_defs.specs.Programs.{Denoted}
 use Rattle.ec_params.specs.declared.places.Leaves.{Leaves}
 use Rattle.ec_leaves.specs.Seen.{leaf_view}
 

@@ -10,12 +10,12 @@ use Rattle.ec_ctypes.specs.trees.Checked.{BoundData}
 use Rattle.ec_ctypes.specs.trees.Embedded.{EmbData}
 use Rattle.ec_ctypes.specs.views.Embedded.{emb_view}
 use Rattle.ec_ctypes.specs.views.Units.{unit_view}
-use Rattle.ec_hosts.specs.ec_sections.Declared.{functions_of}
-use Rattle.ec_statement_parts.specs.Cursors.{declared_cursor, opened_cursor}
-use Rattle.ec_hosts.specs.Bound.{statement_bound, answer_by}
-use Rattle.ec_hosts.specs.Faults.{fault_unless, same_denoted, row_at, open_faults, uses_faults}
-use Rattle.ec_hosts.specs.Programs.{ProgramData, Denoted}
-use Rattle.ec_hosts.specs.Uses.{uses_of}
+use Rattle.ec_host_defs.specs.sections.Declared.{functions_of}
+use Rattle.ec_typing_defs.specs.statement_parts.Cursors.{declared_cursor, opened_cursor}
+use Rattle.ec_host_defs.specs.Bound.{statement_bound, answer_by}
+use Rattle.ec_host_defs.specs.Faults.{fault_unless, same_denoted, row_at, open_faults, uses_faults}
+use Rattle.ec_host_defs.specs.Programs.{ProgramData, Denoted}
+use Rattle.ec_host_defs.specs.Uses.{uses_of}
 use Rattle.ec_params.specs.Least.{least}
 use Rattle.ec_params.specs.Tables.{aboves}
 

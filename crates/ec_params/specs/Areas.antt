@@ -4,9 +4,9 @@ use Rattle.ec_ctypes.specs.declared.embedded.emb.Item.{Item}
 use Rattle.ec_ctypes.specs.trees.Checked.{BoundData}
 use Rattle.ec_ctypes.specs.trees.Embedded.{HostData, TextArgData, InputData, InsData, OutsData, PartData}
 use Rattle.ec_ctypes.specs.trees.Exprs.{ExprData}
-use Rattle.ec_statement_parts.specs.References.{of_text_option, of_ins}
-use Rattle.ec_hosts.specs.Bound.{lists_bound, area_bound, sent_from, each_of, part_places, ins_places, outs_places, input_places, host_places, get_places, set_places, text_expr}
-use Rattle.ec_hosts.specs.Programs.{ProgramData, Denoted}
+use Rattle.ec_typing_defs.specs.statement_parts.References.{of_text_option, of_ins}
+use Rattle.ec_host_defs.specs.Bound.{lists_bound, area_bound, sent_from, each_of, part_places, ins_places, outs_places, input_places, host_places, get_places, set_places, text_expr}
+use Rattle.ec_host_defs.specs.Programs.{ProgramData, Denoted}
 use Rattle.ec_params.specs.Naming.{names_among}
 
 -- what is left behind the names of an OPEN

@@ -2,7 +2,7 @@
 use Rattle.std.specs.Prelude.{◌≡◌, ℕ, List, map, Option}
 use Rattle.ec_ctypes.specs.declared.types.ty.StructDef.{StructDef}
 use Rattle.ec_ctypes.specs.views.Types.{structs_view}
-use Rattle.ec_typing.specs.Tables.{Named}
+use Rattle.ec_typing_defs.specs.Tables.{Named}
 use Rattle.ec_params.specs.declared.tallies.Tally.{Tally}
 use Rattle.ec_params.specs.Listed.{places_of}
 use Rattle.ec_params.specs.Tallies.{tallies_of}

@@ -1,4 +1,3 @@
-pub use Rattle.ec_hosts.specs as ec_hosts
 pub mod Adding
 pub mod Answers
 pub mod Areas

@@ -2,7 +2,7 @@
 use Rattle.std.specs.Prelude.{ℕ, ◌+◌, List, [], ◌∷◌, Some, None}
 use Rattle.ec_ctypes.specs.trees.Types.{MemberData, StructData}
 use Rattle.ec_language.specs.Letters.{Text}
-use Rattle.ec_typing.specs.Tables.{Named, find, put}
+use Rattle.ec_typing_defs.specs.Tables.{Named, find, put}
 
 -- with the member at this place, unless there is one of its name
 abbrev pub with_member : ℕ → Named ℕ → Text → Named ℕ

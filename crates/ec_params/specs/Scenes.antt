@@ -2,7 +2,7 @@
 use Rattle.std.specs.Prelude.{map}
 use Rattle.ec_ctypes.specs.views.Checked.{name_view}
 use Rattle.ec_ctypes.specs.views.Types.{structs_view}
-use Rattle.ec_hosts.specs.Programs.{ProgramData, Denoted}
+use Rattle.ec_host_defs.specs.Programs.{ProgramData, Denoted}
 use Rattle.ec_params.specs.declared.scene.Scene.{Scene}
 
 abbrev pub program_of : Scene → ProgramData

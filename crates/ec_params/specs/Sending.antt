@@ -3,8 +3,8 @@ use Rattle.std.specs.Prelude.{◌≡◌, drop, ℕ, zero, suc, ◌+◌, List, []
 use Rattle.std.specs.Fmt.{decimal}
 use Rattle.ec_ctypes.specs.trees.Embedded.{PartData}
 use Rattle.ec_language.specs.Letters.{Text, dollar}
-use Rattle.ec_hosts.specs.Bound.{sent_from}
-use Rattle.ec_hosts.specs.Programs.{ProgramData, Denoted}
+use Rattle.ec_host_defs.specs.Bound.{sent_from}
+use Rattle.ec_host_defs.specs.Programs.{ProgramData, Denoted}
 use Rattle.ec_params.specs.declared.sending.Sending.{Sending as SendingText}
 
 -- so many more behind that of this number

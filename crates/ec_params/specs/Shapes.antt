@@ -3,10 +3,10 @@ use Rattle.std.specs.Prelude.{true, List, [], ◌∷◌, Option, Some, None, ◌
 use Rattle.ec_base.specs.declared.fault.FaultKind.{FaultKind}
 use Rattle.ec_base.specs.declared.fault.FaultKind.TheVariants.{F23}
 use Rattle.ec_ctypes.specs.trees.Types.{TyData, StructData}
-use Rattle.ec_hosts.specs.Elements.{is_indicator}
-use Rattle.ec_hosts.specs.Faults.{fault_unless, struct_faults, is_indicator_array}
-use Rattle.ec_hosts.specs.Leaves.{ShapeData, one_element, elements, one_struct, many_structs}
-use Rattle.ec_hosts.specs.Uses.{RoleData, text_role, input_role, output_role, number_role, item_role}
+use Rattle.ec_host_defs.specs.Elements.{is_indicator}
+use Rattle.ec_host_defs.specs.Faults.{fault_unless, struct_faults, is_indicator_array}
+use Rattle.ec_host_defs.specs.Leaves.{ShapeData, one_element, elements, one_struct, many_structs}
+use Rattle.ec_host_defs.specs.Uses.{RoleData, text_role, input_role, output_role, number_role, item_role}
 use Rattle.ec_params.specs.declared.indicators.Shape.{Shape}
 use Rattle.ec_params.specs.declared.indicators.Shape.TheVariants as shape
 use Rattle.ec_params.specs.declared.values.Role.{Role}

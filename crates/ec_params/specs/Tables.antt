@@ -2,8 +2,8 @@
 use Rattle.std.specs.Prelude.{ℕ, ◌+◌, List, [], ◌∷◌, map, Option, Some, None}
 use Rattle.ec_ctypes.specs.trees.Embedded.{EmbData, declare_cursor, open_cursor}
 use Rattle.ec_language.specs.Letters.{Text, lower}
-use Rattle.ec_typing.specs.Tables.{Named, find, put}
-use Rattle.ec_statement_parts.specs.Cursors.{declared_cursor}
+use Rattle.ec_typing_defs.specs.Tables.{Named, find, put}
+use Rattle.ec_typing_defs.specs.statement_parts.Cursors.{declared_cursor}
 
 -- the cursor that a statement declares or opens
 abbrev pub named_cursor : EmbData → Option Text

@@ -2,8 +2,8 @@
 use Rattle.std.specs.Prelude.{ℕ, ◌+◌, Bool, true, false, ◌&&◌, nat_le, List, [], ◌∷◌, ◌++◌, length, slice_get, Option, Some, None, option_and_then, if◌then◌else◌}
 use Rattle.std.specs.List.{list_all}
 use Rattle.ec_ctypes.specs.trees.Types.{TyData, void, arithmetic, pointer, array, structure, MemberData, StructData}
-use Rattle.ec_hosts.specs.Elements.{is_element, is_indicator, plain_struct}
-use Rattle.ec_hosts.specs.Leaves.{LeafData, Way, is_pointer}
+use Rattle.ec_host_defs.specs.Elements.{is_element, is_indicator, plain_struct}
+use Rattle.ec_host_defs.specs.Leaves.{LeafData, Way, is_pointer}
 use Rattle.ec_params.specs.declared.tallies.Tally.{Tally}
 
 -- the greatest number that is counted

@@ -3,9 +3,9 @@ use Rattle.std.specs.Prelude.{◌≡◌, ◌++◌, drop, Option}
 use Rattle.ec_base.specs.declared.fault.FaultKind.{FaultKind}
 use Rattle.ec_ctypes.specs.trees.Embedded.{HostData}
 use Rattle.ec_ctypes.specs.trees.Exprs.{ExprData}
-use Rattle.ec_hosts.specs.Faults.{uses_faults}
-use Rattle.ec_hosts.specs.Programs.{ProgramData, Denoted}
-use Rattle.ec_hosts.specs.Uses.{Uses}
+use Rattle.ec_host_defs.specs.Faults.{uses_faults}
+use Rattle.ec_host_defs.specs.Programs.{ProgramData, Denoted}
+use Rattle.ec_host_defs.specs.Uses.{Uses}
 use Rattle.ec_params.specs.declared.walk.Walk.{Walk}
 use Rattle.ec_params.specs.Least.{lower_of, least}
 

@@ -5,8 +5,8 @@ ghost use Rattle.std.specs.Prelude.{◌≡◌, ◌++◌, ◌<◌, [], IfOk, IfSo
 ghost use Rattle.std.specs.Option.{option_copied};
 ghost use Rattle.ec_ctypes.specs.views.Checked.{bound_view, typed_view};
 ghost use Rattle.ec_ctypes.specs.views.Embedded.{emb_view};
-ghost use Rattle.ec_hosts.specs.Bound as spec;
-ghost use Rattle.ec_hosts.specs.Faults as faults;
+ghost use Rattle.ec_host_defs.specs.Bound as spec;
+ghost use Rattle.ec_host_defs.specs.Faults as faults;
 ghost use Rattle.ec_params.specs.Answers as answers;
 ghost use Rattle.ec_params.specs.Answers.{Told};
 ghost use Rattle.ec_params.specs.Least.{least};

@@ -4,7 +4,7 @@
 ghost use Rattle.std.specs.Prelude.{◌≡◌, ◌++◌, IfOk, length, map, option_map};
 ghost use Rattle.ec_ctypes.specs.views.Embedded.{host_view, text_arg_view, input_view, ins_view};
 ghost use Rattle.ec_params.specs.Naming.{names_among};
-ghost use Rattle.ec_statement_parts.specs.References as spec;
+ghost use Rattle.ec_typing_defs.specs.statement_parts.References as spec;
 
 use crate::scene::{names_count, sum};
 use crate::walk::{indicator_of, option_count};

@@ -3,9 +3,9 @@
 ghost use Rattle.std.specs.Prelude.{◌≡◌, ◌++◌, [], ◌∷◌, IfOk, OnOk, Some, None, map, ◌+◌, if◌then◌else◌};
 ghost use Rattle.ec_ctypes.specs.views.Embedded.{emb_view};
 ghost use Rattle.ec_language.specs.Letters as letters;
-ghost use Rattle.ec_statement_parts.specs.Cursors.{declared_cursor};
+ghost use Rattle.ec_typing_defs.specs.statement_parts.Cursors.{declared_cursor};
 ghost use Rattle.ec_params.specs.Tables as spec;
-ghost use Rattle.ec_typing.specs.Tables as tables;
+ghost use Rattle.ec_typing_defs.specs.Tables as tables;
 
 use ec_base::{Bytes, List, Name, OutOfMemory};
 use ec_ctypes::{Emb, EmbKind};

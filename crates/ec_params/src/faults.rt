@@ -3,8 +3,8 @@
 
 ghost use Rattle.std.specs.Prelude.{◌≡◌, ◌++◌, ◌∷◌, [], IfOk, OnOk, map, option_map};
 ghost use Rattle.ec_ctypes.specs.views.Embedded.{host_view, text_arg_view, input_view, ins_view, outs_view, part_view, get_item_view, set_item_view, emb_view};
-ghost use Rattle.ec_hosts.specs.Faults.{uses_faults};
-ghost use Rattle.ec_hosts.specs.Uses as spec;
+ghost use Rattle.ec_host_defs.specs.Faults.{uses_faults};
+ghost use Rattle.ec_host_defs.specs.Uses as spec;
 ghost use Rattle.ec_params.specs.Least.{least};
 ghost use Rattle.ec_params.specs.Scenes.{program_of, denoted_of};
 ghost use Rattle.ec_params.specs.Shapes.{role_view};

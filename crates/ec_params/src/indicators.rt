@@ -5,9 +5,9 @@ ghost use Rattle.std.specs.Prelude.{◌≡◌, ◌&&◌, ◌==◌, IfOk, map, op
 ghost use Rattle.std.specs.List.{list_all};
 ghost use Rattle.std.specs.Option.{option_copied};
 ghost use Rattle.ec_ctypes.specs.views.Types.{ty_view, structs_view};
-ghost use Rattle.ec_hosts.specs.Elements.{is_element, is_indicator, plain_struct};
-ghost use Rattle.ec_hosts.specs.Faults as spec;
-ghost use Rattle.ec_hosts.specs.Leaves as hosts;
+ghost use Rattle.ec_host_defs.specs.Elements.{is_element, is_indicator, plain_struct};
+ghost use Rattle.ec_host_defs.specs.Faults as spec;
+ghost use Rattle.ec_host_defs.specs.Leaves as hosts;
 ghost use Rattle.ec_leaves.specs.Seen.{leaf_view};
 ghost use Rattle.ec_params.specs.Least.{least};
 ghost use Rattle.ec_params.specs.Shapes.{role_view, plain_shape, faults_by, faults_of_shape};

@@ -3,8 +3,8 @@
 ghost use Rattle.std.specs.Prelude.{◌≡◌, IfOk, option_map, option_and_then, slice_get};
 ghost use Rattle.std.specs.Option.{option_copied};
 ghost use Rattle.ec_ctypes.specs.views.Types.{ty_view, structs_view};
-ghost use Rattle.ec_hosts.specs.Leaves.{leaves};
-ghost use Rattle.ec_hosts.specs.Programs.{member_among};
+ghost use Rattle.ec_host_defs.specs.Leaves.{leaves};
+ghost use Rattle.ec_host_defs.specs.Programs.{member_among};
 ghost use Rattle.ec_params.specs.Tallies as spec;
 
 use crate::listed::{member_in, tables_of};

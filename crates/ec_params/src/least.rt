@@ -2,7 +2,7 @@
 #![tactic(auto, unfolding(crate::specs::Least::least))]
 
 ghost use Rattle.std.specs.Prelude.{◌≡◌, [], ◌∷◌};
-ghost use Rattle.ec_hosts.specs.Faults.{fault_unless};
+ghost use Rattle.ec_host_defs.specs.Faults.{fault_unless};
 ghost use Rattle.ec_language.specs.First as first;
 ghost use Rattle.ec_params.specs.Least as spec;
 

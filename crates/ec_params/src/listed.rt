@@ -3,9 +3,9 @@
 ghost use Rattle.std.specs.Prelude.{◌≡◌, [], IfOk, OnOk, map, option_map, option_and_then, slice_get};
 ghost use Rattle.std.specs.Option.{option_copied};
 ghost use Rattle.ec_ctypes.specs.views.Types.{ty_view, member_view, struct_view, structs_view};
-ghost use Rattle.ec_hosts.specs.Programs.{member_among};
+ghost use Rattle.ec_host_defs.specs.Programs.{member_among};
 ghost use Rattle.ec_params.specs.Listed as spec;
-ghost use Rattle.ec_typing.specs.Tables.{find};
+ghost use Rattle.ec_typing_defs.specs.Tables.{find};
 
 use crate::scene::sum;
 use ec_base::{List, Name, OutOfMemory};

@@ -3,7 +3,7 @@
 
 ghost use Rattle.std.specs.Prelude.{◌≡◌, OnOk, map};
 ghost use Rattle.ec_ctypes.specs.views.Embedded.{host_view, input_view, ins_view, outs_view, part_view, get_item_view, set_item_view};
-ghost use Rattle.ec_hosts.specs.Bound as spec;
+ghost use Rattle.ec_host_defs.specs.Bound as spec;
 ghost use Rattle.ec_params.specs.Adding.{Adds};
 ghost use Rattle.ec_params.specs.Scenes.{program_of, denoted_of};
 

@@ -1,7 +1,7 @@
 //! Numbers of declarations.
 
 ghost use Rattle.std.specs.Prelude.{◌≡◌, [], IfOk, OnOk};
-ghost use Rattle.ec_hosts.specs.Programs.{is_among};
+ghost use Rattle.ec_host_defs.specs.Programs.{is_among};
 ghost use Rattle.ec_params.specs.Numbers as spec;
 
 use ec_base::{List, OutOfMemory};

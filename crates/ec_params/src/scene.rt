@@ -5,7 +5,7 @@ ghost use Rattle.std.specs.Option.{option_copied};
 ghost use Rattle.ec_ctypes.specs.views.Checked.{name_view};
 ghost use Rattle.ec_ctypes.specs.views.Exprs.{expr_view};
 ghost use Rattle.ec_ctypes.specs.views.Types.{ty_view, structs_view};
-ghost use Rattle.ec_hosts.specs.Programs as spec;
+ghost use Rattle.ec_host_defs.specs.Programs as spec;
 ghost use Rattle.ec_params.specs.Scenes.{program_of};
 
 use crate::known::Known;

@@ -6,7 +6,7 @@ ghost use Rattle.ec_ctypes.specs.trees.Embedded.{bytes_part, host_part};
 ghost use Rattle.ec_ctypes.specs.views.Embedded.{host_view, part_view};
 ghost use Rattle.ec_embedded.specs.SentText.{parameters};
 ghost use Rattle.ec_language.specs.Letters.{dollar};
-ghost use Rattle.ec_hosts.specs.Bound as spec;
+ghost use Rattle.ec_host_defs.specs.Bound as spec;
 ghost use Rattle.ec_params.specs.Scenes.{program_of, denoted_of};
 ghost use Rattle.ec_params.specs.Sending.{more_parameters, Sends};
 

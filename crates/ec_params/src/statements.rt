@@ -5,8 +5,8 @@ ghost use Rattle.std.specs.Option.{option_copied};
 ghost use Rattle.ec_ctypes.specs.views.Checked.{bound_view};
 ghost use Rattle.ec_ctypes.specs.views.Embedded.{host_view, text_arg_view, input_view, ins_view, outs_view, part_view, get_item_view, set_item_view, emb_view};
 ghost use Rattle.ec_ctypes.specs.views.Exprs.{expr_view};
-ghost use Rattle.ec_hosts.specs.Bound as spec;
-ghost use Rattle.ec_hosts.specs.Faults.{cursor_part};
+ghost use Rattle.ec_host_defs.specs.Bound as spec;
+ghost use Rattle.ec_host_defs.specs.Faults.{cursor_part};
 ghost use Rattle.ec_params.specs.Scenes.{program_of, denoted_of};
 ghost use Rattle.ec_params.specs.Areas as areas;
 

@@ -2,8 +2,8 @@
 
 ghost use Rattle.std.specs.Prelude.{◌≡◌, ◌+◌, ◌==◌, ℕ, [], IfOk, Some, map, option_map, List as Sequence, Option as Maybe};
 ghost use Rattle.ec_ctypes.specs.views.Types.{ty_view, member_view, structs_view};
-ghost use Rattle.ec_hosts.specs.Faults as faults;
-ghost use Rattle.ec_hosts.specs.Leaves.{LeafData};
+ghost use Rattle.ec_host_defs.specs.Faults as faults;
+ghost use Rattle.ec_host_defs.specs.Leaves.{LeafData};
 ghost use Rattle.ec_leaves.specs.Seen.{leaf_view};
 ghost use Rattle.ec_params.specs.Tallies as spec;
 

@@ -7,9 +7,9 @@ ghost use Rattle.ec_ctypes.specs.views.Checked.{place_view};
 ghost use Rattle.ec_ctypes.specs.views.Embedded.{text_arg_view};
 ghost use Rattle.ec_ctypes.specs.views.Exprs.{expr_view};
 ghost use Rattle.ec_ctypes.specs.views.Types.{ty_view};
-ghost use Rattle.ec_hosts.specs.Bound as spec;
-ghost use Rattle.ec_hosts.specs.Places.{text_pointer, no_text, descriptor_place, constant_place};
-ghost use Rattle.ec_hosts.specs.Programs as program;
+ghost use Rattle.ec_host_defs.specs.Bound as spec;
+ghost use Rattle.ec_host_defs.specs.Places.{text_pointer, no_text, descriptor_place, constant_place};
+ghost use Rattle.ec_host_defs.specs.Programs as program;
 ghost use Rattle.ec_params.specs.Adding.{Adds, MakesText};
 ghost use Rattle.ec_params.specs.Scenes.{program_of, denoted_of};
 

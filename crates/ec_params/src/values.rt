@@ -4,8 +4,8 @@
 ghost use Rattle.std.specs.Prelude.{◌≡◌, IfOk, is_some, option_map};
 ghost use Rattle.std.specs.Option.{option_copied};
 ghost use Rattle.ec_ctypes.specs.views.Types.{ty_view, structs_view};
-ghost use Rattle.ec_hosts.specs.Faults as spec;
-ghost use Rattle.ec_hosts.specs.Leaves as hosts;
+ghost use Rattle.ec_host_defs.specs.Faults as spec;
+ghost use Rattle.ec_host_defs.specs.Leaves as hosts;
 ghost use Rattle.ec_params.specs.Least.{least};
 ghost use Rattle.ec_params.specs.Shapes.{role_view};
 

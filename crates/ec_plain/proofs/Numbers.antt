@@ -12,19 +12,19 @@ use Rattle.ec_code.specs.declared.step.Leaf.TheVariants as leaf
 use Rattle.ec_code.specs.declared.step.Unary.TheVariants as unary
 use Rattle.ec_values.specs.declared.word.Word.{Word}
 use Rattle.ec_values.specs.Words.{word_view}
-use Rattle.ec_resolved.specs.Operations.{address_worked, gives, worked}
+use Rattle.ec_meaning_defs.specs.resolved.Operations.{address_worked, gives, worked}
 use Rattle.ec_values.specs.Operations.{operation_view}
 use Rattle.ec_values.specs.declared.operation.Operation.{Operation}
 use Rattle.ec_values.specs.declared.operation.Operation.TheVariants as operation
 use Rattle.ec_code.specs.declared.step.Update.{Update}
-use Rattle.ec_resolved.specs.Resolved.{Exp}
-use Rattle.ec_resolved.specs.Resolved as of
-use Rattle.ec_evaluation.specs.Evaluate.{World, Step as Knowing, eval}
-use Rattle.ec_evaluation.specs.Results.{value, tried, on_value, worked_out}
-use Rattle.ec_evaluation.specs.State.{State}
-use Rattle.ec_objects.specs.Kinds.{kind_type}
-use Rattle.ec_objects.specs.declared.kind.Kind.{Kind}
-use Rattle.ec_objects.specs.Memory.{Memory, ValueData, number, address, load, moved}
+use Rattle.ec_meaning_defs.specs.resolved.Resolved.{Exp}
+use Rattle.ec_meaning_defs.specs.resolved.Resolved as of
+use Rattle.ec_meaning_defs.specs.evaluation.Evaluate.{World, Step as Knowing, eval}
+use Rattle.ec_meaning_defs.specs.evaluation.Results.{value, tried, on_value, worked_out}
+use Rattle.ec_meaning_defs.specs.evaluation.State.{State}
+use Rattle.ec_memory_defs.specs.Kinds.{kind_type}
+use Rattle.ec_memory_defs.specs.declared.kind.Kind.{Kind}
+use Rattle.ec_memory_defs.specs.Memory.{Memory, ValueData, number, address, load, moved}
 use Rattle.ec_plain.specs.Answered.{at, context}
 use Rattle.ec_plain.specs.Numbers.{Changes, Follows, FollowsPlace, Leads, Operates, Stands, StepLeads, Targets, Updates}
 use Rattle.ec_plain.specs.Steps.{both_on, followed, one_on, step_on}

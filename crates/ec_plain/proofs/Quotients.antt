@@ -2,7 +2,7 @@
 use Rattle.std.proofs.Common.{◌≡◌, ◌≢◌, ◌∙◌, refl, sym, ℤ, pos, Option, Some, None, Ok}
 use Rattle.std.specs.Prelude.{IfSome, int_div}
 use Rattle.ec_ctypes.specs.declared.types.arith.Arith.{Arith}
-use Rattle.ec_resolved.specs.Operations.{quotient, result_of}
+use Rattle.ec_meaning_defs.specs.resolved.Operations.{quotient, result_of}
 use Rattle.ec_values.proofs.Numbers.{quotient_is}
 
 pub quotient_some : (t : Arith) (a b o : ℤ) (r : Option ℤ) → b ≢ pos 0 → o ≡ int_div a b → IfSome r (λ z. result_of t o ≡ Ok z) → IfSome r (λ z. quotient t a b ≡ Ok z)

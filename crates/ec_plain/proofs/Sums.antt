@@ -2,19 +2,19 @@
 use Rattle.std.proofs.Common.{◌≡◌, ◌∙◌, ◌≤ℤ◌, ◌+ℤ◌, ℕ, ℤ, pos, negsuc, ◌^◌, ◌-◌, ◌%◌, arith, ap, refl, sym, subst, Bool, true, false, Ok, Err}
 use Rattle.std.specs.Prelude.{if◌then◌else◌, int_le, ◌-ℤ◌, ◌&&◌}
 use Rattle.std.proofs.lemmas.Int.{ints}
-use Rattle.ec_ctypes.specs.ec_base.declared.stop.Trap.TheVariants.{Overflow}
+use Rattle.ec_base.specs.declared.stop.Trap.TheVariants.{Overflow}
 use Rattle.ec_ctypes.specs.Arithmetic.{wrapped_signed, wrapped_unsigned}
 use Rattle.ec_ctypes.specs.declared.types.arith.Arith.TheVariants as arithmetic
 use Rattle.ec_code.specs.Trees.{update_view}
 use Rattle.ec_code.specs.declared.step.Binary.TheVariants as binary
 use Rattle.ec_code.specs.declared.step.Update.{Update}
-use Rattle.ec_evaluation.specs.Evaluate.{updated}
-use Rattle.ec_evaluation.specs.Results.{changed, value, on_value, tried, worked_out}
-use Rattle.ec_objects.specs.Kinds.{kind_type}
-use Rattle.ec_objects.specs.declared.kind.Kind.{Kind}
-use Rattle.ec_objects.specs.declared.kind.Kind.TheVariants as kind
-use Rattle.ec_objects.specs.Memory.{Memory, address, load, number, store}
-use Rattle.ec_resolved.specs.Operations.{calculated, plus, number_worked, worked}
+use Rattle.ec_meaning_defs.specs.evaluation.Evaluate.{updated}
+use Rattle.ec_meaning_defs.specs.evaluation.Results.{changed, value, on_value, tried, worked_out}
+use Rattle.ec_memory_defs.specs.Kinds.{kind_type}
+use Rattle.ec_memory_defs.specs.declared.kind.Kind.{Kind}
+use Rattle.ec_memory_defs.specs.declared.kind.Kind.TheVariants as kind
+use Rattle.ec_memory_defs.specs.Memory.{Memory, address, load, number, store}
+use Rattle.ec_meaning_defs.specs.resolved.Operations.{calculated, plus, number_worked, worked}
 use Rattle.ec_values.specs.Operations.{operation_view}
 use Rattle.ec_values.specs.declared.operation.IntegerOperator.TheVariants as operator
 use Rattle.ec_values.specs.declared.operation.Operation.{Operation}

@@ -7,12 +7,12 @@ use Rattle.ec_code.specs.declared.step.Binary.TheVariants as binary
 use Rattle.ec_code.specs.declared.step.Unary.{Unary}
 use Rattle.ec_code.specs.declared.step.Unary.TheVariants as unary
 use Rattle.ec_code.specs.declared.step.Update.{Update}
-use Rattle.ec_evaluation.specs.Evaluate.{Context, World, Step as Knowing, eval}
-use Rattle.ec_evaluation.specs.Results.{value, over, on_value, at_address, tried}
-use Rattle.ec_evaluation.specs.State.{State, Ending}
-use Rattle.ec_objects.specs.Memory.{ValueData, number, address, load}
-use Rattle.ec_objects.specs.Kinds.{kind_type}
-use Rattle.ec_resolved.specs.Resolved.{Exp}
+use Rattle.ec_meaning_defs.specs.evaluation.Evaluate.{Context, World, Step as Knowing, eval}
+use Rattle.ec_meaning_defs.specs.evaluation.Results.{value, over, on_value, at_address, tried}
+use Rattle.ec_meaning_defs.specs.evaluation.State.{State, Ending}
+use Rattle.ec_memory_defs.specs.Memory.{ValueData, number, address, load}
+use Rattle.ec_memory_defs.specs.Kinds.{kind_type}
+use Rattle.ec_meaning_defs.specs.resolved.Resolved.{Exp}
 use Rattle.ec_values.specs.declared.word.Stop.{Stop}
 use Rattle.ec_values.specs.declared.word.Word.{Word}
 use Rattle.ec_plain.specs.Answered.{answered}

@@ -1,10 +1,10 @@
 -- What an evaluation answers, as the definition says it.
 use Rattle.std.specs.Prelude.{ℕ, Bool, List, map, Result, Ok, Err}
 use Rattle.ec_bytes.specs.declared.scalar.address.Ptr.{Ptr}
-use Rattle.ec_evaluation.specs.Evaluate.{Context}
-use Rattle.ec_evaluation.specs.Results.{Res, value, over}
-use Rattle.ec_evaluation.specs.State.{State, Ending, trapped, stuck}
-use Rattle.ec_objects.specs.Memory.{Memory}
+use Rattle.ec_meaning_defs.specs.evaluation.Evaluate.{Context}
+use Rattle.ec_meaning_defs.specs.evaluation.Results.{Res, value, over}
+use Rattle.ec_meaning_defs.specs.evaluation.State.{State, Ending, trapped, stuck}
+use Rattle.ec_memory_defs.specs.Memory.{Memory}
 use Rattle.ec_values.specs.Words.{word_view}
 use Rattle.ec_values.specs.declared.word.Stop.{Stop}
 use Rattle.ec_values.specs.declared.word.Stop.TheVariants as stop

@@ -5,16 +5,16 @@ use Rattle.ec_ctypes.specs.declared.types.arith.Arith.TheVariants as arithmetic
 use Rattle.ec_code.specs.Trees.{Step, two}
 use Rattle.ec_code.specs.Views.{plain_step_view}
 use Rattle.ec_code.specs.declared.expression.PlainStep.{PlainStep}
-use Rattle.ec_evaluation.specs.Evaluate.{World, Step as Knowing, eval}
+use Rattle.ec_meaning_defs.specs.evaluation.Evaluate.{World, Step as Knowing, eval}
 use Rattle.ec_code.specs.declared.step.Binary.{Binary}
 use Rattle.ec_code.specs.declared.step.Binary.TheVariants as binary
 use Rattle.ec_code.specs.declared.step.Update.{Update}
-use Rattle.ec_evaluation.specs.Results.{value, on_value}
-use Rattle.ec_evaluation.specs.State.{State}
-use Rattle.ec_objects.specs.declared.kind.Kind.TheVariants as kind
-use Rattle.ec_objects.specs.Memory.{Memory, ValueData, address, number}
-use Rattle.ec_resolved.specs.Operations.{gives, worked}
-use Rattle.ec_resolved.specs.Resolved.{Exp}
+use Rattle.ec_meaning_defs.specs.evaluation.Results.{value, on_value}
+use Rattle.ec_meaning_defs.specs.evaluation.State.{State}
+use Rattle.ec_memory_defs.specs.declared.kind.Kind.TheVariants as kind
+use Rattle.ec_memory_defs.specs.Memory.{Memory, ValueData, address, number}
+use Rattle.ec_meaning_defs.specs.resolved.Operations.{gives, worked}
+use Rattle.ec_meaning_defs.specs.resolved.Resolved.{Exp}
 use Rattle.ec_values.specs.Operations.{operation_view}
 use Rattle.ec_values.specs.declared.operation.IntegerOperator.TheVariants as operator
 use Rattle.ec_values.specs.declared.operation.Operation.{Operation}

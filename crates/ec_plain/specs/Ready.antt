@@ -1,11 +1,11 @@
 -- What a step leads to, by what it does before the other expression is evaluated.
 use Rattle.std.specs.Prelude.{Result, Ok, Err}
 use Rattle.ec_code.specs.declared.step.Binary.{Binary}
-use Rattle.ec_evaluation.specs.Evaluate.{Context, World, Step as Knowing, eval}
-use Rattle.ec_evaluation.specs.Results.{Res, value, over, on_value}
-use Rattle.ec_evaluation.specs.State.{State}
-use Rattle.ec_objects.specs.Memory.{ValueData}
-use Rattle.ec_resolved.specs.Resolved.{Exp}
+use Rattle.ec_meaning_defs.specs.evaluation.Evaluate.{Context, World, Step as Knowing, eval}
+use Rattle.ec_meaning_defs.specs.evaluation.Results.{Res, value, over, on_value}
+use Rattle.ec_meaning_defs.specs.evaluation.State.{State}
+use Rattle.ec_memory_defs.specs.Memory.{ValueData}
+use Rattle.ec_meaning_defs.specs.resolved.Resolved.{Exp}
 use Rattle.ec_values.specs.Words.{word_view}
 use Rattle.ec_values.specs.declared.word.Stop.{Stop}
 use Rattle.ec_plain.specs.Answered.{ending_of}

@@ -6,13 +6,13 @@ use Rattle.ec_code.specs.declared.step.Binary.TheVariants as binary
 use Rattle.ec_code.specs.declared.step.Unary.{Unary}
 use Rattle.ec_code.specs.declared.step.Unary.TheVariants as unary
 use Rattle.ec_code.specs.declared.step.Update.{Update}
-use Rattle.ec_evaluation.specs.Evaluate.{Context, World, Step as Knowing, eval, updated}
-use Rattle.ec_evaluation.specs.Results.{Res, value, on_value, tried, changed, worked_out, at_address, on_number}
-use Rattle.ec_evaluation.specs.State.{State}
-use Rattle.ec_objects.specs.Kinds.{kind_type}
-use Rattle.ec_objects.specs.Memory.{ValueData, number, address, moved, cells_at, load, store, copy, put}
-use Rattle.ec_resolved.specs.Operations.{is_true, truth, value_as, negated, flipped, number_worked, worked}
-use Rattle.ec_resolved.specs.Resolved.{Exp}
+use Rattle.ec_meaning_defs.specs.evaluation.Evaluate.{Context, World, Step as Knowing, eval, updated}
+use Rattle.ec_meaning_defs.specs.evaluation.Results.{Res, value, on_value, tried, changed, worked_out, at_address, on_number}
+use Rattle.ec_meaning_defs.specs.evaluation.State.{State}
+use Rattle.ec_memory_defs.specs.Kinds.{kind_type}
+use Rattle.ec_memory_defs.specs.Memory.{ValueData, number, address, moved, cells_at, load, store, copy, put}
+use Rattle.ec_meaning_defs.specs.resolved.Operations.{is_true, truth, value_as, negated, flipped, number_worked, worked}
+use Rattle.ec_meaning_defs.specs.resolved.Resolved.{Exp}
 use Rattle.ec_values.specs.Operations.{operation_view}
 
 -- behind the value so far

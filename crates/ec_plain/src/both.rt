@@ -1,11 +1,11 @@
 //! Steps that take the value so far and that of another expression.
 
 ghost use Rattle.std.specs.Prelude.{◌≡◌, ℕ, IfSome};
-ghost use Rattle.ec_evaluation.specs.Evaluate.{Context, World, Step as Knowing};
-ghost use Rattle.ec_evaluation.specs.State.{State};
-ghost use Rattle.ec_objects.specs.Memory.{Memory, number};
-ghost use Rattle.ec_resolved.specs.Operations.{gives, worked};
-ghost use Rattle.ec_resolved.specs.Resolved.{Exp};
+ghost use Rattle.ec_meaning_defs.specs.evaluation.Evaluate.{Context, World, Step as Knowing};
+ghost use Rattle.ec_meaning_defs.specs.evaluation.State.{State};
+ghost use Rattle.ec_memory_defs.specs.Memory.{Memory, number};
+ghost use Rattle.ec_meaning_defs.specs.resolved.Operations.{gives, worked};
+ghost use Rattle.ec_meaning_defs.specs.resolved.Resolved.{Exp};
 ghost use Rattle.ec_values.specs.Operations.{operation_view};
 ghost use Rattle.ec_values.specs.Words.{word_view};
 ghost use Rattle.ec_code.specs.declared.step.Binary.TheVariants as of;
@@ -18,7 +18,7 @@ use crate::outcome::Outcome;
 use crate::quick::{converted, operate, summed_by};
 use ec_code::{Binary, Update};
 use ec_memory::Store;
-use ec_objects::Kind;
+use ec_memory_defs::Kind;
 use ec_values::{Operation, Stop, Word, load, store as stored};
 
 /// What a step does before the other expression is evaluated.

@@ -5,9 +5,9 @@ ghost use Rattle.ec_code.specs.Trees.{leaf_view, two};
 ghost use Rattle.ec_code.specs.Views.{plain_step_view, plain_view};
 ghost use Rattle.ec_code.specs.declared.expression.Plain.{out-Plain};
 ghost use Rattle.ec_code.specs.declared.step.Binary.TheVariants as binary;
-ghost use Rattle.ec_objects.specs.Kinds.{kind_type};
-ghost use Rattle.ec_objects.specs.declared.kind.Kind.TheVariants as kinds;
-ghost use Rattle.ec_objects.specs.Memory.{address, load, number, store as put_there};
+ghost use Rattle.ec_memory_defs.specs.Kinds.{kind_type};
+ghost use Rattle.ec_memory_defs.specs.declared.kind.Kind.TheVariants as kinds;
+ghost use Rattle.ec_memory_defs.specs.Memory.{address, load, number, store as put_there};
 ghost use Rattle.ec_memory.specs.Store.{outcome};
 ghost use Rattle.ec_plain.specs.Numbers.{AddsInts, Changes, Completes, Leads, Stands, StepLeads, Targets};
 
@@ -18,7 +18,7 @@ use ec_bytes::Ptr;
 use ec_code::{Binary, Leaf, Plain, PlainStep, Unary, Update};
 use ec_ctypes::Arith;
 use ec_memory::Store;
-use ec_objects::Kind;
+use ec_memory_defs::Kind;
 use ec_values::{
     IntegerOperator, Operation, Word, store as stored, store_char, store_int, store_long,
 };

@@ -7,16 +7,16 @@ ghost use Rattle.ec_code.specs.Views.{plain_step_view, plain_view};
 ghost use Rattle.ec_code.specs.declared.step.Binary.TheVariants as binary;
 ghost use Rattle.ec_code.specs.declared.step.Leaf.TheVariants as leaf;
 ghost use Rattle.ec_code.specs.declared.step.Unary.TheVariants as unary;
-ghost use Rattle.ec_objects.specs.Kinds.{kind_type};
-ghost use Rattle.ec_objects.specs.Memory.{Memory, address, load as loaded, moved, number};
-ghost use Rattle.ec_objects.specs.declared.kind.Kind.TheVariants as kind;
+ghost use Rattle.ec_memory_defs.specs.Kinds.{kind_type};
+ghost use Rattle.ec_memory_defs.specs.Memory.{Memory, address, load as loaded, moved, number};
+ghost use Rattle.ec_memory_defs.specs.declared.kind.Kind.TheVariants as kind;
 ghost use Rattle.ec_plain.specs.Numbers.{Follows, FollowsPlace, Leads, Operates, Stands, StepLeads};
 
 use crate::quick::{combined, combined_aside, fitted, rest_by};
 use ec_bytes::Ptr;
 use ec_code::{Binary, Leaf, Plain, PlainStep, Unary, small};
 use ec_memory::Store;
-use ec_objects::Kind;
+use ec_memory_defs::Kind;
 use ec_values::{Operation, load};
 
 /// The value of an expression that only reads, where it is a number that `long` has and is found at once.

@@ -1,7 +1,7 @@
 //! Steps that take the value so far.
 
 ghost use Rattle.std.specs.Prelude.{◌≡◌, ℕ};
-ghost use Rattle.ec_evaluation.specs.State.{State};
+ghost use Rattle.ec_meaning_defs.specs.evaluation.State.{State};
 ghost use Rattle.ec_values.specs.Words.{word_view};
 ghost use Rattle.ec_code.specs.declared.step.Unary.TheVariants as of;
 ghost use Rattle.ec_plain.specs.Answered.{answered, at};
@@ -13,7 +13,7 @@ use crate::quick::converted;
 use ec_base::Bytes;
 use ec_code::Unary;
 use ec_memory::Store;
-use ec_objects::Kind;
+use ec_memory_defs::Kind;
 use ec_values::{Word, flip, load as loaded, negate};
 
 /// What a step makes of the value so far.

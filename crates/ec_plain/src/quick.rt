@@ -3,9 +3,9 @@
 
 ghost use Rattle.std.specs.Prelude.{◌≡◌, ◌≤ℤ◌, Ok, pos, int_div, int_rem, IfSome};
 ghost use Rattle.ec_ctypes.specs.Arithmetic.{converted};
-ghost use Rattle.ec_objects.specs.Kinds.{kind_type};
-ghost use Rattle.ec_objects.specs.Memory.{Memory, moved, number};
-ghost use Rattle.ec_resolved.specs.Operations.{address_worked, bits_of, calculated, compares, gives, quotient, result_of, value_as, worked};
+ghost use Rattle.ec_memory_defs.specs.Kinds.{kind_type};
+ghost use Rattle.ec_memory_defs.specs.Memory.{Memory, moved, number};
+ghost use Rattle.ec_meaning_defs.specs.resolved.Operations.{address_worked, bits_of, calculated, compares, gives, quotient, result_of, value_as, worked};
 ghost use Rattle.ec_values.specs.Operations.{comparison_view, operation_view, operator_view};
 ghost use Rattle.ec_values.specs.Words.{word_view, worked_by};
 ghost use Rattle.ec_plain.specs.Outcomes.{outcome_view};
@@ -15,7 +15,7 @@ use ec_bytes::Ptr;
 use ec_code::small;
 use ec_ctypes::Arith;
 use ec_memory::Store;
-use ec_objects::Kind;
+use ec_memory_defs::Kind;
 use ec_values::{Comparison, IntegerOperator, Operation, Word, convert, work};
 
 /// What an operation gives for two values. Pointers move within their objects.

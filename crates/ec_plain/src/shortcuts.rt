@@ -3,9 +3,9 @@
 
 ghost use Rattle.std.specs.Prelude.{◌≡◌, ℕ, Bool, None, IfSome};
 ghost use Rattle.ec_code.specs.Views.{plain_step_view, plain_view};
-ghost use Rattle.ec_evaluation.specs.Evaluate.{World, Step as Knowing, eval};
-ghost use Rattle.ec_evaluation.specs.State.{State};
-ghost use Rattle.ec_objects.specs.Memory.{address, number};
+ghost use Rattle.ec_meaning_defs.specs.evaluation.Evaluate.{World, Step as Knowing, eval};
+ghost use Rattle.ec_meaning_defs.specs.evaluation.State.{State};
+ghost use Rattle.ec_memory_defs.specs.Memory.{address, number};
 ghost use Rattle.ec_plain.specs.Answered.{answered, at, context};
 ghost use Rattle.ec_plain.specs.Numbers.{Leads, StepLeads, Updates};
 ghost use Rattle.ec_plain.specs.Outcomes.{outcome_view};

@@ -1,12 +1,12 @@
 //! Whole expressions.
 
 ghost use Rattle.std.specs.Prelude.{◌≡◌, ℕ, Bool, IfSome};
-ghost use Rattle.ec_evaluation.specs.Evaluate.{Context, World, Step as Knowing, eval};
-ghost use Rattle.ec_evaluation.specs.State.{State};
+ghost use Rattle.ec_meaning_defs.specs.evaluation.Evaluate.{Context, World, Step as Knowing, eval};
+ghost use Rattle.ec_meaning_defs.specs.evaluation.State.{State};
 ghost use Rattle.ec_values.specs.Words.{word_view};
-ghost use Rattle.ec_objects.specs.Kinds.{kind_type};
-ghost use Rattle.ec_objects.specs.Memory.{number};
-ghost use Rattle.ec_resolved.specs.Resolved as of;
+ghost use Rattle.ec_memory_defs.specs.Kinds.{kind_type};
+ghost use Rattle.ec_memory_defs.specs.Memory.{number};
+ghost use Rattle.ec_meaning_defs.specs.resolved.Resolved as of;
 ghost use Rattle.ec_code.specs.declared.step.Binary.TheVariants as binary;
 ghost use Rattle.ec_code.specs.declared.step.Leaf.TheVariants as leaf;
 ghost use Rattle.ec_code.specs.Trees.{leaf_view};
@@ -24,7 +24,7 @@ use crate::outcome::Outcome;
 use ec_bytes::Ptr;
 use ec_code::{Binary, Leaf, Plain, PlainStep, Unary, Update};
 use ec_memory::Store;
-use ec_objects::Kind;
+use ec_memory_defs::Kind;
 use ec_values::{Operation, Stop, Word};
 
 /// The value of an expression without calls, with the objects in scope by their pointers (ISO/IEC 9899:1999, 6.5). What

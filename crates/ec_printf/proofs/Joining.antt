@@ -1,6 +1,6 @@
 -- Bytes and parts are joined from the front as from the end.
 use Rattle.std.proofs.Common.{◌≡◌, ◌∙◌, ℕ, Bool, true, false, List, [], ◌∷◌, ◌++◌, length, take, Result, Ok, Err, IfOk, refl, ap, append_assoc}
-use Rattle.ec_functions.specs.Formats as of
+use Rattle.ec_meaning_defs.specs.functions.Formats as of
 use Rattle.ec_printf.specs.Gathering.{plain_before, IsDirective}
 
 -- one byte more

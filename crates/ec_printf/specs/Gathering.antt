@@ -1,7 +1,7 @@
 -- Parts that are gathered from the front.
 use Rattle.std.specs.Prelude.{ℕ, List, [], ◌∷◌, ◌++◌, map, Option, Some, None, option_map, option_and_then}
-use Rattle.ec_functions.specs.Formats as of
-use Rattle.ec_formats.specs.Known.{part_view}
+use Rattle.ec_meaning_defs.specs.functions.Formats as of
+use Rattle.ec_printf.specs.formats.Known.{part_view}
 use Rattle.ec_printf.specs.declared.gathered.Gathered.{Gathered}
 use Rattle.ec_printf.specs.declared.parts.Step.{Step}
 use Rattle.ec_printf.specs.declared.parts.Step.TheVariants.{Ends, Fails, Next}

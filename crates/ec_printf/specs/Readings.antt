@@ -1,7 +1,7 @@
 -- What the readers of directives stand for.
 use Rattle.std.specs.Prelude.{ℕ, Bool, List, [], ◌∷◌, drop, length, Option, Some, None}
-use Rattle.ec_functions.specs.Formats as of
-use Rattle.ec_formats.specs.Known.{amount_view, field_view, style_view}
+use Rattle.ec_meaning_defs.specs.functions.Formats as of
+use Rattle.ec_printf.specs.formats.Known.{amount_view, field_view, style_view}
 use Rattle.ec_printf.specs.declared.amounts.Measured.{Measured}
 use Rattle.ec_printf.specs.declared.directives.Directive.{Directive}
 use Rattle.ec_printf.specs.declared.letters.Meaning.{Meaning}

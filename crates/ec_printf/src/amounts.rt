@@ -1,12 +1,12 @@
 //! Widths and precisions.
 
 ghost use Rattle.std.specs.Prelude.{◌≡◌, ◌≤◌, ◌+◌, ◌*◌, ◌-◌, IfOk, drop, length, option_map};
-ghost use Rattle.ec_functions.specs.Formats as of;
-ghost use Rattle.ec_formats.specs.Known.{amount_view};
+ghost use Rattle.ec_meaning_defs.specs.functions.Formats as of;
+ghost use Rattle.ec_printf.specs.formats.Known.{amount_view};
 ghost use Rattle.ec_printf.specs.Readings.{behind_dot, measured_view, plain_amount};
 
+use crate::formats::Amount;
 use ec_base::OutOfMemory;
-use ec_formats::Amount;
 
 /// A width or a precision, and what stands behind it.
 #[derive(Clone, Copy)]

@@ -1,14 +1,14 @@
 //! Directives.
 
 ghost use Rattle.std.specs.Prelude.{◌≡◌, ◌≤◌, IfOk, drop, length, option_map};
-ghost use Rattle.ec_functions.specs.Formats as of;
-ghost use Rattle.ec_formats.specs.Known.{amount_view, field_view};
+ghost use Rattle.ec_meaning_defs.specs.functions.Formats as of;
+ghost use Rattle.ec_printf.specs.formats.Known.{amount_view, field_view};
 ghost use Rattle.ec_printf.specs.Readings.{directive_view, full_directive, measured_view, wide_view};
 
 use crate::amounts::{Measured, amount_at, is_width, precision_at};
+use crate::formats::{Amount, Field};
 use crate::letters::{Meaning, Wide, lettered, wide_at};
 use ec_base::OutOfMemory;
-use ec_formats::{Amount, Field};
 
 /// A directive, and what stands behind it.
 #[derive(Clone, Copy)]

@@ -1,14 +1,14 @@
 //! The parts of a format so far.
 
 ghost use Rattle.std.specs.Prelude.{◌≡◌, [], ◌∷◌, List as Sequence, OnOk, IfOk, map};
-ghost use Rattle.ec_functions.specs.Formats as of;
-ghost use Rattle.ec_formats.specs.Known.{part_view};
+ghost use Rattle.ec_meaning_defs.specs.functions.Formats as of;
+ghost use Rattle.ec_printf.specs.formats.Known.{part_view};
 ghost use Rattle.ec_printf.specs.Gathering.{front_of, gathered, IsDirective};
 ghost use Rattle.ec_printf.specs.Readings.{meaning_view};
 
+use crate::formats::Part;
 use crate::letters::Meaning;
 use ec_base::{Bytes, List, OutOfMemory, beside};
-use ec_formats::Part;
 use std::alloc::Global;
 use std::mem;
 

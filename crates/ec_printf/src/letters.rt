@@ -1,12 +1,12 @@
 //! The letters at the end of a directive.
 
 ghost use Rattle.std.specs.Prelude.{◌≡◌, option_map};
-ghost use Rattle.ec_functions.specs.Formats as of;
-ghost use Rattle.ec_formats.specs.Known.{amount_view, field_view, style_view};
+ghost use Rattle.ec_meaning_defs.specs.functions.Formats as of;
+ghost use Rattle.ec_printf.specs.formats.Known.{amount_view, field_view, style_view};
 ghost use Rattle.ec_printf.specs.Readings.{meaning_view, wide_view};
 
 use crate::amounts::is_absent;
-use ec_formats::{Amount, Field, Style};
+use crate::formats::{Amount, Field, Style};
 
 /// What a directive stands for.
 #[derive(Clone, Copy, Debug)]

@@ -3,6 +3,7 @@
 
 mod amounts;
 mod directives;
+pub mod formats;
 mod gathered;
 mod letters;
 mod parts;

@@ -1,14 +1,14 @@
 //! Formats as parts.
 
 ghost use Rattle.std.specs.Prelude.{◌≡◌, ℕ, suc, [], Some, IfOk, map, option_map};
-ghost use Rattle.ec_functions.specs.Formats as of;
-ghost use Rattle.ec_formats.specs.Known.{part_view};
+ghost use Rattle.ec_meaning_defs.specs.functions.Formats as of;
+ghost use Rattle.ec_printf.specs.formats.Known.{part_view};
 ghost use Rattle.ec_printf.specs.Gathering.{directed, gathered, stepped};
 
 use crate::directives::directive_at;
+use crate::formats::Part;
 use crate::gathered::Gathered;
 use ec_base::{List, OutOfMemory};
-use ec_formats::Part;
 use std::alloc::Global;
 
 /// What a step through a format comes to.

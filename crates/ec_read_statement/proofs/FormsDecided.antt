@@ -2,8 +2,8 @@
 use Rattle.std.specs.Prelude.{if◌then◌else◌}
 use Rattle.std.proofs.Common.{◌≡◌, ◌-◌, ◌++◌, Bool, true, false, [], ◌∷◌, length, refl, ap, sym, ◌∙◌, codes, Option, Some, None}
 use Rattle.ec_ctypes.specs.trees.Embedded.{EmbKindData, declare_cursor, bytes_part}
-use Rattle.ec_shapes.specs.ReadShapes.{done, stuck, and_then, read}
-use Rattle.ec_shapes.proofs.Made.{made, made_first, same_next}
+use Rattle.ec_embedded.specs.shapes.ReadShapes.{done, stuck, and_then, read}
+use Rattle.ec_embedded.proofs.shapes_lemmas.Made.{made, made_first, same_next}
 use Rattle.ec_language.specs.Letters.{Text}
 use Rattle.ec_language.specs.SqlTokens.{SqlToken}
 use Rattle.ec_embedded.specs.Directives.{cursor_form, cursor_name}
@@ -11,8 +11,8 @@ use Rattle.ec_embedded.specs.LeftOut.{begin_with, is_first, first_is_among}
 use Rattle.ec_embedded.specs.ServerText.{Tokens, Reading, cuts, parts, bytes_in}
 use Rattle.ec_embedded.specs.Statements.{Entry, by_entry, by_first, kind_at, declare_at, declared_for, transaction_words}
 use Rattle.ec_embedded.specs.Terminals.{Counts, alphabet, is, any_word}
-use Rattle.ec_statements.specs.Readers as form
-use Rattle.ec_statements.proofs.Forms as law
+use Rattle.ec_statement_readers.specs.Readers as form
+use Rattle.ec_statement_readers.proofs.Forms as law
 use Rattle.ec_server_text.specs.Readers.{declaring, declaring_prepared}
 use Rattle.ec_server_text.proofs.CutSteps.{control_is, server_is, declare_is, prepared_is}
 use Rattle.ec_read_statement.specs.Deciding.{declaring_for, declared, any_statement, formless, formless_at, other_forms, other_forms_at, decided, decided_at}

@@ -1,2 +1,3 @@
 pub mod FormsDecided
 pub mod Telling
+pub mod left_out_lemmas

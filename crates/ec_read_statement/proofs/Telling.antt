@@ -1,8 +1,7 @@
 -- What the code answers is what a statement is.
-use Rattle.std.specs.Prelude.{◌+◌, ◌-◌}
+use Rattle.std.specs.Prelude.{◌+◌, ◌-◌, is_some}
 use Rattle.std.proofs.Common.{◌≡◌, ◌≢◌, ℕ, Bool, true, false, List, [], ◌∷◌, drop, length, refl, ap, sym, ◌∙◌, subst, codes, Option, Some, None, Result, Ok, Err}
 use Rattle.std.proofs.lemmas.List.{drop-map, length-map}
-use Rattle.std.specs.Prelude.{is_some}
 use Rattle.ec_base.specs.declared.fault.FaultKind.TheVariants.{F9}
 use Rattle.ec_base.specs.declared.line.Line.{Line}
 use Rattle.ec_base.specs.declared.stop.Stop.{Stop}
@@ -12,9 +11,9 @@ use Rattle.ec_ctypes.specs.declared.embedded.emb.Emb.{Emb}
 use Rattle.ec_ctypes.specs.declared.embedded.emb.EmbKind.{EmbKind}
 use Rattle.ec_ctypes.specs.trees.Embedded.{TextArgData, EmbKindData, EmbData}
 use Rattle.ec_ctypes.specs.views.Embedded.{emb_kind_view, emb_view}
-use Rattle.ec_shapes.specs.declared.failure.Failure.{Failure}
-use Rattle.ec_shapes.specs.declared.failure.Failure.TheVariants as failure
-use Rattle.ec_shapes.specs.ReadShapes.{done, stopped, read, last}
+use Rattle.ec_embedded.specs.declared.shapes.failure.Failure.{Failure}
+use Rattle.ec_embedded.specs.declared.shapes.failure.Failure.TheVariants as failure
+use Rattle.ec_embedded.specs.shapes.ReadShapes.{done, stopped, read, last}
 use Rattle.ec_clex.specs.Items.{Told}
 use Rattle.ec_clex.specs.Sql.{sql_view, sql_views}
 use Rattle.ec_clex.specs.declared.sql.SqlToken as code
@@ -29,7 +28,7 @@ use Rattle.ec_embedded.specs.Statements.{at_form, at_of, kind_at, said, named_at
 use Rattle.ec_embedded.proofs.OneAnswer.{answered as rules_answered, is_the_answer}
 use Rattle.ec_embedded.specs.Terminals.{Counts, no_counts, alphabet}
 use Rattle.ec_references.specs.Readers.{State, Reads}
-use Rattle.ec_statements.proofs.Forms.{at_read}
+use Rattle.ec_statement_readers.proofs.Forms.{at_read}
 use Rattle.ec_read_statement.specs.Answers.{stop_of, whole_of, result_of, kind_answer, first_word_line, with_at, behind_name, answered, IsRead}
 use Rattle.ec_read_statement.specs.Deciding.{any_statement}
 use Rattle.ec_read_statement.proofs.FormsDecided.{all_decided}

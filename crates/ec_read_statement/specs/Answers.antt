@@ -9,15 +9,15 @@ use Rattle.ec_ctypes.specs.declared.text.piece.Piece.{Piece}
 use Rattle.ec_ctypes.specs.declared.embedded.emb.Emb.{Emb}
 use Rattle.ec_ctypes.specs.trees.Embedded.{TextArgData, EmbKindData}
 use Rattle.ec_ctypes.specs.views.Embedded.{emb_view}
-use Rattle.ec_shapes.specs.declared.failure.Failure.{Failure}
-use Rattle.ec_shapes.specs.declared.failure.Failure.TheVariants as failure
-use Rattle.ec_shapes.specs.ReadShapes.{done, stopped, last}
+use Rattle.ec_embedded.specs.declared.shapes.failure.Failure.{Failure}
+use Rattle.ec_embedded.specs.declared.shapes.failure.Failure.TheVariants as failure
+use Rattle.ec_embedded.specs.shapes.ReadShapes.{done, stopped, last}
 use Rattle.ec_embedded.specs.Answers.{StatementOrStop}
 use Rattle.ec_embedded.specs.Findings.{Found, kind, stops, passes, found_in, line_of, word_line, Answer, answer_of}
 use Rattle.ec_embedded.specs.LeftOut.{is_first, is_left_out}
 use Rattle.ec_embedded.specs.ServerText.{Tokens, Reading}
 use Rattle.ec_embedded.specs.Terminals.{Counts, no_counts}
-use Rattle.ec_statements.specs.Readers as form
+use Rattle.ec_statement_readers.specs.Readers as form
 use Rattle.ec_read_statement.specs.Deciding.{any_statement}
 
 abbrev pub first_line : ℕ → Tokens → Line

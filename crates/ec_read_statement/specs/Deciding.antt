@@ -1,7 +1,7 @@
 -- Which form the first words decide, in the steps that code takes.
 use Rattle.std.specs.Prelude.{ℕ, Bool, true, false, List, [], ◌∷◌, drop, codes}
 use Rattle.ec_ctypes.specs.trees.Embedded.{EmbKindData}
-use Rattle.ec_shapes.specs.ReadShapes.{stuck, and_then}
+use Rattle.ec_embedded.specs.shapes.ReadShapes.{stuck, and_then}
 use Rattle.ec_language.specs.Letters.{Text}
 use Rattle.ec_embedded.specs.LeftOut.{begin_with, is_first, first_is_among}
 use Rattle.ec_embedded.specs.ServerText.{Tokens, Reading}
@@ -9,7 +9,7 @@ use Rattle.ec_embedded.specs.Statements.{transaction_words}
 use Rattle.ec_embedded.specs.Terminals.{Counts, is, any_word}
 use Rattle.ec_references.specs.Readers.{Reader}
 use Rattle.ec_server_text.specs.Readers.{sending, controlling, declaring, declaring_prepared}
-use Rattle.ec_statements.specs.Readers as form
+use Rattle.ec_statement_readers.specs.Readers as form
 
 -- by whether the tokens begin with these words
 abbrev pub by_words : {A : Type 0} → List Text → Reader A → Reader A → Reader A

@@ -12,18 +12,18 @@ ghost use Rattle.ec_language.specs.Tokens.{SqlTokens, SqlTokensOrStop};
 ghost use Rattle.ec_read_statement.specs.Answers as spec;
 ghost use Rattle.ec_read_statement.specs.Answers.{IsRead};
 ghost use Rattle.ec_references.specs.States.{CursorReads, seen};
-ghost use Rattle.ec_shapes.specs.ReadShapes.{last};
-ghost use Rattle.ec_statements.specs.Readers as form;
+ghost use Rattle.ec_embedded.specs.shapes.ReadShapes.{last};
+ghost use Rattle.ec_statement_readers.specs.Readers as form;
 
 use crate::kinds::any_statement;
+use crate::left_out::{is_first, is_left_out};
 use ec_base::{Boxed, FaultKind, LimitKind, Line, Stop, beside};
 use ec_clex::{SqlToken, sql_tokens};
 use ec_ctypes::{Emb, EmbKind, Piece, TextArg};
-use ec_left_out::{is_first, is_left_out};
+use ec_embedded::shapes::Failure;
 use ec_references::{Cursor, is_any_word};
-use ec_shapes::Failure;
 use ec_split::scanning::bytes::newlines;
-use ec_statements::at_name;
+use ec_statement_readers::at_name;
 use std::alloc::Global;
 
 /// The line of the first token, or that of the `;`.

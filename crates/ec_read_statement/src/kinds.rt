@@ -13,11 +13,11 @@ ghost use Rattle.ec_read_statement.specs.Deciding as spec;
 use ec_base::Name;
 use ec_clex::SqlToken;
 use ec_ctypes::EmbKind;
+use ec_embedded::shapes::Failure;
 use ec_references::{Cursor, copy_name, is_any_word, is_keyword};
 use ec_server_text::{declare, declare_prepared, server, transaction};
-use ec_shapes::Failure;
 use ec_split::scanning::words::same_word;
-use ec_statements::{
+use ec_statement_readers::{
     allocate, connect, cursor_head, deallocate, deallocate_at, disconnect, execute, get, include,
     open_cursor, prepare, set, set_autocommit, set_connection, whenever,
 };

@@ -4,7 +4,7 @@
 mod answers;
 mod kinds;
 mod laws;
+pub mod left_out;
 
 pub use answers::read_statement;
-pub use ec_clex;
 pub use laws::forms_are_decided;

@@ -1,6 +1,6 @@
 -- What is read step by step is what the forms have.
 use Rattle.std.proofs.Common.{[], ◌∷◌}
-use Rattle.ec_shapes.specs.Shapes.{one, either}
+use Rattle.ec_embedded.specs.shapes.Shapes.{one, either}
 use Rattle.ec_ctypes.specs.trees.Exprs.{ExprData, identifier}
 use Rattle.ec_embedded.specs.Connections.{connection_of, ended_of, or_default, or_special}
 use Rattle.ec_embedded.specs.Terminals.{Begins, reference, input, glued_word, glued_number}

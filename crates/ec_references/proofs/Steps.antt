@@ -1,8 +1,8 @@
 -- Readings of shapes, step by step.
 use Rattle.std.proofs.Common.{◌≡◌, ℕ, zero, suc, Bool, true, false, List, [], ◌∷◌, length, refl, ap, ◌∙◌, fold, inl, inr}
-use Rattle.ec_shapes.specs.Shapes.{nothing, one, both, either, many}
-use Rattle.ec_shapes.specs.ReadShapes.{done, stopped, and_then, turns, read, read_one, first_set, is_next_among}
-use Rattle.ec_shapes.proofs.Made.{made}
+use Rattle.ec_embedded.specs.shapes.Shapes.{nothing, one, both, either, many}
+use Rattle.ec_embedded.specs.shapes.ReadShapes.{done, stopped, and_then, turns, read, read_one, first_set, is_next_among}
+use Rattle.ec_embedded.proofs.shapes_lemmas.Made.{made}
 use Rattle.ec_language.specs.SqlTokens.{SqlToken}
 use Rattle.ec_embedded.specs.Terminals.{Counts, Terminal, alphabet}
 use Rattle.ec_embedded.specs.References.{Form, Of}

@@ -1,6 +1,6 @@
 -- That what is read step by step is what a form has.
 use Rattle.std.specs.Prelude.{◌≡◌}
-use Rattle.ec_shapes.specs.ReadShapes.{read}
+use Rattle.ec_embedded.specs.shapes.ReadShapes.{read}
 use Rattle.ec_embedded.specs.References.{Form, Of}
 use Rattle.ec_embedded.specs.ServerText.{Tokens}
 use Rattle.ec_embedded.specs.Statements.{made}

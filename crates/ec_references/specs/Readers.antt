@@ -5,9 +5,9 @@ use Rattle.ec_ctypes.specs.trees.Exprs.{ExprData, integer, identifier, index, me
 use Rattle.ec_ctypes.specs.declared.types.arith.Arith.TheVariants.{Int, Long}
 use Rattle.ec_ctypes.specs.trees.Types.{arithmetic}
 use Rattle.ec_language.specs.Constants.{digits_value}
-use Rattle.ec_shapes.specs.declared.failure.Failure.{Failure}
-use Rattle.ec_shapes.specs.declared.failure.Failure.TheVariants.{OutOfMemory}
-use Rattle.ec_shapes.specs.ReadShapes.{done, stopped, and_then, is_next_among, read_one}
+use Rattle.ec_embedded.specs.declared.shapes.failure.Failure.{Failure}
+use Rattle.ec_embedded.specs.declared.shapes.failure.Failure.TheVariants.{OutOfMemory}
+use Rattle.ec_embedded.specs.shapes.ReadShapes.{done, stopped, and_then, is_next_among, read_one}
 use Rattle.ec_language.specs.Letters.{Text}
 use Rattle.ec_language.specs.SqlTokens.{SqlToken}
 use Rattle.ec_embedded.specs.Terminals.{Counts, Terminal, alphabet, Begins, reference, input, keyword, any_word, glued_word, glued_number, sign, colon, suffix_sign, glued_sign, plain_quote, input_number, input_minus, whole_number, input_quote}

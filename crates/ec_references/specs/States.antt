@@ -3,7 +3,7 @@ use Rattle.std.specs.Prelude.{List, [], ◌∷◌, codes, Result}
 use Rattle.std.specs.Borrow.{Bor}
 use Rattle.ec_clex.specs.declared.sql.SqlToken.{SqlToken}
 use Rattle.ec_clex.specs.Sql.{sql_view, sql_views}
-use Rattle.ec_shapes.specs.declared.failure.Failure.{Failure}
+use Rattle.ec_embedded.specs.declared.shapes.failure.Failure.{Failure}
 use Rattle.ec_embedded.specs.Terminals as spec
 use Rattle.ec_references.specs.declared.class.Class.{Class}
 use Rattle.ec_references.specs.declared.class.Class.TheVariants as class

@@ -12,7 +12,7 @@ use crate::tests_of_tokens::{
     is_class, is_fitting, is_glued_fitting, is_glued_mark, is_keyword, is_mark, is_parted_word,
 };
 use ec_clex::SqlToken;
-use ec_shapes::Failure;
+use ec_embedded::shapes::Failure;
 use std::marker::Model;
 
 /// How many inputs there are so far, and how many suffixes of the last reference.

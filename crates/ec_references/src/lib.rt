@@ -12,7 +12,6 @@ mod values;
 
 pub use class::Class;
 pub use cursor::{Counts, Cursor};
-pub use ec_clex;
 pub use laws::readers_are_exact;
 pub use lists::{inputs, outputs, using_or_none};
 pub use names::{

@@ -12,7 +12,7 @@ use crate::references::hosted;
 use crate::values::value;
 use ec_base::List;
 use ec_ctypes::{Host, Input, Ins, Outs, TextArg};
-use ec_shapes::Failure;
+use ec_embedded::shapes::Failure;
 use std::alloc::Global;
 
 /// More values behind these.

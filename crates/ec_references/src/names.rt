@@ -14,7 +14,7 @@ use crate::references::{hosted, spelled_host};
 use ec_base::{Boxed, Bytes, List, OutOfMemory};
 use ec_clex::SqlToken;
 use ec_ctypes::{Host, TextArg};
-use ec_shapes::Failure;
+use ec_embedded::shapes::Failure;
 use ec_split::scanning::words::same_word;
 use std::alloc::Global;
 

@@ -15,7 +15,7 @@ use crate::cursor::Cursor;
 use ec_base::{Boxed, Name, OutOfMemory, beside};
 use ec_clex::{SqlToken, digits_value};
 use ec_ctypes::{Expr, Host, Ty};
-use ec_shapes::Failure;
+use ec_embedded::shapes::Failure;
 use std::alloc::Global;
 
 /// The name that a word is.

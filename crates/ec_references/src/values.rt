@@ -13,7 +13,7 @@ use crate::references::{input_host, spelled_input};
 use ec_base::{Bytes, List, OutOfMemory};
 use ec_clex::SqlToken;
 use ec_ctypes::Input;
-use ec_shapes::Failure;
+use ec_embedded::shapes::Failure;
 use std::alloc::Global;
 
 /// A number behind its sign.

@@ -2,7 +2,7 @@
 
 use ec_base::{Bytes, OutOfMemory, Stop};
 use ec_cwrite::write;
-use ec_front::read_unit;
+use ec_front::unit::read_unit;
 use itoa::Buffer;
 use std::alloc::Global;
 

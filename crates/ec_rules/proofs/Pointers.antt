@@ -1,8 +1,8 @@
 -- Pointers are complete, whatever they lead to.
 use Rattle.std.proofs.Common.{◌≡◌, ◌≤◌, ℕ, zero, suc, true, refl, arith}
 use Rattle.ec_ctypes.specs.trees.Types.{TyData, pointer}
-use Rattle.ec_typing.specs.Worlds.{World, is_complete}
-use Rattle.ec_typing.specs.Operands.{pointers}
+use Rattle.ec_typing_defs.specs.Worlds.{World, is_complete}
+use Rattle.ec_typing_defs.specs.Operands.{pointers}
 
 pointer_complete : (w : World) (n : ℕ) (t : TyData) → true ≡ is_complete w (pointers n (pointer t))
 pointer_complete w zero t = refl

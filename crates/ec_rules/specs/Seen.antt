@@ -4,7 +4,7 @@ use Rattle.ec_scopes.specs.Entries.{type_view}
 use Rattle.ec_type_rules.specs.Views.{constant_view}
 use Rattle.ec_rules.specs.declared.operand.Operand.{Operand}
 use Rattle.ec_ctypes.specs.trees.Types.{TyData, void}
-use Rattle.ec_typing.specs.Operands.{OperandData, computed, unknown, all_fit}
+use Rattle.ec_typing_defs.specs.Operands.{OperandData, computed, unknown, all_fit}
 
 abbrev pub operand_view : Operand → OperandData
 operand_view o =

@@ -1,13 +1,13 @@
 //! Assignments (ISO/IEC 9899:1999, 6.5.2.4, 6.5.3.1, 6.5.16).
-#![tactic(auto, using(ec_scopes::proofs::Steps::noting), unfolding(ec_typing::specs::Worlds::chain, ec_typing::specs::Worlds::pure, ec_typing::specs::Worlds::ask, ec_typing::specs::Worlds::note, ec_typing::specs::Worlds::demand, ec_typing::specs::Worlds::keep_within, ec_typing::specs::Operands::assign_rule, ec_typing::specs::Operands::compound_rule, ec_typing::specs::Operands::bump_rule, ec_typing::specs::Operands::typed))]
+#![tactic(auto, using(ec_scopes::proofs::Steps::noting), unfolding(ec_typing_defs::specs::Worlds::chain, ec_typing_defs::specs::Worlds::pure, ec_typing_defs::specs::Worlds::ask, ec_typing_defs::specs::Worlds::note, ec_typing_defs::specs::Worlds::demand, ec_typing_defs::specs::Worlds::keep_within, ec_typing_defs::specs::Operands::assign_rule, ec_typing_defs::specs::Operands::compound_rule, ec_typing_defs::specs::Operands::bump_rule, ec_typing_defs::specs::Operands::typed))]
 
 ghost use Rattle.std.specs.Prelude.{◌≡◌, ◌&&◌, not};
 ghost use Rattle.ec_ctypes.specs.views.Types.{ty_view};
 ghost use Rattle.ec_scopes.specs.Entries.{place_view, type_view};
 ghost use Rattle.ec_scopes.specs.Seen.{world_of, IsDone, Does};
-ghost use Rattle.ec_typing.specs.Types as types;
-ghost use Rattle.ec_typing.specs.Worlds as world;
-ghost use Rattle.ec_typing.specs.Operands as rule;
+ghost use Rattle.ec_typing_defs.specs.Types as types;
+ghost use Rattle.ec_typing_defs.specs.Worlds as world;
+ghost use Rattle.ec_typing_defs.specs.Operands as rule;
 ghost use Rattle.ec_rules.specs.Seen.{operand_view};
 
 use crate::binary::to_complete;

@@ -1,5 +1,5 @@
 //! Calls (ISO/IEC 9899:1999, 6.5.2.2).
-#![tactic(auto, using(ec_scopes::proofs::Steps::noting), unfolding(ec_typing::specs::Worlds::chain, ec_typing::specs::Worlds::pure, ec_typing::specs::Worlds::ask, ec_typing::specs::Worlds::note, ec_typing::specs::Worlds::demand, ec_typing::specs::Worlds::keep_within, ec_typing::specs::Operands::call_by, ec_typing::specs::Operands::call_rule))]
+#![tactic(auto, using(ec_scopes::proofs::Steps::noting), unfolding(ec_typing_defs::specs::Worlds::chain, ec_typing_defs::specs::Worlds::pure, ec_typing_defs::specs::Worlds::ask, ec_typing_defs::specs::Worlds::note, ec_typing_defs::specs::Worlds::demand, ec_typing_defs::specs::Worlds::keep_within, ec_typing_defs::specs::Operands::call_by, ec_typing_defs::specs::Operands::call_rule))]
 
 ghost use Rattle.std.specs.Prelude.{◌≡◌, ◌==◌, ◌+◌, ◌≤◌, length, map, drop, true, not, ◌||◌, nat_le, Some, IfOk, IsTrue, option_map};
 ghost use Rattle.ec_ctypes.specs.views.Types.{ty_view};
@@ -7,10 +7,10 @@ ghost use Rattle.std.specs.Option.{option_copied};
 ghost use Rattle.ec_ctypes.specs.views.Exprs.{exprs_view};
 ghost use Rattle.ec_scopes.specs.Entries.{place_view, type_view};
 ghost use Rattle.ec_scopes.specs.Seen.{world_of, IsDone, Does};
-ghost use Rattle.ec_typing.specs.Formats as formats;
-ghost use Rattle.ec_typing.specs.Known as known;
-ghost use Rattle.ec_typing.specs.Library as library;
-ghost use Rattle.ec_typing.specs.Operands as rule;
+ghost use Rattle.ec_typing_defs.specs.Formats as formats;
+ghost use Rattle.ec_typing_defs.specs.Known as known;
+ghost use Rattle.ec_typing_defs.specs.Library as library;
+ghost use Rattle.ec_typing_defs.specs.Operands as rule;
 ghost use Rattle.ec_rules.specs.Seen.{operand_view, operands_view, are_counted, are_taken};
 
 use crate::declared::copy_type;

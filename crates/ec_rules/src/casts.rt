@@ -1,5 +1,5 @@
 //! Casts (ISO/IEC 9899:1999, 6.5.4) and sizes (6.5.3.4).
-#![tactic(auto, using(ec_scopes::proofs::Steps::noting), unfolding(ec_typing::specs::Worlds::chain, ec_typing::specs::Worlds::pure, ec_typing::specs::Worlds::ask, ec_typing::specs::Worlds::note, ec_typing::specs::Worlds::demand, ec_typing::specs::Worlds::keep_within, ec_typing::specs::Operands::value_rule, ec_typing::specs::Operands::scalar_cast, ec_typing::specs::Operands::cast_rule, ec_typing::specs::Operands::size_rule))]
+#![tactic(auto, using(ec_scopes::proofs::Steps::noting), unfolding(ec_typing_defs::specs::Worlds::chain, ec_typing_defs::specs::Worlds::pure, ec_typing_defs::specs::Worlds::ask, ec_typing_defs::specs::Worlds::note, ec_typing_defs::specs::Worlds::demand, ec_typing_defs::specs::Worlds::keep_within, ec_typing_defs::specs::Operands::value_rule, ec_typing_defs::specs::Operands::scalar_cast, ec_typing_defs::specs::Operands::cast_rule, ec_typing_defs::specs::Operands::size_rule))]
 
 ghost use Rattle.std.specs.Prelude.{◌≡◌, Option, Some};
 ghost use Rattle.ec_ctypes.specs.views.Types.{ty_view};
@@ -8,9 +8,9 @@ ghost use Rattle.ec_scopes.specs.Seen.{world_of, IsDone, Does};
 ghost use Rattle.ec_ctypes.specs.declared.types.sizes.Shape.{Shape as ShapeData};
 ghost use Rattle.ec_scopes.specs.Measures.{measured};
 ghost use Rattle.ec_type_rules.specs.Views.{constant_view};
-ghost use Rattle.ec_typing.specs.Types.{size_type};
-ghost use Rattle.ec_typing.specs.Constants.{trapping};
-ghost use Rattle.ec_typing.specs.Operands as rule;
+ghost use Rattle.ec_typing_defs.specs.Types.{size_type};
+ghost use Rattle.ec_typing_defs.specs.Constants.{trapping};
+ghost use Rattle.ec_typing_defs.specs.Operands as rule;
 ghost use Rattle.ec_rules.specs.Seen.{operand_view, void_cast};
 
 use crate::faults::{allowed, fault, typed};

@@ -23,9 +23,6 @@ pub use casts::{cast_rule, size_rule};
 pub use declared::{
     complete_rule, copy_type, declared_type, elements_rule, length_rule, within_rule,
 };
-pub use ec_known;
-pub use ec_scopes;
-pub use ec_type_rules;
 pub use initial::{fixed_rule, is_text_for, is_whole, suits_rule};
 pub use members::{arrow_rule, member_rule};
 pub use names::name_rule;

@@ -3,7 +3,7 @@
 ghost use Rattle.std.specs.Prelude.{◌≡◌, IfOk};
 ghost use Rattle.ec_ctypes.specs.views.Types.{ty_view};
 ghost use Rattle.ec_scopes.specs.Entries.{type_view};
-ghost use Rattle.ec_typing.specs.Operands as rule;
+ghost use Rattle.ec_typing_defs.specs.Operands as rule;
 ghost use Rattle.ec_rules.specs.Seen.{operand_view};
 
 use ec_base::{Boxed, OutOfMemory};

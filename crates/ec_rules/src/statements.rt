@@ -1,11 +1,11 @@
 //! What statements ask of an operand (ISO/IEC 9899:1999, 6.8).
-#![tactic(auto, using(ec_scopes::proofs::Steps::noting), unfolding(ec_typing::specs::Worlds::chain, ec_typing::specs::Worlds::pure, ec_typing::specs::Worlds::ask, ec_typing::specs::Worlds::note, ec_typing::specs::Worlds::demand, ec_typing::specs::Worlds::keep_within, ec_typing::specs::Statements::condition_rule, ec_typing::specs::Statements::return_rule, ec_typing::specs::Statements::return_nothing))]
+#![tactic(auto, using(ec_scopes::proofs::Steps::noting), unfolding(ec_typing_defs::specs::Worlds::chain, ec_typing_defs::specs::Worlds::pure, ec_typing_defs::specs::Worlds::ask, ec_typing_defs::specs::Worlds::note, ec_typing_defs::specs::Worlds::demand, ec_typing_defs::specs::Worlds::keep_within, ec_typing_defs::specs::Statements::condition_rule, ec_typing_defs::specs::Statements::return_rule, ec_typing_defs::specs::Statements::return_nothing))]
 
 ghost use Rattle.std.specs.Prelude.{◌≡◌};
 ghost use Rattle.ec_ctypes.specs.views.Types.{ty_view};
 ghost use Rattle.ec_scopes.specs.Entries.{place_view, type_view};
 ghost use Rattle.ec_scopes.specs.Seen.{world_of, IsDone};
-ghost use Rattle.ec_typing.specs.Statements as rule;
+ghost use Rattle.ec_typing_defs.specs.Statements as rule;
 ghost use Rattle.ec_rules.specs.Seen.{operand_view};
 
 use crate::operand::Operand;

@@ -10,16 +10,16 @@ use Rattle.ec_base.specs.declared.stop.Stop.TheVariants.{Refused, Limit, OutOfMe
 use Rattle.ec_execute.specs.declared.executable.Executable.{Executable}
 use Rattle.ec_execute.specs.Executables.{executable_view}
 use Rattle.ec_execute.specs.Answers.{TellsProgram}
-use Rattle.ec_execute.specs.ec_execution.Programs as written
-use Rattle.ec_execute.specs.ec_execution.Programs.{IsProgram}
+use Rattle.ec_execution_defs.specs.Programs as written
+use Rattle.ec_execution_defs.specs.Programs.{IsProgram}
 use Rattle.ec_language.specs.Letters.{Text, each}
-use Rattle.ec_translation.specs.ec_phases.Sources.{BoundProgram, ReadsSource}
-use Rattle.ec_translate.specs.Answers.{TellsTranslation}
-use Rattle.ec_translation.specs.Laws.{HasOneTranslation}
-use Rattle.ec_translation.specs.Translations.{text_of_program, translated, IsTranslation, translation}
-use Rattle.ec_writing.specs.Shapes.{is_byte}
-use Rattle.ec_translation.specs.Accepted.{IsAcceptedText}
-use Rattle.ec_run_law.specs.Runs.{IsRunOf}
+use Rattle.ec_phases_defs.specs.Sources.{BoundProgram, ReadsSource}
+use Rattle.ec_front.specs.translation.Answers.{TellsTranslation}
+use Rattle.ec_phases_defs.specs.translation.Laws.{HasOneTranslation}
+use Rattle.ec_phases_defs.specs.translation.Translations.{text_of_program, translated, IsTranslation, translation}
+use Rattle.ec_writing_defs.specs.Shapes.{is_byte}
+use Rattle.ec_phases_defs.specs.translation.Accepted.{IsAcceptedText}
+use Rattle.ec_sim_source_laws.specs.run.Runs.{IsRunOf}
 use Rattle.ec_run.specs.Answers.{RefusesWritten, TellsRunnable}
 use Rattle.ec_run.specs.Runnable.{IsUnmadeIn, refused, accepted, run, limited, unmade}
 

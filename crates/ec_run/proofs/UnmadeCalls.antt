@@ -10,9 +10,9 @@ use Rattle.ec_language.specs.Letters.{Text}
 use Rattle.ec_language.specs.Pieces.{Pieces}
 use Rattle.ec_language.specs.Tokens.{HaveSqlTokens}
 use Rattle.ec_language.proofs.StatementTokens.{statements_have_tokens}
-use Rattle.ec_translation.specs.ec_phases.Sources.{ReadsTree, ReadsChecked, checked_tree, program_with, bound_from}
-use Rattle.ec_expansion.specs.Programs.{written_program}
-use Rattle.ec_execute.specs.ec_library_calls.LibraryCalls.{first_unmade_call}
+use Rattle.ec_phases_defs.specs.Sources.{ReadsTree, ReadsChecked, checked_tree, program_with, bound_from}
+use Rattle.ec_expansion_defs.specs.Programs.{written_program}
+use Rattle.ec_execution_defs.specs.library_calls.LibraryCalls.{first_unmade_call}
 use Rattle.ec_run.specs.Runnable.{AreWordLines, IsUnmadeIn, WordLines, with_lines}
 
 -- the pieces of a source, whose statements have tokens

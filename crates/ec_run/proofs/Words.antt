@@ -4,15 +4,15 @@ use Rattle.std.proofs.Common.{◌≡◌, ◌∙◌, ℕ, List, ap, sym, subst, R
 use Rattle.ec_base.specs.declared.line.Line.{Line}
 use Rattle.ec_base.specs.declared.stop.Stop.{Stop}
 use Rattle.ec_ctypes.specs.declared.text.piece.Piece.{Piece}
-use Rattle.ec_translate.specs.ec_clex.Items.{Told}
-use Rattle.ec_translate.specs.ec_clex.Sql.{sql_views}
-use Rattle.ec_translate.specs.ec_clex.declared.sql.SqlToken as code
+use Rattle.ec_clex.specs.Items.{Told}
+use Rattle.ec_clex.specs.Sql.{sql_views}
+use Rattle.ec_clex.specs.declared.sql.SqlToken as code
 use Rattle.ec_language.specs.Letters.{Text}
 use Rattle.ec_language.specs.Line.{newlines}
 use Rattle.ec_language.specs.Tokens.{SqlTokens, SqlTokensOrStop, HasSqlTokens}
 use Rattle.ec_language.proofs.StatementTokens.{has_tokens}
-use Rattle.ec_translate.specs.ec_embedded.Findings.{word_line}
-use Rattle.ec_translate.specs.ec_embedded.ServerText.{Tokens}
+use Rattle.ec_embedded.specs.Findings.{word_line}
+use Rattle.ec_embedded.specs.ServerText.{Tokens}
 use Rattle.ec_run.specs.Runnable.{HasWordAt}
 
 tokens_in : Tokens → Result Tokens Stop → Tokens

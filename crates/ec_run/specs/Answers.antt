@@ -3,12 +3,12 @@ use Rattle.std.specs.Prelude.{◌≡◌, ℕ, ⊤, List, Option, Result, Ok, Err
 use Rattle.ec_base.specs.declared.fault.FaultKind.TheVariants.{F9}
 use Rattle.ec_base.specs.declared.stop.Stop.{Stop}
 use Rattle.ec_base.specs.declared.stop.Stop.TheVariants.{Refused, Limit, OutOfMemory}
-use Rattle.ec_evaluation.specs.State.{Answer}
+use Rattle.ec_meaning_defs.specs.evaluation.State.{Answer}
 use Rattle.ec_execute.specs.declared.executable.Executable.{Executable}
 use Rattle.ec_execute.specs.Executables.{executable_view}
-use Rattle.ec_execute.specs.ec_execution.Programs.{meaning}
+use Rattle.ec_execution_defs.specs.Programs.{meaning}
 use Rattle.ec_language.specs.Letters.{Text}
-use Rattle.ec_translation.specs.ec_phases.Sources.{BoundProgram}
+use Rattle.ec_phases_defs.specs.Sources.{BoundProgram}
 use Rattle.ec_run.specs.Runnable.{IsRunnable, IsUnmadeIn, source_meaning}
 
 -- an executable that means what the source means

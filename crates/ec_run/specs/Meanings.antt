@@ -1,10 +1,10 @@
 -- What the C that is written of a source keeps: its program, and its meaning.
 use Rattle.std.specs.Prelude.{◌≡◌, ℕ, List, Option, Ok}
-use Rattle.ec_evaluation.specs.State.{Answer}
-use Rattle.ec_execute.specs.ec_execution.Programs.{Executable, IsProgram, meaning}
+use Rattle.ec_meaning_defs.specs.evaluation.State.{Answer}
+use Rattle.ec_execution_defs.specs.Programs.{Executable, IsProgram, meaning}
 use Rattle.ec_language.specs.Letters.{Text}
-use Rattle.ec_translation.specs.ec_phases.Sources.{BoundProgram, ReadsSource}
-use Rattle.ec_run_law.specs.Runs.{IsReadBackAs, KeepsItsMeaning}
+use Rattle.ec_phases_defs.specs.Sources.{BoundProgram, ReadsSource}
+use Rattle.ec_sim_source_laws.specs.run.Runs.{IsReadBackAs, KeepsItsMeaning}
 use Rattle.ec_run.specs.Runnable.{IsRunnable, source_meaning}
 
 -- this text of C is run, as a program that means what the source means

@@ -12,19 +12,19 @@ use Rattle.ec_ctypes.specs.trees.Embedded.{EmbData}
 use Rattle.ec_language.specs.Letters.{Text}
 use Rattle.ec_language.specs.Pieces.{Pieces}
 use Rattle.ec_language.specs.Tokens.{SqlTokens}
-use Rattle.ec_translate.specs.ec_embedded.Answers.{end_line}
-use Rattle.ec_translate.specs.ec_embedded.Findings.{word_line}
-use Rattle.ec_translate.specs.ec_embedded.ServerText.{Tokens}
-use Rattle.ec_translate.specs.ec_hosts.Examples.{is_statement}
-use Rattle.ec_expansion.specs.Programs.{written_program}
-use Rattle.ec_evaluation.specs.State.{Answer}
-use Rattle.ec_evaluation.specs.Whole.{Observed}
-use Rattle.ec_execute.specs.ec_execution.Programs as written
-use Rattle.ec_execute.specs.ec_execution.Programs.{IsProgram}
-use Rattle.ec_execute.specs.ec_library_calls.LibraryCalls.{first_unmade_call}
-use Rattle.ec_run_law.specs.ec_direct.Direct.{direct_meaning}
-use Rattle.ec_translation.specs.ec_phases.Sources.{BoundProgram, ReadsSource}
-use Rattle.ec_translation.specs.Translations.{text_of_program}
+use Rattle.ec_embedded.specs.Answers.{end_line}
+use Rattle.ec_embedded.specs.Findings.{word_line}
+use Rattle.ec_embedded.specs.ServerText.{Tokens}
+use Rattle.ec_host_defs.specs.Examples.{is_statement}
+use Rattle.ec_expansion_defs.specs.Programs.{written_program}
+use Rattle.ec_meaning_defs.specs.evaluation.State.{Answer}
+use Rattle.ec_meaning_defs.specs.evaluation.Whole.{Observed}
+use Rattle.ec_execution_defs.specs.Programs as written
+use Rattle.ec_execution_defs.specs.Programs.{IsProgram}
+use Rattle.ec_execution_defs.specs.library_calls.LibraryCalls.{first_unmade_call}
+use Rattle.ec_direct_defs.specs.Direct.{direct_meaning}
+use Rattle.ec_phases_defs.specs.Sources.{BoundProgram, ReadsSource}
+use Rattle.ec_phases_defs.specs.translation.Translations.{text_of_program}
 
 -- ---- where a call is written that the library doesn't make yet
 

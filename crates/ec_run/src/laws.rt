@@ -2,12 +2,12 @@
 
 ghost use Rattle.std.specs.Prelude.{◌≡◌, true, Ok};
 ghost use Rattle.ec_language.specs.Letters.{Text, each};
-ghost use Rattle.ec_translation.specs.Translations.{IsTranslation};
-ghost use Rattle.ec_writing.specs.Shapes.{is_byte};
+ghost use Rattle.ec_phases_defs.specs.translation.Translations.{IsTranslation};
+ghost use Rattle.ec_writing_defs.specs.Shapes.{is_byte};
 ghost use Rattle.ec_run.specs.Meanings.{KeepsMeaning};
 
-use ec_run_law::{written_texts_are_run, written_texts_mean_the_same};
-use ec_translation::translations_are_single;
+use ec_phases_defs::translation::translations_are_single;
+use ec_sim_source_laws::run::{written_texts_are_run, written_texts_mean_the_same};
 
 /// What is written of a source is read as its written program, and means what the source means; where the source is run, it is run too.
 #[tactic(none)]

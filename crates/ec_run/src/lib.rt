@@ -7,7 +7,6 @@ mod reading;
 mod unmade;
 mod writing;
 
-pub use ec_execute;
 pub use laws::translations_keep_meanings;
 pub use reading::read_source;
 pub use writing::translate_source;

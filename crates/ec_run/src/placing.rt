@@ -4,20 +4,20 @@ ghost use Rattle.std.specs.Prelude.{◌≡◌, ◌∷◌, ◌+◌, ◌<◌, ◌^
 ghost use Rattle.ec_ctypes.specs.views.Embedded.{emb_view};
 ghost use Rattle.ec_ctypes.specs.trees.Units.{UnitData};
 ghost use Rattle.ec_language.specs.Tokens.{HasSqlTokens, HaveSqlTokens};
-ghost use Rattle.ec_translate.specs.ec_clex.Sql.{sql_view, sql_views};
-ghost use Rattle.ec_translate.specs.ec_embedded.Findings as findings;
-ghost use Rattle.ec_translate.specs.ec_embedded.Terminals.{is, any_word};
-ghost use Rattle.ec_translate.specs.ec_hosts.Examples as hosts;
-ghost use Rattle.ec_translate.specs.ec_source.Answers.{HaveLines};
-ghost use Rattle.ec_translation.specs.ec_phases.Sources.{ReadsTree};
+ghost use Rattle.ec_clex.specs.Sql.{sql_view, sql_views};
+ghost use Rattle.ec_embedded.specs.Findings as findings;
+ghost use Rattle.ec_embedded.specs.Terminals.{is, any_word};
+ghost use Rattle.ec_host_defs.specs.Examples as hosts;
+ghost use Rattle.ec_front.specs.source.Answers.{HaveLines};
+ghost use Rattle.ec_phases_defs.specs.Sources.{ReadsTree};
 ghost use Rattle.ec_run.specs.Runnable as spec;
 ghost use Rattle.ec_run.specs.Runnable.{AddsLine, AreWordLines, HasWordAt, WordLines};
 
 use ec_base::{Line, List, Stop};
+use ec_clex::{SqlClass, SqlToken, sql_tokens};
 use ec_ctypes::{Emb, Piece, PieceKind};
-use ec_translate::ec_clex::{SqlClass, SqlToken, sql_tokens};
-use ec_translate::ec_split::scanning::bytes::newlines;
-use ec_translate::ec_split::split;
+use ec_split::scanning::bytes::newlines;
+use ec_split::split;
 use std::alloc::Global;
 
 // Whether the token is a word.

@@ -1,15 +1,15 @@
 //! The executable of a source.
 
 ghost use Rattle.std.specs.Prelude.{◌≡◌, Ok};
-ghost use Rattle.ec_translation.specs.Translations.{IsTranslation};
+ghost use Rattle.ec_phases_defs.specs.translation.Translations.{IsTranslation};
 ghost use Rattle.ec_run.specs.Answers.{RefusesWritten, TellsRunnable};
 
 use crate::unmade::unmade_line;
 use ec_base::{FaultKind, Stop};
 use ec_execute::{Executable, read_program};
-use ec_run_law::written_texts_are_run;
-use ec_translate::translate;
-use ec_translation::translations_are_single;
+use ec_front::translation::translate;
+use ec_phases_defs::translation::translations_are_single;
+use ec_sim_source_laws::run::written_texts_are_run;
 use std::alloc::Global;
 
 // Why a source isn't run whose written C isn't: a call is made that the library doesn't make yet, or a limit is passed.

@@ -2,21 +2,21 @@
 
 ghost use Rattle.std.specs.Prelude.{◌≡◌, true, map, IfSome, Ok, Some};
 ghost use Rattle.ec_ctypes.specs.views.Checked.{bound_view, handlers_view, typed_view};
-ghost use Rattle.ec_expansion.specs.Programs.{written_program};
-ghost use Rattle.ec_execute.specs.ec_library_calls.LibraryCalls as calls;
-ghost use Rattle.ec_translation.specs.ec_phases.Sources.{ReadsChecked};
-ghost use Rattle.ec_translate.specs.Answers.{program};
-ghost use Rattle.ec_translation.specs.ec_phases.ec_whenever.Tables.{is_sorted};
+ghost use Rattle.ec_expansion_defs.specs.Programs.{written_program};
+ghost use Rattle.ec_execution_defs.specs.library_calls.LibraryCalls as calls;
+ghost use Rattle.ec_phases_defs.specs.Sources.{ReadsChecked};
+ghost use Rattle.ec_front.specs.translation.Answers.{program};
+ghost use Rattle.ec_whenever.specs.Tables.{is_sorted};
 ghost use Rattle.ec_run.specs.Runnable.{with_lines, IsUnmadeIn};
 
 use crate::placing::{lines_of_words, on_lines};
 use ec_base::{Line, List};
 use ec_ctypes::{Bound, Typed, Unit};
-use ec_execute::ec_library_calls::first_unmade_call;
-use ec_translate::bound_statements;
-use ec_translate::ec_expand::expand;
-use ec_translate::ec_source::read_checked;
-use ec_translation::ec_phases::statements_have_places;
+use ec_execution_defs::library_calls::first_unmade_call;
+use ec_expand::expand;
+use ec_front::source::read_checked;
+use ec_front::translation::bound_statements;
+use ec_phases_defs::statements_have_places;
 use std::alloc::Global;
 
 // A program whose embedded statements stand on these lines.

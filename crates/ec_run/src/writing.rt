@@ -1,12 +1,12 @@
 //! The C that is written of a source.
 
 ghost use Rattle.std.specs.Prelude.{IfOk};
-ghost use Rattle.ec_translate.specs.Answers.{TellsTranslation, IsOnlyTranslation};
+ghost use Rattle.ec_front.specs.translation.Answers.{TellsTranslation, IsOnlyTranslation};
 ghost use Rattle.ec_run.specs.Meanings.{KeepsMeaning};
 
 use crate::laws::translations_keep_meanings;
 use ec_base::{Bytes, Stop};
-use ec_translate::translate;
+use ec_front::translation::translate;
 use std::alloc::Global;
 
 /// The C that is written of a source (PostgreSQL manual, 36.17, "Internals"). It means what the source means.

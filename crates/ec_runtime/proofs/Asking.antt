@@ -11,7 +11,7 @@ use Rattle.ec_link.specs.Conn.{slot_of, link_of}
 use Rattle.ec_link.specs.Logged.{Talk, IsAsk, last_reply_of}
 use Rattle.ec_link.specs.Rack.{slots_of, log_of}
 use Rattle.ec_link.proofs.Runs.{Asks-AsksOnce, last_reply_of-append}
-use Rattle.ec_calls.specs.Connections.{told_by, with_told}
+use Rattle.ec_call_defs.specs.Connections.{told_by, with_told}
 use Rattle.ec_runtime.specs.declared.open.Open.{Open}
 use Rattle.ec_runtime.specs.Opening.{told_or, told_behind, told_after, open_view, Asked}
 

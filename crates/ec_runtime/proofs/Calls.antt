@@ -13,15 +13,15 @@ use Rattle.ec_link.specs.Rack.{slots_of}
 use Rattle.ec_link.specs.Slot.{states}
 use Rattle.ec_link.specs.SlotState.{TakenAt}
 use Rattle.ec_link.specs.Conn.{slot_of}
-use Rattle.ec_objects.specs.Memory.{Memory}
-use Rattle.ec_observed.specs.Observed.{answers_in}
-use Rattle.ec_evaluation.specs.State.{Connection, State}
-use Rattle.ec_calls.specs.Autocommit.{autocommit_set}
-use Rattle.ec_calls.specs.Connections.{control_sent}
-use Rattle.ec_calls.specs.Inputs.{text_read}
-use Rattle.ec_calls.specs.Library.{call_done}
-use Rattle.ec_calls.specs.Outcomes.{Text, Outcome, over, trapped, with_memory}
-use Rattle.ec_calls.specs.Steps.{settled}
+use Rattle.ec_memory_defs.specs.Memory.{Memory}
+use Rattle.ec_meaning_defs.specs.observed.Observed.{answers_in}
+use Rattle.ec_meaning_defs.specs.evaluation.State.{Connection, State}
+use Rattle.ec_call_defs.specs.Autocommit.{autocommit_set}
+use Rattle.ec_call_defs.specs.Connections.{control_sent}
+use Rattle.ec_call_defs.specs.Inputs.{text_read}
+use Rattle.ec_call_defs.specs.Library.{call_done}
+use Rattle.ec_call_defs.specs.Outcomes.{Text, Outcome, over, trapped, with_memory}
+use Rattle.ec_call_defs.specs.Steps.{settled}
 use Rattle.ec_runtime.specs.declared.call.Act.{Act}
 use Rattle.ec_runtime.specs.declared.call.Act.TheVariants as acts
 use Rattle.ec_runtime.specs.declared.call.Statement.{Statement}

@@ -20,16 +20,16 @@ use Rattle.ec_link.proofs.Places.{slice_get-slice_set_other}
 use Rattle.ec_link.proofs.Runs.{states-slice_set}
 use Rattle.ec_arguments.specs.Arguments.{TextArg as TextData}
 use Rattle.ec_base.specs.declared.stop.Trap.{Trap}
-use Rattle.ec_objects.specs.Memory.{Memory}
-use Rattle.ec_transfer.specs.declared.finding.Finding.TheVariants as found
-use Rattle.ec_transfer.specs.Codes.{code_of, state_of, text_of_finding}
-use Rattle.ec_evaluation.specs.Whole.{ready_connections, ready_name}
-use Rattle.ec_calls.specs.Connecting.{set_connection_call}
-use Rattle.ec_calls.specs.Inputs.{given_read}
-use Rattle.ec_calls.specs.Library.{call_done}
-use Rattle.ec_evaluation.specs.State.{Connection, State}
-use Rattle.ec_calls.specs.Disconnecting.{all_closed, closed, current_without, disconnect_call, last_name}
-use Rattle.ec_calls.specs.Outcomes.{Text, fresh_area, gives, over, told_area, trapped, with_memory}
+use Rattle.ec_memory_defs.specs.Memory.{Memory}
+use Rattle.ec_transfer_defs.specs.declared.finding.Finding.TheVariants as found
+use Rattle.ec_transfer_defs.specs.Codes.{code_of, state_of, text_of_finding}
+use Rattle.ec_meaning_defs.specs.evaluation.Whole.{ready_connections, ready_name}
+use Rattle.ec_call_defs.specs.Connecting.{set_connection_call}
+use Rattle.ec_call_defs.specs.Inputs.{given_read}
+use Rattle.ec_call_defs.specs.Library.{call_done}
+use Rattle.ec_meaning_defs.specs.evaluation.State.{Connection, State}
+use Rattle.ec_call_defs.specs.Disconnecting.{all_closed, closed, current_without, disconnect_call, last_name}
+use Rattle.ec_call_defs.specs.Outcomes.{Text, fresh_area, gives, over, told_area, trapped, with_memory}
 use Rattle.ec_runtime.specs.declared.call.Call.{Call}
 use Rattle.ec_runtime.specs.declared.call.Kind.TheVariants as kinds
 use Rattle.ec_runtime.specs.declared.disconnecting.Which.{Which}

@@ -18,15 +18,15 @@ use Rattle.ec_link.specs.Logged.{Talk}
 use Rattle.ec_link.specs.Rack.{slots_of, log_of}
 use Rattle.ec_link.specs.Slot.{states}
 use Rattle.ec_link.proofs.Runs.{Asks-nil}
-use Rattle.ec_objects.specs.Memory.{Memory}
-use Rattle.ec_transfer.specs.declared.finding.Finding.TheVariants as found
-use Rattle.ec_transfer.specs.Codes.{code_of, state_of, text_of_finding}
-use Rattle.ec_evaluation.specs.State.{Connection, State}
-use Rattle.ec_calls.specs.Connections.{asked, exchange, found_connection, same_name, told_by, with_told}
-use Rattle.ec_calls.specs.Disconnecting.{all_closed, closed, current_without, disconnect_call, disconnected, one_closed, removed, without_connection}
-use Rattle.ec_calls.specs.Growth.{Grows}
-use Rattle.ec_calls.specs.Inputs.{given_read}
-use Rattle.ec_calls.specs.Outcomes.{Text, Outcome, trapped, gives, over, next, with_memory, fresh_area, told_area}
+use Rattle.ec_memory_defs.specs.Memory.{Memory}
+use Rattle.ec_transfer_defs.specs.declared.finding.Finding.TheVariants as found
+use Rattle.ec_transfer_defs.specs.Codes.{code_of, state_of, text_of_finding}
+use Rattle.ec_meaning_defs.specs.evaluation.State.{Connection, State}
+use Rattle.ec_call_defs.specs.Connections.{asked, exchange, found_connection, same_name, told_by, with_told}
+use Rattle.ec_call_defs.specs.Disconnecting.{all_closed, closed, current_without, disconnect_call, disconnected, one_closed, removed, without_connection}
+use Rattle.ec_call_defs.specs.Growth.{Grows}
+use Rattle.ec_call_defs.specs.Inputs.{given_read}
+use Rattle.ec_call_defs.specs.Outcomes.{Text, Outcome, trapped, gives, over, next, with_memory, fresh_area, told_area}
 use Rattle.ec_runtime.specs.declared.disconnecting.Which.{Which}
 use Rattle.ec_runtime.specs.declared.disconnecting.Which.TheVariants.{All, One}
 use Rattle.ec_runtime.specs.declared.open.Open.{Open}

@@ -19,16 +19,16 @@ use Rattle.ec_link.specs.Conn.{slot_of}
 use Rattle.ec_link.specs.Logged.{Talk, IsConnect}
 use Rattle.ec_link.specs.Rack.{slots_of}
 use Rattle.ec_link.specs.Slot.{states}
-use Rattle.ec_objects.specs.Memory.{Memory}
-use Rattle.ec_transfer.specs.declared.finding.Finding.TheVariants as found
-use Rattle.ec_transfer.specs.Codes.{code_of, state_of, text_of_finding}
-use Rattle.ec_evaluation.specs.State.{Answer, Connection, State}
-use Rattle.ec_calls.specs.Connecting.{connecting, opened_by, own_name, set_connection_call, unless_named}
-use Rattle.ec_calls.specs.Connections.{connection_named, exchange, found_connection, same_name}
-use Rattle.ec_calls.specs.Growth.{IsFront, Grows, state_of as reached_state}
-use Rattle.ec_calls.specs.Inputs.{given_read, text_read}
-use Rattle.ec_calls.specs.Library.{call_done}
-use Rattle.ec_calls.specs.Outcomes.{Text, Outcome, gives, finished, next, with_memory, fresh_area, told_area, raised}
+use Rattle.ec_memory_defs.specs.Memory.{Memory}
+use Rattle.ec_transfer_defs.specs.declared.finding.Finding.TheVariants as found
+use Rattle.ec_transfer_defs.specs.Codes.{code_of, state_of, text_of_finding}
+use Rattle.ec_meaning_defs.specs.evaluation.State.{Answer, Connection, State}
+use Rattle.ec_call_defs.specs.Connecting.{connecting, opened_by, own_name, set_connection_call, unless_named}
+use Rattle.ec_call_defs.specs.Connections.{connection_named, exchange, found_connection, same_name}
+use Rattle.ec_call_defs.specs.Growth.{IsFront, Grows, state_of as reached_state}
+use Rattle.ec_call_defs.specs.Inputs.{given_read, text_read}
+use Rattle.ec_call_defs.specs.Library.{call_done}
+use Rattle.ec_call_defs.specs.Outcomes.{Text, Outcome, gives, finished, next, with_memory, fresh_area, told_area, raised}
 use Rattle.ec_runtime.specs.declared.call.Connect.{Connect}
 use Rattle.ec_runtime.specs.declared.call.Kind.TheVariants as kinds
 use Rattle.ec_runtime.specs.declared.inputs.GivenText.{GivenText}

@@ -9,7 +9,7 @@ use Rattle.ec_arguments.specs.Rules.{element_size, indicator_size, is_small, fit
 use Rattle.ec_arguments.proofs.Told.{no_clash, left_true, right_true}
 use Rattle.ec_convert.specs.declared.host.HostPlace.{HostPlace}
 use Rattle.ec_convert.specs.Host.{given_indicators, placed}
-use Rattle.ec_transfer.specs.Hosts.{Holding, holding, IndicatorData}
+use Rattle.ec_transfer_defs.specs.Hosts.{Holding, holding, IndicatorData}
 use Rattle.ec_runtime.specs.Fitting.{IsFit}
 use Rattle.ec_runtime.specs.Places.{place_view, indicator_view}
 

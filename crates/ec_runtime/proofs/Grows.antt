@@ -8,19 +8,19 @@ use Rattle.ec_link.specs.declared.reply.Reply.{Reply}
 use Rattle.ec_link.specs.declared.reply.Reply.TheVariants.{Connected, NoTarget, Rows, Done, Refused, Broken}
 use Rattle.ec_link.specs.declared.request.Request.{Request}
 use Rattle.ec_link.specs.Table.{Sheet}
-use Rattle.ec_objects.specs.Memory.{text_at}
-use Rattle.ec_transfer.specs.declared.finding.Finding.{Finding}
-use Rattle.ec_transfer.specs.declared.finding.Finding.TheVariants as found
-use Rattle.ec_transfer.specs.Conversion.{trapped, refused as refused_there, Stored, parameter}
-use Rattle.ec_transfer.specs.Hosts.{HostData}
-use Rattle.ec_evaluation.specs.State.{Answer, Connection, State}
-use Rattle.ec_calls.specs.Growth.{state_of, IsFront, Grows}
-use Rattle.ec_calls.specs.Outcomes.{Text, Field, Outcome, gives, finished, over, next, trying, present, with_memory, counted_area, refused, raised, begun_area}
-use Rattle.ec_calls.specs.Connections.{wanted_name, found_connection, connection_of, connection_for, connection_named, answered, asked, controlled, control_sent, begins, begin_text, begun}
-use Rattle.ec_calls.specs.Inputs.{host_data, text_read, value_read, member_read}
-use Rattle.ec_calls.specs.Storing.{stored_by, field_kept, in_column, column_kept, targets_kept, any_fewer, measured, counted_rows}
-use Rattle.ec_calls.specs.Answers.{count_of, done, replied, taken}
-use Rattle.ec_calls.specs.Running.{Outputs, nowhere, hosts, area, row_into, rows_stored, table_kept, found_text}
+use Rattle.ec_memory_defs.specs.Memory.{text_at}
+use Rattle.ec_transfer_defs.specs.declared.finding.Finding.{Finding}
+use Rattle.ec_transfer_defs.specs.declared.finding.Finding.TheVariants as found
+use Rattle.ec_transfer_defs.specs.Conversion.{trapped, refused as refused_there, Stored, parameter}
+use Rattle.ec_transfer_defs.specs.Hosts.{HostData}
+use Rattle.ec_meaning_defs.specs.evaluation.State.{Answer, Connection, State}
+use Rattle.ec_call_defs.specs.Growth.{state_of, IsFront, Grows}
+use Rattle.ec_call_defs.specs.Outcomes.{Text, Field, Outcome, gives, finished, over, next, trying, present, with_memory, counted_area, refused, raised, begun_area}
+use Rattle.ec_call_defs.specs.Connections.{wanted_name, found_connection, connection_of, connection_for, connection_named, answered, asked, controlled, control_sent, begins, begin_text, begun}
+use Rattle.ec_call_defs.specs.Inputs.{host_data, text_read, value_read, member_read}
+use Rattle.ec_call_defs.specs.Storing.{stored_by, field_kept, in_column, column_kept, targets_kept, any_fewer, measured, counted_rows}
+use Rattle.ec_call_defs.specs.Answers.{count_of, done, replied, taken}
+use Rattle.ec_call_defs.specs.Running.{Outputs, nowhere, hosts, area, row_into, rows_stored, table_kept, found_text}
 
 nil_right : (xs : List Logged) → xs ≡ xs ++ []
 nil_right [] = refl

@@ -5,12 +5,12 @@ use Rattle.std.proofs.lemmas.Bool.Decides.{nat_tests}
 use Rattle.ec_base.specs.declared.stop.Trap.{Trap}
 use Rattle.ec_base.specs.declared.stop.Trap.TheVariants.{Outside}
 use Rattle.ec_bytes.proofs.Places.{length_written}
-use Rattle.ec_objects.specs.Cells.{Cell, written, set_cells}
-use Rattle.ec_objects.specs.Memory.{Memory, alive, ended, and_then, object_of, offset_of, object_cells, with_cells, moved}
-use Rattle.ec_transfer.specs.declared.finding.Finding.{Finding}
-use Rattle.ec_transfer.specs.Area.{IsArea}
-use Rattle.ec_transfer.specs.Conversion.{Stored, or_before, null_stored, told, told_length, value_told, bytes_stored, field_stored, field_bytes, is_cut, with_bytes, with_indicator, bytes_place}
-use Rattle.ec_transfer.specs.Hosts.{IndicatorData, HostData}
+use Rattle.ec_memory_defs.specs.Cells.{Cell, written, set_cells}
+use Rattle.ec_memory_defs.specs.Memory.{Memory, alive, ended, and_then, object_of, offset_of, object_cells, with_cells, moved}
+use Rattle.ec_transfer_defs.specs.declared.finding.Finding.{Finding}
+use Rattle.ec_transfer_defs.specs.Area.{IsArea}
+use Rattle.ec_transfer_defs.specs.Conversion.{Stored, or_before, null_stored, told, told_length, value_told, bytes_stored, field_stored, field_bytes, is_cut, with_bytes, with_indicator, bytes_place}
+use Rattle.ec_transfer_defs.specs.Hosts.{IndicatorData, HostData}
 use Rattle.ec_convert.specs.declared.host.HostPlace.{HostPlace}
 use Rattle.ec_convert.specs.declared.stop.ConvStop.{ConvStop}
 use Rattle.ec_convert.specs.declared.stop.ConvStop.TheVariants as conv

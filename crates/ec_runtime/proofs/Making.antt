@@ -13,10 +13,10 @@ use Rattle.ec_link.specs.Conn.{slot_of}
 use Rattle.ec_link.specs.Logged.{Talk}
 use Rattle.ec_link.specs.Rack.{slots_of}
 use Rattle.ec_link.specs.Slot.{states}
-use Rattle.ec_objects.specs.Memory.{Memory}
-use Rattle.ec_evaluation.specs.State.{Connection, State}
-use Rattle.ec_calls.specs.Connections.{same_name}
-use Rattle.ec_calls.specs.Outcomes.{Text, Outcome}
+use Rattle.ec_memory_defs.specs.Memory.{Memory}
+use Rattle.ec_meaning_defs.specs.evaluation.State.{Connection, State}
+use Rattle.ec_call_defs.specs.Connections.{same_name}
+use Rattle.ec_call_defs.specs.Outcomes.{Text, Outcome}
 use Rattle.ec_runtime.specs.declared.library.Library.{Library}
 use Rattle.ec_runtime.specs.declared.open.Open.{Open}
 use Rattle.ec_runtime.specs.declared.stop.Stop.{Stop}

@@ -2,14 +2,14 @@
 use Rattle.std.proofs.Common.{◌≡◌, ℕ, List, ◌++◌, Some, None, Ok, Err, sym, subst, ◌∙◌}
 use Rattle.ec_link.specs.declared.request.Request.{Request}
 use Rattle.ec_link.specs.declared.request.Request.TheVariants as request
-use Rattle.ec_objects.specs.Memory.{Memory}
-use Rattle.ec_transfer.specs.declared.finding.Finding.{Finding}
-use Rattle.ec_transfer.specs.declared.finding.Finding.TheVariants as found
-use Rattle.ec_transfer.specs.Codes.{code_of, state_of, text_of_finding}
-use Rattle.ec_evaluation.specs.State.{Connection, State}
-use Rattle.ec_calls.specs.Growth.{Grows}
-use Rattle.ec_calls.specs.Outcomes.{Text, Field, Outcome, gives, finished, next, with_memory, told_area, raised}
-use Rattle.ec_calls.specs.Running.{Wanted as Sought, text, execution, cursor, request_of, prepared_text, found_text}
+use Rattle.ec_memory_defs.specs.Memory.{Memory}
+use Rattle.ec_transfer_defs.specs.declared.finding.Finding.{Finding}
+use Rattle.ec_transfer_defs.specs.declared.finding.Finding.TheVariants as found
+use Rattle.ec_transfer_defs.specs.Codes.{code_of, state_of, text_of_finding}
+use Rattle.ec_meaning_defs.specs.evaluation.State.{Connection, State}
+use Rattle.ec_call_defs.specs.Growth.{Grows}
+use Rattle.ec_call_defs.specs.Outcomes.{Text, Field, Outcome, gives, finished, next, with_memory, told_area, raised}
+use Rattle.ec_call_defs.specs.Running.{Wanted as Sought, text, execution, cursor, request_of, prepared_text, found_text}
 use Rattle.ec_runtime.specs.declared.host.Host.{Host}
 use Rattle.ec_runtime.specs.declared.order.Order.{Order}
 use Rattle.ec_runtime.specs.declared.stop.Stop.{Stop}

@@ -2,10 +2,10 @@
 use Rattle.std.proofs.Common.{◌≡◌, ℕ, suc, ◌+◌, Bool, true, false, List, [], ◌∷◌, ◌++◌, get_or, add-one, Option, Some, None, refl, sym, subst, ◌∙◌}
 use Rattle.std.specs.Prelude.{option_map, slice_set}
 use Rattle.std.specs.List.{remove}
-use Rattle.ec_calls.specs.Outcomes.{Text}
-use Rattle.ec_calls.specs.Connections.{same_name}
-use Rattle.ec_calls.specs.Preparing.{with_text, without_text}
-use Rattle.ec_calls.specs.Running.{prepared_text}
+use Rattle.ec_call_defs.specs.Outcomes.{Text}
+use Rattle.ec_call_defs.specs.Connections.{same_name}
+use Rattle.ec_call_defs.specs.Preparing.{with_text, without_text}
+use Rattle.ec_call_defs.specs.Running.{prepared_text}
 use Rattle.ec_runtime.specs.declared.prepared.Prepared.{Prepared}
 use Rattle.ec_runtime.specs.Prepared.{prepared_view, prepared_views, place_of}
 

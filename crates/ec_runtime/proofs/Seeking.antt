@@ -1,9 +1,9 @@
 -- The connection of a name, by its place.
 use Rattle.std.proofs.Common.{◌≡◌, ℕ, ◌+◌, Bool, true, false, List, [], ◌∷◌, add-one, Option, Some, None, refl, sym, ap, ◌∙◌}
 use Rattle.std.specs.Prelude.{option_and_then, option_map, slice_get}
-use Rattle.ec_evaluation.specs.State.{Connection}
-use Rattle.ec_calls.specs.Outcomes.{Text}
-use Rattle.ec_calls.specs.Connections.{same_name, connection_named}
+use Rattle.ec_meaning_defs.specs.evaluation.State.{Connection}
+use Rattle.ec_call_defs.specs.Outcomes.{Text}
+use Rattle.ec_call_defs.specs.Connections.{same_name, connection_named}
 use Rattle.ec_runtime.specs.Closing.{at_place}
 use Rattle.ec_runtime.specs.Seeking.{or_current, sought, place_named, place_sought}
 

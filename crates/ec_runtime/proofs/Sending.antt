@@ -2,11 +2,11 @@
 use Rattle.std.proofs.Common.{ℕ, List}
 use Rattle.ec_link.specs.declared.request.Request.{Request}
 use Rattle.ec_link.specs.declared.reply.Reply.{Reply}
-use Rattle.ec_evaluation.specs.State.{Connection}
-use Rattle.ec_calls.specs.Growth.{Grows}
-use Rattle.ec_calls.specs.Connections.{asked, begun}
-use Rattle.ec_calls.specs.Answers.{replied}
-use Rattle.ec_calls.specs.Running.{is_wanted, table_kept}
+use Rattle.ec_meaning_defs.specs.evaluation.State.{Connection}
+use Rattle.ec_call_defs.specs.Growth.{Grows}
+use Rattle.ec_call_defs.specs.Connections.{asked, begun}
+use Rattle.ec_call_defs.specs.Answers.{replied}
+use Rattle.ec_call_defs.specs.Running.{is_wanted, table_kept}
 use Rattle.ec_runtime.specs.declared.host.Host.{Host}
 use Rattle.ec_runtime.specs.Statements.{sent, carried}
 use Rattle.ec_runtime.specs.Views.{outputs_of}

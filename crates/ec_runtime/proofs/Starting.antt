@@ -11,19 +11,19 @@ use Rattle.ec_link.specs.declared.request.Request.{Request}
 use Rattle.ec_link.specs.declared.request.Request.TheVariants as request
 use Rattle.ec_link.specs.Logged.{Talk}
 use Rattle.ec_link.proofs.Runs.{Asks-nil}
-use Rattle.ec_objects.specs.Memory.{Memory, text_at}
-use Rattle.ec_transfer.specs.declared.finding.Finding.TheVariants as found
-use Rattle.ec_transfer.specs.Codes.{code_of, state_of, text_of_finding}
-use Rattle.ec_evaluation.specs.State.{Answer, Connection, State}
-use Rattle.ec_calls.specs.Growth.{Grows}
-use Rattle.ec_calls.specs.Outcomes.{Text, Field, trapped, Outcome, gives, finished, over, next, with_memory, fresh_area, told_area, begun_area, raised}
-use Rattle.ec_calls.specs.Answers.{taken}
-use Rattle.ec_calls.specs.Connections.{connection_named, connection_of, found_connection, connection_for, asked}
-use Rattle.ec_calls.specs.Inputs.{text_read, given_read, Inputs, with_param, inputs_read, value_read, member_read}
-use Rattle.ec_calls.specs.Library.{call_done}
-use Rattle.ec_calls.specs.Marks.{with_marks}
-use Rattle.ec_calls.specs.Preparing.{with_text, without_text, prepared_anew, prepare_call, deallocate_call}
-use Rattle.ec_calls.specs.Running.{text, places_of, into_places, outputs_read, outputs_found, carried_out, request_of, prepared_text, found_text, statement_read as statement_said}
+use Rattle.ec_memory_defs.specs.Memory.{Memory, text_at}
+use Rattle.ec_transfer_defs.specs.declared.finding.Finding.TheVariants as found
+use Rattle.ec_transfer_defs.specs.Codes.{code_of, state_of, text_of_finding}
+use Rattle.ec_meaning_defs.specs.evaluation.State.{Answer, Connection, State}
+use Rattle.ec_call_defs.specs.Growth.{Grows}
+use Rattle.ec_call_defs.specs.Outcomes.{Text, Field, trapped, Outcome, gives, finished, over, next, with_memory, fresh_area, told_area, begun_area, raised}
+use Rattle.ec_call_defs.specs.Answers.{taken}
+use Rattle.ec_call_defs.specs.Connections.{connection_named, connection_of, found_connection, connection_for, asked}
+use Rattle.ec_call_defs.specs.Inputs.{text_read, given_read, Inputs, with_param, inputs_read, value_read, member_read}
+use Rattle.ec_call_defs.specs.Library.{call_done}
+use Rattle.ec_call_defs.specs.Marks.{with_marks}
+use Rattle.ec_call_defs.specs.Preparing.{with_text, without_text, prepared_anew, prepare_call, deallocate_call}
+use Rattle.ec_call_defs.specs.Running.{text, places_of, into_places, outputs_read, outputs_found, carried_out, request_of, prepared_text, found_text, statement_read as statement_said}
 use Rattle.ec_runtime.specs.declared.call.Act.{Act}
 use Rattle.ec_runtime.specs.declared.call.Act.TheVariants as acts
 use Rattle.ec_runtime.specs.declared.call.Statement.{Statement}

@@ -2,19 +2,19 @@
 use Rattle.std.proofs.Common.{◌≡◌, ℕ, List, Option, Some, Ok, Err, Bool, sym, ◌∙◌, subst}
 use Rattle.std.specs.Prelude.{ℤ}
 use Rattle.ec_base.specs.declared.stop.Trap.{Trap}
-use Rattle.ec_objects.specs.Memory.{Memory}
-use Rattle.ec_transfer.specs.Conversion.{trapped, refused, field_stored}
-use Rattle.ec_transfer.specs.Codes.{code_of, state_of, text_of_finding}
-use Rattle.ec_transfer.specs.Hosts.{HostData}
-use Rattle.ec_evaluation.specs.State.{State}
-use Rattle.ec_calls.specs.Outcomes.{Outcome, gives, finished, over, with_memory, told_area}
-use Rattle.ec_calls.specs.Outcomes as outcome
+use Rattle.ec_memory_defs.specs.Memory.{Memory}
+use Rattle.ec_transfer_defs.specs.Conversion.{trapped, refused, field_stored}
+use Rattle.ec_transfer_defs.specs.Codes.{code_of, state_of, text_of_finding}
+use Rattle.ec_transfer_defs.specs.Hosts.{HostData}
+use Rattle.ec_meaning_defs.specs.evaluation.State.{State}
+use Rattle.ec_call_defs.specs.Outcomes.{Outcome, gives, finished, over, with_memory, told_area}
+use Rattle.ec_call_defs.specs.Outcomes as outcome
 use Rattle.ec_convert.specs.Answers.{leaves}
 use Rattle.ec_convert.specs.declared.stop.ConvStop.{ConvStop}
 use Rattle.ec_convert.specs.declared.stop.ConvStop.TheVariants as conv
 use Rattle.ec_runtime.specs.Says.{Says, Stopped}
 use Rattle.ec_runtime.specs.declared.stop.Stop.{Stop}
-use Rattle.ec_calls.specs.Storing.{found_by, warned, stored_by, field_kept}
+use Rattle.ec_call_defs.specs.Storing.{found_by, warned, stored_by, field_kept}
 
 module _ (line : ℕ) (h : HostData) (row : ℕ) (field : Option (List ℕ)) (old after : Memory) where
   pub whole_kept : (cut : Bool) (new : Memory) → Some (Ok cut, after) ≡ Some (field_stored old h row field) → warned cut after ≡ new → (s : State)

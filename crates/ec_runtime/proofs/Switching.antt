@@ -7,12 +7,12 @@ use Rattle.ec_link.specs.declared.rack.Rack.{Rack}
 use Rattle.ec_link.specs.Conn.{slot_of}
 use Rattle.ec_link.specs.Logged.{Talk}
 use Rattle.ec_link.proofs.Runs.{Asks-nil}
-use Rattle.ec_objects.specs.Memory.{Memory}
-use Rattle.ec_evaluation.specs.State.{Connection, State}
-use Rattle.ec_calls.specs.Autocommit.{with_autocommit, switched, commits_first, autocommit_set}
-use Rattle.ec_calls.specs.Connections.{changed_at, control_sent}
-use Rattle.ec_calls.specs.Growth.{state_of, IsFront, Grows}
-use Rattle.ec_calls.specs.Outcomes.{Text, Outcome, gives, next}
+use Rattle.ec_memory_defs.specs.Memory.{Memory}
+use Rattle.ec_meaning_defs.specs.evaluation.State.{Connection, State}
+use Rattle.ec_call_defs.specs.Autocommit.{with_autocommit, switched, commits_first, autocommit_set}
+use Rattle.ec_call_defs.specs.Connections.{changed_at, control_sent}
+use Rattle.ec_call_defs.specs.Growth.{state_of, IsFront, Grows}
+use Rattle.ec_call_defs.specs.Outcomes.{Text, Outcome, gives, next}
 use Rattle.ec_runtime.specs.declared.open.Open.{Open}
 use Rattle.ec_runtime.specs.declared.stop.Stop.{Stop}
 use Rattle.ec_runtime.specs.Does.{among, placed, seen, Over}

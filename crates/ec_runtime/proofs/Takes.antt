@@ -8,16 +8,16 @@ use Rattle.ec_link.specs.declared.request.Request.TheVariants as request
 use Rattle.ec_link.specs.Conn.{slot_of}
 use Rattle.ec_link.specs.Logged.{Talk}
 use Rattle.ec_link.proofs.Runs.{Asks-nil}
-use Rattle.ec_objects.specs.Memory.{Memory}
-use Rattle.ec_evaluation.specs.State.{Connection, State}
-use Rattle.ec_calls.specs.Answers.{taken}
-use Rattle.ec_calls.specs.Connections.{asked, changed_at}
-use Rattle.ec_calls.specs.Growth.{Grows}
-use Rattle.ec_calls.specs.Inputs.{given_read}
-use Rattle.ec_calls.specs.Marks.{with_marks}
-use Rattle.ec_calls.specs.Outcomes.{Text, Outcome, gives, next, with_memory}
-use Rattle.ec_calls.specs.Preparing.{with_text, without_text, prepared_anew}
-use Rattle.ec_calls.specs.Running.{prepared_text, found_text}
+use Rattle.ec_memory_defs.specs.Memory.{Memory}
+use Rattle.ec_meaning_defs.specs.evaluation.State.{Connection, State}
+use Rattle.ec_call_defs.specs.Answers.{taken}
+use Rattle.ec_call_defs.specs.Connections.{asked, changed_at}
+use Rattle.ec_call_defs.specs.Growth.{Grows}
+use Rattle.ec_call_defs.specs.Inputs.{given_read}
+use Rattle.ec_call_defs.specs.Marks.{with_marks}
+use Rattle.ec_call_defs.specs.Outcomes.{Text, Outcome, gives, next, with_memory}
+use Rattle.ec_call_defs.specs.Preparing.{with_text, without_text, prepared_anew}
+use Rattle.ec_call_defs.specs.Running.{prepared_text, found_text}
 use Rattle.ec_runtime.specs.declared.inputs.GivenText.{GivenText}
 use Rattle.ec_runtime.specs.declared.open.Open.{Open}
 use Rattle.ec_runtime.specs.declared.prepared.Prepared.{Prepared}

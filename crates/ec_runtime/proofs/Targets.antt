@@ -6,11 +6,11 @@ use Rattle.ec_bytes.specs.declared.scalar.address.Ptr.{Ptr}
 use Rattle.ec_ctypes.specs.declared.checked.library.Sym.{Sym}
 use Rattle.ec_convert.specs.declared.host.HostPlace.{HostPlace}
 use Rattle.ec_convert.specs.Host.{given_host, given_indicators, placed}
-use Rattle.ec_transfer.specs.Hosts.{Holding, holding, IndicatorData, HostData}
-use Rattle.ec_evaluation.specs.State.{State}
-use Rattle.ec_calls.specs.Outcomes.{Field, Outcome, gives, next, present}
-use Rattle.ec_calls.specs.Inputs.{indicators_data, host_data}
-use Rattle.ec_calls.specs.Storing.{column_kept, targets_kept, any_fewer}
+use Rattle.ec_transfer_defs.specs.Hosts.{Holding, holding, IndicatorData, HostData}
+use Rattle.ec_meaning_defs.specs.evaluation.State.{State}
+use Rattle.ec_call_defs.specs.Outcomes.{Field, Outcome, gives, next, present}
+use Rattle.ec_call_defs.specs.Inputs.{indicators_data, host_data}
+use Rattle.ec_call_defs.specs.Storing.{column_kept, targets_kept, any_fewer}
 use Rattle.ec_runtime.specs.declared.host.Host.{Host}
 use Rattle.ec_runtime.specs.declared.stop.Stop.{Stop}
 use Rattle.ec_runtime.specs.declared.stop.Stop.TheVariants as stops

@@ -1,15 +1,15 @@
 -- Texts and values that are read.
-use Rattle.std.proofs.Common.{◌≡◌, ℕ, List, Some, Result, Ok, Err, sym, ◌∙◌}
+use Rattle.std.proofs.Common.{◌≡◌, ℕ, List, Some, Result, Ok, Err, sym, ◌∙◌, subst}
 use Rattle.ec_base.specs.declared.stop.Trap.{Trap}
 use Rattle.ec_bytes.specs.declared.scalar.address.Ptr.{Ptr}
 use Rattle.ec_convert.specs.declared.host.HostPlace.{HostPlace}
 use Rattle.ec_convert.specs.Host.{given_host}
-use Rattle.ec_objects.specs.Memory.{Memory, text_at}
-use Rattle.ec_transfer.specs.Conversion.{parameter}
-use Rattle.ec_transfer.specs.Hosts.{HostData}
-use Rattle.ec_evaluation.specs.State.{State}
-use Rattle.ec_calls.specs.Outcomes.{Field, Outcome, trapped, gives, over, next, trying, present, with_memory}
-use Rattle.ec_calls.specs.Inputs.{text_read, given_read, value_read}
+use Rattle.ec_memory_defs.specs.Memory.{Memory, text_at}
+use Rattle.ec_transfer_defs.specs.Conversion.{parameter}
+use Rattle.ec_transfer_defs.specs.Hosts.{HostData}
+use Rattle.ec_meaning_defs.specs.evaluation.State.{State}
+use Rattle.ec_call_defs.specs.Outcomes.{Field, Outcome, trapped, gives, over, next, trying, present, with_memory}
+use Rattle.ec_call_defs.specs.Inputs.{text_read, given_read, value_read}
 use Rattle.ec_runtime.specs.declared.inputs.GivenText.{GivenText}
 use Rattle.ec_runtime.specs.declared.inputs.GivenText.TheVariants as givens
 use Rattle.ec_runtime.specs.declared.inputs.TextArg.{TextArg}
@@ -20,7 +20,6 @@ use Rattle.ec_runtime.specs.Reading.{text_view, given_view, TextIs}
 use Rattle.ec_runtime.specs.Says.{Quiet}
 use Rattle.ec_runtime.specs.Places.{place_view}
 use Rattle.ec_runtime.proofs.Targets.{same_host}
-use Rattle.std.proofs.Common.{subst}
 use Rattle.ec_convert.specs.Answers.{GivesParameter}
 use Rattle.ec_convert.specs.declared.stop.ConvStop.{ConvStop}
 use Rattle.ec_convert.specs.declared.stop.ConvStop.TheVariants as conv

@@ -11,16 +11,16 @@ use Rattle.ec_link.specs.Logged.{Talk}
 use Rattle.ec_link.specs.Rack.{slots_of}
 use Rattle.ec_link.specs.Slot.{states}
 use Rattle.ec_link.specs.SlotState.{ready_slot}
-use Rattle.ec_objects.specs.Memory.{Memory}
-use Rattle.ec_observed.specs.Observed.{answers_in}
-use Rattle.ec_evaluation.specs.State as state
-use Rattle.ec_evaluation.specs.State.{Answer, Connection, State}
-use Rattle.ec_evaluation.specs.Results.{on, over}
-use Rattle.ec_evaluation.specs.Whole.{ready_connections, ready_name}
-use Rattle.ec_calls.specs.Connections.{same_name}
-use Rattle.ec_calls.specs.Growth.{state_of, IsFront}
-use Rattle.ec_calls.specs.Outcomes.{Text, Outcome}
-use Rattle.ec_calls.specs.Steps.{settled}
+use Rattle.ec_memory_defs.specs.Memory.{Memory}
+use Rattle.ec_meaning_defs.specs.observed.Observed.{answers_in}
+use Rattle.ec_meaning_defs.specs.evaluation.State as state
+use Rattle.ec_meaning_defs.specs.evaluation.State.{Answer, Connection, State}
+use Rattle.ec_meaning_defs.specs.evaluation.Results.{on, over}
+use Rattle.ec_meaning_defs.specs.evaluation.Whole.{ready_connections, ready_name}
+use Rattle.ec_call_defs.specs.Connections.{same_name}
+use Rattle.ec_call_defs.specs.Growth.{state_of, IsFront}
+use Rattle.ec_call_defs.specs.Outcomes.{Text, Outcome}
+use Rattle.ec_call_defs.specs.Steps.{settled}
 use Rattle.ec_runtime.specs.declared.library.Library.{Library}
 use Rattle.ec_runtime.specs.declared.stop.Stop.{Stop}
 use Rattle.ec_runtime.specs.declared.stop.Stop.TheVariants as stops

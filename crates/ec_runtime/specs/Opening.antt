@@ -11,8 +11,8 @@ use Rattle.ec_link.specs.Calls.{Asks}
 use Rattle.ec_link.specs.Conn.{slot_of}
 use Rattle.ec_link.specs.Logged.{Talk, last_reply_of}
 use Rattle.ec_link.specs.Rack.{log_of}
-use Rattle.ec_evaluation.specs.State.{Connection}
-use Rattle.ec_calls.specs.Connections.{told_by, with_told, exchange}
+use Rattle.ec_meaning_defs.specs.evaluation.State.{Connection}
+use Rattle.ec_call_defs.specs.Connections.{told_by, with_told, exchange}
 use Rattle.ec_runtime.specs.declared.open.Open.{Open}
 use Rattle.ec_runtime.specs.Prepared.{prepared_views}
 

@@ -1,7 +1,7 @@
 -- The prepared statements of a connection.
 use Rattle.std.specs.Prelude.{ℕ, ◌+◌, true, false, List, [], ◌∷◌, map, Option, Some, None, option_map}
-use Rattle.ec_calls.specs.Outcomes.{Text}
-use Rattle.ec_calls.specs.Connections.{same_name}
+use Rattle.ec_call_defs.specs.Outcomes.{Text}
+use Rattle.ec_call_defs.specs.Connections.{same_name}
 use Rattle.ec_runtime.specs.declared.prepared.Prepared.{Prepared}
 
 abbrev pub prepared_view : Prepared → Text × Text

@@ -2,10 +2,10 @@
 use Rattle.std.specs.Prelude.{◌≡◌, ℕ, List, [], ◌∷◌, Option, Result, Ok, Err}
 use Rattle.ec_base.specs.declared.stop.Trap.{Trap}
 use Rattle.ec_arguments.specs.Arguments.{TextArg as TextData, absent, word, held, Member, host, constant}
-use Rattle.ec_objects.specs.Memory.{Memory}
-use Rattle.ec_evaluation.specs.State.{Connection, State}
-use Rattle.ec_calls.specs.Outcomes.{Text, Field, trapped, Outcome, gives, over, next, with_memory}
-use Rattle.ec_calls.specs.Inputs.{text_read, member_read}
+use Rattle.ec_memory_defs.specs.Memory.{Memory}
+use Rattle.ec_meaning_defs.specs.evaluation.State.{Connection, State}
+use Rattle.ec_call_defs.specs.Outcomes.{Text, Field, trapped, Outcome, gives, over, next, with_memory}
+use Rattle.ec_call_defs.specs.Inputs.{text_read, member_read}
 use Rattle.ec_runtime.specs.declared.inputs.TextArg.{TextArg}
 use Rattle.ec_runtime.specs.declared.inputs.TextArg.TheVariants as texts
 use Rattle.ec_runtime.specs.declared.inputs.GivenText.{GivenText}

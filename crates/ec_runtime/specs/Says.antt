@@ -1,12 +1,12 @@
 -- What a part of a call answers, in the words of the definitions.
 use Rattle.std.specs.Prelude.{◌≡◌, ℕ, Result, Ok, Err}
-use Rattle.ec_objects.specs.Memory.{Memory}
-use Rattle.ec_evaluation.specs.State.{State}
-use Rattle.ec_calls.specs.Outcomes.{trapped, Outcome, gives, finished, over, with_memory, told_area}
-use Rattle.ec_calls.specs.Storing.{found_by}
+use Rattle.ec_memory_defs.specs.Memory.{Memory}
+use Rattle.ec_meaning_defs.specs.evaluation.State.{State}
+use Rattle.ec_call_defs.specs.Outcomes.{trapped, Outcome, gives, finished, over, with_memory, told_area}
+use Rattle.ec_call_defs.specs.Storing.{found_by}
 use Rattle.ec_convert.specs.declared.stop.ConvStop.{ConvStop}
 use Rattle.ec_convert.specs.declared.stop.ConvStop.TheVariants as conv
-use Rattle.ec_transfer.specs.Codes.{code_of, state_of, text_of_finding}
+use Rattle.ec_transfer_defs.specs.Codes.{code_of, state_of, text_of_finding}
 use Rattle.ec_runtime.specs.declared.stop.Stop.{Stop}
 use Rattle.ec_runtime.specs.declared.stop.Stop.TheVariants as stops
 

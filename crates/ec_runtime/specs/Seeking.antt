@@ -1,8 +1,8 @@
 -- Which connection a name leads to.
 use Rattle.std.specs.Prelude.{ℕ, ◌+◌, true, false, List, [], ◌∷◌, Option, Some, None, option_map, option_and_then}
-use Rattle.ec_evaluation.specs.State.{Connection}
-use Rattle.ec_calls.specs.Outcomes.{Text}
-use Rattle.ec_calls.specs.Connections.{same_name, connection_named}
+use Rattle.ec_meaning_defs.specs.evaluation.State.{Connection}
+use Rattle.ec_call_defs.specs.Outcomes.{Text}
+use Rattle.ec_call_defs.specs.Connections.{same_name, connection_named}
 
 -- the name that is asked for, or that of the current connection
 abbrev pub or_current : Option Text → Option Text → Option Text

@@ -3,18 +3,18 @@ use Rattle.std.specs.Prelude.{ℕ, Bool, List, Option, Some, map}
 use Rattle.ec_link.specs.declared.request.Request.{Request}
 use Rattle.ec_link.specs.declared.request.Request.TheVariants as request
 use Rattle.ec_arguments.specs.Arguments.{Call as CutCall, Cut, Member, Statement as Asked, TextArg, connect, control, deallocate, disconnect, host, immediate, normal, opening, prepare, prepared, run, set_autocommit, set_connection}
-use Rattle.ec_evaluation.specs.State.{Connection, State}
-use Rattle.ec_calls.specs.Outcomes.{Text, Field, Outcome, gives, next, begun_area}
-use Rattle.ec_calls.specs.Connecting.{own_name, unless_named}
-use Rattle.ec_calls.specs.Connections.{asked, begun, connection_for, connection_named, control_sent}
-use Rattle.ec_calls.specs.Autocommit.{autocommit_set}
-use Rattle.ec_calls.specs.Answers.{replied, taken}
-use Rattle.ec_calls.specs.Marks.{with_marks}
-use Rattle.ec_calls.specs.Preparing.{with_text, without_text, prepared_anew}
-use Rattle.ec_calls.specs.Running as sought
-use Rattle.ec_calls.specs.Running.{Wanted as Sought, is_wanted, table_kept, request_of, prepared_text, found_text}
-use Rattle.ec_calls.specs.Inputs.{given_read, text_read}
-use Rattle.ec_calls.specs.Library.{cut_done}
+use Rattle.ec_meaning_defs.specs.evaluation.State.{Connection, State}
+use Rattle.ec_call_defs.specs.Outcomes.{Text, Field, Outcome, gives, next, begun_area}
+use Rattle.ec_call_defs.specs.Connecting.{own_name, unless_named}
+use Rattle.ec_call_defs.specs.Connections.{asked, begun, connection_for, connection_named, control_sent}
+use Rattle.ec_call_defs.specs.Autocommit.{autocommit_set}
+use Rattle.ec_call_defs.specs.Answers.{replied, taken}
+use Rattle.ec_call_defs.specs.Marks.{with_marks}
+use Rattle.ec_call_defs.specs.Preparing.{with_text, without_text, prepared_anew}
+use Rattle.ec_call_defs.specs.Running as sought
+use Rattle.ec_call_defs.specs.Running.{Wanted as Sought, is_wanted, table_kept, request_of, prepared_text, found_text}
+use Rattle.ec_call_defs.specs.Inputs.{given_read, text_read}
+use Rattle.ec_call_defs.specs.Library.{cut_done}
 use Rattle.ec_runtime.specs.declared.host.Host.{Host}
 use Rattle.ec_runtime.specs.declared.call.Call.{Call}
 use Rattle.ec_runtime.specs.declared.call.Act.{Act}

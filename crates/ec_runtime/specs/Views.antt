@@ -5,10 +5,10 @@ use Rattle.ec_runtime.specs.declared.host.Host.{Host}
 use Rattle.ec_runtime.specs.Places.{place_view}
 use Rattle.ec_convert.specs.declared.stop.ConvStop.{ConvStop}
 use Rattle.ec_convert.specs.declared.stop.ConvStop.TheVariants as conv
-use Rattle.ec_transfer.specs.declared.finding.Finding.{Finding}
-use Rattle.ec_transfer.specs.declared.finding.Finding.TheVariants as found
-use Rattle.ec_calls.specs.Running.{Outputs, nowhere, hosts}
-use Rattle.ec_calls.specs.Storing.{found_by}
+use Rattle.ec_transfer_defs.specs.declared.finding.Finding.{Finding}
+use Rattle.ec_transfer_defs.specs.declared.finding.Finding.TheVariants as found
+use Rattle.ec_call_defs.specs.Running.{Outputs, nowhere, hosts}
+use Rattle.ec_call_defs.specs.Storing.{found_by}
 
 abbrev pub host_view : Host → Place ℕ
 host_view h = place_view h.place

@@ -1,7 +1,7 @@
 //! Calls over a connection.
 
 ghost use Rattle.std.specs.Prelude.{◌≡◌};
-ghost use Rattle.ec_calls.specs.Outcomes.{Text};
+ghost use Rattle.ec_call_defs.specs.Outcomes.{Text};
 ghost use Rattle.ec_link.specs.Conn.{slot_of};
 ghost use Rattle.ec_link.specs.Links.{talk_by, faults_by};
 ghost use Rattle.ec_link.specs.Rack.{slots_of};
@@ -11,8 +11,8 @@ ghost use Rattle.ec_runtime.specs.Calling.{Changes, Holds};
 ghost use Rattle.ec_runtime.specs.Does.{OverNamed};
 ghost use Rattle.ec_runtime.specs.Reading.{text_view};
 ghost use Rattle.ec_runtime.specs.Statements.{act_done, act_view};
-ghost use Rattle.ec_calls.specs.Library.{call_done};
-ghost use Rattle.ec_transfer.specs.Area.{IsArea};
+ghost use Rattle.ec_call_defs.specs.Library.{call_done};
+ghost use Rattle.ec_transfer_defs.specs.Area.{IsArea};
 ghost use Rattle.std.specs.declared.option.Option.{Option};
 
 use crate::autocommit::set_autocommit;

@@ -1,12 +1,12 @@
 //! What a reply makes of a statement.
 
 ghost use Rattle.std.specs.Prelude.{◌≡◌, Err};
-ghost use Rattle.ec_transfer.specs.Area.{IsArea};
-ghost use Rattle.ec_calls.specs.Answers.{server_code, count_of, done, replied};
-ghost use Rattle.ec_calls.specs.Connections.{controlled};
-ghost use Rattle.ec_calls.specs.Outcomes.{refused};
-ghost use Rattle.ec_calls.specs.Storing.{counted_rows};
-ghost use Rattle.ec_calls.specs.Running.{is_wanted, rows_stored, table_kept};
+ghost use Rattle.ec_transfer_defs.specs.Area.{IsArea};
+ghost use Rattle.ec_call_defs.specs.Answers.{server_code, count_of, done, replied};
+ghost use Rattle.ec_call_defs.specs.Connections.{controlled};
+ghost use Rattle.ec_call_defs.specs.Outcomes.{refused};
+ghost use Rattle.ec_call_defs.specs.Storing.{counted_rows};
+ghost use Rattle.ec_call_defs.specs.Running.{is_wanted, rows_stored, table_kept};
 ghost use Rattle.ec_runtime.specs.Says.{Quiet};
 ghost use Rattle.ec_runtime.specs.Views.{outputs_of};
 
@@ -17,7 +17,7 @@ use crate::storing::keep_rows;
 use ec_base::Line;
 use ec_link::{Reply, SqlState, Table};
 use ec_memory::Store;
-use ec_transfer::Finding;
+use ec_transfer_defs::Finding;
 
 /// The code of a server's refusal.
 fn server_code(state: &SqlState) -> i64

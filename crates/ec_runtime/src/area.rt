@@ -1,9 +1,9 @@
 //! What a call tells in the communication area.
 
 ghost use Rattle.std.specs.Prelude.{◌≡◌};
-ghost use Rattle.ec_transfer.specs.Area.{IsArea};
-ghost use Rattle.ec_transfer.specs.Codes.{code_of, state_of, text_of_finding};
-ghost use Rattle.ec_calls.specs.Outcomes.{fresh_area, told_area, warned_area, counted_area};
+ghost use Rattle.ec_transfer_defs.specs.Area.{IsArea};
+ghost use Rattle.ec_transfer_defs.specs.Codes.{code_of, state_of, text_of_finding};
+ghost use Rattle.ec_call_defs.specs.Outcomes.{fresh_area, told_area, warned_area, counted_area};
 ghost use Rattle.ec_runtime.specs.declared.stop.Stop.TheVariants as stops;
 
 use crate::stop::Stop;
@@ -11,10 +11,10 @@ use ec_base::Line;
 use ec_link::SqlState;
 use ec_memory::Store;
 use ec_sqlca::{raise, reset, rows, warn};
-use ec_transfer::Finding;
+use ec_transfer_defs::Finding;
 
 /// The area as it is when a statement begins.
-#[tactic(auto, unfolding(ec_calls::specs::Outcomes::fresh_area))]
+#[tactic(auto, unfolding(ec_call_defs::specs::Outcomes::fresh_area))]
 pub(crate) fn begin_area(store: &mut Store)
     requires { IsArea store.old }
     ensures area { store.new ≡ fresh_area store.old }
@@ -24,7 +24,7 @@ pub(crate) fn begin_area(store: &mut Store)
 }
 
 /// A number of rows is told.
-#[tactic(auto, unfolding(ec_calls::specs::Outcomes::counted_area))]
+#[tactic(auto, unfolding(ec_call_defs::specs::Outcomes::counted_area))]
 pub(crate) fn tell_count(store: &mut Store, count: u64)
     requires { IsArea store.old }
     ensures area { store.new ≡ counted_area count store.old }
@@ -34,7 +34,7 @@ pub(crate) fn tell_count(store: &mut Store, count: u64)
 }
 
 /// A value that was cut is told.
-#[tactic(auto, unfolding(ec_calls::specs::Outcomes::warned_area))]
+#[tactic(auto, unfolding(ec_call_defs::specs::Outcomes::warned_area))]
 pub(crate) fn tell_cut(store: &mut Store)
     requires { IsArea store.old }
     ensures area { store.new ≡ warned_area store.old }
@@ -44,7 +44,7 @@ pub(crate) fn tell_cut(store: &mut Store)
 }
 
 /// A code with its state and its message ends the call.
-#[tactic(auto, unfolding(ec_calls::specs::Outcomes::told_area))]
+#[tactic(auto, unfolding(ec_call_defs::specs::Outcomes::told_area))]
 pub(crate) fn tell(
     store: &mut Store,
     line: Line,

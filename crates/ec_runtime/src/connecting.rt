@@ -1,11 +1,11 @@
 //! CONNECT and SET CONNECTION (PostgreSQL manual, chapter ECPG, section "Managing Database Connections").
 
 ghost use Rattle.std.specs.Prelude.{◌≡◌, ◌<◌, vec_capacity, vec_len, ◌++◌, ◌∷◌, [], None, Some, IfErr, IfOk};
-ghost use Rattle.ec_calls.specs.Connecting.{connecting, own_name, set_connection_call};
-ghost use Rattle.ec_calls.specs.Connections.{connection_named};
-ghost use Rattle.ec_calls.specs.Inputs.{given_read};
-ghost use Rattle.ec_calls.specs.Library.{call_done};
-ghost use Rattle.ec_evaluation.specs.State.{State};
+ghost use Rattle.ec_call_defs.specs.Connecting.{connecting, own_name, set_connection_call};
+ghost use Rattle.ec_call_defs.specs.Connections.{connection_named};
+ghost use Rattle.ec_call_defs.specs.Inputs.{given_read};
+ghost use Rattle.ec_call_defs.specs.Library.{call_done};
+ghost use Rattle.ec_meaning_defs.specs.evaluation.State.{State};
 ghost use Rattle.ec_link.specs.Links.{talk_by, faults_by};
 ghost use Rattle.ec_link.specs.Logged.{IsConnect};
 ghost use Rattle.ec_runtime.specs.Calling.{connections_of, seen_by, Changes, Holds};
@@ -15,7 +15,7 @@ ghost use Rattle.ec_runtime.specs.Says.{Quiet};
 ghost use Rattle.ec_runtime.specs.Statements.{connect_read, connected, current_set, kind_view};
 ghost use Rattle.ec_runtime.specs.declared.call.Kind.TheVariants as kinds;
 ghost use Rattle.ec_runtime.specs.declared.stop.Stop.TheVariants as stops;
-ghost use Rattle.ec_transfer.specs.Area.{IsArea};
+ghost use Rattle.ec_transfer_defs.specs.Area.{IsArea};
 
 use crate::area::{begin_area, refuse};
 use crate::call::Connect;
@@ -27,7 +27,7 @@ use crate::stop::Stop;
 use ec_base::{Bytes, Line, List, Name};
 use ec_link::{Link, Rack, Request, Tx};
 use ec_memory::Store;
-use ec_transfer::Finding;
+use ec_transfer_defs::Finding;
 use std::alloc::Global;
 
 /// Keeps the bytes of a name.

@@ -2,16 +2,16 @@
 
 ghost use Rattle.std.specs.Prelude.{◌≡◌, ◌<◌, ℕ, List, Some, length, map, reverse, slice_get, IfErr, IfOk, OnOk};
 ghost use Rattle.std.specs.List.{remove};
-ghost use Rattle.ec_calls.specs.Disconnecting.{all_closed, closed, current_without, disconnect_call, last_name};
-ghost use Rattle.ec_evaluation.specs.State.{Connection, State};
+ghost use Rattle.ec_call_defs.specs.Disconnecting.{all_closed, closed, current_without, disconnect_call, last_name};
+ghost use Rattle.ec_meaning_defs.specs.evaluation.State.{Connection, State};
 ghost use Rattle.ec_link.specs.Links.{talk_by, faults_by};
-ghost use Rattle.ec_objects.specs.Memory.{Memory};
+ghost use Rattle.ec_memory_defs.specs.Memory.{Memory};
 ghost use Rattle.ec_runtime.specs.Calling.{connections_of, Changes, Holds};
 ghost use Rattle.ec_runtime.specs.Closing.{is_current, which_closed, which_of, Chooses, IsWithin};
 ghost use Rattle.ec_runtime.specs.Opening.{open_view};
 ghost use Rattle.ec_runtime.specs.Reading.{given_view};
 ghost use Rattle.ec_runtime.specs.declared.stop.Stop.TheVariants as stops;
-ghost use Rattle.ec_transfer.specs.Area.{IsArea};
+ghost use Rattle.ec_transfer_defs.specs.Area.{IsArea};
 
 use crate::area::{begin_area, refuse};
 use crate::finding::{place_current, place_of};
@@ -22,7 +22,7 @@ use crate::stop::Stop;
 use ec_base::{Line, Name, OutOfMemory, Trap};
 use ec_link::{Link, Rack};
 use ec_memory::Store;
-use ec_transfer::Finding;
+use ec_transfer_defs::Finding;
 
 /// What is closed.
 #[derive(Debug, Drop)]

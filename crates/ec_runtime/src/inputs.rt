@@ -1,7 +1,7 @@
 //! What a call reads before it does anything.
 
 ghost use Rattle.std.specs.Prelude.{◌≡◌, map, IsSome, IfOk, IfErr};
-ghost use Rattle.ec_calls.specs.Inputs.{given_read, member_read, text_read};
+ghost use Rattle.ec_call_defs.specs.Inputs.{given_read, member_read, text_read};
 ghost use Rattle.ec_runtime.specs.Reading.{values_read, given_view, input_view, text_view};
 ghost use Rattle.ec_runtime.specs.Says.{Quiet};
 ghost use Rattle.ec_runtime.specs.declared.stop.Stop.TheVariants as stops;

@@ -24,7 +24,6 @@ mod stop;
 mod storing;
 
 pub use call::{Act, Call, Connect, Kind, Statement, Wanted};
-pub use ec_convert;
 pub use host::{Host, places_that_fit};
 pub use inputs::{GivenText, Input, TextArg};
 pub use library::Library;

@@ -5,7 +5,7 @@ ghost use Rattle.ec_link.specs.Links.{talk_by, faults_by};
 ghost use Rattle.ec_link.specs.Rack.{slots_of, log_of};
 ghost use Rattle.ec_link.specs.Slot.{states};
 ghost use Rattle.ec_link.specs.SlotState.{ready_slot};
-ghost use Rattle.ec_transfer.specs.Area.{IsArea};
+ghost use Rattle.ec_transfer_defs.specs.Area.{IsArea};
 ghost use Rattle.ec_runtime.specs.Calling.{conns_of, called_by, Called, Changes, Closes, Holds, Opens};
 ghost use Rattle.ec_runtime.specs.Racks.{AllTaken, GivesAll};
 ghost use Rattle.ec_runtime.specs.Statements.{call_action};

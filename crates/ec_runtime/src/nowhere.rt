@@ -1,15 +1,14 @@
 //! Calls over a connection whose name leads to none: what they are given is read, and a code ends them.
 
-ghost use Rattle.std.specs.Prelude.{◌≡◌, [], Err, None};
-ghost use Rattle.ec_calls.specs.Outcomes.{Text};
-ghost use Rattle.ec_evaluation.specs.State.{Connection};
+ghost use Rattle.std.specs.Prelude.{◌≡◌, [], Err, None, List};
+ghost use Rattle.ec_call_defs.specs.Outcomes.{Text};
+ghost use Rattle.ec_meaning_defs.specs.evaluation.State.{Connection};
 ghost use Rattle.ec_runtime.specs.Calling.{Closed};
 ghost use Rattle.ec_runtime.specs.Does.{Does};
 ghost use Rattle.ec_runtime.specs.Seeking.{sought};
 ghost use Rattle.ec_runtime.specs.Statements.{act_done, preparing, ran, reached};
-ghost use Rattle.ec_transfer.specs.Area.{IsArea};
+ghost use Rattle.ec_transfer_defs.specs.Area.{IsArea};
 ghost use Rattle.std.specs.declared.option.Option.{Option};
-ghost use Rattle.std.specs.Prelude.{List};
 
 use crate::area::{begin_area, refuse};
 use crate::call::{Act, Statement};
@@ -19,7 +18,7 @@ use crate::preparing::marked_text;
 use crate::stop::Stop;
 use ec_base::{Line, Name};
 use ec_memory::Store;
-use ec_transfer::Finding;
+use ec_transfer_defs::Finding;
 use std::alloc::Global;
 
 /// The area is set to its opening value, and a code ends the call.

@@ -8,7 +8,7 @@ ghost use Rattle.ec_link.specs.Logged.{IsAsk};
 ghost use Rattle.ec_link.specs.Rack.{slots_of, log_of};
 ghost use Rattle.ec_link.specs.Slot.{states};
 ghost use Rattle.ec_link.specs.SlotState.{TakenAt};
-ghost use Rattle.ec_calls.specs.Connections.{told_by, begins};
+ghost use Rattle.ec_call_defs.specs.Connections.{told_by, begins};
 ghost use Rattle.ec_runtime.specs.Opening.{open_view, told_after, Asked};
 
 use crate::prepared::Prepared;

@@ -2,8 +2,8 @@
 
 ghost use Rattle.std.specs.Prelude.{◌≡◌, ◌<◌, length, option_map, IfSome, OnOk};
 ghost use Rattle.std.specs.Option.{option_copied};
-ghost use Rattle.ec_calls.specs.Preparing.{with_text, without_text};
-ghost use Rattle.ec_calls.specs.Running.{prepared_text};
+ghost use Rattle.ec_call_defs.specs.Preparing.{with_text, without_text};
+ghost use Rattle.ec_call_defs.specs.Running.{prepared_text};
 ghost use Rattle.ec_runtime.specs.Prepared.{place_of, prepared_views};
 
 use ec_base::{Bytes, List, Name, OutOfMemory};

@@ -1,9 +1,9 @@
 //! PREPARE and DEALLOCATE (PostgreSQL manual, chapter ECPG, section "Dynamic SQL"). No transaction is begun before them.
 
 ghost use Rattle.std.specs.Prelude.{◌≡◌, IfOk};
-ghost use Rattle.ec_calls.specs.Answers.{taken};
-ghost use Rattle.ec_calls.specs.Outcomes.{Text};
-ghost use Rattle.ec_calls.specs.Preparing.{with_text, without_text};
+ghost use Rattle.ec_call_defs.specs.Answers.{taken};
+ghost use Rattle.ec_call_defs.specs.Outcomes.{Text};
+ghost use Rattle.ec_call_defs.specs.Preparing.{with_text, without_text};
 ghost use Rattle.ec_link.specs.Conn.{slot_of};
 ghost use Rattle.ec_link.specs.Links.{talk_by, faults_by};
 ghost use Rattle.ec_link.specs.Logged.{IsAsk};
@@ -11,7 +11,7 @@ ghost use Rattle.ec_link.specs.Rack.{slots_of};
 ghost use Rattle.ec_link.specs.Slot.{states};
 ghost use Rattle.ec_link.specs.declared.request.Request.TheVariants as Asks;
 ghost use Rattle.ec_link.specs.SlotState.{TakenAt};
-ghost use Rattle.ec_transfer.specs.Area.{IsArea};
+ghost use Rattle.ec_transfer_defs.specs.Area.{IsArea};
 ghost use Rattle.ec_runtime.specs.Does.{Over, OverNamed};
 ghost use Rattle.ec_runtime.specs.Opening.{open_view};
 ghost use Rattle.ec_runtime.specs.Says.{Quiet};
@@ -29,7 +29,7 @@ use ec_base::{Bytes, Line, Name, OutOfMemory};
 use ec_link::{Link, Rack, Reply, Request};
 use ec_marks::with_marks;
 use ec_memory::Store;
-use ec_transfer::Finding;
+use ec_transfer_defs::Finding;
 use std::alloc::Global;
 
 /// A reply to PREPARE or DEALLOCATE, which have no rows and no count.

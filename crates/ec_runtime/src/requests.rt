@@ -1,9 +1,9 @@
 //! The request of a statement, over the open connection.
 
 ghost use Rattle.std.specs.Prelude.{◌≡◌, ◌++◌, IfOk, IfErr};
-ghost use Rattle.ec_calls.specs.Running.{execution, cursor};
+ghost use Rattle.ec_call_defs.specs.Running.{execution, cursor};
 ghost use Rattle.ec_link.specs.Logged.{IsAsk};
-ghost use Rattle.ec_transfer.specs.Area.{IsArea};
+ghost use Rattle.ec_transfer_defs.specs.Area.{IsArea};
 ghost use Rattle.ec_runtime.specs.Opening.{open_view};
 ghost use Rattle.ec_runtime.specs.Says.{Quiet};
 ghost use Rattle.ec_runtime.specs.Statements.{made_with, request_made};
@@ -17,7 +17,7 @@ use crate::stop::Stop;
 use ec_base::{Bytes, Line, List, Name};
 use ec_link::Request;
 use ec_memory::Store;
-use ec_transfer::Finding;
+use ec_transfer_defs::Finding;
 
 /// A text behind another.
 fn joined(head: Bytes, text: &[u8]) -> Result<Bytes, Stop>

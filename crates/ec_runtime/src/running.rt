@@ -7,12 +7,12 @@ ghost use Rattle.ec_link.specs.Logged.{IsAsk};
 ghost use Rattle.ec_link.specs.Rack.{slots_of};
 ghost use Rattle.ec_link.specs.Slot.{states};
 ghost use Rattle.ec_link.specs.SlotState.{TakenAt};
-ghost use Rattle.ec_transfer.specs.Area.{IsArea};
-ghost use Rattle.ec_calls.specs.Connections.{begun};
+ghost use Rattle.ec_transfer_defs.specs.Area.{IsArea};
+ghost use Rattle.ec_call_defs.specs.Connections.{begun};
 ghost use Rattle.ec_runtime.specs.Does.{Over, OverNamed};
 ghost use Rattle.ec_runtime.specs.Opening.{open_view};
 ghost use Rattle.ec_runtime.specs.Statements.{sent, carried, ordered, started, ran};
-ghost use Rattle.ec_calls.specs.Outcomes.{Text};
+ghost use Rattle.ec_call_defs.specs.Outcomes.{Text};
 ghost use Rattle.std.specs.declared.option.Option.{Option};
 
 use crate::answering::answered;

@@ -2,10 +2,10 @@
 
 ghost use Rattle.std.specs.Prelude.{◌≡◌, ℕ, ◌<◌, ◌≤◌, length, false, Some, OnOk};
 ghost use Rattle.std.specs.Option.{option_copied};
-ghost use Rattle.ec_transfer.specs.Area.{IsArea};
-ghost use Rattle.ec_transfer.specs.Hosts.{HostData};
+ghost use Rattle.ec_transfer_defs.specs.Area.{IsArea};
+ghost use Rattle.ec_transfer_defs.specs.Hosts.{HostData};
 ghost use Rattle.ec_convert.specs.Host.{given_host};
-ghost use Rattle.ec_calls.specs.Storing.{found_by, field_kept, in_column, column_kept, any_fewer, measured, targets_kept, rows_into};
+ghost use Rattle.ec_call_defs.specs.Storing.{found_by, field_kept, in_column, column_kept, any_fewer, measured, targets_kept, rows_into};
 ghost use Rattle.ec_runtime.specs.Says.{Quiet, Stopped};
 ghost use Rattle.ec_runtime.specs.Views.{finding_of, hosts_view};
 
@@ -16,7 +16,7 @@ use ec_base::Line;
 use ec_convert::{ConvStop, from_text};
 use ec_link::Row;
 use ec_memory::Store;
-use ec_transfer::Finding;
+use ec_transfer_defs::Finding;
 
 /// What a conversion found wrong, by its code.
 fn finding_of(stop: ConvStop) -> Finding

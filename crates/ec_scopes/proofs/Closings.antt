@@ -5,10 +5,10 @@ use Rattle.std.proofs.lemmas.Option.{slice_get-map}
 use Rattle.ec_ctypes.specs.declared.types.sizes.Shape.{Shape}
 use Rattle.ec_ctypes.specs.trees.Types.{TyData, void, arithmetic, pointer, array, structure, MemberData}
 use Rattle.ec_ctypes.specs.Layout.{repeated, with_member, no_members, with_members, shape_among, struct_shape}
-use Rattle.ec_typing.specs.ec_language.Letters.{Text}
-use Rattle.ec_typing.specs.Worlds.{MembersData, StructInfo, struct_named, unlisted, begun, listed}
-use Rattle.ec_typing.specs.Expressions.{first_types, first_of_members, typed_members}
-use Rattle.ec_typing.specs.Expressions as rule
+use Rattle.ec_language.specs.Letters.{Text}
+use Rattle.ec_typing_defs.specs.Worlds.{MembersData, StructInfo, struct_named, unlisted, begun, listed}
+use Rattle.ec_typing_defs.specs.Expressions.{first_types, first_of_members, typed_members}
+use Rattle.ec_typing_defs.specs.Expressions as rule
 use Rattle.ec_scopes.specs.declared.structs.StructRow.{StructRow}
 use Rattle.ec_scopes.specs.Counts.{counted}
 use Rattle.ec_scopes.specs.Measures.{rounded, measured, IsSmallMeasure}

@@ -4,9 +4,9 @@ use Rattle.std.proofs.lemmas.Bool.Decides.{nat_tests}
 use Rattle.std.proofs.lemmas.Option.{slice_get-map}
 use Rattle.ec_ctypes.specs.declared.types.ty.Ty.{Ty}
 use Rattle.ec_ctypes.specs.trees.Types.{structure}
-use Rattle.ec_typing.specs.Worlds.{StructInfo}
-use Rattle.ec_typing.specs.Expressions.{stands_for, stands_for_member, stands_for_all}
-use Rattle.ec_typing.specs.Embedded.{max_members}
+use Rattle.ec_typing_defs.specs.Worlds.{StructInfo}
+use Rattle.ec_typing_defs.specs.Expressions.{stands_for, stands_for_member, stands_for_all}
+use Rattle.ec_typing_defs.specs.Embedded.{max_members}
 use Rattle.ec_scopes.specs.declared.structs.StructRow.{StructRow}
 use Rattle.ec_scopes.specs.Counts.{counted, member_stands}
 use Rattle.ec_scopes.specs.Entries.{type_view, named_view}

@@ -8,9 +8,9 @@ use Rattle.ec_ctypes.specs.views.Types.{ty_view}
 use Rattle.ec_ctypes.proofs.Shapes.{view-Array}
 use Rattle.ec_ctypes.specs.trees.Types.{TyData, array, structure, MemberData}
 use Rattle.ec_ctypes.specs.Layout.{with_member, no_members, with_members, shape_among, struct_shape}
-use Rattle.ec_typing.specs.Worlds.{StructInfo, is_within, max_size}
-use Rattle.ec_typing.specs.Expressions.{typed_members}
-use Rattle.ec_typing.specs.Expressions as rule
+use Rattle.ec_typing_defs.specs.Worlds.{StructInfo, is_within, max_size}
+use Rattle.ec_typing_defs.specs.Expressions.{typed_members}
+use Rattle.ec_typing_defs.specs.Expressions as rule
 use Rattle.ec_scopes.specs.declared.measures.Measure.{Measure}
 use Rattle.ec_scopes.specs.declared.measures.Measure.TheVariants.{Unknown, Within, TooLarge}
 use Rattle.ec_scopes.specs.declared.structs.StructRow.{StructRow}

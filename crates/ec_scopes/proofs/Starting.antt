@@ -9,10 +9,10 @@ use Rattle.ec_ctypes.specs.declared.types.sizes.Shape.{Shape}
 use Rattle.ec_ctypes.specs.trees.Types.{TyData, void, arithmetic, pointer, array, structure, MemberData}
 use Rattle.ec_ctypes.specs.Layout.{no_members, repeated, with_member, offset_behind, shape_among, member_behind}
 use Rattle.ec_known.proofs.Tables.{same_text_sym}
-use Rattle.ec_typing.specs.ec_language.Letters.{Text, same_text}
-use Rattle.ec_typing.specs.Expressions.{Members, typed_members}
-use Rattle.ec_typing.specs.Tables.{Named}
-use Rattle.ec_typing.specs.Worlds.{MembersData, StructInfo, unlisted, begun, listed, max_size}
+use Rattle.ec_language.specs.Letters.{Text, same_text}
+use Rattle.ec_typing_defs.specs.Expressions.{Members, typed_members}
+use Rattle.ec_typing_defs.specs.Tables.{Named}
+use Rattle.ec_typing_defs.specs.Worlds.{MembersData, StructInfo, unlisted, begun, listed, max_size}
 use Rattle.ec_scopes.specs.declared.measures.Measure.TheVariants.{Within, TooLarge}
 use Rattle.ec_scopes.specs.declared.structs.StructRow.{StructRow}
 use Rattle.ec_scopes.specs.Entries.{named_view, type_view}

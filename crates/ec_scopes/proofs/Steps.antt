@@ -1,8 +1,8 @@
 -- How functions that do what rules say are put together.
 use Rattle.std.proofs.Common.{◌≡◌, ◌∙◌, List, [], ◌∷◌, ◌++◌, Result, Ok, Err, IfOk, refl, sym, ap, Option}
 use Rattle.ec_base.specs.declared.stop.OutOfMemory.{OutOfMemory}
-use Rattle.ec_typing.specs.ec_language.First.{Violation}
-use Rattle.ec_typing.specs.Worlds.{World, Out, Rule, chain, pure, ask, change}
+use Rattle.ec_language.specs.First.{Violation}
+use Rattle.ec_typing_defs.specs.Worlds.{World, Out, Rule, chain, pure, ask, change}
 use Rattle.ec_scopes.specs.declared.state.Checker.{Checker}
 use Rattle.ec_scopes.specs.Seen.{world_of, notes_of, noted, noted_one, IsDone}
 

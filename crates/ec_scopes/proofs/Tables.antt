@@ -3,8 +3,8 @@ use Rattle.std.proofs.Common.{◌≡◌, ℕ, Bool, true, false, nat_eq, List, [
 use Rattle.std.specs.Cmp.Lexicographic.{pointwise}
 use Rattle.std.specs.Map.{lookup}
 use Rattle.indexmap.specs.IndexMap.{insert_entry}
-use Rattle.ec_typing.specs.ec_language.Letters.{Text, same_text}
-use Rattle.ec_typing.specs.Tables.{Named, find, put}
+use Rattle.ec_language.specs.Letters.{Text, same_text}
+use Rattle.ec_typing_defs.specs.Tables.{Named, find, put}
 
 abbrev pub Entries : Type 0 → Type 0
 Entries V = List (Vec ℕ Global × V)

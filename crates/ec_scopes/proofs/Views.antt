@@ -3,9 +3,9 @@ use Rattle.std.proofs.Common.{◌≡◌, ◌∙◌, ℕ, zero, suc, ◌+◌, ◌
 use Rattle.std.specs.Prelude.{option_map}
 use Rattle.std.proofs.Math.Seq.{take-suc}
 use Rattle.std.proofs.lemmas.List.{map-append, reverse-append}
-use Rattle.ec_typing.specs.ec_language.Letters.{Text, same_text}
-use Rattle.ec_typing.specs.Tables.{Named, find, put}
-use Rattle.ec_typing.specs.Worlds.{or_else, look_up_in, tag_in}
+use Rattle.ec_language.specs.Letters.{Text, same_text}
+use Rattle.ec_typing_defs.specs.Tables.{Named, find, put}
+use Rattle.ec_typing_defs.specs.Worlds.{or_else, look_up_in, tag_in}
 use Rattle.ec_scopes.specs.declared.entries.Scope.{Scope}
 use Rattle.ec_scopes.specs.declared.entries.Entry.{Entry}
 use Rattle.ec_scopes.specs.Entries.{named_view, entry_view, scope_view, outer_view}

@@ -3,9 +3,9 @@ use Rattle.std.specs.Prelude.{ℕ, ◌+◌, nat_le, List, Option, Some, None, if
 use Rattle.ec_ctypes.specs.declared.types.ty.Ty.{Ty}
 use Rattle.ec_ctypes.specs.views.Types.{ty_view}
 use Rattle.ec_ctypes.specs.trees.Types.{TyData, array}
-use Rattle.ec_typing.specs.Worlds.{StructInfo}
-use Rattle.ec_typing.specs.Expressions.{stands_for}
-use Rattle.ec_typing.specs.Embedded.{max_members}
+use Rattle.ec_typing_defs.specs.Worlds.{StructInfo}
+use Rattle.ec_typing_defs.specs.Expressions.{stands_for}
+use Rattle.ec_typing_defs.specs.Embedded.{max_members}
 
 -- a number up to the limit; all others are the one above it
 abbrev pub counted : ℕ → ℕ

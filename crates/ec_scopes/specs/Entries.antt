@@ -3,10 +3,10 @@ use Rattle.std.specs.Prelude.{List, map, reverse, Option, option_map}
 use Rattle.ec_ctypes.specs.declared.types.ty.Ty.{Ty}
 use Rattle.ec_ctypes.specs.trees.Types.{TyData}
 use Rattle.ec_ctypes.specs.views.Types.{ty_view}
-use Rattle.ec_typing.specs.ec_language.First.{Violation}
-use Rattle.ec_typing.specs.Tables.{Named}
-use Rattle.ec_typing.specs.Worlds as rule
-use Rattle.ec_typing.specs.Worlds.{EntryData, object, function, ScopeData, max_size}
+use Rattle.ec_language.specs.First.{Violation}
+use Rattle.ec_typing_defs.specs.Tables.{Named}
+use Rattle.ec_typing_defs.specs.Worlds as rule
+use Rattle.ec_typing_defs.specs.Worlds.{EntryData, object, function, ScopeData, max_size}
 use Rattle.ec_scopes.specs.declared.entries.Entry.{Entry}
 use Rattle.ec_scopes.specs.declared.entries.Entry.TheVariants as e
 use Rattle.ec_scopes.specs.declared.entries.Scope.{Scope}

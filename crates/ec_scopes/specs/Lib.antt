@@ -1,5 +1,3 @@
-pub use Rattle.ec_known.specs as ec_known
-pub use Rattle.ec_typing.specs as ec_typing
 pub mod Counts
 pub mod Offsets
 pub mod Entries

@@ -3,7 +3,7 @@ use Rattle.std.specs.Prelude.{◌<◌, ◌≤◌, ◌^◌, Bool, true, false, Op
 use Rattle.std.specs.Int.{next_multiple_of}
 use Rattle.ec_ctypes.specs.declared.types.sizes.Shape.{Shape}
 use Rattle.ec_ctypes.specs.Layout.{with_member}
-use Rattle.ec_typing.specs.Worlds.{max_size}
+use Rattle.ec_typing_defs.specs.Worlds.{max_size}
 use Rattle.ec_scopes.specs.declared.measures.Measure.{Measure}
 use Rattle.ec_scopes.specs.declared.measures.Measure.TheVariants.{Unknown, Within, TooLarge}
 

@@ -2,10 +2,10 @@
 use Rattle.std.specs.Prelude.{◌≡◌, ℕ, suc, ◌+◌, List, [], ◌∷◌, Option, Some, None, option_map, option_and_then, if◌then◌else◌}
 use Rattle.ec_ctypes.specs.declared.types.sizes.Shape.{Shape}
 use Rattle.ec_ctypes.specs.Layout.{no_members, offset_behind, shape_among, member_behind}
-use Rattle.ec_typing.specs.ec_language.Letters.{Text, same_text}
-use Rattle.ec_typing.specs.Expressions.{Members, typed_members}
-use Rattle.ec_typing.specs.Tables.{Named}
-use Rattle.ec_typing.specs.Worlds.{MembersData, unlisted, begun, listed}
+use Rattle.ec_language.specs.Letters.{Text, same_text}
+use Rattle.ec_typing_defs.specs.Expressions.{Members, typed_members}
+use Rattle.ec_typing_defs.specs.Tables.{Named}
+use Rattle.ec_typing_defs.specs.Worlds.{MembersData, unlisted, begun, listed}
 
 -- the number of the pair that has this name
 abbrev pub place_of : {V : Type 0} → Text → Named V → Option ℕ

@@ -1,8 +1,8 @@
 -- Names that are put into tables.
 use Rattle.std.specs.Prelude.{Bool, [], is_some}
-use Rattle.ec_typing.specs.ec_language.Letters.{Text}
-use Rattle.ec_typing.specs.Tables.{find, put}
-use Rattle.ec_typing.specs.Worlds.{EntryData, Rule, out, with_name}
+use Rattle.ec_language.specs.Letters.{Text}
+use Rattle.ec_typing_defs.specs.Tables.{find, put}
+use Rattle.ec_typing_defs.specs.Worlds.{EntryData, Rule, out, with_name}
 
 -- the name stands for this now; whether it stood for something in this scope before
 abbrev pub name_put : Text → EntryData → Rule Bool

@@ -4,8 +4,8 @@ use Rattle.ec_base.specs.declared.fault.FaultKind.{FaultKind}
 use Rattle.ec_base.specs.declared.stop.OutOfMemory.{OutOfMemory}
 use Rattle.ec_base.specs.declared.stop.Stop.TheVariants.{Refused}
 use Rattle.ec_ctypes.specs.views.Types.{ty_view}
-use Rattle.ec_typing.specs.ec_language.First.{Violation, comes_before}
-use Rattle.ec_typing.specs.Worlds.{Place, World, Out}
+use Rattle.ec_language.specs.First.{Violation, comes_before}
+use Rattle.ec_typing_defs.specs.Worlds.{Place, World, Out}
 use Rattle.ec_scopes.specs.declared.state.Checker.{Checker}
 use Rattle.ec_scopes.specs.Entries.{found_view, scope_view, outer_view}
 use Rattle.ec_scopes.specs.Structs.{infos}

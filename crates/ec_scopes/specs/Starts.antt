@@ -3,10 +3,10 @@ use Rattle.std.specs.Prelude.{Bool, List, [], ◌∷◌, Some, codes, take}
 use Rattle.ec_ctypes.specs.trees.Types.{arithmetic, array, structure}
 use Rattle.ec_ctypes.specs.declared.types.arith.Arith.TheVariants.{Char, Int, Long}
 use Rattle.ec_ctypes.specs.LayoutExamples.{sqlca_structs}
-use Rattle.ec_typing.specs.Tables.{Named}
-use Rattle.ec_typing.specs.Worlds.{World, StructInfo, no_names}
-use Rattle.ec_typing.specs.Expressions.{Members}
-use Rattle.ec_typing.specs.Programs.{known_structs}
+use Rattle.ec_typing_defs.specs.Tables.{Named}
+use Rattle.ec_typing_defs.specs.Worlds.{World, StructInfo, no_names}
+use Rattle.ec_typing_defs.specs.Expressions.{Members}
+use Rattle.ec_typing_defs.specs.Programs.{known_structs}
 
 -- the members of sqlerrm
 abbrev pub message_members : Members

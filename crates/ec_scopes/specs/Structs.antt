@@ -5,9 +5,9 @@ use Rattle.ec_ctypes.specs.declared.types.ty.Ty.{Ty}
 use Rattle.ec_ctypes.specs.views.Types.{ty_view}
 use Rattle.ec_ctypes.specs.trees.Types.{TyData, void, arithmetic, pointer, array, structure}
 use Rattle.ec_ctypes.specs.Layout.{shape_among, struct_shape}
-use Rattle.ec_typing.specs.ec_language.Letters.{Text}
-use Rattle.ec_typing.specs.Worlds.{MembersData, unlisted, begun, listed, StructInfo, World, Rule, out, is_listed, is_within}
-use Rattle.ec_typing.specs.Expressions as rule
+use Rattle.ec_language.specs.Letters.{Text}
+use Rattle.ec_typing_defs.specs.Worlds.{MembersData, unlisted, begun, listed, StructInfo, World, Rule, out, is_listed, is_within}
+use Rattle.ec_typing_defs.specs.Expressions as rule
 use Rattle.ec_scopes.specs.declared.measures.Measure.{Measure}
 use Rattle.ec_scopes.specs.Counts.{counted}
 use Rattle.ec_scopes.specs.Measures.{measured, IsSmallMeasure}

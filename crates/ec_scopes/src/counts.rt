@@ -1,7 +1,7 @@
 //! How many members a host stands for, as far as it counts.
 
 ghost use Rattle.std.specs.Prelude.{◌≡◌, ◌+◌, nat_le};
-ghost use Rattle.ec_typing.specs.Embedded.{max_members};
+ghost use Rattle.ec_typing_defs.specs.Embedded.{max_members};
 ghost use Rattle.ec_scopes.specs.Counts.{counted};
 
 /// The most members that a host stands for.

@@ -1,8 +1,8 @@
 //! What is asked and kept of embedded statements (PostgreSQL manual, "Using Host Variables").
 
 ghost use Rattle.std.specs.Prelude.{◌≡◌, nat_le, ◌++◌, ◌∷◌, []};
-ghost use Rattle.ec_typing.specs.Embedded.{members_in, max_members};
-ghost use Rattle.ec_typing.specs.Worlds as rule;
+ghost use Rattle.ec_typing_defs.specs.Embedded.{members_in, max_members};
+ghost use Rattle.ec_typing_defs.specs.Worlds as rule;
 ghost use Rattle.ec_scopes.specs.Entries.{type_view};
 ghost use Rattle.ec_scopes.specs.Seen.{world_of, Does};
 
@@ -11,7 +11,7 @@ use crate::state::Checker;
 use ec_base::{List, OutOfMemory};
 use ec_ctypes::Ty;
 
-#[tactic(auto, unfolding(ec_typing::specs::Worlds::change, crate::specs::Seen::world_of, crate::specs::Seen::notes_of))]
+#[tactic(auto, unfolding(ec_typing_defs::specs::Worlds::change, crate::specs::Seen::world_of, crate::specs::Seen::notes_of))]
 impl Checker {
     /// Whether a host of this type stands for no more members than one may.
     pub fn has_few_members(&self, ty: &Option<Ty>) -> bool

@@ -1,7 +1,7 @@
 //! What names stand for (ISO/IEC 9899:1999, 6.2.1 and 6.2.3).
 
 ghost use Rattle.std.specs.Prelude.{◌≡◌};
-ghost use Rattle.ec_typing.specs.Worlds as rule;
+ghost use Rattle.ec_typing_defs.specs.Worlds as rule;
 ghost use Rattle.ec_scopes.specs.Entries.{scope_view};
 
 use crate::table::Table;

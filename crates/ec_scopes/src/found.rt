@@ -1,7 +1,7 @@
 //! Violations, of which the first is kept.
 
 ghost use Rattle.std.specs.Prelude.{◌≡◌};
-ghost use Rattle.ec_typing.specs.ec_language.First as first;
+ghost use Rattle.ec_language.specs.First as first;
 ghost use Rattle.ec_scopes.specs.Entries.{found_view};
 
 use ec_base::{FaultKind, LimitKind, Stop};

@@ -18,7 +18,6 @@ mod table;
 mod tags;
 mod varchars;
 
-pub use ec_known;
 pub use entries::{Entry, Scope};
 pub use found::Found;
 pub use measures::Measure;

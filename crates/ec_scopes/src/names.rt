@@ -1,8 +1,8 @@
 //! Names that are declared (ISO/IEC 9899:1999, 6.2.1 and 6.7), and those that are reserved.
 
 ghost use Rattle.std.specs.Prelude.{◌≡◌};
-ghost use Rattle.ec_typing.specs.Worlds as rule;
-ghost use Rattle.ec_typing.specs.Programs as program;
+ghost use Rattle.ec_typing_defs.specs.Worlds as rule;
+ghost use Rattle.ec_typing_defs.specs.Programs as program;
 ghost use Rattle.ec_scopes.specs.Entries.{entry_view, place_view};
 ghost use Rattle.ec_scopes.specs.Seen.{world_of, IsDone, Does};
 ghost use Rattle.ec_scopes.specs.Puts.{name_put, label_put};
@@ -13,7 +13,7 @@ use crate::state::Checker;
 use ec_base::{FaultKind, OutOfMemory};
 use ec_known::{is_reserved, is_reserved_tag};
 
-#[tactic(auto, using(crate::proofs::Steps::noting), unfolding(ec_typing::specs::Worlds::chain, ec_typing::specs::Worlds::pure, ec_typing::specs::Worlds::ask, ec_typing::specs::Worlds::change, ec_typing::specs::Worlds::demand, ec_typing::specs::Worlds::free_name, ec_typing::specs::Worlds::free_tag, ec_typing::specs::Worlds::declare, ec_typing::specs::Worlds::declare_label, ec_typing::specs::Worlds::know_better, crate::specs::Seen::world_of, crate::specs::Seen::notes_of))]
+#[tactic(auto, using(crate::proofs::Steps::noting), unfolding(ec_typing_defs::specs::Worlds::chain, ec_typing_defs::specs::Worlds::pure, ec_typing_defs::specs::Worlds::ask, ec_typing_defs::specs::Worlds::change, ec_typing_defs::specs::Worlds::demand, ec_typing_defs::specs::Worlds::free_name, ec_typing_defs::specs::Worlds::free_tag, ec_typing_defs::specs::Worlds::declare, ec_typing_defs::specs::Worlds::declare_label, ec_typing_defs::specs::Worlds::know_better, crate::specs::Seen::world_of, crate::specs::Seen::notes_of))]
 impl Checker {
     /// F12 for the name of an object, a parameter, a function, a member or a label that is reserved.
     pub fn free_name(&mut self, at: Place, name: &[u8])

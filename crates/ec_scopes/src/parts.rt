@@ -2,13 +2,12 @@
 
 ghost use Rattle.std.specs.Prelude.{◌≡◌, None, map, option_map, is_some};
 ghost use Rattle.ec_ctypes.specs.views.Types.{ty_view};
-ghost use Rattle.ec_typing.specs.ec_language.First.{stop_at};
+ghost use Rattle.ec_language.specs.First.{stop_at};
 ghost use Rattle.ec_scopes.specs.Entries.{found_view, place_view};
-ghost use Rattle.ec_scopes.specs.Seen.{notes_of, world_of};
+ghost use Rattle.ec_scopes.specs.Seen.{notes_of, world_of, noted_instead};
 ghost use Rattle.ec_scopes.specs.Structs.{infos};
-ghost use Rattle.ec_typing.specs.Embedded.{denoted_by};
-ghost use Rattle.ec_typing.specs.Worlds.{look_up};
-ghost use Rattle.ec_scopes.specs.Seen.{noted_instead};
+ghost use Rattle.ec_typing_defs.specs.Embedded.{denoted_by};
+ghost use Rattle.ec_typing_defs.specs.Worlds.{look_up};
 
 use crate::entries::Entry;
 use crate::found::Found;

@@ -2,7 +2,7 @@
 
 ghost use Rattle.std.specs.Prelude.{◌≡◌, option_map};
 ghost use Rattle.std.specs.Option.{option_copied};
-ghost use Rattle.ec_typing.specs.Worlds as rule;
+ghost use Rattle.ec_typing_defs.specs.Worlds as rule;
 ghost use Rattle.ec_scopes.specs.Entries.{entry_view, outer_view};
 
 use crate::entries::{Entry, Scope};

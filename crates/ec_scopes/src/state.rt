@@ -3,8 +3,8 @@
 ghost use Rattle.std.specs.Prelude.{◌≡◌, option_map, is_some, [], IfOk, length};
 ghost use Rattle.std.specs.Option.{option_copied};
 ghost use Rattle.ec_ctypes.specs.views.Types.{ty_view};
-ghost use Rattle.ec_typing.specs.Tables.{find};
-ghost use Rattle.ec_typing.specs.Worlds as rule;
+ghost use Rattle.ec_typing_defs.specs.Tables.{find};
+ghost use Rattle.ec_typing_defs.specs.Worlds as rule;
 ghost use Rattle.ec_scopes.specs.Entries.{entry_view, place_view};
 ghost use Rattle.ec_scopes.specs.Seen.{noted_one, notes_of, world_of, IsDone, Does};
 
@@ -43,7 +43,7 @@ pub struct Checker {
     pub(crate) first: Option<Found>,
 }
 
-#[tactic(auto, unfolding(ec_typing::specs::Worlds::chain, ec_typing::specs::Worlds::pure, ec_typing::specs::Worlds::ask, ec_typing::specs::Worlds::change, ec_typing::specs::Worlds::note, ec_typing::specs::Worlds::demand, ec_typing::specs::Worlds::keep_within, ec_typing::specs::Worlds::declare, ec_typing::specs::Worlds::know_better, ec_typing::specs::Worlds::declare_label, ec_typing::specs::Worlds::enter, ec_typing::specs::Worlds::leave, ec_typing::specs::Worlds::place, ec_typing::specs::Worlds::number_as, crate::specs::Seen::world_of, crate::specs::Seen::notes_of))]
+#[tactic(auto, unfolding(ec_typing_defs::specs::Worlds::chain, ec_typing_defs::specs::Worlds::pure, ec_typing_defs::specs::Worlds::ask, ec_typing_defs::specs::Worlds::change, ec_typing_defs::specs::Worlds::note, ec_typing_defs::specs::Worlds::demand, ec_typing_defs::specs::Worlds::keep_within, ec_typing_defs::specs::Worlds::declare, ec_typing_defs::specs::Worlds::know_better, ec_typing_defs::specs::Worlds::declare_label, ec_typing_defs::specs::Worlds::enter, ec_typing_defs::specs::Worlds::leave, ec_typing_defs::specs::Worlds::place, ec_typing_defs::specs::Worlds::number_as, crate::specs::Seen::world_of, crate::specs::Seen::notes_of))]
 impl Checker {
     /// Where memory comes from.
     pub fn alloc(&self) -> Global {

@@ -4,12 +4,12 @@ ghost use Rattle.std.specs.Prelude.{◌≡◌, ◌++◌, ◌∷◌, [], length, 
 ghost use Rattle.ec_ctypes.specs.declared.types.sizes.Shape.{Shape as ShapeData};
 ghost use Rattle.std.specs.Option.{option_copied};
 ghost use Rattle.ec_ctypes.specs.views.Types.{ty_view};
-ghost use Rattle.ec_typing.specs.Worlds as rule;
+ghost use Rattle.ec_typing_defs.specs.Worlds as rule;
 ghost use Rattle.ec_scopes.specs.Entries.{named_view, type_view};
 ghost use Rattle.ec_scopes.specs.Structs.{members_view, infos, begun_at, closed_of, shape_by, members_at, complete_in, arrays_within_in, measure_in, member_shape, is_begun, opened, shapes_of, stands_by, IsKeptAt};
 ghost use Rattle.ec_scopes.specs.Offsets.{offset_among, starts, IsPlaced};
 ghost use Rattle.ec_scopes.specs.Counts.{counted, member_stands, members_among};
-ghost use Rattle.ec_typing.specs.Expressions as expressions;
+ghost use Rattle.ec_typing_defs.specs.Expressions as expressions;
 ghost use Rattle.ec_scopes.specs.declared.measures.Measure.TheVariants as measures;
 ghost use Rattle.ec_scopes.specs.Measures.{measured, IsSmallMeasure};
 ghost use Rattle.ec_ctypes.specs.trees.Types.{structure};

@@ -2,7 +2,7 @@
 
 ghost use Rattle.std.specs.Prelude.{◌≡◌, IfOk, OnOk, is_some, option_map, [], length, slice_get};
 ghost use Rattle.std.specs.Option.{option_copied};
-ghost use Rattle.ec_typing.specs.Tables.{find, put};
+ghost use Rattle.ec_typing_defs.specs.Tables.{find, put};
 ghost use Rattle.ec_scopes.specs.Offsets.{place_of};
 
 use ec_base::OutOfMemory;

@@ -3,8 +3,8 @@
 ghost use Rattle.std.specs.Prelude.{◌≡◌, Some, option_map, IfOk, IfSome};
 ghost use Rattle.std.specs.Option.{option_copied};
 ghost use Rattle.ec_ctypes.specs.views.Types.{ty_view};
-ghost use Rattle.ec_typing.specs.Worlds as world;
-ghost use Rattle.ec_typing.specs.Expressions as rule;
+ghost use Rattle.ec_typing_defs.specs.Worlds as world;
+ghost use Rattle.ec_typing_defs.specs.Expressions as rule;
 ghost use Rattle.ec_scopes.specs.Entries.{place_view, named_view, type_view};
 ghost use Rattle.ec_scopes.specs.Measures.{measured};
 ghost use Rattle.ec_scopes.specs.Offsets.{offset_among};
@@ -20,7 +20,7 @@ use ec_base::{Boxed, FaultKind, LimitKind, Name, OutOfMemory};
 use ec_ctypes::Ty;
 use std::alloc::Global;
 
-#[tactic(auto, using(crate::proofs::Steps::noting), unfolding(ec_typing::specs::Worlds::chain, ec_typing::specs::Worlds::pure, ec_typing::specs::Worlds::ask, ec_typing::specs::Worlds::change, ec_typing::specs::Worlds::note, ec_typing::specs::Worlds::demand, ec_typing::specs::Worlds::new_struct, ec_typing::specs::Worlds::set_struct, ec_typing::specs::Expressions::tagged_struct, ec_typing::specs::Expressions::begin_struct, ec_typing::specs::Expressions::end_struct, ec_typing::specs::Expressions::tag_rule, crate::specs::Seen::world_of, crate::specs::Seen::notes_of))]
+#[tactic(auto, using(crate::proofs::Steps::noting), unfolding(ec_typing_defs::specs::Worlds::chain, ec_typing_defs::specs::Worlds::pure, ec_typing_defs::specs::Worlds::ask, ec_typing_defs::specs::Worlds::change, ec_typing_defs::specs::Worlds::note, ec_typing_defs::specs::Worlds::demand, ec_typing_defs::specs::Worlds::new_struct, ec_typing_defs::specs::Worlds::set_struct, ec_typing_defs::specs::Expressions::tagged_struct, ec_typing_defs::specs::Expressions::begin_struct, ec_typing_defs::specs::Expressions::end_struct, ec_typing_defs::specs::Expressions::tag_rule, crate::specs::Seen::world_of, crate::specs::Seen::notes_of))]
 impl Checker {
     /// The members of the struct of this number.
     pub fn members_of(&self, k: u32) -> Option<&Members>

@@ -3,10 +3,10 @@
 ghost use Rattle.std.specs.Prelude.{◌≡◌, Some, IfOk, OnOk};
 ghost use Rattle.ec_ctypes.specs.trees.Types.{structure};
 ghost use Rattle.ec_ctypes.specs.views.Types.{ty_view};
-ghost use Rattle.ec_typing.specs.Expressions as rule;
-ghost use Rattle.ec_typing.specs.Operands.{array_of};
-ghost use Rattle.ec_typing.specs.Tables.{put};
-ghost use Rattle.ec_typing.specs.Types.{char_type};
+ghost use Rattle.ec_typing_defs.specs.Expressions as rule;
+ghost use Rattle.ec_typing_defs.specs.Operands.{array_of};
+ghost use Rattle.ec_typing_defs.specs.Tables.{put};
+ghost use Rattle.ec_typing_defs.specs.Types.{char_type};
 ghost use Rattle.ec_scopes.specs.Entries.{place_view, named_view, type_view};
 ghost use Rattle.ec_scopes.specs.Seen.{world_of, Does};
 ghost use Rattle.ec_scopes.specs.Structs.{varchar_closing};
@@ -80,7 +80,7 @@ fn varchar_tag(alloc: Global, name: &[u8]) -> Result<Name, OutOfMemory>
     Name::from_slice(alloc, text.as_slice())
 }
 
-#[tactic(auto, using(crate::proofs::Steps::noting), unfolding(ec_typing::specs::Worlds::chain, ec_typing::specs::Worlds::pure, ec_typing::specs::Worlds::ask, ec_typing::specs::Worlds::change, ec_typing::specs::Worlds::demand, ec_typing::specs::Worlds::keep_within, ec_typing::specs::Worlds::new_struct, ec_typing::specs::Expressions::varchar_struct, ec_typing::specs::Expressions::varchar_object, ec_typing::specs::Expressions::varchar_member))]
+#[tactic(auto, using(crate::proofs::Steps::noting), unfolding(ec_typing_defs::specs::Worlds::chain, ec_typing_defs::specs::Worlds::pure, ec_typing_defs::specs::Worlds::ask, ec_typing_defs::specs::Worlds::change, ec_typing_defs::specs::Worlds::demand, ec_typing_defs::specs::Worlds::keep_within, ec_typing_defs::specs::Worlds::new_struct, ec_typing_defs::specs::Expressions::varchar_struct, ec_typing_defs::specs::Expressions::varchar_object, ec_typing_defs::specs::Expressions::varchar_member))]
 impl Checker {
     // A VARCHAR's struct with these members: its number, and what is known of its size.
     fn closed_varchar(

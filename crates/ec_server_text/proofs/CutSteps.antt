@@ -3,8 +3,8 @@ use Rattle.std.proofs.Common.{◌≡◌, ℕ, zero, suc, Bool, true, false, List
 use Rattle.std.specs.Prelude.{◌&&◌, ◌||◌, ◌==◌}
 use Rattle.ec_ctypes.specs.trees.Embedded.{HostData, TextArgData, word_arg, OutsData, listed_outs, area_outs, PartData, bytes_part, host_part, server_text, trans, declare_cursor, EmbKindData}
 use Rattle.ec_ctypes.specs.trees.Exprs.{ExprData, identifier}
-use Rattle.ec_shapes.specs.ReadShapes.{done, stopped, stuck, over_limit, and_then, counting, taking, read_one}
-use Rattle.ec_shapes.proofs.Made.{made, same_next, made_first}
+use Rattle.ec_embedded.specs.shapes.ReadShapes.{done, stopped, stuck, over_limit, and_then, counting, taking, read_one}
+use Rattle.ec_embedded.proofs.shapes_lemmas.Made.{made, same_next, made_first}
 use Rattle.ec_language.specs.Letters.{Text}
 use Rattle.ec_language.specs.SqlTokens.{SqlToken}
 use Rattle.ec_embedded.specs.References.{unquoted, text_of_host}

@@ -2,7 +2,7 @@
 use Rattle.std.proofs.Common.{◌≡◌, Bool, true, false, Option, Some, None, ap, ◌∙◌}
 use Rattle.std.specs.Prelude.{codes}
 use Rattle.ec_ctypes.specs.trees.Exprs.{ExprData}
-use Rattle.ec_shapes.specs.ReadShapes.{done, and_then}
+use Rattle.ec_embedded.specs.shapes.ReadShapes.{done, and_then}
 use Rattle.ec_language.proofs.Classes.{neither}
 use Rattle.ec_embedded.specs.ServerText.{Tokens, begins_host, begins_indicator}
 use Rattle.ec_embedded.specs.Terminals.{Counts, Begins, reference, keyword}

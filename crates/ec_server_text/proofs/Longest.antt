@@ -2,7 +2,7 @@
 use Rattle.std.proofs.Common.{◌≡◌, ℕ, zero, suc, ◌≤◌, Bool, true, false, [], ◌∷◌, length, refl, ap, sym, ◌∙◌, codes, Option, Some, None, ◌⊎◌, inl, inr, arith}
 use Rattle.std.specs.Prelude.{◌&&◌, ◌||◌, if◌then◌else◌}
 use Rattle.ec_ctypes.specs.trees.Exprs.{ExprData, identifier, member, arrow, index}
-use Rattle.ec_shapes.specs.ReadShapes.{done, over_limit, and_then, counting, taking, read_one}
+use Rattle.ec_embedded.specs.shapes.ReadShapes.{done, over_limit, and_then, counting, taking, read_one}
 use Rattle.ec_language.specs.SqlTokens.{SqlToken}
 use Rattle.ec_embedded.proofs.Sound.{sound}
 use Rattle.ec_embedded.specs.References.{decimal_constant}

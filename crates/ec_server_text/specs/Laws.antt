@@ -2,7 +2,7 @@
 use Rattle.std.specs.Prelude.{◌≡◌, ◌-◌, ◌++◌, true, false, List, [], ◌∷◌, codes, length, Some, None}
 use Rattle.ec_ctypes.specs.trees.Embedded.{declare_cursor, PartData, bytes_part}
 use Rattle.ec_ctypes.specs.trees.Exprs.{ExprData}
-use Rattle.ec_shapes.specs.ReadShapes.{done, and_then}
+use Rattle.ec_embedded.specs.shapes.ReadShapes.{done, and_then}
 use Rattle.ec_language.specs.Letters.{Text}
 use Rattle.ec_embedded.specs.Statements.{made}
 use Rattle.ec_embedded.specs.ServerText.{Tokens, suffixes, begins_host, host_at, server_at, transaction_at, Cut, cuts, parts, bytes_in}

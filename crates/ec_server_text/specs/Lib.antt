@@ -1,4 +1,3 @@
-pub use Rattle.ec_references.specs as ec_references
 pub mod Laws
 pub mod Readers
 pub mod Views

@@ -13,8 +13,8 @@ use crate::lookahead::{begins_host, begins_into};
 use ec_base::{Boxed, Bytes, List, Name, OutOfMemory};
 use ec_clex::SqlToken;
 use ec_ctypes::{EmbKind, Host, Outs, Part};
+use ec_embedded::shapes::Failure;
 use ec_references::{Cursor, is_mark};
-use ec_shapes::Failure;
 use std::alloc::Global;
 
 /// What is written so far of a statement for the server.

@@ -12,8 +12,8 @@ use crate::lookahead::{begins_area, begins_host, begins_indicator, begins_more, 
 use ec_base::{Boxed, List};
 use ec_clex::SqlToken;
 use ec_ctypes::{Expr, Host, Outs, TextArg};
+use ec_embedded::shapes::Failure;
 use ec_references::{Class, Cursor, copy_bytes, name, suffix_behind, text_of_host, unquoted};
-use ec_shapes::Failure;
 use std::alloc::Global;
 
 /// All suffixes.

@@ -7,7 +7,6 @@ mod laws;
 mod lookahead;
 
 pub use cuts::{Cutting, declare, declare_prepared, server, transaction};
-pub use ec_references;
 pub use hosts::{input_host, long_host, outputs};
 pub use laws::readers_are_exact;
 pub use lookahead::{begins_area, begins_host, begins_into};

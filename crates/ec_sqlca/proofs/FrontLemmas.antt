@@ -1,8 +1,8 @@
 -- The front of a message that there is room for.
 use Rattle.std.proofs.Common.{◌≡◌, ◌∙◌, sym, ap, refl, ℕ, zero, suc, ◌+◌, ◌-◌, ◌≤◌, min, List, [], ◌∷◌, ◌++◌, length, take, drop, replicate, arith, length-append, length-take}
 use Rattle.std.proofs.lemmas.List.{drop-drop, take_at, drop_at, drop-replicate}
-use Rattle.ec_objects.specs.Cells.{written}
-use Rattle.ec_transfer.specs.Area.{kept_front, in_sqlerrmc}
+use Rattle.ec_memory_defs.specs.Cells.{written}
+use Rattle.ec_transfer_defs.specs.Area.{kept_front, in_sqlerrmc}
 
 -- the front of joined lists
 take_joined : (n : ℕ) (xs ys : List ℕ) → take n (xs ++ ys) ≡ take n xs ++ take (n - length (take n xs)) ys

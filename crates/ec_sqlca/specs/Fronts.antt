@@ -1,6 +1,6 @@
 -- The front of a message in the room that there is for it.
 use Rattle.std.specs.Prelude.{◌≡◌, ℕ, List, ◌++◌, length}
-use Rattle.ec_transfer.specs.Area.{kept_front, in_sqlerrmc}
+use Rattle.ec_transfer_defs.specs.Area.{kept_front, in_sqlerrmc}
 
 -- where the room holds the front of a message, which ends at a place, it then holds that of the message with more behind it
 abbrev pub Adds : List ℕ → ℕ → List ℕ → List ℕ → Type 0

@@ -1,7 +1,7 @@
 //! What the library tells in the communication area.
 
 ghost use Rattle.std.specs.Prelude.{◌≡◌};
-ghost use Rattle.ec_transfer.specs.Area.{IsArea, area_reset, area_raised, area_warned, area_noticed, area_counted};
+ghost use Rattle.ec_transfer_defs.specs.Area.{IsArea, area_reset, area_raised, area_warned, area_noticed, area_counted};
 
 use crate::members::{put, put_count, put_int, put_long, put_zeros};
 use crate::message::{text_length, text_on};

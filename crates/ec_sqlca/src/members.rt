@@ -2,13 +2,13 @@
 
 ghost use Rattle.std.specs.Prelude.{◌≡◌, ◌+◌, ◌≤◌, ◌^◌, ◌<◌, length, pos, replicate};
 ghost use Rattle.ec_ctypes.specs.declared.types.arith.Arith.TheVariants.{Int, Long};
-ghost use Rattle.ec_objects.specs.Memory.{pointer_to};
-ghost use Rattle.ec_transfer.specs.Area.{IsArea, at, with_member};
-ghost use Rattle.ec_transfer.specs.Conversion.{integer_bytes};
+ghost use Rattle.ec_memory_defs.specs.Memory.{pointer_to};
+ghost use Rattle.ec_transfer_defs.specs.Area.{IsArea, at, with_member};
+ghost use Rattle.ec_transfer_defs.specs.Conversion.{integer_bytes};
 
 use ec_bytes::Ptr;
 use ec_memory::{Store, Value};
-use ec_objects::Kind;
+use ec_memory_defs::Kind;
 
 /// The pointer to an offset of the area, which is the first object.
 fn place(offset: u64) -> Ptr

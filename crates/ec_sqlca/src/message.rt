@@ -2,9 +2,9 @@
 
 ghost use Rattle.std.specs.Prelude.{◌≡◌, ◌+◌, ◌≤◌, length};
 ghost use Rattle.std.specs.Fmt.{decimal};
-ghost use Rattle.ec_objects.specs.Cells.{written};
+ghost use Rattle.ec_memory_defs.specs.Cells.{written};
 ghost use Rattle.ec_sqlca.specs.Fronts.{Adds, Reaches};
-ghost use Rattle.ec_transfer.specs.Area.{in_sqlerrmc, message_on, text_length};
+ghost use Rattle.ec_transfer_defs.specs.Area.{in_sqlerrmc, message_on, text_length};
 
 use ec_base::Line;
 use itoa::Buffer;

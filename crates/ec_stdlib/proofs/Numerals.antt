@@ -1,7 +1,7 @@
 -- One more digit.
 use Rattle.std.proofs.Common.{◌≡◌, ◌≢◌, ◌∙◌, refl, ap, sym, ℕ, zero, suc, ◌/◌, ◌%◌, ◌<◌, Bool, List, [], ◌∷◌, length, drop, arith}
 use Rattle.std.specs.Prelude.{slice_set}
-use Rattle.ec_functions.specs.Printing.{digit_byte, digits_before}
+use Rattle.ec_meaning_defs.specs.functions.Printing.{digit_byte, digits_before}
 
 -- what stands from a place on that is written
 pub drop_set : (xs : List ℕ) (k d : ℕ) → k < length xs → drop k (slice_set xs k d) ≡ d ∷ drop (suc k) xs

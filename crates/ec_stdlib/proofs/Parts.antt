@@ -2,9 +2,9 @@
 use Rattle.std.proofs.Common.{◌≡◌, ◌∙◌, refl, ap, sym, ℕ, suc, ◌+◌, ◌<◌, length, get_or, drop, drop-cons, add-one, List, [], ◌∷◌, ◌++◌, Option, Some, None, Result, Ok, Err, append_assoc, Bool, ℤ, pos}
 use Rattle.ec_base.specs.declared.stop.Trap.{Trap}
 use Rattle.ec_ctypes.specs.Arithmetic.{converted}
-use Rattle.ec_functions.specs.Formats.{Amount, absent, given, from_argument, Field, Part, Style, integer}
-use Rattle.ec_functions.specs.Printing.{Put, integer_bytes, joined, part_put, printed, read_as, with_amount, with_number}
-use Rattle.ec_objects.specs.Memory.{Memory, ValueData, number, address}
+use Rattle.ec_meaning_defs.specs.functions.Formats.{Amount, absent, given, from_argument, Field, Part, Style, integer}
+use Rattle.ec_meaning_defs.specs.functions.Printing.{Put, integer_bytes, joined, part_put, printed, read_as, with_amount, with_number}
+use Rattle.ec_memory_defs.specs.Memory.{Memory, ValueData, number, address}
 use Rattle.ec_stdlib.specs.Parts.{amount_taken, behind, number_taken, put_result}
 
 abbrev pub All : Type 0

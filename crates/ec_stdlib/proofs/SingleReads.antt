@@ -2,10 +2,10 @@
 use Rattle.std.proofs.Common.{◌≡◌, ◌∙◌, refl, ap, sym, ℕ, zero, suc, ◌+◌, ◌-◌, ◌<◌, ◌≤◌, Bool, true, false, List, [], ◌∷◌, length, drop, slice_get, Some, None, Result, Ok, Err, ℤ, pos, arith, length-drop}
 use Rattle.std.specs.Prelude.{◌==◌}
 use Rattle.ec_base.specs.declared.stop.Trap.{Trap}
-use Rattle.ec_functions.specs.Strings.{cell_reads, reads_of, reads_from, compared, order_of}
+use Rattle.ec_meaning_defs.specs.functions.Strings.{cell_reads, reads_of, reads_from, compared, order_of}
 use Rattle.ec_memory.specs.SingleBytes.{byte_behind, cell_read}
-use Rattle.ec_objects.specs.Cells.{Cell}
-use Rattle.ec_objects.specs.Memory.{Memory, and_then, object_cells, object_of, offset_of}
+use Rattle.ec_memory_defs.specs.Cells.{Cell}
+use Rattle.ec_memory_defs.specs.Memory.{Memory, and_then, object_cells, object_of, offset_of}
 
 got_nothing : {X : Type 0} (i j : ℕ) → slice_get {X = X} [] i ≡ slice_get {X = X} [] j
 got_nothing zero zero = refl

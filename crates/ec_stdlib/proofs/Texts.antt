@@ -4,8 +4,8 @@ use Rattle.std.specs.Prelude.{int_le, ◌&&◌, if◌then◌else◌, ◌+ℤ◌,
 use Rattle.std.proofs.lemmas.Bool.Decides.{nat_tests}
 use Rattle.ec_base.specs.declared.stop.Trap.{Trap}
 use Rattle.ec_base.specs.declared.stop.Trap.TheVariants.{Outside}
-use Rattle.ec_objects.specs.Cells.{Cell}
-use Rattle.ec_objects.specs.Memory.{Memory, and_then, object_cells, object_of, offset_of, pointer_to, text_at, text_of, moved}
+use Rattle.ec_memory_defs.specs.Cells.{Cell}
+use Rattle.ec_memory_defs.specs.Memory.{Memory, and_then, object_cells, object_of, offset_of, pointer_to, text_at, text_of, moved}
 
 longer : (b : ℕ) (bytes : List ℕ) (cells : List Cell) (r : Result (List ℕ) Trap) → ((bs : List ℕ) → r ≡ Ok bs → suc (length bs) ≤ length cells) → and_then r (λ bs. Ok (suc b ∷ bs)) ≡ Ok bytes → suc (length bytes) ≤ suc (length cells)
 longer b bytes cells (Err t) below e = cc

@@ -3,12 +3,12 @@ use Rattle.std.specs.Prelude.{◌≡◌, ℕ, List, map, Option, Some, None, Res
 use Rattle.std.specs.Borrow.{Bor}
 use Rattle.std.specs.Option.{option_map}
 use Rattle.ec_base.specs.declared.stop.Trap.{Trap}
-use Rattle.ec_functions.specs.Functions.{Effect, traps, ends, misfit, puts_bytes}
-use Rattle.ec_functions.specs.Printing.{Put}
-use Rattle.ec_objects.specs.Memory.{Memory}
+use Rattle.ec_meaning_defs.specs.functions.Functions.{Effect, traps, ends, misfit, puts_bytes}
+use Rattle.ec_meaning_defs.specs.functions.Printing.{Put}
+use Rattle.ec_memory_defs.specs.Memory.{Memory}
 use Rattle.ec_values.specs.Words.{word_view}
 use Rattle.ec_values.specs.declared.word.Word.{Word}
-use Rattle.ec_formats.specs.Known.{channel_view}
+use Rattle.ec_printf.specs.formats.Known.{channel_view}
 use Rattle.ec_stdlib.specs.Parts.{behind, put_result}
 use Rattle.ec_stdlib.specs.declared.refusal.Answer.{Answer}
 use Rattle.ec_stdlib.specs.declared.refusal.Refusal.{Refusal}

@@ -1,9 +1,9 @@
 -- Parts of a format one after the other.
 use Rattle.std.specs.Prelude.{ℕ, ℤ, pos, List, [], ◌∷◌, ◌++◌, Option, Some, None, Result, Ok, Err}
 use Rattle.ec_base.specs.declared.stop.Trap.{Trap}
-use Rattle.ec_functions.specs.Formats.{Amount, absent, given, from_argument}
-use Rattle.ec_functions.specs.Printing.{Put}
-use Rattle.ec_objects.specs.Memory.{ValueData, number, address}
+use Rattle.ec_meaning_defs.specs.functions.Formats.{Amount, absent, given, from_argument}
+use Rattle.ec_meaning_defs.specs.functions.Printing.{Put}
+use Rattle.ec_memory_defs.specs.Memory.{ValueData, number, address}
 
 -- the number at the front of the arguments
 abbrev pub number_taken : List ValueData → Option (ℤ × List ValueData)

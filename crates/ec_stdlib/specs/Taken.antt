@@ -1,8 +1,8 @@
 -- What was taken of the arguments.
 use Rattle.std.specs.Prelude.{ℕ, ℤ, Bool, true, false, List, map, Option, Some, None}
-use Rattle.ec_functions.specs.Functions.{Effect, misfit}
+use Rattle.ec_meaning_defs.specs.functions.Functions.{Effect, misfit}
 use Rattle.ec_bytes.specs.declared.scalar.address.Ptr.{Ptr}
-use Rattle.ec_objects.specs.Memory.{ValueData}
+use Rattle.ec_memory_defs.specs.Memory.{ValueData}
 use Rattle.ec_values.specs.Words.{word_view}
 use Rattle.ec_stdlib.specs.declared.arguments.TakenNumber.{TakenNumber}
 use Rattle.ec_stdlib.specs.declared.arguments.TakenPointer.{TakenPointer}

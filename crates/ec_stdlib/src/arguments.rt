@@ -1,14 +1,14 @@
 //! The arguments of a call, one after the other.
 
 ghost use Rattle.std.specs.Prelude.{◌≡◌, ℕ, map, ℤ, IfSome};
-ghost use Rattle.ec_functions.specs.Functions.{Effect, byte_of, taking_address, taking_addresses, taking_byte, taking_nothing, taking_number, taking_sizes};
+ghost use Rattle.ec_meaning_defs.specs.functions.Functions.{Effect, byte_of, taking_address, taking_addresses, taking_byte, taking_nothing, taking_number, taking_sizes};
 ghost use Rattle.ec_values.specs.Words.{HasWord, word_view};
-ghost use Rattle.ec_formats.specs.Known.{amount_view};
+ghost use Rattle.ec_printf.specs.formats.Known.{amount_view};
 ghost use Rattle.ec_stdlib.specs.Parts.{address_taken, amount_taken, number_taken};
 ghost use Rattle.ec_stdlib.specs.Taken.{given_filling, given_nothing, given_number, given_pair, given_pointer, given_sizes, number_view, pointer_view};
 
 use ec_bytes::Ptr;
-use ec_formats::Amount;
+use ec_printf::formats::Amount;
 use ec_values::Word;
 
 /// A number, and the arguments behind it.

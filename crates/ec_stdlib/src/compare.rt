@@ -1,7 +1,7 @@
 //! Comparisons of texts and bytes (ISO/IEC 9899:1999, 7.21.4).
 
 ghost use Rattle.std.specs.Prelude.{◌≡◌};
-ghost use Rattle.ec_functions.specs.Strings.{compared, order_of, reads_from, texts_compared};
+ghost use Rattle.ec_meaning_defs.specs.functions.Strings.{compared, order_of, reads_from, texts_compared};
 
 use ec_base::Trap;
 use ec_bytes::Ptr;

@@ -1,7 +1,7 @@
 //! The digits of a number.
 
 ghost use Rattle.std.specs.Prelude.{◌≡◌, ◌≤◌, ◌<◌, ◌++◌, [], drop, length, replicate, OnOk};
-ghost use Rattle.ec_functions.specs.Printing.{digit_byte, digits_of};
+ghost use Rattle.ec_meaning_defs.specs.functions.Printing.{digit_byte, digits_of};
 
 /// How many digits a number of 64 bits may have, to the least base.
 pub(crate) const MOST_DIGITS: usize = 22;

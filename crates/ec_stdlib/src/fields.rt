@@ -1,12 +1,12 @@
 //! Bytes in fields of a width.
 
 ghost use Rattle.std.specs.Prelude.{◌≡◌, ◌++◌, replicate, OnOk};
-ghost use Rattle.ec_functions.specs.Printing.{in_field, padded};
+ghost use Rattle.ec_meaning_defs.specs.functions.Printing.{in_field, padded};
 ghost use Rattle.ec_values.specs.Words.{HasWord};
-ghost use Rattle.ec_formats.specs.Known.{field_view};
+ghost use Rattle.ec_printf.specs.formats.Known.{field_view};
 
 use ec_base::{Bytes, OutOfMemory};
-use ec_formats::Field;
+use ec_printf::formats::Field;
 
 /// Puts bytes in a field of a width that is known. A negative width is the flag `-` and the width's amount.
 pub(crate) fn put_in_field(

@@ -1,14 +1,14 @@
 //! What `printf` puts (ISO/IEC 9899:1999, 7.19.6.1).
 
 ghost use Rattle.std.specs.Prelude.{◌≡◌, ◌++◌, ◌^◌, ◌<◌, ◌≤◌, drop, length, map, pos, [], unsigned_abs, OnOk};
-ghost use Rattle.ec_functions.specs.Printing.{base_of, digits_of, integer_bytes, in_field, is_capital, part_put, printed, read_as, text_within};
+ghost use Rattle.ec_meaning_defs.specs.functions.Printing.{base_of, digits_of, integer_bytes, in_field, is_capital, part_put, printed, read_as, text_within};
 ghost use Rattle.ec_ctypes.specs.Arithmetic.{converted};
 ghost use Rattle.ec_memory.specs.Store.{seen};
 ghost use Rattle.ec_values.specs.Words.{HasWord, word_view};
 ghost use Rattle.ec_stdlib.specs.Does.{Prints, PutsPart};
-ghost use Rattle.ec_functions.specs.Formats.{integer, character, text as text_part};
-ghost use Rattle.ec_objects.specs.Memory.{Memory};
-ghost use Rattle.ec_formats.specs.Known.{amount_view, field_view, part_view, style_view};
+ghost use Rattle.ec_meaning_defs.specs.functions.Formats.{integer, character, text as text_part};
+ghost use Rattle.ec_memory_defs.specs.Memory.{Memory};
+ghost use Rattle.ec_printf.specs.formats.Known.{amount_view, field_view, part_view, style_view};
 
 use crate::arguments::{byte_of, take_amount, take_number, take_pointer};
 use crate::digits::{MOST_DIGITS, write_digits};
@@ -17,8 +17,8 @@ use crate::refusal::Refusal;
 use ec_base::{Bytes, OutOfMemory, Trap};
 use ec_bytes::Ptr;
 use ec_ctypes::{Arith, convert};
-use ec_formats::{Amount, Field, Part, Style};
 use ec_memory::Store;
+use ec_printf::formats::{Amount, Field, Part, Style};
 use ec_values::Word;
 
 /// Puts all that a format puts with these arguments. All of them and all texts are read before.

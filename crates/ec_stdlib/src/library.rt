@@ -1,14 +1,14 @@
 //! What a call of a known function does.
 
 ghost use Rattle.std.specs.Prelude.{◌≡◌, ◌+◌, ◌++◌, ◌∷◌, map, pos, replicate, [], Some, Ok, OnErr};
-ghost use Rattle.ec_functions.specs.Functions as of;
-ghost use Rattle.ec_functions.specs.Functions.{effect_of};
-ghost use Rattle.ec_functions.specs.Strings.{text_appended};
-ghost use Rattle.ec_objects.specs.Memory.{Memory, and_then, moved, put, text_at};
+ghost use Rattle.ec_meaning_defs.specs.functions.Functions as of;
+ghost use Rattle.ec_meaning_defs.specs.functions.Functions.{effect_of};
+ghost use Rattle.ec_meaning_defs.specs.functions.Strings.{text_appended};
+ghost use Rattle.ec_memory_defs.specs.Memory.{Memory, and_then, moved, put, text_at};
 ghost use Rattle.ec_values.specs.Words.{word_view};
 ghost use Rattle.ec_stdlib.specs.Does.{Does};
 ghost use Rattle.ec_stdlib.specs.Messages.{message_told};
-ghost use Rattle.ec_formats.specs.Known.{known_view, channel_view, part_view};
+ghost use Rattle.ec_printf.specs.formats.Known.{known_view, channel_view, part_view};
 
 use crate::arguments::{
     byte_of, nothing, one_number, one_pointer, pointer_byte_and_count, pointers_and_count,
@@ -19,9 +19,9 @@ use crate::format::print;
 use crate::refusal::{Answer, Refusal};
 use ec_base::{Bytes, Trap};
 use ec_bytes::Ptr;
-use ec_formats::{Channel, Known, Part};
 use ec_memory::Store;
-use ec_objects::Kind;
+use ec_memory_defs::Kind;
+use ec_printf::formats::{Channel, Known, Part};
 use ec_values::{Word, load};
 
 /// Calls a known function with these arguments. What was in `text` is let go, and the bytes that are to be put stand there:

@@ -3,7 +3,7 @@
 ghost use Rattle.std.specs.Prelude.{◌≡◌};
 
 use ec_base::{OutOfMemory, Trap};
-use ec_formats::Channel;
+use ec_printf::formats::Channel;
 use ec_values::Word;
 
 /// Why a call gives no answer.

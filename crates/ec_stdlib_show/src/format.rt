@@ -2,7 +2,7 @@
 
 use crate::answer::Wrong;
 use ec_base::List;
-use ec_formats::{Amount, Field, Part, Style};
+use ec_printf::formats::{Amount, Field, Part, Style};
 use std::alloc::Global;
 
 // What is known of a directive so far.

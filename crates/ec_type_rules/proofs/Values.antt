@@ -9,7 +9,7 @@ use Rattle.ec_ctypes.specs.declared.tree.expr.BinOp.{BinOp}
 use Rattle.ec_ctypes.specs.declared.tree.expr.BinOp.TheVariants.{Or, And, BitOr, BitXor, BitAnd, Eq, Ne, Lt, Gt, Le, Ge, Shl, Shr, Add, Sub, Mul, Div, Rem}
 use Rattle.ec_ctypes.specs.Arithmetic.{is_signed, width, rank, greatest, promoted, common, mixed, represents_all, unsigned_type, usual_type, IsValue, converted, Converts}
 use Rattle.ec_ctypes.specs.Arithmetic.Converts.{false_value, true_value, wraps}
-use Rattle.ec_typing.specs.Constants.{result_in, binary_value, common_operated}
+use Rattle.ec_typing_defs.specs.Constants.{result_in, binary_value, common_operated}
 use Rattle.ec_type_rules.specs.Values.{IsWide}
 
 -- what a number converts to is a value of the type

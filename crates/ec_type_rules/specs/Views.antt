@@ -6,8 +6,8 @@ use Rattle.ec_ctypes.specs.views.Types.{ty_view}
 use Rattle.ec_type_rules.specs.declared.constants.constant.Constant.{Constant}
 use Rattle.ec_type_rules.specs.declared.constants.constant.Constant.TheVariants.{Variable, Trapping, Known}
 use Rattle.ec_type_rules.specs.declared.types.operators.Value.{Value}
-use Rattle.ec_typing.specs.Constants.{ConstData, variable, trapping, known}
-use Rattle.ec_typing.specs.Types.{is_void, same_type, only_if}
+use Rattle.ec_typing_defs.specs.Constants.{ConstData, variable, trapping, known}
+use Rattle.ec_typing_defs.specs.Types.{is_void, same_type, only_if}
 
 -- what an expression is as a constant
 abbrev pub constant_view : Constant → ConstData

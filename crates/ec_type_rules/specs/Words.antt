@@ -2,10 +2,10 @@
 use Rattle.std.specs.Prelude.{ℕ, nat_eq, List, [], ◌∷◌, map, Option, Some, None, if◌then◌else◌}
 use Rattle.std.specs.Cmp.Lexicographic.{pointwise}
 use Rattle.ec_ctypes.specs.trees.Types.{TyData, void, arithmetic}
-use Rattle.ec_typing.specs.ec_language.Letters.{Text}
+use Rattle.ec_language.specs.Letters.{Text}
 use Rattle.ec_type_rules.specs.declared.types.words.Named.{Named}
 use Rattle.ec_type_rules.specs.declared.types.words.Named.TheVariants.{Nothing, Integer}
-use Rattle.ec_typing.specs.Types.{occurrences, type_words}
+use Rattle.ec_typing_defs.specs.Types.{occurrences, type_words}
 
 -- how often each type word stands in a list
 abbrev pub counts_in : List Text → List ℕ

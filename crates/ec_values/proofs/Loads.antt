@@ -6,7 +6,7 @@ use Rattle.ec_ctypes.specs.Arithmetic.{converted, Converts, false_value, true_va
 use Rattle.ec_ctypes.specs.declared.types.arith.Arith.{Arith}
 use Rattle.ec_ctypes.specs.declared.types.arith.Arith.TheVariants.{Bool, Char, UChar, Short, UShort, Int, UInt, Long, ULong, LLong, ULLong}
 use Rattle.ec_ctypes.proofs.Conversions.{follows_rule}
-use Rattle.ec_objects.specs.Memory.{Memory, ScalarType, integer_type, pointer_type, number, address, and_then, span, load, decoded, scalar_size, little_endian}
+use Rattle.ec_memory_defs.specs.Memory.{Memory, ScalarType, integer_type, pointer_type, number, address, and_then, span, load, decoded, scalar_size, little_endian}
 use Rattle.ec_values.specs.Words.{HasWord}
 
 value_bounds : (t : Arith) (z : ℤ) → IsValue t z → HasWord z

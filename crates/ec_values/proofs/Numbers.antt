@@ -9,8 +9,8 @@ use Rattle.ec_base.specs.declared.stop.Trap.{Trap}
 use Rattle.ec_base.specs.declared.stop.Trap.TheVariants.{Shift, Zero}
 use Rattle.ec_ctypes.specs.declared.types.arith.Arith.{Arith}
 use Rattle.ec_ctypes.specs.Arithmetic.{width}
-use Rattle.ec_objects.specs.Memory.{and_then}
-use Rattle.ec_resolved.specs.Operations.{is_amount, is_zero, quotient, result_of, remainder_of, shifted, shifted_left}
+use Rattle.ec_memory_defs.specs.Memory.{and_then}
+use Rattle.ec_meaning_defs.specs.resolved.Operations.{is_amount, is_zero, quotient, result_of, remainder_of, shifted, shifted_left}
 use Rattle.ec_values.specs.Words.{HasWord}
 
 opposite_bounds : (x n : ℕ) → mag (neg_ℤ (pos x)) ≤ n → HasWord (negsuc n) → HasWord (neg_ℤ (pos x))

@@ -1,5 +1,5 @@
 -- The operations of code, as those of the definition.
-use Rattle.ec_resolved.specs.Operations as of
+use Rattle.ec_meaning_defs.specs.resolved.Operations as of
 use Rattle.ec_values.specs.declared.operation.Operation.{Operation}
 use Rattle.ec_values.specs.declared.operation.Operation.TheVariants.{Integers, ShiftLeft, ShiftRight, Compare, PointerPlus, PlusPointer, PointerMinus, PointersApart}
 use Rattle.ec_values.specs.declared.operation.IntegerOperator.{IntegerOperator}

@@ -2,8 +2,8 @@
 use Rattle.std.specs.Prelude.{◌^◌, ◌<◌, ◌-◌, ℤ, pos, negsuc, ◌≤ℤ◌, ◌<ℤ◌, Result, Ok, Err}
 use Rattle.ec_base.specs.declared.stop.Trap.{Trap}
 use Rattle.ec_ctypes.specs.declared.types.arith.Arith.{Arith}
-use Rattle.ec_objects.specs.Memory.{ValueData, number, address}
-use Rattle.ec_resolved.specs.Operations.{Worked, gives, traps, misfit, number_worked, negated, flipped}
+use Rattle.ec_memory_defs.specs.Memory.{ValueData, number, address}
+use Rattle.ec_meaning_defs.specs.resolved.Operations.{Worked, gives, traps, misfit, number_worked, negated, flipped}
 use Rattle.ec_values.specs.declared.word.Stop.{Stop}
 use Rattle.ec_values.specs.declared.word.Stop.TheVariants as stop
 use Rattle.ec_values.specs.declared.word.Word.{Word}

@@ -1,9 +1,9 @@
 //! Loads and stores of values in machine words.
 
 ghost use Rattle.std.specs.Prelude.{◌≡◌, OnErr};
-ghost use Rattle.ec_objects.specs.Kinds.{kind_type};
-ghost use Rattle.ec_objects.specs.Memory.{load, number, store as stored};
-ghost use Rattle.ec_objects.specs.declared.kind.Kind.TheVariants as kind;
+ghost use Rattle.ec_memory_defs.specs.Kinds.{kind_type};
+ghost use Rattle.ec_memory_defs.specs.Memory.{load, number, store as stored};
+ghost use Rattle.ec_memory_defs.specs.declared.kind.Kind.TheVariants as kind;
 ghost use Rattle.ec_memory.specs.Store.{outcome, seen};
 ghost use Rattle.ec_values.specs.Words.{word_view};
 
@@ -11,7 +11,7 @@ use crate::word::Word;
 use ec_base::Trap;
 use ec_bytes::{Ptr, U8, U16, U32, U64};
 use ec_memory::{Store, Value};
-use ec_objects::Kind;
+use ec_memory_defs::Kind;
 
 /// The value at a pointer, read as one access (ISO/IEC 9899:1999, 6.3.2.1). The traps are `Null`, `Dead`, `Outside` and
 /// `Unset`.

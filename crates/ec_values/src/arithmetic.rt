@@ -3,7 +3,7 @@
 ghost use Rattle.std.specs.Prelude.{◌≡◌, ◌≢◌, ◌<◌, ◌*◌, ◌^◌, ◌+ℤ◌, ◌-ℤ◌, ◌*ℤ◌, ◌<ℤ◌, ◌≤ℤ◌, neg_ℤ, int_div, int_rem, pos, IfOk};
 ghost use Rattle.std.specs.Int.{int_div_euclid};
 ghost use Rattle.ec_ctypes.specs.Arithmetic.{converted};
-ghost use Rattle.ec_resolved.specs.Operations.{bits_of, calculated, compares, negated, flipped, quotient, remainder_of, result_of, times, shifted, shifted_left, shifted_right};
+ghost use Rattle.ec_meaning_defs.specs.resolved.Operations.{bits_of, calculated, compares, negated, flipped, quotient, remainder_of, result_of, times, shifted, shifted_left, shifted_right};
 ghost use Rattle.ec_values.specs.Operations.{operator_view, comparison_view};
 ghost use Rattle.ec_values.specs.Words.{HasWord};
 

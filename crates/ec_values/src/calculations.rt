@@ -2,10 +2,10 @@
 
 ghost use Rattle.std.specs.Prelude.{◌≡◌, ◌-◌, ◌^◌, ◌≤ℤ◌, pos, negsuc, neg_ℤ, int_div, IfOk};
 ghost use Rattle.ec_ctypes.specs.Arithmetic.{converted};
-ghost use Rattle.ec_objects.specs.Kinds.{kind_type};
-ghost use Rattle.ec_objects.specs.Memory.{difference, moved, number, number_of, pointer_type};
+ghost use Rattle.ec_memory_defs.specs.Kinds.{kind_type};
+ghost use Rattle.ec_memory_defs.specs.Memory.{difference, moved, number, number_of, pointer_type};
 ghost use Rattle.ec_memory.specs.Store.{seen};
-ghost use Rattle.ec_resolved.specs.Operations.{address_worked, calculated, compared, number_worked, on_numbers, on_pointer, pointers_worked, shifted_left, shifted_right, value_as, worked};
+ghost use Rattle.ec_meaning_defs.specs.resolved.Operations.{address_worked, calculated, compared, number_worked, on_numbers, on_pointer, pointers_worked, shifted_left, shifted_right, value_as, worked};
 ghost use Rattle.ec_values.specs.Operations.{comparison_view, operation_view, operator_view};
 ghost use Rattle.ec_values.specs.Words.{HasWord, flipped_word, negated_word, word_view, worked_by};
 
@@ -18,7 +18,7 @@ use ec_base::Trap;
 use ec_bytes::Ptr;
 use ec_ctypes::{Arith, convert as converted};
 use ec_memory::Store;
-use ec_objects::Kind;
+use ec_memory_defs::Kind;
 
 /// What an operation gives for two values. Pointers move within their objects.
 pub fn work(operation: Operation, store: &Store, a: Word, b: Word) -> Result<Word, Stop>

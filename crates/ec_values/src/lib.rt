@@ -9,7 +9,5 @@ mod word;
 
 pub use access::{load, store, store_char, store_int, store_long};
 pub use calculations::{convert, flip, negate, work};
-pub use ec_memory;
-pub use ec_memory::{ec_bytes, ec_ctypes};
 pub use operation::{Comparison, IntegerOperator, Operation};
 pub use word::{Stop, Word};

@@ -1,8 +1,8 @@
 //! Values in machine words.
 
 ghost use Rattle.std.specs.Prelude.{◌≡◌, not};
-ghost use Rattle.ec_objects.specs.Memory.{number, address, number_of};
-ghost use Rattle.ec_resolved.specs.Operations.{is_true, truth};
+ghost use Rattle.ec_memory_defs.specs.Memory.{number, address, number_of};
+ghost use Rattle.ec_meaning_defs.specs.resolved.Operations.{is_true, truth};
 ghost use Rattle.ec_values.specs.Words.{word_view, HasWord};
 
 use ec_base::Trap;

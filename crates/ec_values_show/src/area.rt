@@ -1,7 +1,7 @@
 //! Questions on the communication area.
 
 ghost use Rattle.std.specs.Prelude.{IfOk};
-ghost use Rattle.ec_transfer.specs.Area.{IsArea};
+ghost use Rattle.ec_transfer_defs.specs.Area.{IsArea};
 
 use crate::answer::{Wrong, show_bytes};
 use crate::words::Words;

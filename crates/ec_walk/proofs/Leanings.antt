@@ -6,11 +6,11 @@ use Rattle.ec_ctypes.specs.declared.tree.expr.Expr.{Expr}
 use Rattle.ec_ctypes.specs.declared.tree.expr.UnOp.TheVariants.{Addr, Deref, Plus, Minus, Not, Flip}
 use Rattle.ec_ctypes.specs.trees.Exprs.{ExprData, integer, character, string, identifier, unary, binary, assign, bump, call, call_other, index, member, arrow, cast, size_type, size_expr}
 use Rattle.ec_ctypes.specs.views.Exprs.{expr_view}
-use Rattle.ec_typing.specs.ec_language.First.{Violation}
-use Rattle.ec_typing.specs.Known.{all_expressions, is_identifier}
-use Rattle.ec_typing.specs.Worlds.{Place, World, Out, followed, Rule, chain, pure, note}
-use Rattle.ec_typing.specs.Operands.{OperandData, unknown, value_rule, unary_rule, binary_rule, index_rule, arrow_rule}
-use Rattle.ec_typing.specs.Expressions.{expr, args}
+use Rattle.ec_language.specs.First.{Violation}
+use Rattle.ec_typing_defs.specs.Known.{all_expressions, is_identifier}
+use Rattle.ec_typing_defs.specs.Worlds.{Place, World, Out, followed, Rule, chain, pure, note}
+use Rattle.ec_typing_defs.specs.Operands.{OperandData, unknown, value_rule, unary_rule, binary_rule, index_rule, arrow_rule}
+use Rattle.ec_typing_defs.specs.Expressions.{expr, args}
 use Rattle.ec_walk.specs.Spines.{function_left, left_of, behind, risen}
 
 pub chain-assoc : {A B C : Type 0} (m : Rule A) (f : A → Rule B) (g : B → Rule C) (w : World) → chain (chain m f) g w ≡ chain m (λ a. chain (f a) g) w

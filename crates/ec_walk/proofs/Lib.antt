@@ -1,3 +1,4 @@
 pub mod Leanings
 pub mod Trees
 pub mod Steps
+pub mod initializers_lemmas

@@ -7,11 +7,11 @@ use Rattle.ec_ctypes.specs.declared.tree.expr.Expr.{Expr}
 use Rattle.ec_ctypes.specs.trees.Types.{TyData}
 use Rattle.ec_ctypes.specs.trees.Exprs.{dims, no_dims}
 use Rattle.ec_ctypes.specs.views.Exprs.{expr_view, exprs_view, dim_of, dims_view, expr_option_view, inits_view, init_view, decl_view, decls_view, declarator_view, declarators_view}
-use Rattle.ec_typing.specs.ec_language.First.{Violation}
-use Rattle.ec_typing.specs.Known.{ArgumentsData, behind_first_argument}
-use Rattle.ec_typing.specs.Worlds.{Place, World, Out, Rule, chain, pure}
-use Rattle.ec_typing.specs.Operands.{OperandData}
-use Rattle.ec_typing.specs.Expressions.{Members, args, lengths, length_at, last_length, outer_lengths, members, member_decl, member_items, member_item, init_exprs, all_init_exprs}
+use Rattle.ec_language.specs.First.{Violation}
+use Rattle.ec_typing_defs.specs.Known.{ArgumentsData, behind_first_argument}
+use Rattle.ec_typing_defs.specs.Worlds.{Place, World, Out, Rule, chain, pure}
+use Rattle.ec_typing_defs.specs.Operands.{OperandData}
+use Rattle.ec_typing_defs.specs.Expressions.{Members, args, lengths, length_at, last_length, outer_lengths, members, member_decl, member_items, member_item, init_exprs, all_init_exprs}
 use Rattle.ec_scopes.specs.declared.state.Checker.{Checker}
 use Rattle.ec_scopes.specs.Seen.{world_of, notes_of, noted, IsDone}
 use Rattle.ec_scopes.proofs.Loops.{drop_item, one_done, one_more}

@@ -3,10 +3,10 @@ use Rattle.std.specs.Prelude.{Bool, true, false, not, List, [], ◌∷◌, map, 
 use Rattle.ec_base.specs.declared.fault.FaultKind.TheVariants.{F16}
 use Rattle.ec_ctypes.specs.declared.tree.expr.UnOp.TheVariants.{Addr}
 use Rattle.ec_ctypes.specs.trees.Exprs.{ExprData, integer, character, string, identifier, unary, binary, assign, bump, call, call_other, index, member, arrow, cast, size_type, size_expr}
-use Rattle.ec_typing.specs.Known.{ArgumentsData, all_expressions, is_identifier, is_no_expression}
-use Rattle.ec_typing.specs.Worlds.{Place, Rule, ◌>>=◌, ◌>>◌, pure, note}
-use Rattle.ec_typing.specs.Operands.{OperandData, unknown, value_rule, address_rule, unary_rule, binary_rule, index_rule, bump_rule, member_rule, arrow_rule, size_rule}
-use Rattle.ec_typing.specs.Expressions.{expr, args}
+use Rattle.ec_typing_defs.specs.Known.{ArgumentsData, all_expressions, is_identifier, is_no_expression}
+use Rattle.ec_typing_defs.specs.Worlds.{Place, Rule, ◌>>=◌, ◌>>◌, pure, note}
+use Rattle.ec_typing_defs.specs.Operands.{OperandData, unknown, value_rule, address_rule, unary_rule, binary_rule, index_rule, bump_rule, member_rule, arrow_rule, size_rule}
+use Rattle.ec_typing_defs.specs.Expressions.{expr, args}
 
 -- the function of a call, if it is looked at
 abbrev pub function_left : Bool → ExprData → Option ExprData

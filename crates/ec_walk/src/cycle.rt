@@ -1,10 +1,10 @@
 //! The walk itself, in which each function stops at a number of levels.
-#![tactic(auto, using(ec_scopes::proofs::Steps::noting, crate::proofs::Trees::seeing, ec_ctypes::specs::declared::tree::expr::Expr::the_lemmas), unfolding(ec_typing::specs::Worlds::chain, ec_typing::specs::Worlds::pure, ec_typing::specs::Worlds::ask, ec_typing::specs::Worlds::note))]
+#![tactic(auto, using(ec_scopes::proofs::Steps::noting, crate::proofs::Trees::seeing, ec_ctypes::specs::declared::tree::expr::Expr::the_lemmas), unfolding(ec_typing_defs::specs::Worlds::chain, ec_typing_defs::specs::Worlds::pure, ec_typing_defs::specs::Worlds::ask, ec_typing_defs::specs::Worlds::note))]
 
 ghost use Rattle.std.specs.Prelude.{◌≡◌, [], map, false, true};
 ghost use Rattle.ec_ctypes.specs.views.Exprs.{expr_view, expr_option_view, exprs_view, dim_of, base_view, dims_view, init_view, inits_view, init_option_view, decl_view, decls_view, declarator_view};
 ghost use Rattle.ec_known.specs.Forms.{arguments_view};
-ghost use Rattle.ec_typing.specs.Expressions as rule;
+ghost use Rattle.ec_typing_defs.specs.Expressions as rule;
 ghost use Rattle.ec_scopes.specs.Entries.{place_view, named_view, type_view};
 ghost use Rattle.ec_scopes.specs.Seen.{world_of, Does};
 ghost use Rattle.ec_rules.specs.Seen.{operand_view};

@@ -3,10 +3,9 @@
 
 mod cycle;
 mod dims;
+pub mod initializers;
 mod members;
 mod spines;
 mod walk;
 
-pub use ec_rules;
-pub use ec_type_rules;
 pub use walk::{base, call, expr, last_length, lengths, outer_lengths};

@@ -2,8 +2,8 @@
 
 ghost use Rattle.std.specs.Prelude.{◌≡◌, IfOk};
 ghost use Rattle.ec_ctypes.specs.views.Exprs.{base_view, init_option_view};
-ghost use Rattle.ec_typing.specs.Expressions as rule;
-ghost use Rattle.ec_typing.specs.Types.{words_type};
+ghost use Rattle.ec_typing_defs.specs.Expressions as rule;
+ghost use Rattle.ec_typing_defs.specs.Types.{words_type};
 ghost use Rattle.ec_scopes.specs.Entries.{place_view, named_view, type_view};
 ghost use Rattle.ec_scopes.specs.Seen.{world_of, IsDone};
 
@@ -14,7 +14,7 @@ use ec_scopes::{Checker, Place, Table};
 use ec_type_rules::words_type;
 
 /// The type of type words; F14 where they make none.
-#[tactic(auto, using(ec_scopes::proofs::Steps::noting), unfolding(ec_typing::specs::Worlds::chain, ec_typing::specs::Worlds::pure, ec_typing::specs::Worlds::note, ec_typing::specs::Expressions::type_or_fault))]
+#[tactic(auto, using(ec_scopes::proofs::Steps::noting), unfolding(ec_typing_defs::specs::Worlds::chain, ec_typing_defs::specs::Worlds::pure, ec_typing_defs::specs::Worlds::note, ec_typing_defs::specs::Expressions::type_or_fault))]
 pub(crate) fn words_rule(checker: &mut Checker, at: Place, words: &[Name]) -> Option<Ty>
     ensures { IsDone (rule.type_or_fault (place_view at) (words_type words.now)
         (world_of checker.old)) checker.old checker.new (type_view result) }

@@ -3,7 +3,7 @@
 ghost use Rattle.std.specs.Prelude.{◌≡◌};
 ghost use Rattle.ec_ctypes.specs.trees.Exprs.{call};
 ghost use Rattle.ec_ctypes.specs.views.Exprs.{expr_view, exprs_view, base_view, dims_view};
-ghost use Rattle.ec_typing.specs.Expressions as rule;
+ghost use Rattle.ec_typing_defs.specs.Expressions as rule;
 ghost use Rattle.ec_scopes.specs.Entries.{place_view, type_view};
 ghost use Rattle.ec_scopes.specs.Seen.{world_of, Does};
 ghost use Rattle.ec_rules.specs.Seen.{operand_view};

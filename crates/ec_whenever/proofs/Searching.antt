@@ -10,7 +10,7 @@ use Rattle.std.specs.List.{list_all, list_any, filter}
 use Rattle.ec_ctypes.specs.declared.embedded.emb.Cond.{Cond}
 use Rattle.ec_ctypes.specs.declared.embedded.emb.Cond.TheVariants.{NotFound, Warning, Error}
 use Rattle.ec_ctypes.specs.trees.Checked.{MarkData}
-use Rattle.ec_statement_parts.specs.Handlers.{same_cond, holds_at, last_of, action_among}
+use Rattle.ec_typing_defs.specs.statement_parts.Handlers.{same_cond, holds_at, last_of, action_among}
 use Rattle.ec_whenever.specs.Chosen.{action_for, last_action}
 use Rattle.ec_whenever.specs.Tables.{cond_rank, comes_before, is_no_later, is_no_later_than, is_sorted}
 

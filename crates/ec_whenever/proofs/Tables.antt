@@ -8,7 +8,7 @@ use Rattle.ec_ctypes.specs.declared.embedded.emb.Cond.{Cond}
 use Rattle.ec_ctypes.specs.declared.embedded.emb.Cond.TheVariants.{NotFound, Warning, Error}
 use Rattle.ec_ctypes.specs.trees.Checked.{MarkData}
 use Rattle.ec_ctypes.specs.trees.Embedded.{ActionData, EmbData, whenever}
-use Rattle.ec_statement_parts.specs.Handlers.{same_cond, mark_of, with_mark, marks_in, holds_at, last_of}
+use Rattle.ec_typing_defs.specs.statement_parts.Handlers.{same_cond, mark_of, with_mark, marks_in, holds_at, last_of}
 use Rattle.ec_whenever.specs.Tables.{is_for, marks_for, table_of, cond_rank, is_no_later, is_no_later_than, is_sorted, is_behind, are_in_order, AnswersFor}
 use Rattle.ec_whenever.proofs.Searching.{same_rank, skipped, taken}
 

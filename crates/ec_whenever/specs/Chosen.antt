@@ -3,7 +3,7 @@ use Rattle.std.specs.Prelude.{true, false, List, Option, Some, None}
 use Rattle.ec_ctypes.specs.declared.embedded.emb.Cond.{Cond}
 use Rattle.ec_ctypes.specs.trees.Checked.{MarkData}
 use Rattle.ec_ctypes.specs.trees.Embedded.{ActionData}
-use Rattle.ec_statement_parts.specs.Handlers.{same_cond, last_of}
+use Rattle.ec_typing_defs.specs.statement_parts.Handlers.{same_cond, last_of}
 
 -- the action of a mark, if it is for the condition
 abbrev pub action_for : Cond → Option MarkData → Option ActionData

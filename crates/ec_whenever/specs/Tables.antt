@@ -5,7 +5,7 @@ use Rattle.ec_ctypes.specs.declared.embedded.emb.Cond.{Cond}
 use Rattle.ec_ctypes.specs.declared.embedded.emb.Cond.TheVariants.{NotFound, Warning, Error}
 use Rattle.ec_ctypes.specs.trees.Checked.{MarkData}
 use Rattle.ec_ctypes.specs.trees.Embedded.{EmbData}
-use Rattle.ec_statement_parts.specs.Handlers.{same_cond, action_among, handler}
+use Rattle.ec_typing_defs.specs.statement_parts.Handlers.{same_cond, action_among, handler}
 
 abbrev pub is_for : Cond → MarkData → Bool
 is_for cond m = same_cond cond m.1

@@ -6,7 +6,7 @@ ghost use Rattle.std.specs.Option.{option_copied};
 ghost use Rattle.ec_ctypes.specs.trees.Checked.{MarkData};
 ghost use Rattle.ec_ctypes.specs.views.Checked.{handlers_view, mark_view};
 ghost use Rattle.ec_ctypes.specs.views.Embedded.{action_view};
-ghost use Rattle.ec_statement_parts.specs.Handlers.{action_among};
+ghost use Rattle.ec_typing_defs.specs.statement_parts.Handlers.{action_among};
 ghost use Rattle.ec_whenever.specs.Chosen.{last_action};
 ghost use Rattle.ec_whenever.specs.Tables as spec;
 ghost use Rattle.ec_whenever.specs.Tables.{is_sorted};

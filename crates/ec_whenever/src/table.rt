@@ -3,8 +3,8 @@
 ghost use Rattle.std.specs.Prelude.{◌≡◌, true, [], ◌++◌, map, IfOk, OnOk};
 ghost use Rattle.ec_ctypes.specs.views.Checked.{handlers_view, mark_view};
 ghost use Rattle.ec_ctypes.specs.views.Embedded.{emb_view};
-ghost use Rattle.ec_statement_parts.specs.Handlers as spec;
-ghost use Rattle.ec_statement_parts.specs.Handlers.{marks_in, mark_of, with_mark};
+ghost use Rattle.ec_typing_defs.specs.statement_parts.Handlers as spec;
+ghost use Rattle.ec_typing_defs.specs.statement_parts.Handlers.{marks_in, mark_of, with_mark};
 ghost use Rattle.ec_whenever.specs.Tables.{marks_for, table_of, are_in_order, AnswersFor};
 
 use ec_base::{List, OutOfMemory};

@@ -2,9 +2,10 @@
 #![tactic(auto)]
 
 use ec_base::{Name, OutOfMemory, StdSink, StdSource};
-use ec_cli::{Ending, LinkSpec, ec_main, links_named, status};
+use ec_cli::{Ending, ec_main, status};
 use ec_link::Rack;
 use ec_sqlitelink::SqliteLink;
+use ec_words::{LinkSpec, links_named};
 use std::env;
 use std::io::{BufWriter, Stdout};
 use std::process::ExitCode;

@@ -1,7 +1,7 @@
 //! What expressions are as constants.
 
 ghost use Rattle.std.specs.Prelude.{◌≡◌};
-ghost use Rattle.ec_typing.specs.Constants as rule;
+ghost use Rattle.ec_typing_defs.specs.Constants as rule;
 ghost use Rattle.ec_type_rules.specs.Views.{constant_view};
 
 use crate::constants::values::{binary_value, is_zero, truth, unary_value};

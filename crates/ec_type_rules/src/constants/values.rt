@@ -2,7 +2,7 @@
 
 ghost use Rattle.std.specs.Prelude.{◌≡◌, ◌<◌, ◌≤◌, ◌-◌, ◌*◌, ◌^◌, ◌%◌, true, false, ◌&&◌, Some, pos, negsuc, ◌+ℤ◌, ◌-ℤ◌, ◌*ℤ◌, ◌<ℤ◌, int_le, int_div, int_rem, unsigned_abs};
 ghost use Rattle.ec_ctypes.specs.Arithmetic.{IsValue, is_signed, width, converted};
-ghost use Rattle.ec_typing.specs.Constants as rule;
+ghost use Rattle.ec_typing_defs.specs.Constants as rule;
 ghost use Rattle.ec_type_rules.specs.Values.{IsWide, IsSmall, AreValues};
 
 use ec_ctypes::{Arith, BinOp, UnOp, convert, promote, usual};

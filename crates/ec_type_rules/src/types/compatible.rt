@@ -2,7 +2,7 @@
 
 ghost use Rattle.std.specs.Prelude.{◌≡◌};
 ghost use Rattle.ec_ctypes.specs.views.Types.{ty_view};
-ghost use Rattle.ec_typing.specs.Types as rule;
+ghost use Rattle.ec_typing_defs.specs.Types as rule;
 ghost use Rattle.ec_type_rules.specs.Views.{are_alike, is_pointer};
 
 use crate::types::forms::{is_scalar, is_void};

@@ -3,7 +3,7 @@
 ghost use Rattle.std.specs.Prelude.{◌≡◌};
 ghost use Rattle.ec_ctypes.specs.trees.Types.{array};
 ghost use Rattle.ec_ctypes.specs.views.Types.{ty_view};
-ghost use Rattle.ec_typing.specs.Types as rule;
+ghost use Rattle.ec_typing_defs.specs.Types as rule;
 ghost use Rattle.ec_type_rules.specs.Views.{type_view};
 
 use ec_ctypes::{Arith, Ty};

@@ -5,7 +5,7 @@ ghost use Rattle.ec_ctypes.specs.declared.types.arith.Arith.{Arith};
 ghost use Rattle.ec_ctypes.specs.trees.Types.{TyData, arithmetic};
 ghost use Rattle.ec_ctypes.specs.Sizes.{IsNoInteger};
 ghost use Rattle.ec_ctypes.specs.views.Types.{ty_view};
-ghost use Rattle.ec_typing.specs.Types as rule;
+ghost use Rattle.ec_typing_defs.specs.Types as rule;
 ghost use Rattle.ec_type_rules.specs.Views.{type_view, points_to, complete_target, IsPointer, Tells};
 
 use crate::types::compatible::{are_alike, is_pointer, same_type};

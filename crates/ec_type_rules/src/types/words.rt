@@ -2,11 +2,11 @@
 
 ghost use Rattle.std.specs.Prelude.{◌≡◌, option_map};
 ghost use Rattle.ec_ctypes.specs.views.Types.{ty_view};
-ghost use Rattle.ec_typing.specs.Types as rule;
+ghost use Rattle.ec_typing_defs.specs.Types as rule;
 ghost use Rattle.ec_type_rules.specs.Views.{type_view};
 ghost use Rattle.ec_type_rules.specs.Words.{counts_in, named_view, type_by_counts};
 
-use ec_ctypes::ec_base::Name;
+use ec_base::Name;
 use ec_ctypes::{Arith, Ty};
 
 /// What a set of type words names.

@@ -1,6 +1,6 @@
 use Rattle.std.proofs.Common.{None, Ok, subst}
-use Rattle.ec_calls.specs.Library.{library_call}
-use Rattle.ec_calls.specs.Steps.{settled}
+use Rattle.ec_call_defs.specs.Library.{library_call}
+use Rattle.ec_call_defs.specs.Steps.{settled}
 use Rattle.ec_calling.specs.Giving.{all_seen, Evaluated, Gives, Halted}
 use Rattle.ec_calling.specs.Laws.{unmoved}
 use Rattle.ec_calling.specs.Making.{Made, position_of}

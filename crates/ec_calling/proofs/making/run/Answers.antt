@@ -1,5 +1,5 @@
 use Rattle.std.proofs.Common.{Ok, Err, subst}
-use Rattle.ec_calls.specs.Steps.{settled}
+use Rattle.ec_call_defs.specs.Steps.{settled}
 use Rattle.ec_runtime.specs.Statements.{call_action, cut_view}
 use Rattle.ec_calling.specs.Laws.{unmoved}
 use Rattle.ec_calling.specs.Making.{Made, position_of}

@@ -1,6 +1,6 @@
 use Rattle.std.proofs.Common.{◌∙◌, map}
 use Rattle.ec_ctypes.specs.views.Units.{top_view, unit_view}
-use Rattle.ec_typing.specs.Programs.{defined_in}
+use Rattle.ec_typing_defs.specs.Programs.{defined_in}
 use Rattle.ec_check.proofs.Told.{told_first}
 use Rattle.ec_check.proofs.checking.checked.Goals as goal
 

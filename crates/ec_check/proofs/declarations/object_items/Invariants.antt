@@ -3,7 +3,7 @@ use Rattle.ec_ctypes.specs.views.Exprs.{declarators_view}
 use Rattle.ec_scopes.specs.Entries.{place_view, type_view}
 use Rattle.ec_scopes.specs.Seen.{world_of, notes_of}
 use Rattle.ec_scopes.proofs.Steps.{Goes}
-use Rattle.ec_typing.specs.Statements.{object_items}
+use Rattle.ec_typing_defs.specs.Statements.{object_items}
 use Rattle.ec_check.proofs.declarations.object_items.Given as goal
 
 abbrev pub invariant-loop-item : goal.invariant-loop-item

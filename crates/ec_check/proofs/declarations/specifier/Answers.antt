@@ -1,7 +1,7 @@
 use Rattle.std.proofs.Common.{Option, subst}
 use Rattle.ec_ctypes.specs.trees.Types.{TyData}
 use Rattle.ec_ctypes.specs.views.Exprs.{base_view}
-use Rattle.ec_typing.specs.Worlds.{Rule}
+use Rattle.ec_typing_defs.specs.Worlds.{Rule}
 use Rattle.ec_scopes.specs.Entries.{place_view, type_view}
 use Rattle.ec_scopes.specs.Seen.{world_of, Does}
 use Rattle.ec_check.proofs.Seeing.{specifier_base}

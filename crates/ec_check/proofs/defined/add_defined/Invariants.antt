@@ -1,6 +1,6 @@
 use Rattle.std.proofs.Common.{◌≡◌, drop, map}
 use Rattle.ec_ctypes.specs.views.Units.{top_view}
-use Rattle.ec_typing.specs.Programs.{defined_in}
+use Rattle.ec_typing_defs.specs.Programs.{defined_in}
 use Rattle.ec_check.proofs.defined.add_defined.Given as goal
 
 abbrev pub invariant-loop-top : goal.invariant-loop-top

@@ -1,5 +1,5 @@
 use Rattle.std.proofs.Common.{◌≡◌, length}
-use Rattle.ec_typing.specs.Programs.{all_agree}
+use Rattle.ec_typing_defs.specs.Programs.{all_agree}
 use Rattle.ec_check.specs.Functions.{types_view}
 use Rattle.ec_check.proofs.functions.all_agree.Given as goal
 

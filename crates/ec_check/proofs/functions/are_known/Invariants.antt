@@ -1,5 +1,5 @@
 use Rattle.std.proofs.Common.{◌≡◌, drop}
-use Rattle.ec_typing.specs.Programs.{are_known}
+use Rattle.ec_typing_defs.specs.Programs.{are_known}
 use Rattle.ec_check.specs.Functions.{types_view}
 use Rattle.ec_check.proofs.functions.are_known.Given as goal
 

@@ -3,7 +3,7 @@ use Rattle.ec_ctypes.specs.views.Units.{param_view}
 use Rattle.ec_scopes.specs.Entries.{place_view, type_view}
 use Rattle.ec_scopes.specs.Seen.{world_of, notes_of}
 use Rattle.ec_scopes.proofs.Steps.{Goes}
-use Rattle.ec_typing.specs.Programs.{params}
+use Rattle.ec_typing_defs.specs.Programs.{params}
 use Rattle.ec_check.proofs.functions.params.Given as goal
 
 abbrev pub invariant-loop-p : goal.invariant-loop-p

@@ -1,6 +1,6 @@
 use Rattle.std.proofs.Common.{◌≡◌, drop}
 use Rattle.ec_ctypes.specs.views.Stmts.{stmts_view}
-use Rattle.ec_typing.specs.Statements.{labels_in_all}
+use Rattle.ec_typing_defs.specs.Statements.{labels_in_all}
 use Rattle.ec_check.proofs.labels.+labels.Given as goal
 
 abbrev pub invariant-add_all_labels-loop-s : goal.invariant-add_all_labels-loop-s

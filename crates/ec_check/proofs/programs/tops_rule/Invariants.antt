@@ -3,7 +3,7 @@ use Rattle.ec_ctypes.specs.views.Embedded.{emb_view}
 use Rattle.ec_ctypes.specs.views.Units.{top_view}
 use Rattle.ec_scopes.specs.Seen.{world_of, notes_of}
 use Rattle.ec_scopes.proofs.Steps.{Goes}
-use Rattle.ec_typing.specs.Programs.{tops_rule}
+use Rattle.ec_typing_defs.specs.Programs.{tops_rule}
 use Rattle.ec_check.proofs.programs.tops_rule.Given as goal
 
 abbrev pub invariant-loop-top : goal.invariant-loop-top

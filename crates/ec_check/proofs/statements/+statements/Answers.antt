@@ -2,7 +2,7 @@ use Rattle.std.proofs.Common.{◌∙◌, refl, sym, ap}
 use Rattle.ec_ctypes.specs.trees.Stmts.{if_stmt}
 use Rattle.ec_ctypes.specs.views.Exprs.{expr_view}
 use Rattle.ec_ctypes.specs.views.Stmts.{stmt_view, kind_view, stmt_option_view}
-use Rattle.ec_typing.specs.Statements.{statement_kind}
+use Rattle.ec_typing_defs.specs.Statements.{statement_kind}
 use Rattle.ec_scopes.specs.Entries.{place_view}
 use Rattle.ec_scopes.specs.Seen.{world_of}
 use Rattle.ec_scopes.proofs.Steps.{then_done, done_as}

@@ -2,7 +2,7 @@ use Rattle.std.proofs.Common.{drop}
 use Rattle.ec_ctypes.specs.views.Stmts.{stmts_view}
 use Rattle.ec_scopes.specs.Seen.{world_of, notes_of}
 use Rattle.ec_scopes.proofs.Steps.{Goes}
-use Rattle.ec_typing.specs.Statements.{statements}
+use Rattle.ec_typing_defs.specs.Statements.{statements}
 use Rattle.ec_embedded_rules.specs.Around.{around_view}
 use Rattle.ec_check.proofs.statements.+statements.Given as goal
 

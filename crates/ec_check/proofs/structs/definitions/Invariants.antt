@@ -1,7 +1,7 @@
 use Rattle.std.proofs.Common.{◌≡◌, map, take}
 use Rattle.ec_ctypes.specs.views.Types.{structs_view}
 use Rattle.ec_scopes.specs.Structs.{opened}
-use Rattle.ec_typed.specs.Orders.{plain_struct}
+use Rattle.ec_check.specs.typed.Orders.{plain_struct}
 use Rattle.ec_check.proofs.structs.definitions.Given as goal
 
 abbrev pub invariant-loop-row : goal.invariant-loop-row

@@ -1,8 +1,8 @@
 use Rattle.std.proofs.Common.{◌≡◌, subst, sym, Ok, Err}
 use Rattle.ec_base.specs.Putting.{Puts, PutsPart}
 use Rattle.ec_run.specs.Meanings.{KeepsMeaning}
-use Rattle.ec_run.specs.ec_translate.Answers.{TellsTranslation}
-use Rattle.ec_run.specs.ec_translation.Translations.{IsTranslation}
+use Rattle.ec_front.specs.translation.Answers.{TellsTranslation}
+use Rattle.ec_phases_defs.specs.translation.Translations.{IsTranslation}
 use Rattle.ec_cli.specs.Translating.{TranslatesText}
 use Rattle.ec_cli.proofs.Translations.{text_refused}
 use Rattle.ec_cli.proofs.translation.translate_text.Goals as goal

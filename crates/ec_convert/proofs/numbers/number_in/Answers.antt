@@ -2,7 +2,7 @@
 use Rattle.std.proofs.Common.{◌∙◌, ap}
 use Rattle.ec_convert.specs.Pieces.{fitting}
 use Rattle.ec_convert.proofs.FieldNumbers.{number_no_text, number_parsed, number_unparsed}
-use Rattle.ec_transfer.specs.Conversion.{field_number}
+use Rattle.ec_transfer_defs.specs.Conversion.{field_number}
 use Rattle.ec_convert.proofs.numbers.number_in.Goals as goal
 
 pub returns-in-Ok-parse : goal.returns-in-Ok-parse

@@ -1,6 +1,6 @@
 -- The number is kept as it is.
 use Rattle.ec_convert.proofs.FieldNumbers.{number_kept}
-use Rattle.ec_transfer.specs.Conversion.{field_number}
+use Rattle.ec_transfer_defs.specs.Conversion.{field_number}
 use Rattle.ec_convert.proofs.piece.number_piece.Goals as goal
 
 pub returns-in-Some-clause-bytes : goal.returns-in-Some-clause-bytes

@@ -5,8 +5,8 @@ use Rattle.ec_ctypes.specs.declared.tree.decl.Decl.{out-Decl, the_lemmas as decl
 use Rattle.ec_ctypes.specs.declared.tree.decl.Declarator.{the_lemmas as declarator_lemmas}
 use Rattle.ec_ctypes.specs.trees.Exprs.{binary, assign, bump, call, call_other, index, member, arrow, cast, size_type, size_expr, decl, declarator}
 use Rattle.ec_ctypes.specs.views.Exprs.{expr_view, exprs_view, base_view, decl_view, decls_view, declarator_view, declarators_view, dims_view, init_view, inits_view, init_option_view}
-use Rattle.ec_writing.specs.Chunks.{blank}
-use Rattle.ec_writing.specs.Expressions.{expr_chunks, dims_chunks, init_chunks, declarator_chunks, decl_chunks, members_chunks}
+use Rattle.ec_writing_defs.specs.Chunks.{blank}
+use Rattle.ec_writing_defs.specs.Expressions.{expr_chunks, dims_chunks, init_chunks, declarator_chunks, decl_chunks, members_chunks}
 use Rattle.ec_cwrite.specs.Lists.{comma_chunks, lead_chunks, dim_part}
 use Rattle.ec_cwrite.proofs.Remains.{exprs_from, inits_from, declarators_from}
 use Rattle.ec_cwrite.specs.Writes.{Writes}

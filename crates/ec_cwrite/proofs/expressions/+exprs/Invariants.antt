@@ -1,7 +1,7 @@
 use Rattle.std.proofs.Common.{◌≡◌, ◌++◌, drop}
 use Rattle.ec_ctypes.specs.views.Exprs.{exprs_view, inits_view, declarators_view, decls_view, dims_view}
-use Rattle.ec_writing.specs.Chunks.{text_of}
-use Rattle.ec_writing.specs.Expressions.{list_chunks, inits_chunks, declarators_chunks, members_chunks, dims_chunks}
+use Rattle.ec_writing_defs.specs.Chunks.{text_of}
+use Rattle.ec_writing_defs.specs.Expressions.{list_chunks, inits_chunks, declarators_chunks, members_chunks, dims_chunks}
 use Rattle.ec_cwrite.proofs.Remains.{exprs_from, inits_from, declarators_from}
 use Rattle.ec_cwrite.proofs.expressions.+exprs.Given as goal
 

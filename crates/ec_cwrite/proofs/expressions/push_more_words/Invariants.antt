@@ -1,6 +1,6 @@
 use Rattle.std.proofs.Common.{◌≡◌, ◌++◌, drop}
-use Rattle.ec_writing.specs.Chunks.{text_of}
-use Rattle.ec_writing.specs.Expressions.{more_word_chunks}
+use Rattle.ec_writing_defs.specs.Chunks.{text_of}
+use Rattle.ec_writing_defs.specs.Expressions.{more_word_chunks}
 use Rattle.ec_cwrite.proofs.expressions.push_more_words.Given as goal
 
 abbrev pub invariant-loop-word : goal.invariant-loop-word

@@ -1,6 +1,6 @@
 use Rattle.std.proofs.Common.{◌≡◌, ◌++◌, ◌-◌}
-use Rattle.ec_writing.specs.Chunks.{text_of}
-use Rattle.ec_writing.specs.Expressions.{star_chunks}
+use Rattle.ec_writing_defs.specs.Chunks.{text_of}
+use Rattle.ec_writing_defs.specs.Expressions.{star_chunks}
 use Rattle.ec_cwrite.proofs.expressions.push_stars.Given as goal
 
 abbrev pub invariant-loop-done : goal.invariant-loop-done

@@ -4,8 +4,8 @@ use Rattle.ec_ctypes.specs.declared.tree.decl.Decl.{out-Decl, the_lemmas}
 use Rattle.ec_ctypes.specs.trees.Exprs.{decl}
 use Rattle.ec_ctypes.specs.views.Exprs.{base_view, decl_view, declarators_view}
 use Rattle.ec_language.specs.Productions.{line_of}
-use Rattle.ec_writing.specs.Chunks.{line_end, line_mark}
-use Rattle.ec_writing.specs.Expressions.{decl_chunks}
+use Rattle.ec_writing_defs.specs.Chunks.{line_end, line_mark}
+use Rattle.ec_writing_defs.specs.Expressions.{decl_chunks}
 use Rattle.ec_cwrite.specs.Writes.{Writes}
 use Rattle.ec_cwrite.proofs.Writing.{both}
 use Rattle.ec_cwrite.proofs.programs.push_decl_top.Goals as goal

@@ -3,9 +3,9 @@ use Rattle.std.specs.Prelude.{map, option_map}
 use Rattle.ec_ctypes.specs.views.Exprs.{base_view}
 use Rattle.ec_ctypes.specs.views.Stmts.{stmts_view}
 use Rattle.ec_ctypes.specs.views.Units.{param_view}
-use Rattle.ec_writing.specs.Chunks.{blank}
-use Rattle.ec_writing.specs.Expressions.{word, star_chunks, base_chunks}
-use Rattle.ec_writing.specs.Programs.{params_chunks, body_chunks}
+use Rattle.ec_writing_defs.specs.Chunks.{blank}
+use Rattle.ec_writing_defs.specs.Expressions.{word, star_chunks, base_chunks}
+use Rattle.ec_writing_defs.specs.Programs.{params_chunks, body_chunks}
 use Rattle.ec_cwrite.specs.Writes.{Writes}
 use Rattle.ec_cwrite.proofs.Writing.{both}
 use Rattle.ec_cwrite.proofs.programs.push_func.Goals as goal

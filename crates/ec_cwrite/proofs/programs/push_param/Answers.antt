@@ -1,7 +1,7 @@
 use Rattle.std.proofs.Common.{◌++◌, subst}
 use Rattle.ec_ctypes.specs.views.Exprs.{base_view, dims_view}
-use Rattle.ec_writing.specs.Expressions.{base_chunks, dims_chunks}
-use Rattle.ec_writing.specs.Programs.{param_name}
+use Rattle.ec_writing_defs.specs.Expressions.{base_chunks, dims_chunks}
+use Rattle.ec_writing_defs.specs.Programs.{param_name}
 use Rattle.ec_cwrite.specs.Writes.{Writes}
 use Rattle.ec_cwrite.proofs.Writing.{both}
 use Rattle.ec_cwrite.proofs.programs.push_param.Goals as goal

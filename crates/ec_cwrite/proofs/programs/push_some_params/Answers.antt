@@ -1,7 +1,7 @@
 use Rattle.std.proofs.Common.{refl, ◌∙◌}
 use Rattle.std.specs.Prelude.{map}
 use Rattle.ec_ctypes.specs.views.Units.{param_view}
-use Rattle.ec_writing.specs.Programs.{param_chunks}
+use Rattle.ec_writing_defs.specs.Programs.{param_chunks}
 use Rattle.ec_cwrite.specs.Lists.{comma_chunks}
 use Rattle.ec_cwrite.proofs.Remains.{params_from}
 use Rattle.ec_cwrite.proofs.Lists.{drop_item, list_kept}

@@ -1,8 +1,8 @@
 use Rattle.std.proofs.Common.{◌≡◌, ◌++◌, drop}
 use Rattle.std.specs.Prelude.{map}
 use Rattle.ec_ctypes.specs.views.Units.{param_view}
-use Rattle.ec_writing.specs.Chunks.{text_of}
-use Rattle.ec_writing.specs.Programs.{some_params_chunks}
+use Rattle.ec_writing_defs.specs.Chunks.{text_of}
+use Rattle.ec_writing_defs.specs.Programs.{some_params_chunks}
 use Rattle.ec_cwrite.proofs.Remains.{params_from}
 use Rattle.ec_cwrite.proofs.programs.push_some_params.Given as goal
 

@@ -1,7 +1,7 @@
 use Rattle.std.proofs.Common.{refl, ◌∙◌}
 use Rattle.std.specs.Prelude.{map}
 use Rattle.ec_ctypes.specs.views.Units.{top_view}
-use Rattle.ec_writing.specs.Programs.{top_chunks, tops_chunks}
+use Rattle.ec_writing_defs.specs.Programs.{top_chunks, tops_chunks}
 use Rattle.ec_cwrite.proofs.Lists.{drop_item, each_kept}
 use Rattle.ec_cwrite.proofs.programs.push_tops.Goals as goal
 

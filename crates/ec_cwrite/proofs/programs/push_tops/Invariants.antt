@@ -1,8 +1,8 @@
 use Rattle.std.proofs.Common.{◌≡◌, ◌++◌, drop}
 use Rattle.std.specs.Prelude.{map}
 use Rattle.ec_ctypes.specs.views.Units.{top_view}
-use Rattle.ec_writing.specs.Chunks.{text_of}
-use Rattle.ec_writing.specs.Programs.{tops_chunks}
+use Rattle.ec_writing_defs.specs.Chunks.{text_of}
+use Rattle.ec_writing_defs.specs.Programs.{tops_chunks}
 use Rattle.ec_cwrite.proofs.programs.push_tops.Given as goal
 
 abbrev pub invariant-loop-top : goal.invariant-loop-top

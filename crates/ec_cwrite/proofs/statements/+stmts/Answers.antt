@@ -4,9 +4,9 @@ use Rattle.ec_ctypes.specs.declared.tree.stmt.StmtKind.{the_lemmas}
 use Rattle.ec_ctypes.specs.trees.Stmts.{if_stmt}
 use Rattle.ec_ctypes.specs.views.Exprs.{expr_view}
 use Rattle.ec_ctypes.specs.views.Stmts.{stmt_view, kind_view, stmts_view, stmt_option_view}
-use Rattle.ec_writing.specs.Chunks.{blank, line_end}
-use Rattle.ec_writing.specs.Expressions.{word, in_parens, expr_chunks}
-use Rattle.ec_writing.specs.Programs.{stmt_chunks, kind_chunks, items_chunks, else_chunks}
+use Rattle.ec_writing_defs.specs.Chunks.{blank, line_end}
+use Rattle.ec_writing_defs.specs.Expressions.{word, in_parens, expr_chunks}
+use Rattle.ec_writing_defs.specs.Programs.{stmt_chunks, kind_chunks, items_chunks, else_chunks}
 use Rattle.ec_cwrite.specs.Writes.{Writes}
 use Rattle.ec_cwrite.proofs.Lists.{drop_item, each_kept}
 use Rattle.ec_cwrite.proofs.Writing.{both}

@@ -1,7 +1,7 @@
 use Rattle.std.proofs.Common.{◌≡◌, ◌++◌, drop}
 use Rattle.ec_ctypes.specs.views.Stmts.{stmts_view}
-use Rattle.ec_writing.specs.Chunks.{text_of}
-use Rattle.ec_writing.specs.Programs.{items_chunks}
+use Rattle.ec_writing_defs.specs.Chunks.{text_of}
+use Rattle.ec_writing_defs.specs.Programs.{items_chunks}
 use Rattle.ec_cwrite.proofs.statements.+stmts.Given as goal
 
 abbrev pub invariant-push_stmts-loop-stmt : goal.invariant-push_stmts-loop-stmt

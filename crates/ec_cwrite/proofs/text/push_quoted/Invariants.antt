@@ -1,5 +1,5 @@
 use Rattle.std.proofs.Common.{◌≡◌, ◌++◌, drop}
-use Rattle.ec_writing.specs.Chunks.{quoted_bytes}
+use Rattle.ec_writing_defs.specs.Chunks.{quoted_bytes}
 use Rattle.ec_cwrite.proofs.text.push_quoted.Given as goal
 
 abbrev pub invariant-loop-byte : goal.invariant-loop-byte

@@ -4,7 +4,7 @@ use Rattle.ec_declare.specs.Scanning.{at_start, stop_of}
 use Rattle.ec_declare.specs.Walking.{walk_tops}
 use Rattle.ec_declare.proofs.First.{first_is_kept}
 use Rattle.ec_declare.proofs.Walked.{walked_tops}
-use Rattle.ec_sections.specs.Places.{of_tops}
+use Rattle.ec_host_defs.specs.sections.Places.{of_tops}
 use Rattle.ec_declare.proofs.answers.first_stop.Goals as goal
 
 pub returns : goal.returns

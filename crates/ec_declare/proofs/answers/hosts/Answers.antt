@@ -4,9 +4,9 @@ use Rattle.ec_ctypes.specs.views.Units.{top_view, unit_view}
 use Rattle.ec_declare.specs.Counting.{CountData, none_so_far, count_tops}
 use Rattle.ec_declare.proofs.Counted.{hosts_kept}
 use Rattle.ec_language.specs.First.{first_of, stop_at}
-use Rattle.ec_sections.specs.Answers.{answer_by, violations_from}
-use Rattle.ec_sections.specs.Declared.{hosts_of}
-use Rattle.ec_sections.specs.Places.{of_tops}
+use Rattle.ec_host_defs.specs.sections.Answers.{answer_by, violations_from}
+use Rattle.ec_host_defs.specs.sections.Declared.{hosts_of}
+use Rattle.ec_host_defs.specs.sections.Places.{of_tops}
 use Rattle.ec_declare.proofs.answers.hosts.Goals as goal
 
 pub returns-in_ok-count-in-None : goal.returns-in_ok-count-in-None

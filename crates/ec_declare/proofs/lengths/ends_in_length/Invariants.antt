@@ -1,6 +1,6 @@
 use Rattle.std.proofs.Common.{◌≡◌, length}
 use Rattle.ec_ctypes.specs.views.Exprs.{dims_view}
-use Rattle.ec_sections.specs.Lengths.{ends_in_length}
+use Rattle.ec_host_defs.specs.sections.Lengths.{ends_in_length}
 use Rattle.ec_declare.proofs.lengths.ends_in_length.Given as goal
 
 abbrev pub invariant-loop-left : goal.invariant-loop-left

@@ -6,8 +6,8 @@ use Rattle.ec_ctypes.specs.views.Exprs.{base_view, decl_view, declarators_view, 
 use Rattle.ec_declare.specs.Seen.{scan_view}
 use Rattle.ec_declare.specs.Scanning.{step}
 use Rattle.ec_declare.specs.Walking.{walk_base, walk_decl, walk_declarators, walk_declarator, walk_dims, walk_init, walk_init_option}
-use Rattle.ec_sections.specs.Places.{holds}
-use Rattle.ec_sections.specs.Uses.{in_base, in_declarators, ◌&◌}
+use Rattle.ec_host_defs.specs.sections.Places.{holds}
+use Rattle.ec_host_defs.specs.sections.Uses.{in_base, in_declarators, ◌&◌}
 use Rattle.ec_declare.proofs.places.+places.Goals as goal
 
 pub decl-returns : goal.decl-returns

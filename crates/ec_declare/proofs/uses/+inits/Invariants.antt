@@ -1,6 +1,6 @@
 use Rattle.std.proofs.Common.{◌≡◌, drop, map}
 use Rattle.ec_ctypes.specs.views.Exprs.{inits_view}
-use Rattle.ec_sections.specs.Uses.{in_inits, ◌&◌}
+use Rattle.ec_host_defs.specs.sections.Uses.{in_inits, ◌&◌}
 use Rattle.ec_declare.specs.Seen.{uses_view}
 use Rattle.ec_declare.proofs.uses.+inits.Given as goal
 

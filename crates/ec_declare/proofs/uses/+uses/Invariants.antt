@@ -1,7 +1,7 @@
 use Rattle.std.proofs.Common.{◌≡◌, drop}
 use Rattle.ec_ctypes.specs.views.Exprs.{exprs_view}
 use Rattle.ec_declare.specs.Seen.{uses_view}
-use Rattle.ec_sections.specs.Uses.{in_exprs, ◌&◌}
+use Rattle.ec_host_defs.specs.sections.Uses.{in_exprs, ◌&◌}
 use Rattle.ec_declare.proofs.uses.+uses.Given as goal
 
 abbrev pub invariant-in_exprs-loop-expr : goal.invariant-in_exprs-loop-expr

@@ -3,7 +3,7 @@ use Rattle.ec_ctypes.specs.declared.tree.decl.Declarator.{out-Declarator, the_le
 use Rattle.ec_ctypes.specs.trees.Exprs.{DeclaratorData, declarator}
 use Rattle.ec_ctypes.specs.views.Exprs.{base_view, declarator_view, dims_view, init_option_view}
 use Rattle.ec_declare.specs.Seen.{uses_view}
-use Rattle.ec_sections.specs.Uses.{in_declarator}
+use Rattle.ec_host_defs.specs.sections.Uses.{in_declarator}
 use Rattle.ec_declare.proofs.uses.in_declarator.Goals as goal
 
 pub returns : goal.returns

@@ -1,7 +1,7 @@
-use Rattle.ec_shapes.proofs.Exact.{exact}
-use Rattle.ec_shapes.proofs.Single.{single}
+use Rattle.ec_embedded.proofs.shapes_lemmas.Exact.{exact}
+use Rattle.ec_embedded.proofs.shapes_lemmas.Single.{single}
 use Rattle.std.proofs.Common.{◌≡◌, true}
-use Rattle.ec_shapes.specs.ReadShapes.{is_deterministic}
+use Rattle.ec_embedded.specs.shapes.ReadShapes.{is_deterministic}
 use Rattle.ec_embedded.specs.Laws.{IsReadExactly}
 use Rattle.ec_embedded.specs.References.{Form}
 use Rattle.ec_embedded.specs.Terminals.{alphabet, no_counts}

@@ -4,8 +4,8 @@ use Rattle.ec_ctypes.specs.views.Embedded.{action_view}
 use Rattle.ec_ctypes.specs.views.Exprs.{exprs_view}
 use Rattle.ec_scopes.specs.Entries.{place_view}
 use Rattle.ec_scopes.specs.Seen.{world_of, Does}
-use Rattle.ec_typing.specs.Embedded.{action_rule}
-use Rattle.ec_typing.specs.Worlds.{Rule, instead}
+use Rattle.ec_typing_defs.specs.Embedded.{action_rule}
+use Rattle.ec_typing_defs.specs.Worlds.{Rule, instead}
 use Rattle.ec_embedded_rules.specs.Calls.{called}
 use Rattle.ec_embedded_rules.proofs.actions.action_rule.Goals as goal
 

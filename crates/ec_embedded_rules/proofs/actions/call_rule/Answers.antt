@@ -5,8 +5,8 @@ use Rattle.ec_ctypes.specs.views.Exprs.{exprs_view}
 use Rattle.ec_scopes.specs.Entries.{place_view}
 use Rattle.ec_scopes.specs.Seen.{notes_of, noted_instead}
 use Rattle.ec_scopes.proofs.Steps.{then_done, pure_done}
-use Rattle.ec_typing.specs.Expressions.{expr}
-use Rattle.ec_typing.specs.Worlds.{pure, ◌>>◌}
+use Rattle.ec_typing_defs.specs.Expressions.{expr}
+use Rattle.ec_typing_defs.specs.Worlds.{pure, ◌>>◌}
 use Rattle.ec_embedded_rules.proofs.Instead.{instead_done}
 use Rattle.ec_embedded_rules.proofs.actions.call_rule.Goals as goal
 

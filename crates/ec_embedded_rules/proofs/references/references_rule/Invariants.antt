@@ -1,9 +1,9 @@
 use Rattle.std.proofs.Common.{drop, map}
-use Rattle.ec_parts.specs.Views.{reference_view}
+use Rattle.ec_embedded_rules.specs.parts.Views.{reference_view}
 use Rattle.ec_scopes.specs.Entries.{place_view}
 use Rattle.ec_scopes.specs.Seen.{world_of, notes_of}
 use Rattle.ec_scopes.proofs.Steps.{Goes}
-use Rattle.ec_typing.specs.Embedded.{references_rule}
+use Rattle.ec_typing_defs.specs.Embedded.{references_rule}
 use Rattle.ec_embedded_rules.proofs.references.references_rule.Given as goal
 
 abbrev pub invariant-loop-one : goal.invariant-loop-one

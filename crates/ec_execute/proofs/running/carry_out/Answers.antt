@@ -2,7 +2,7 @@ use Rattle.std.proofs.Common.{rules, ◌≡◌, ◌∙◌, map}
 use Rattle.ec_calling.proofs.Held.{held, holds}
 use Rattle.ec_calling.specs.Views.{call_view}
 use Rattle.ec_code.specs.Views.{program_view}
-use Rattle.ec_execution.specs.Programs.{Executable}
+use Rattle.ec_execution_defs.specs.Programs.{Executable}
 use Rattle.ec_interp.proofs.Whole.{answered_ran}
 use Rattle.ec_execute.specs.Executables.{executable_view}
 use Rattle.ec_execute.proofs.Carrying.{carried, carried_along}

@@ -1,6 +1,6 @@
 use Rattle.std.proofs.Common.{◌≡◌, drop}
 use Rattle.ec_ctypes.specs.views.Stmts.{stmts_view}
-use Rattle.ec_expansion.specs.Lines as lines
+use Rattle.ec_expansion_defs.specs.Lines as lines
 use Rattle.ec_expand.proofs.lines.+lines.Given as goal
 
 abbrev pub invariant-line_after_all-loop-item : goal.invariant-line_after_all-loop-item

@@ -1,6 +1,6 @@
 use Rattle.std.proofs.Common.{◌≡◌, drop, map}
 use Rattle.ec_ctypes.specs.views.Units.{top_view}
-use Rattle.ec_expansion.specs.Lines as lines
+use Rattle.ec_expansion_defs.specs.Lines as lines
 use Rattle.ec_expand.proofs.programs.line_after_tops.Given as goal
 
 abbrev pub invariant-loop-top : goal.invariant-loop-top

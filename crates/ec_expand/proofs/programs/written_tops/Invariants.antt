@@ -1,6 +1,6 @@
 use Rattle.std.proofs.Common.{◌≡◌, ◌++◌, drop, map}
 use Rattle.ec_ctypes.specs.views.Units.{top_view}
-use Rattle.ec_expansion.specs.Statements as spec
+use Rattle.ec_expansion_defs.specs.Statements as spec
 use Rattle.ec_expand.specs.Blocks.{written_at}
 use Rattle.ec_expand.proofs.programs.written_tops.Given as goal
 

@@ -4,7 +4,7 @@ use Rattle.ec_ctypes.proofs.Shapes.{drop_item}
 use Rattle.ec_ctypes.specs.declared.tree.stmt.Stmt.{out-Stmt, the_lemmas}
 use Rattle.ec_ctypes.specs.trees.Stmts.{stmt}
 use Rattle.ec_ctypes.specs.views.Stmts.{stmt_view, kind_view, stmts_view}
-use Rattle.ec_expansion.specs.Statements as spec
+use Rattle.ec_expansion_defs.specs.Statements as spec
 use Rattle.ec_expand.specs.Blocks.{written_at}
 use Rattle.ec_expand.proofs.Written.{items_step, items_end}
 use Rattle.ec_expand.proofs.statements.+statements.Goals as goal

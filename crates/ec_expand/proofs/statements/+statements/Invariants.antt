@@ -1,7 +1,7 @@
 use Rattle.std.proofs.Common.{◌≡◌, drop, map}
 use Rattle.ec_ctypes.specs.views.Stmts.{stmt_view, stmts_view}
-use Rattle.ec_expansion.specs.Statements as spec
-use Rattle.ec_expansion.specs.Statements.{before_stmts}
+use Rattle.ec_expansion_defs.specs.Statements as spec
+use Rattle.ec_expansion_defs.specs.Statements.{before_stmts}
 use Rattle.ec_expand.specs.Blocks.{written_at}
 use Rattle.ec_expand.proofs.statements.+statements.Given as goal
 

@@ -2,10 +2,10 @@ use Rattle.std.proofs.Common.{◌≡◌, ◌∙◌, ap, List, map, subst, sym, S
 use Rattle.std.specs.Prelude.{slice_get}
 use Rattle.ec_code.specs.declared.program.Function.{Function}
 use Rattle.ec_code.specs.Views.{function_view, program_view}
-use Rattle.ec_evaluation.specs.Whole.{main_run}
+use Rattle.ec_meaning_defs.specs.evaluation.Whole.{main_run}
 use Rattle.ec_machine.specs.Goes.{at, tasks}
-use Rattle.ec_running.specs.LibraryRuns.{HaltsWith}
-use Rattle.ec_running.specs.Runs.{Run}
+use Rattle.ec_interp.specs.running.LibraryRuns.{HaltsWith}
+use Rattle.ec_interp.specs.running.Runs.{Run}
 use Rattle.ec_interp.proofs.Whole.{halts_same, without_main}
 use Rattle.ec_interp.proofs.machine.run_opened.Goals as goal
 

@@ -2,8 +2,8 @@ use Rattle.std.proofs.Common.{◌≡◌, ◌∙◌, sym, ap, rules}
 use Rattle.ec_ctypes.specs.declared.tree.expr.Expr.{the_lemmas}
 use Rattle.ec_ctypes.specs.trees.Exprs.{identifier}
 use Rattle.ec_ctypes.specs.views.Exprs.{expr_view}
-use Rattle.ec_typing.specs.Known.{is_symbol, library_symbols}
-use Rattle.ec_typing.specs.Tables.{is_one_of}
+use Rattle.ec_typing_defs.specs.Known.{is_symbol, library_symbols}
+use Rattle.ec_typing_defs.specs.Tables.{is_one_of}
 use Rattle.ec_known.proofs.arguments.is_symbol.Goals as goal
 
 pub returns-in-Name : goal.returns-in-Name

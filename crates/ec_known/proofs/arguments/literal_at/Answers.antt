@@ -2,7 +2,7 @@ use Rattle.std.proofs.Common.{◌∙◌, sym, ap}
 use Rattle.std.specs.Option.{option_and_then}
 use Rattle.ec_ctypes.specs.declared.tree.expr.Expr.{Expr}
 use Rattle.ec_ctypes.specs.views.Exprs.{expr_view}
-use Rattle.ec_typing.specs.Known.{literal_in}
+use Rattle.ec_typing_defs.specs.Known.{literal_in}
 use Rattle.ec_known.proofs.Tables.{literal_of}
 use Rattle.ec_known.proofs.arguments.literal_at.Goals as goal
 

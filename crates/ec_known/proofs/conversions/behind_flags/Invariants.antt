@@ -1,5 +1,5 @@
 use Rattle.std.proofs.Common.{◌≡◌, length}
-use Rattle.ec_typing.specs.Formats as spec
+use Rattle.ec_typing_defs.specs.Formats as spec
 use Rattle.ec_known.proofs.conversions.behind_flags.Given as goal
 
 abbrev pub invariant-loop-rest : goal.invariant-loop-rest

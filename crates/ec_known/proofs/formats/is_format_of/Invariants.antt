@@ -1,5 +1,5 @@
 use Rattle.std.proofs.Common.{◌≡◌, Some}
-use Rattle.ec_typing.specs.Formats as spec
+use Rattle.ec_typing_defs.specs.Formats as spec
 use Rattle.ec_known.specs.Taking.{types_view, is_met}
 use Rattle.ec_known.proofs.formats.is_format_of.Given as goal
 

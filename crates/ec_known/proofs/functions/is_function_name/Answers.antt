@@ -1,5 +1,5 @@
 use Rattle.std.proofs.Common.{◌∙◌, ap, is_some}
-use Rattle.ec_typing.specs.Known.{known_functions}
+use Rattle.ec_typing_defs.specs.Known.{known_functions}
 use Rattle.ec_known.specs.Functions.{signature_view}
 use Rattle.ec_known.proofs.Tables.{found_among, is_some-map}
 use Rattle.ec_known.proofs.functions.is_function_name.Goals as goal

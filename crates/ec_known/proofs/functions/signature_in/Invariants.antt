@@ -1,5 +1,5 @@
 use Rattle.std.proofs.Common.{◌≡◌, map, drop}
-use Rattle.ec_typing.specs.Tables.{find}
+use Rattle.ec_typing_defs.specs.Tables.{find}
 use Rattle.ec_known.specs.Functions.{row_view}
 use Rattle.ec_known.proofs.functions.signature_in.Given as goal
 

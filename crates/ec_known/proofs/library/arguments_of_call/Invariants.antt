@@ -1,6 +1,6 @@
 use Rattle.std.proofs.Common.{◌≡◌, ◌-◌, ◌≤◌, ◌++◌, length, drop}
 use Rattle.ec_ctypes.specs.views.Exprs.{exprs_view}
-use Rattle.ec_typing.specs.Library.{arguments_of_call}
+use Rattle.ec_typing_defs.specs.Library.{arguments_of_call}
 use Rattle.ec_known.specs.Library.{all_seen}
 use Rattle.ec_known.specs.Taking.{types_view}
 use Rattle.ec_known.proofs.library.arguments_of_call.Given as goal

@@ -1,6 +1,6 @@
 use Rattle.std.proofs.Common.{◌≡◌, drop}
 use Rattle.ec_ctypes.specs.Texts.{library_text}
-use Rattle.ec_typing.specs.Library.{named_among}
+use Rattle.ec_typing_defs.specs.Library.{named_among}
 use Rattle.ec_known.proofs.library.call_among.Given as goal
 
 abbrev pub invariant-loop-call : goal.invariant-loop-call

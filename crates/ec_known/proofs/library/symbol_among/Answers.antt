@@ -1,6 +1,6 @@
 use Rattle.std.proofs.Common.{ap, ◌∙◌}
 use Rattle.ec_ctypes.specs.Texts.{symbol_text}
-use Rattle.ec_typing.specs.ec_language.Letters.{same_text}
+use Rattle.ec_language.specs.Letters.{same_text}
 use Rattle.ec_known.proofs.Named.{named_found, named_passed}
 use Rattle.ec_known.proofs.library.symbol_among.Goals as goal
 

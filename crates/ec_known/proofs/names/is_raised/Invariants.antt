@@ -1,6 +1,6 @@
 use Rattle.std.proofs.Common.{◌≡◌, ◌-◌, ◌≤◌, length, map, drop}
-use Rattle.ec_typing.specs.ec_language.Letters.{same_text}
-use Rattle.ec_typing.specs.Known as spec
+use Rattle.ec_language.specs.Letters.{same_text}
+use Rattle.ec_typing_defs.specs.Known as spec
 use Rattle.ec_known.proofs.names.is_raised.Given as goal
 
 abbrev pub invariant-loop-i : goal.invariant-loop-i

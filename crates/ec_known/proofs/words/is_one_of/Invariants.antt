@@ -1,5 +1,5 @@
 use Rattle.std.proofs.Common.{◌≡◌, ℕ, List, map, drop, Bor}
-use Rattle.ec_typing.specs.Tables.{is_one_of}
+use Rattle.ec_typing_defs.specs.Tables.{is_one_of}
 use Rattle.ec_known.proofs.words.is_one_of.Given as goal
 
 abbrev pub invariant-loop-word : goal.invariant-loop-word

@@ -1,7 +1,7 @@
 use Rattle.std.proofs.Common.{◌≡◌, ◌∙◌, ap, Some}
 use Rattle.std.specs.Option.{option_map}
 use Rattle.ec_code.specs.Views.{expression_view, full_view, statement_view}
-use Rattle.ec_resolved.specs.Resolved.{return}
+use Rattle.ec_meaning_defs.specs.resolved.Resolved.{return}
 use Rattle.ec_machine.proofs.Quickly.{some_as}
 use Rattle.ec_machine.proofs.Views.{view-Return}
 use Rattle.ec_machine.proofs.calls.result_of.Goals as goal

@@ -1,8 +1,8 @@
 use Rattle.std.proofs.Common.{◌≡◌, ◌≤◌, length}
 use Rattle.ec_code.specs.Views.{statements_view}
-use Rattle.ec_evaluation.specs.Evaluate.{Context, World, Step as Knowing}
-use Rattle.ec_evaluation.specs.Execute.{look_all}
-use Rattle.ec_evaluation.specs.State.{State}
+use Rattle.ec_meaning_defs.specs.evaluation.Evaluate.{Context, World, Step as Knowing}
+use Rattle.ec_meaning_defs.specs.evaluation.Execute.{look_all}
+use Rattle.ec_meaning_defs.specs.evaluation.State.{State}
 use Rattle.ec_machine.specs.Weights.{statements_weight}
 use Rattle.ec_machine.proofs.labels.first_holding.Given as goal
 

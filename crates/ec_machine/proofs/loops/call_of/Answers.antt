@@ -1,6 +1,6 @@
 use Rattle.std.proofs.Common.{◌≡◌, ◌∙◌, ap}
 use Rattle.ec_code.specs.Views.{expression_view, full_view, statement_view}
-use Rattle.ec_resolved.specs.Resolved.{evaluate}
+use Rattle.ec_meaning_defs.specs.resolved.Resolved.{evaluate}
 use Rattle.ec_machine.proofs.Quickly.{some_as}
 use Rattle.ec_machine.proofs.Views.{view-Evaluate}
 use Rattle.ec_machine.proofs.loops.call_of.Goals as goal

@@ -1,7 +1,7 @@
 use Rattle.std.proofs.Common.{◌≡◌, length, map}
-use Rattle.ec_evaluation.specs.Results.{Res, given}
-use Rattle.ec_evaluation.specs.State.{State}
-use Rattle.ec_objects.specs.Kinds.{kind_type}
+use Rattle.ec_meaning_defs.specs.evaluation.Results.{Res, given}
+use Rattle.ec_meaning_defs.specs.evaluation.State.{State}
+use Rattle.ec_memory_defs.specs.Kinds.{kind_type}
 use Rattle.ec_plain.specs.Answered.{at, scope_view}
 use Rattle.ec_values.specs.Words.{word_view}
 use Rattle.ec_machine.proofs.making.give_arguments.Given as goal

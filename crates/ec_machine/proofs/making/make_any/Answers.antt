@@ -2,9 +2,9 @@
 use Rattle.std.proofs.Common.{◌≡◌, ◌∙◌, ap, subst, sym, map, ℕ, List, length, drop}
 use Rattle.std.proofs.lemmas.List.{drop-map, length-map}
 use Rattle.ec_bytes.specs.declared.scalar.address.Ptr.{Ptr}
-use Rattle.ec_evaluation.specs.Results.{Res, given}
-use Rattle.ec_evaluation.specs.State.{State}
-use Rattle.ec_objects.specs.Kinds.{kind_type}
+use Rattle.ec_meaning_defs.specs.evaluation.Results.{Res, given}
+use Rattle.ec_meaning_defs.specs.evaluation.State.{State}
+use Rattle.ec_memory_defs.specs.Kinds.{kind_type}
 use Rattle.ec_plain.specs.Answered.{at, scope_view}
 use Rattle.ec_values.specs.Words.{word_view}
 use Rattle.ec_machine.specs.Frames.{objects_of}

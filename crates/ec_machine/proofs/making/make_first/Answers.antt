@@ -1,7 +1,7 @@
 use Rattle.std.proofs.Common.{◌≡◌, subst, sym, [], ◌∷◌, ◌++◌, append-nil}
-use Rattle.ec_evaluation.specs.Results.{tried}
-use Rattle.ec_objects.specs.Kinds.{kind_type}
-use Rattle.ec_objects.specs.Memory.{make, scalar_size}
+use Rattle.ec_meaning_defs.specs.evaluation.Results.{tried}
+use Rattle.ec_memory_defs.specs.Kinds.{kind_type}
+use Rattle.ec_memory_defs.specs.Memory.{make, scalar_size}
 use Rattle.ec_plain.specs.Answered.{at, scope_view}
 use Rattle.ec_machine.specs.Frames.{objects_of}
 use Rattle.ec_machine.specs.Goes.{Makes}

@@ -4,7 +4,7 @@ use Rattle.std.proofs.lemmas.Result.{err_from_is_err_and}
 use Rattle.std.specs.Int.{w32}
 use mir.Val.{of_z, to_z}
 use Rattle.ec_memory.specs.Room.{int_cells}
-use Rattle.ec_objects.specs.Memory.{with_object}
+use Rattle.ec_memory_defs.specs.Memory.{with_object}
 use Rattle.ec_machine.proofs.making.make_int.Goals as goal
 
 pub returns-in_err-push-in-Ok-clause-left : goal.returns-in_err-push-in-Ok-clause-left

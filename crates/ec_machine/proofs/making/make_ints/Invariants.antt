@@ -1,6 +1,6 @@
 use Rattle.std.proofs.Common.{◌≡◌, ℕ, List, length, map}
-use Rattle.ec_evaluation.specs.Results.{Res}
-use Rattle.ec_evaluation.specs.State.{State}
+use Rattle.ec_meaning_defs.specs.evaluation.Results.{Res}
+use Rattle.ec_meaning_defs.specs.evaluation.State.{State}
 use Rattle.ec_memory.specs.Room.{HasRoom}
 use Rattle.ec_plain.specs.Answered.{at, scope_view}
 use Rattle.ec_values.specs.Words.{word_view}

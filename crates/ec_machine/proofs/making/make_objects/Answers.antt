@@ -1,8 +1,8 @@
 use Rattle.std.proofs.Common.{◌∙◌, ap, map, ℕ, ◌+◌, List, [], ◌∷◌, ◌++◌, drop}
 use Rattle.ec_code.specs.Views.{size_view}
-use Rattle.ec_evaluation.specs.Results.{Res, made, tried}
-use Rattle.ec_evaluation.specs.State.{State}
-use Rattle.ec_objects.specs.Memory.{make}
+use Rattle.ec_meaning_defs.specs.evaluation.Results.{Res, made, tried}
+use Rattle.ec_meaning_defs.specs.evaluation.State.{State}
+use Rattle.ec_memory_defs.specs.Memory.{make}
 use Rattle.ec_plain.specs.Answered.{at, scope_view}
 use Rattle.ec_plain.proofs.Walks.{drop_item}
 use Rattle.ec_machine.specs.Frames.{objects_of}

@@ -1,7 +1,7 @@
 use Rattle.std.proofs.Common.{◌≡◌, ℕ, List, drop, map}
 use Rattle.ec_code.specs.Views.{size_view}
-use Rattle.ec_evaluation.specs.Results.{Res, made}
-use Rattle.ec_evaluation.specs.State.{State}
+use Rattle.ec_meaning_defs.specs.evaluation.Results.{Res, made}
+use Rattle.ec_meaning_defs.specs.evaluation.State.{State}
 use Rattle.ec_plain.specs.Answered.{at, scope_view}
 use Rattle.ec_machine.specs.Frames.{Grown, objects_of}
 use Rattle.ec_machine.proofs.making.make_objects.Given as goal

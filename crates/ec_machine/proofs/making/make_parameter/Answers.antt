@@ -1,6 +1,6 @@
 use Rattle.std.proofs.Common.{arith, subst, [], ◌∷◌, ◌++◌}
-use Rattle.ec_evaluation.specs.Results.{tried}
-use Rattle.ec_objects.specs.Memory.{make}
+use Rattle.ec_meaning_defs.specs.evaluation.Results.{tried}
+use Rattle.ec_memory_defs.specs.Memory.{make}
 use Rattle.ec_plain.specs.Answered.{at, scope_view}
 use Rattle.ec_machine.specs.Frames.{objects_of}
 use Rattle.ec_machine.specs.Goes.{Makes}

@@ -1,11 +1,11 @@
 use Rattle.std.proofs.Common.{◌≡◌, ◌∙◌, ap, map, ℕ, ◌-◌, List, ◌∷◌, length, get_or, take, drop, Some}
 use Rattle.std.specs.Prelude.{slice_get}
 use Rattle.std.proofs.lemmas.Option.{slice_get-get_or}
-use Rattle.ec_evaluation.specs.Results.{Res, made}
-use Rattle.ec_evaluation.specs.State.{State}
-use Rattle.ec_objects.specs.declared.kind.Kind.TheVariants as kinds_of
-use Rattle.ec_objects.specs.Kinds.{kind_type}
-use Rattle.ec_objects.specs.Memory.{scalar_size}
+use Rattle.ec_meaning_defs.specs.evaluation.Results.{Res, made}
+use Rattle.ec_meaning_defs.specs.evaluation.State.{State}
+use Rattle.ec_memory_defs.specs.declared.kind.Kind.TheVariants as kinds_of
+use Rattle.ec_memory_defs.specs.Kinds.{kind_type}
+use Rattle.ec_memory_defs.specs.Memory.{scalar_size}
 use Rattle.ec_plain.specs.Answered.{at, scope_view}
 use Rattle.ec_machine.specs.Frames.{objects_of}
 use Rattle.ec_machine.proofs.Moves.{grown_on}

@@ -1,8 +1,8 @@
 use Rattle.std.proofs.Common.{◌≡◌, ℕ, List, length, map}
-use Rattle.ec_objects.specs.Kinds.{kind_type}
-use Rattle.ec_objects.specs.Memory.{scalar_size}
-use Rattle.ec_evaluation.specs.Results.{Res, made}
-use Rattle.ec_evaluation.specs.State.{State}
+use Rattle.ec_memory_defs.specs.Kinds.{kind_type}
+use Rattle.ec_memory_defs.specs.Memory.{scalar_size}
+use Rattle.ec_meaning_defs.specs.evaluation.Results.{Res, made}
+use Rattle.ec_meaning_defs.specs.evaluation.State.{State}
 use Rattle.ec_plain.specs.Answered.{at, scope_view}
 use Rattle.ec_machine.specs.Frames.{Grown, objects_of}
 use Rattle.ec_machine.proofs.making.make_parameters.Given as goal

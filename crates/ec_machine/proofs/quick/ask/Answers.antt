@@ -1,8 +1,8 @@
 use Rattle.std.proofs.Common.{◌∙◌, ap, sym, true, false}
-use Rattle.ec_evaluation.specs.Results.{on_value}
+use Rattle.ec_meaning_defs.specs.evaluation.Results.{on_value}
 use Rattle.ec_plain.specs.Answered.{at, context}
 use Rattle.ec_plain.specs.Outcomes.{outcome_view}
-use Rattle.ec_resolved.specs.Operations.{is_true}
+use Rattle.ec_meaning_defs.specs.resolved.Operations.{is_true}
 use Rattle.ec_values.specs.Words.{word_view}
 use Rattle.ec_machine.specs.Frames.{objects_of}
 use Rattle.ec_machine.proofs.Evaluating.{to_Plain}

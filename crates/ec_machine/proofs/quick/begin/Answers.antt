@@ -1,11 +1,11 @@
 use Rattle.std.proofs.Common.{◌∙◌, sym, ap, arith, [], None, true, false}
 use Rattle.ec_code.specs.Views.{expression_view, statement_view}
-use Rattle.ec_evaluation.specs.Evaluate.{eval}
-use Rattle.ec_evaluation.specs.Execute.{run}
-use Rattle.ec_evaluation.specs.Results.{Res, on, on_value}
-use Rattle.ec_evaluation.specs.State.{State}
+use Rattle.ec_meaning_defs.specs.evaluation.Evaluate.{eval}
+use Rattle.ec_meaning_defs.specs.evaluation.Execute.{run}
+use Rattle.ec_meaning_defs.specs.evaluation.Results.{Res, on, on_value}
+use Rattle.ec_meaning_defs.specs.evaluation.State.{State}
 use Rattle.ec_plain.specs.Answered.{at}
-use Rattle.ec_resolved.specs.Operations.{is_true}
+use Rattle.ec_meaning_defs.specs.resolved.Operations.{is_true}
 use Rattle.ec_machine.specs.Frames.{Env, here}
 use Rattle.ec_machine.specs.Weights.{statement_weight}
 use Rattle.ec_machine.proofs.Quickly.{asks_fails, asks_holds, asks_stops, asks_waits, passes_all, passes_nothing, passes_stops, stops_as}

@@ -1,5 +1,5 @@
 use Rattle.std.proofs.Common.{◌∙◌, ap, sym}
-use Rattle.ec_evaluation.specs.Results.{on_value}
+use Rattle.ec_meaning_defs.specs.evaluation.Results.{on_value}
 use Rattle.ec_plain.specs.Answered.{at, context}
 use Rattle.ec_plain.specs.Outcomes.{outcome_view}
 use Rattle.ec_machine.specs.Frames.{objects_of}

@@ -1,6 +1,6 @@
 use Rattle.std.proofs.Common.{◌∙◌, arith, refl}
 use Rattle.ec_code.specs.Views.{statement_view}
-use Rattle.ec_evaluation.specs.Execute.{run}
+use Rattle.ec_meaning_defs.specs.evaluation.Execute.{run}
 use Rattle.ec_plain.specs.Answered.{at, context}
 use Rattle.ec_machine.specs.Frames.{objects_of}
 use Rattle.ec_machine.proofs.Quickly.{begins_done, begins_leads, begins_stays, begins_stops, leads_lighter, stops_as}

@@ -1,8 +1,8 @@
 use Rattle.std.proofs.Common.{◌≡◌, ◌≤◌, Bool}
 use Rattle.ec_code.specs.Views.{statement_view}
-use Rattle.ec_evaluation.specs.Evaluate.{World, Step as Knowing}
-use Rattle.ec_evaluation.specs.Execute.{run}
-use Rattle.ec_evaluation.specs.State.{State}
+use Rattle.ec_meaning_defs.specs.evaluation.Evaluate.{World, Step as Knowing}
+use Rattle.ec_meaning_defs.specs.evaluation.Execute.{run}
+use Rattle.ec_meaning_defs.specs.evaluation.State.{State}
 use Rattle.ec_plain.specs.Answered.{at, context}
 use Rattle.ec_machine.specs.Frames.{objects_of}
 use Rattle.ec_machine.specs.Weights.{statement_weight}

@@ -1,5 +1,5 @@
 use Rattle.std.proofs.Common.{◌≡◌, ◌++◌, ◌≤◌, ◌+◌, length, suc}
-use Rattle.ec_calls.specs.Marks.{with_marks, marked}
+use Rattle.ec_call_defs.specs.Marks.{with_marks, marked}
 use Rattle.ec_marks.specs.Steps.{depth}
 use Rattle.ec_marks.specs.Views.{place_view}
 use Rattle.ec_marks.proofs.marks.with_marks.Given as goal

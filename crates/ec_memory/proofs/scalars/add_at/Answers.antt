@@ -5,10 +5,10 @@ use Rattle.std.proofs.lemmas.Int.{ints, to_z-of_z}
 use mir.Val.{SFits, of_z, to_z}
 use Rattle.ec_bytes.specs.Scalars.{HoldBytes, signed_bytes, signed_of}
 use Rattle.ec_bytes.specs.declared.scalar.signed.I32.{I32}
-use Rattle.ec_objects.specs.Cells.{Cell, part_of, set_cells, value_of, written}
-use Rattle.ec_objects.specs.Kinds.{kind_type}
-use Rattle.ec_objects.specs.declared.kind.Kind.TheVariants as kind
-use Rattle.ec_objects.specs.Memory.{encoded, number}
+use Rattle.ec_memory_defs.specs.Cells.{Cell, part_of, set_cells, value_of, written}
+use Rattle.ec_memory_defs.specs.Kinds.{kind_type}
+use Rattle.ec_memory_defs.specs.declared.kind.Kind.TheVariants as kind
+use Rattle.ec_memory_defs.specs.Memory.{encoded, number}
 use Rattle.ec_memory.proofs.Sums.{int_read, passing_sum}
 use Rattle.ec_memory.proofs.scalars.add_at.Goals as goal
 

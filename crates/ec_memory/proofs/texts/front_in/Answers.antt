@@ -1,6 +1,6 @@
 -- The front of a text by its run.
 use Rattle.std.proofs.Common.{◌∙◌, ap, length, arith}
-use Rattle.ec_objects.specs.Cells.{part_of}
+use Rattle.ec_memory_defs.specs.Cells.{part_of}
 use Rattle.ec_memory.proofs.Reading.{run_bound, part_length, front_far, front_filled, front_by_run}
 use Rattle.ec_memory.proofs.texts.front_in.Goals as goal
 

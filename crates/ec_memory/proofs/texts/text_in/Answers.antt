@@ -1,6 +1,6 @@
 -- The text by its run.
 use Rattle.std.proofs.Common.{sym, ap, length, arith}
-use Rattle.ec_objects.specs.Cells.{part_of}
+use Rattle.ec_memory_defs.specs.Cells.{part_of}
 use Rattle.ec_memory.proofs.Reading.{run_bound, part_length, text_all, text_by_run}
 use Rattle.ec_memory.proofs.texts.text_in.Goals as goal
 

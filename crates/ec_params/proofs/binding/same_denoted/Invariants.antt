@@ -1,5 +1,5 @@
 use Rattle.std.proofs.Common.{◌≡◌, length}
-use Rattle.ec_hosts.specs.Faults.{same_denoted}
+use Rattle.ec_host_defs.specs.Faults.{same_denoted}
 use Rattle.ec_params.proofs.binding.same_denoted.Given as goal
 
 abbrev pub invariant-loop-left : goal.invariant-loop-left

@@ -1,7 +1,7 @@
 use Rattle.std.proofs.Common.{◌≡◌, ◌+◌, drop, map}
 use Rattle.ec_ctypes.specs.views.Embedded.{input_view}
 use Rattle.ec_params.specs.Naming.{names_among}
-use Rattle.ec_statement_parts.specs.References.{of_all, of_input}
+use Rattle.ec_typing_defs.specs.statement_parts.References.{of_all, of_input}
 use Rattle.ec_params.proofs.counting.inputs_names.Given as goal
 
 abbrev pub invariant-loop-input : goal.invariant-loop-input

@@ -1,6 +1,6 @@
 use Rattle.std.proofs.Common.{refl}
 use Rattle.ec_ctypes.specs.views.Embedded.{emb_view}
-use Rattle.ec_hosts.specs.Uses.{uses_of}
+use Rattle.ec_host_defs.specs.Uses.{uses_of}
 use Rattle.ec_params.specs.Scenes.{program_of, denoted_of}
 use Rattle.ec_params.proofs.Walking.{all_walked}
 use Rattle.ec_params.proofs.faults.hosts_fault.Goals as goal

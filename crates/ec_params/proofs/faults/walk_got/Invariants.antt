@@ -1,6 +1,6 @@
 use Rattle.std.proofs.Common.{drop, map}
 use Rattle.ec_ctypes.specs.views.Embedded.{get_item_view}
-use Rattle.ec_hosts.specs.Uses.{each_uses, get_uses}
+use Rattle.ec_host_defs.specs.Uses.{each_uses, get_uses}
 use Rattle.ec_params.specs.Scenes.{program_of, denoted_of}
 use Rattle.ec_params.proofs.Walking.{Onward}
 use Rattle.ec_params.proofs.faults.walk_got.Given as goal

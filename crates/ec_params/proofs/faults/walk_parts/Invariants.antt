@@ -1,6 +1,6 @@
 use Rattle.std.proofs.Common.{drop, map}
 use Rattle.ec_ctypes.specs.views.Embedded.{part_view}
-use Rattle.ec_hosts.specs.Uses.{each_uses, part_uses}
+use Rattle.ec_host_defs.specs.Uses.{each_uses, part_uses}
 use Rattle.ec_params.specs.Scenes.{program_of, denoted_of}
 use Rattle.ec_params.proofs.Walking.{Onward}
 use Rattle.ec_params.proofs.faults.walk_parts.Given as goal

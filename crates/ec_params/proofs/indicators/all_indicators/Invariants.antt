@@ -1,6 +1,6 @@
 use Rattle.std.proofs.Common.{◌≡◌, drop, map}
 use Rattle.std.specs.List.{list_all}
-use Rattle.ec_hosts.specs.Elements.{is_indicator}
+use Rattle.ec_host_defs.specs.Elements.{is_indicator}
 use Rattle.ec_leaves.specs.Seen.{leaf_view}
 use Rattle.ec_params.proofs.indicators.all_indicators.Given as goal
 

@@ -2,8 +2,8 @@ use Rattle.std.proofs.Common.{◌≡◌, ◌∙◌, ap, sym, map, List, Option, 
 use Rattle.std.specs.Prelude.{ℕ, option_and_then, slice_get}
 use Rattle.ec_ctypes.specs.trees.Types.{StructData}
 use Rattle.ec_ctypes.specs.views.Types.{member_view, struct_view, structs_view}
-use Rattle.ec_hosts.specs.Programs.{member_among}
-use Rattle.ec_typing.specs.Tables.{Named, find}
+use Rattle.ec_host_defs.specs.Programs.{member_among}
+use Rattle.ec_typing_defs.specs.Tables.{Named, find}
 use Rattle.ec_params.specs.Listed.{places_of}
 use Rattle.ec_params.proofs.Gotten.{got_mapped}
 use Rattle.ec_params.proofs.Placed.{type_in, member_placed}

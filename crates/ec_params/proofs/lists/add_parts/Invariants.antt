@@ -1,6 +1,6 @@
 use Rattle.std.proofs.Common.{drop, map}
 use Rattle.ec_ctypes.specs.views.Embedded.{part_view}
-use Rattle.ec_hosts.specs.Bound.{each_of, part_places}
+use Rattle.ec_host_defs.specs.Bound.{each_of, part_places}
 use Rattle.ec_params.specs.Scenes.{program_of, denoted_of}
 use Rattle.ec_params.proofs.Adding.{Onward}
 use Rattle.ec_params.proofs.lists.add_parts.Given as goal

@@ -1,6 +1,6 @@
 use Rattle.std.proofs.Common.{drop, map}
 use Rattle.ec_ctypes.specs.views.Embedded.{set_item_view}
-use Rattle.ec_hosts.specs.Bound.{each_of, set_places}
+use Rattle.ec_host_defs.specs.Bound.{each_of, set_places}
 use Rattle.ec_params.specs.Scenes.{program_of, denoted_of}
 use Rattle.ec_params.proofs.Adding.{Onward}
 use Rattle.ec_params.proofs.lists.add_set.Given as goal

@@ -2,8 +2,8 @@ use Rattle.std.proofs.Common.{◌≡◌, ◌++◌, map, length}
 use Rattle.ec_ctypes.specs.views.Checked.{place_view}
 use Rattle.ec_ctypes.specs.views.Embedded.{host_view}
 use Rattle.ec_ctypes.specs.views.Types.{structs_view}
-use Rattle.ec_hosts.specs.Leaves.{paired}
-use Rattle.ec_hosts.specs.Places.{leaf_place}
+use Rattle.ec_host_defs.specs.Leaves.{paired}
+use Rattle.ec_host_defs.specs.Places.{leaf_place}
 use Rattle.ec_leaves.specs.Seen.{leaf_view}
 use Rattle.ec_params.proofs.places.add_leaves.Given as goal
 

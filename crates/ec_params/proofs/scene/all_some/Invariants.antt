@@ -1,5 +1,5 @@
 use Rattle.std.proofs.Common.{◌≡◌, drop}
-use Rattle.ec_hosts.specs.Programs.{all_some}
+use Rattle.ec_host_defs.specs.Programs.{all_some}
 use Rattle.ec_params.proofs.scene.all_some.Given as goal
 
 abbrev pub invariant-loop-declaration : goal.invariant-loop-declaration

@@ -1,7 +1,7 @@
 use Rattle.std.proofs.Common.{◌∙◌, ap}
 use Rattle.std.specs.Prelude.{is_some}
 use Rattle.ec_ctypes.specs.views.Types.{ty_view, structs_view}
-use Rattle.ec_hosts.specs.Leaves.{leaves}
+use Rattle.ec_host_defs.specs.Leaves.{leaves}
 use Rattle.ec_params.proofs.Tallied.{tally_is_some}
 use Rattle.ec_params.proofs.values.has_leaves.Goals as goal
 

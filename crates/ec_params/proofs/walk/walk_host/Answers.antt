@@ -1,7 +1,7 @@
 use Rattle.std.proofs.Common.{◌∙◌, option_map}
 use Rattle.std.specs.Option.{option_copied}
 use Rattle.ec_ctypes.specs.views.Exprs.{expr_view}
-use Rattle.ec_hosts.specs.Faults.{host_faults}
+use Rattle.ec_host_defs.specs.Faults.{host_faults}
 use Rattle.ec_params.specs.Least.{least}
 use Rattle.ec_params.specs.Scenes.{program_of, denoted_of}
 use Rattle.ec_params.specs.Shapes.{role_view}

@@ -2,7 +2,7 @@
 use Rattle.std.proofs.Common.{◌∙◌, ap, sym, Some}
 use Rattle.std.specs.Prelude.{map}
 use Rattle.ec_code.specs.Views.{plain_step_view}
-use Rattle.ec_objects.specs.Memory.{address}
+use Rattle.ec_memory_defs.specs.Memory.{address}
 use Rattle.ec_plain.proofs.Numbers.{one_is, step_leads, steps_lead, two_are}
 use Rattle.ec_plain.proofs.effect.target_of.Goals as goal
 

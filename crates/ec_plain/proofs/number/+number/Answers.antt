@@ -12,8 +12,8 @@ use Rattle.ec_code.specs.declared.step.Binary.TheVariants as binary
 use Rattle.ec_values.specs.declared.operation.Operation.TheVariants as operation
 use Rattle.ec_bytes.specs.declared.scalar.address.Ptr.{Ptr}
 use Rattle.ec_code.specs.declared.step.Leaf.TheVariants as leaf
-use Rattle.ec_evaluation.specs.Results.{value}
-use Rattle.ec_objects.specs.Memory.{address, number}
+use Rattle.ec_meaning_defs.specs.evaluation.Results.{value}
+use Rattle.ec_memory_defs.specs.Memory.{address, number}
 use Rattle.ec_plain.specs.Answered.{at, context}
 use Rattle.ec_plain.specs.Steps.{followed}
 use Rattle.ec_code.specs.declared.expression.Plain.{out-Plain}

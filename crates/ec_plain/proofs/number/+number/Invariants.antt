@@ -1,10 +1,10 @@
 use Rattle.std.proofs.Common.{◌≡◌, ℕ, Bool, drop}
 use Rattle.std.specs.Prelude.{map}
 use Rattle.ec_code.specs.Views.{plain_step_view}
-use Rattle.ec_evaluation.specs.Evaluate.{World, Step as Knowing}
-use Rattle.ec_evaluation.specs.Results.{value}
-use Rattle.ec_evaluation.specs.State.{State}
-use Rattle.ec_objects.specs.Memory.{number}
+use Rattle.ec_meaning_defs.specs.evaluation.Evaluate.{World, Step as Knowing}
+use Rattle.ec_meaning_defs.specs.evaluation.Results.{value}
+use Rattle.ec_meaning_defs.specs.evaluation.State.{State}
+use Rattle.ec_memory_defs.specs.Memory.{number}
 use Rattle.ec_plain.specs.Answered.{at, context}
 use Rattle.ec_plain.specs.Steps.{followed}
 use Rattle.ec_plain.proofs.number.+number.Given as goal

@@ -1,7 +1,7 @@
 -- The value at the place of the object.
 use Rattle.ec_code.specs.Trees.{leaf_view}
 use Rattle.ec_code.specs.declared.step.Leaf.TheVariants as leaf
-use Rattle.ec_objects.specs.declared.kind.Kind.TheVariants as kind
+use Rattle.ec_memory_defs.specs.declared.kind.Kind.TheVariants as kind
 use Rattle.ec_plain.proofs.Numbers.{value_leads}
 use Rattle.ec_plain.proofs.number.long.Goals as goal
 

@@ -5,7 +5,7 @@ use Rattle.ec_code.specs.Views.{plain_step_view}
 use Rattle.ec_code.specs.declared.expression.PlainStep.{the_lemmas as step_lemmas}
 use Rattle.ec_code.specs.declared.step.Binary.TheVariants as binary
 use Rattle.ec_code.specs.declared.step.Leaf.TheVariants as leaf
-use Rattle.ec_objects.specs.Memory.{number}
+use Rattle.ec_memory_defs.specs.Memory.{number}
 use Rattle.std.proofs.lemmas.Int.{to_z-of_z}
 use Rattle.ec_plain.proofs.Numbers.{step_as}
 use Rattle.ec_plain.proofs.number.without_right.Goals as goal

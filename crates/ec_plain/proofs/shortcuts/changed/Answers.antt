@@ -4,7 +4,7 @@ use Rattle.std.specs.Prelude.{map}
 use Rattle.ec_code.specs.Views.{plain_step_view}
 use Rattle.ec_code.specs.declared.expression.Plain.{out-Plain}
 use Rattle.ec_code.specs.declared.step.Leaf.TheVariants as leaf
-use Rattle.ec_objects.specs.Memory.{address}
+use Rattle.ec_memory_defs.specs.Memory.{address}
 use Rattle.ec_plain.proofs.Numbers.{one_is, stands_as, step_leads}
 use Rattle.ec_plain.proofs.shortcuts.changed.Goals as goal
 

@@ -7,7 +7,7 @@ use Rattle.std.proofs.lemmas.Int.{to_z-of_z}
 use Rattle.ec_code.specs.Views.{plain_step_view}
 use Rattle.ec_code.specs.declared.expression.Plain.{out-Plain}
 use Rattle.ec_code.specs.declared.step.Leaf.TheVariants as leaf
-use Rattle.ec_objects.specs.Memory.{number}
+use Rattle.ec_memory_defs.specs.Memory.{number}
 use Rattle.ec_plain.proofs.Numbers.{leaf_as, one_is, step_leads}
 use Rattle.ec_plain.proofs.shortcuts.comparison.Goals as goal
 

@@ -10,8 +10,8 @@ use Rattle.ec_code.specs.declared.expression.Plain.{out-Plain}
 use Rattle.ec_code.specs.declared.expression.PlainStep.{the_lemmas as step_lemmas}
 use Rattle.ec_code.specs.declared.step.Binary.TheVariants as binary
 use Rattle.ec_code.specs.declared.step.Leaf.TheVariants as leaf
-use Rattle.ec_objects.specs.Memory.{number}
-use Rattle.ec_resolved.specs.Resolved as of
+use Rattle.ec_memory_defs.specs.Memory.{number}
+use Rattle.ec_meaning_defs.specs.resolved.Resolved as of
 use Rattle.ec_plain.proofs.Numbers.{at_memory, leaf_as, leaf_leads, none_is, one_is, operate_leads, step_leads}
 use Rattle.ec_plain.proofs.shortcuts.int_with_number.Goals as goal
 

@@ -10,10 +10,10 @@ use Rattle.ec_code.specs.declared.step.Binary.TheVariants as binary
 use Rattle.ec_code.specs.declared.step.Leaf.TheVariants as leaf
 use Rattle.ec_code.specs.Trees.{leaf_view, two, walked}
 use Rattle.ec_code.specs.Views.{plain_step_view, plain_view}
-use Rattle.ec_evaluation.specs.Evaluate.{eval}
-use Rattle.ec_evaluation.specs.Results.{value}
-use Rattle.ec_objects.specs.Memory.{number}
-use Rattle.ec_resolved.specs.Resolved as of
+use Rattle.ec_meaning_defs.specs.evaluation.Evaluate.{eval}
+use Rattle.ec_meaning_defs.specs.evaluation.Results.{value}
+use Rattle.ec_memory_defs.specs.Memory.{number}
+use Rattle.ec_meaning_defs.specs.resolved.Resolved as of
 use Rattle.ec_values.specs.Words.{word_view}
 use Rattle.ec_plain.specs.Answered.{answered, at, context}
 use Rattle.ec_plain.specs.Steps.{followed, step_on, two_on}

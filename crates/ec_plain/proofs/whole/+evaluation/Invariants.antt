@@ -1,9 +1,9 @@
 use Rattle.std.proofs.Common.{◌≡◌, ℕ, Bool, drop}
 use Rattle.std.specs.Prelude.{map}
 use Rattle.ec_code.specs.Views.{plain_step_view, plain_view}
-use Rattle.ec_evaluation.specs.Evaluate.{World, Step as Knowing, eval}
-use Rattle.ec_evaluation.specs.Results.{value}
-use Rattle.ec_evaluation.specs.State.{State}
+use Rattle.ec_meaning_defs.specs.evaluation.Evaluate.{World, Step as Knowing, eval}
+use Rattle.ec_meaning_defs.specs.evaluation.Results.{value}
+use Rattle.ec_meaning_defs.specs.evaluation.State.{State}
 use Rattle.ec_values.specs.Words.{word_view}
 use Rattle.ec_plain.specs.Answered.{at, context}
 use Rattle.ec_plain.specs.Steps.{followed}

@@ -1,7 +1,7 @@
 -- The value of an object of the function.
 use Rattle.std.proofs.Common.{◌∙◌, ap}
 use Rattle.ec_code.specs.Trees.{leaf_view}
-use Rattle.ec_evaluation.specs.Evaluate.{eval}
+use Rattle.ec_meaning_defs.specs.evaluation.Evaluate.{eval}
 use Rattle.ec_plain.specs.Answered.{at, context}
 use Rattle.ec_plain.proofs.whole.begin.Goals as goal
 

@@ -1,7 +1,7 @@
 -- Behind the value of the object.
 use Rattle.std.proofs.Common.{◌∙◌, ap, sym}
 use Rattle.ec_code.specs.declared.step.Binary.TheVariants as binary
-use Rattle.ec_evaluation.specs.Results.{on_value}
+use Rattle.ec_meaning_defs.specs.evaluation.Results.{on_value}
 use Rattle.ec_values.specs.Words.{word_view}
 use Rattle.ec_plain.specs.Steps.{both_on}
 use Rattle.ec_plain.proofs.Walks.{answered_as}

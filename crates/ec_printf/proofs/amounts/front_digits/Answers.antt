@@ -1,5 +1,5 @@
 use Rattle.std.proofs.Common.{◌∙◌, ap, take}
-use Rattle.ec_functions.specs.Formats as of
+use Rattle.ec_meaning_defs.specs.functions.Formats as of
 use Rattle.ec_printf.proofs.Joining.{front_taken}
 use Rattle.ec_printf.proofs.amounts.front_digits.Goals as goal
 

@@ -1,5 +1,5 @@
 use Rattle.std.proofs.Common.{◌≡◌, drop}
-use Rattle.ec_functions.specs.Formats as of
+use Rattle.ec_meaning_defs.specs.functions.Formats as of
 use Rattle.ec_printf.proofs.amounts.number.Given as goal
 
 abbrev pub invariant-loop-digit : goal.invariant-loop-digit

@@ -1,5 +1,5 @@
 use Rattle.std.proofs.Common.{◌≡◌, drop}
-use Rattle.ec_functions.specs.Formats as of
+use Rattle.ec_meaning_defs.specs.functions.Formats as of
 use Rattle.ec_printf.proofs.directives.has.Given as goal
 
 abbrev pub invariant-loop-other : goal.invariant-loop-other

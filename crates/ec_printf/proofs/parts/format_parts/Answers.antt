@@ -1,6 +1,6 @@
 use Rattle.std.proofs.Common.{◌≡◌, ◌∙◌, suc, ◌-◌, map, option_map, ap, sym, arith}
-use Rattle.ec_functions.specs.Formats as of
-use Rattle.ec_formats.specs.Known.{part_view}
+use Rattle.ec_meaning_defs.specs.functions.Formats as of
+use Rattle.ec_printf.specs.formats.Known.{part_view}
 use Rattle.ec_printf.specs.Gathering.{gathered}
 use Rattle.ec_printf.proofs.Joining.{ok_as}
 use Rattle.ec_printf.proofs.parts.format_parts.Goals as goal

@@ -1,5 +1,5 @@
 use Rattle.std.proofs.Common.{◌≡◌, option_map}
-use Rattle.ec_functions.specs.Formats as of
+use Rattle.ec_meaning_defs.specs.functions.Formats as of
 use Rattle.ec_printf.specs.Gathering.{gathered}
 use Rattle.ec_printf.proofs.parts.format_parts.Given as goal
 

@@ -2,7 +2,7 @@ use Rattle.std.proofs.Common.{◌≡◌, ◌∙◌, List, [], ◌∷◌, Option,
 use Rattle.std.proofs.lemmas.List.{drop_all}
 use Rattle.ec_ctypes.specs.trees.Types.{TyData}
 use Rattle.ec_scopes.specs.Entries.{type_view}
-use Rattle.ec_typing.specs.Operands.{all_fit}
+use Rattle.ec_typing_defs.specs.Operands.{all_fit}
 use Rattle.ec_rules.specs.Seen.{operand_view}
 use Rattle.ec_rules.proofs.calls.all_fit.Goals as goal
 

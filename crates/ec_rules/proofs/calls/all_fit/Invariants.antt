@@ -1,6 +1,6 @@
 use Rattle.std.proofs.Common.{◌≡◌, ◌-◌, ◌≤◌, length, drop, map}
 use Rattle.ec_scopes.specs.Entries.{type_view}
-use Rattle.ec_typing.specs.Operands.{all_fit}
+use Rattle.ec_typing_defs.specs.Operands.{all_fit}
 use Rattle.ec_rules.specs.Seen.{operand_view}
 use Rattle.ec_rules.proofs.calls.all_fit.Given as goal
 

@@ -1,8 +1,8 @@
 use Rattle.std.proofs.Common.{◌≡◌, ◌∙◌, ◌+◌, drop, map, sym, ap}
 use Rattle.std.proofs.lemmas.List.{drop-map}
 use Rattle.ec_scopes.specs.Entries.{type_view}
-use Rattle.ec_typing.specs.Formats.{is_format_of}
-use Rattle.ec_typing.specs.Operands.{OperandData, types_of}
+use Rattle.ec_typing_defs.specs.Formats.{is_format_of}
+use Rattle.ec_typing_defs.specs.Operands.{OperandData, types_of}
 use Rattle.ec_rules.specs.Seen.{operands_view}
 use Rattle.ec_rules.proofs.calls.fits_format.Goals as goal
 

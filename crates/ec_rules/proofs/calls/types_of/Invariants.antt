@@ -1,7 +1,7 @@
 use Rattle.std.proofs.Common.{◌≡◌, map}
 use Rattle.ec_scopes.specs.Entries.{type_view}
 use Rattle.ec_rules.specs.Seen.{operands_view}
-use Rattle.ec_typing.specs.Operands.{types_of}
+use Rattle.ec_typing_defs.specs.Operands.{types_of}
 use Rattle.ec_rules.proofs.calls.types_of.Given as goal
 
 abbrev pub invariant-loop-operand : goal.invariant-loop-operand

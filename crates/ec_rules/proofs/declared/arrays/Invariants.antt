@@ -1,7 +1,7 @@
 use Rattle.std.proofs.Common.{◌≡◌, ◌≤◌, length, drop}
 use Rattle.ec_ctypes.specs.views.Types.{ty_view}
 use Rattle.ec_scopes.specs.Entries.{type_view}
-use Rattle.ec_typing.specs.Operands.{arrays}
+use Rattle.ec_typing_defs.specs.Operands.{arrays}
 use Rattle.ec_rules.proofs.declared.arrays.Given as goal
 
 abbrev pub invariant-loop-left : goal.invariant-loop-left

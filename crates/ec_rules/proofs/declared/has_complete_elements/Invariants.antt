@@ -1,8 +1,8 @@
 use Rattle.std.proofs.Common.{◌≡◌, ◌≤◌, length, drop, option_map}
 use Rattle.ec_ctypes.specs.views.Types.{ty_view}
 use Rattle.ec_scopes.specs.Seen.{world_of}
-use Rattle.ec_typing.specs.Worlds.{is_complete}
-use Rattle.ec_typing.specs.Operands.{pointers, arrays, has_complete_elements}
+use Rattle.ec_typing_defs.specs.Worlds.{is_complete}
+use Rattle.ec_typing_defs.specs.Operands.{pointers, arrays, has_complete_elements}
 use Rattle.ec_rules.proofs.declared.has_complete_elements.Given as goal
 
 abbrev pub invariant-loop-left : goal.invariant-loop-left

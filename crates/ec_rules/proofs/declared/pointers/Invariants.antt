@@ -1,6 +1,6 @@
 use Rattle.std.proofs.Common.{◌≡◌}
 use Rattle.ec_ctypes.specs.views.Types.{ty_view}
-use Rattle.ec_typing.specs.Operands.{pointers}
+use Rattle.ec_typing_defs.specs.Operands.{pointers}
 use Rattle.ec_rules.proofs.declared.pointers.Given as goal
 
 abbrev pub invariant-loop-left : goal.invariant-loop-left

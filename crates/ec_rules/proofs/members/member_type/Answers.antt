@@ -1,6 +1,6 @@
 use Rattle.std.proofs.Common.{◌∙◌, Some, sym, ap, option_map}
-use Rattle.ec_typing.specs.Operands.{member_type}
-use Rattle.ec_typing.specs.Tables.{find}
+use Rattle.ec_typing_defs.specs.Operands.{member_type}
+use Rattle.ec_typing_defs.specs.Tables.{find}
 use Rattle.ec_scopes.specs.Entries.{type_view}
 use Rattle.ec_scopes.specs.Structs.{members_view}
 use Rattle.ec_scopes.proofs.Views.{find-named}

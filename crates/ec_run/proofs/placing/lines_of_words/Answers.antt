@@ -1,8 +1,8 @@
 use Rattle.std.proofs.Common.{sym, subst, ◌∙◌}
 use Rattle.std.specs.Prelude.{IfOk}
 use Rattle.ec_language.specs.Tokens.{HaveSqlTokens}
-use Rattle.ec_translate.specs.ec_source.Answers.{HaveLines}
-use Rattle.ec_translate.proofs.ec_source_proofs.Trees.{have_lines}
+use Rattle.ec_front.specs.source.Answers.{HaveLines}
+use Rattle.ec_front.proofs.source_lemmas.Trees.{have_lines}
 use Rattle.ec_run.specs.Runnable.{WordLines}
 use Rattle.ec_run.proofs.UnmadeCalls.{has_pieces, same_pieces, lines_told}
 use Rattle.ec_run.proofs.placing.lines_of_words.Goals as goal

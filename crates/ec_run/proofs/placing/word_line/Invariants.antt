@@ -1,6 +1,6 @@
 use Rattle.std.proofs.Common.{◌≡◌, length}
-use Rattle.ec_translate.specs.ec_clex.Sql.{sql_views}
-use Rattle.ec_translate.specs.ec_embedded.Findings.{word_line}
+use Rattle.ec_clex.specs.Sql.{sql_views}
+use Rattle.ec_embedded.specs.Findings.{word_line}
 use Rattle.ec_run.proofs.placing.word_line.Given as goal
 
 abbrev pub invariant-loop-left : goal.invariant-loop-left

@@ -1,5 +1,5 @@
 use Rattle.std.proofs.Common.{sym, subst, Ok}
-use Rattle.ec_translation.specs.Translations.{IsTranslation}
+use Rattle.ec_phases_defs.specs.translation.Translations.{IsTranslation}
 use Rattle.ec_run.proofs.Telling.{not_translated}
 use Rattle.ec_run.proofs.reading.read_source.Goals as goal
 

@@ -1,7 +1,7 @@
 use Rattle.std.proofs.Common.{map}
 use Rattle.ec_ctypes.specs.views.Checked.{bound_view, typed_view}
 use Rattle.ec_ctypes.specs.views.Units.{unit_view}
-use Rattle.ec_expansion.specs.Programs.{written_program}
+use Rattle.ec_expansion_defs.specs.Programs.{written_program}
 use Rattle.ec_run.proofs.UnmadeCalls.{found_of}
 use Rattle.ec_run.proofs.unmade.unmade_call.Goals as goal
 

@@ -1,5 +1,5 @@
 use Rattle.ec_ctypes.specs.views.Checked.{typed_view}
-use Rattle.ec_translate.proofs.Telling.{handlers_sorted}
+use Rattle.ec_front.proofs.translation_lemmas.Telling.{handlers_sorted}
 use Rattle.ec_run.proofs.unmade.unmade_line.Goals as goal
 
 pub unmade_in-requires-clause-reads : goal.unmade_in-requires-clause-reads

@@ -1,6 +1,6 @@
 use Rattle.std.proofs.Common.{map, ap, ◌∙◌}
 use Rattle.ec_ctypes.specs.views.Checked.{bound_view, typed_view}
-use Rattle.ec_translation.specs.ec_phases.ec_whenever.Tables.{is_sorted}
+use Rattle.ec_whenever.specs.Tables.{is_sorted}
 use Rattle.ec_run.specs.Runnable.{with_lines}
 use Rattle.ec_run.proofs.UnmadeCalls.{of_placed}
 use Rattle.ec_run.proofs.unmade.unmade_on.Goals as goal

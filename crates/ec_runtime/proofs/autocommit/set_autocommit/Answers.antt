@@ -1,4 +1,4 @@
-use Rattle.ec_calls.specs.Autocommit.{autocommit_set}
+use Rattle.ec_call_defs.specs.Autocommit.{autocommit_set}
 use Rattle.ec_runtime.proofs.Starting.{named_reached}
 use Rattle.ec_runtime.proofs.autocommit.set_autocommit.Goals as goal
 

@@ -1,4 +1,4 @@
-use Rattle.ec_calls.specs.Connections.{control_sent}
+use Rattle.ec_call_defs.specs.Connections.{control_sent}
 use Rattle.ec_runtime.proofs.Starting.{named_reached}
 use Rattle.ec_runtime.proofs.control.control.Goals as goal
 

@@ -1,5 +1,5 @@
 use Rattle.std.proofs.Common.{Err}
-use Rattle.ec_calls.specs.Connections.{control_sent, controlled}
+use Rattle.ec_call_defs.specs.Connections.{control_sent, controlled}
 use Rattle.ec_link.specs.declared.request.Request.TheVariants as request
 use Rattle.ec_runtime.specs.declared.stop.Stop.TheVariants as stops
 use Rattle.ec_runtime.specs.Opening.{open_view}

@@ -2,7 +2,7 @@
 use Rattle.ec_convert.specs.Host.{given_host}
 use Rattle.ec_runtime.proofs.Kept.{with_host}
 use Rattle.ec_runtime.proofs.Texts.{value_given, value_trapped, never_code, trap_given}
-use Rattle.ec_transfer.specs.Conversion.{parameter}
+use Rattle.ec_transfer_defs.specs.Conversion.{parameter}
 use Rattle.ec_runtime.proofs.inputs.value.Goals as goal
 
 pub unreachable-requires : goal.unreachable-requires

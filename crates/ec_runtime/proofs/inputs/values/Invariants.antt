@@ -1,6 +1,6 @@
 use Rattle.std.proofs.Common.{◌≡◌, ◌++◌, drop, map}
-use Rattle.ec_evaluation.specs.State.{State}
-use Rattle.ec_calls.specs.Outcomes.{next, gives, with_memory}
+use Rattle.ec_meaning_defs.specs.evaluation.State.{State}
+use Rattle.ec_call_defs.specs.Outcomes.{next, gives, with_memory}
 use Rattle.ec_runtime.specs.Reading.{input_view, values_read}
 use Rattle.ec_runtime.proofs.inputs.values.Given as goal
 

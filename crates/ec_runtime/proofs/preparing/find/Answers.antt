@@ -1,5 +1,5 @@
 use Rattle.std.proofs.Common.{sym, ◌∙◌}
-use Rattle.ec_calls.specs.Running.{prepared_text}
+use Rattle.ec_call_defs.specs.Running.{prepared_text}
 use Rattle.ec_runtime.specs.Opening.{open_view}
 use Rattle.ec_runtime.specs.Prepared.{prepared_views}
 use Rattle.ec_runtime.proofs.Orders.{no_name, is_there}

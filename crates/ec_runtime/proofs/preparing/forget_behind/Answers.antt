@@ -1,4 +1,4 @@
-use Rattle.ec_calls.specs.Preparing.{without_text}
+use Rattle.ec_call_defs.specs.Preparing.{without_text}
 use Rattle.ec_runtime.proofs.Takes.{change_stops, change_kept}
 use Rattle.ec_runtime.proofs.preparing.forget_behind.Goals as goal
 

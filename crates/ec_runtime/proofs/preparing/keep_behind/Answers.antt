@@ -1,4 +1,4 @@
-use Rattle.ec_calls.specs.Preparing.{with_text}
+use Rattle.ec_call_defs.specs.Preparing.{with_text}
 use Rattle.ec_runtime.proofs.Takes.{change_stops, change_kept, change_unkept}
 use Rattle.ec_runtime.proofs.preparing.keep_behind.Goals as goal
 

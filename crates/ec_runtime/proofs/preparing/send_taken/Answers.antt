@@ -1,5 +1,5 @@
 use Rattle.ec_link.specs.Conn.{slot_of}
-use Rattle.ec_calls.specs.Answers.{taken}
+use Rattle.ec_call_defs.specs.Answers.{taken}
 use Rattle.ec_runtime.specs.Statements.{request_taken}
 use Rattle.ec_runtime.proofs.Grows.{taken_grows}
 use Rattle.ec_runtime.proofs.Joining.{over_unasked, over_answered}

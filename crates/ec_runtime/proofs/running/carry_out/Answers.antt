@@ -1,5 +1,5 @@
 use Rattle.ec_link.specs.Conn.{slot_of}
-use Rattle.ec_calls.specs.Connections.{begun}
+use Rattle.ec_call_defs.specs.Connections.{begun}
 use Rattle.ec_runtime.specs.Opening.{open_view}
 use Rattle.ec_runtime.specs.Statements.{sent}
 use Rattle.ec_runtime.proofs.Joining.{over_next, over_stop, over_slot}

@@ -1,6 +1,6 @@
 use Rattle.ec_link.specs.Conn.{slot_of}
-use Rattle.ec_calls.specs.Answers.{replied}
-use Rattle.ec_calls.specs.Running.{is_wanted, table_kept}
+use Rattle.ec_call_defs.specs.Answers.{replied}
+use Rattle.ec_call_defs.specs.Running.{is_wanted, table_kept}
 use Rattle.ec_runtime.specs.Statements.{sent}
 use Rattle.ec_runtime.specs.Views.{outputs_of}
 use Rattle.ec_runtime.proofs.Joining.{over_unasked, over_answered}

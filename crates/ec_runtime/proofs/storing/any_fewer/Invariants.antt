@@ -1,5 +1,5 @@
 use Rattle.std.proofs.Common.{◌≡◌, drop}
-use Rattle.ec_calls.specs.Storing.{any_fewer}
+use Rattle.ec_call_defs.specs.Storing.{any_fewer}
 use Rattle.ec_runtime.specs.Views.{hosts_view}
 use Rattle.ec_runtime.proofs.storing.any_fewer.Given as goal
 

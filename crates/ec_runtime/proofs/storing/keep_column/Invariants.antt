@@ -1,11 +1,11 @@
 use Rattle.std.proofs.Common.{◌≡◌, drop}
 use Rattle.std.specs.Prelude.{Some}
 use Rattle.ec_convert.specs.Host.{given_host}
-use Rattle.ec_evaluation.specs.State.{State}
-use Rattle.ec_transfer.specs.Area.{IsArea}
-use Rattle.ec_transfer.specs.Hosts.{HostData}
-use Rattle.ec_calls.specs.Outcomes.{with_memory}
-use Rattle.ec_calls.specs.Storing.{column_kept}
+use Rattle.ec_meaning_defs.specs.evaluation.State.{State}
+use Rattle.ec_transfer_defs.specs.Area.{IsArea}
+use Rattle.ec_transfer_defs.specs.Hosts.{HostData}
+use Rattle.ec_call_defs.specs.Outcomes.{with_memory}
+use Rattle.ec_call_defs.specs.Storing.{column_kept}
 use Rattle.ec_runtime.proofs.storing.keep_column.Given as goal
 
 abbrev pub invariant-loop-row : goal.invariant-loop-row

@@ -1,6 +1,6 @@
 -- A conversion answers what it stored.
 use Rattle.std.proofs.Common.{sym, ◌∙◌}
-use Rattle.ec_calls.specs.Storing.{warned}
+use Rattle.ec_call_defs.specs.Storing.{warned}
 use Rattle.std.specs.Option.{option_copied}
 use Rattle.ec_runtime.proofs.Kept.{stores_area}
 use Rattle.ec_runtime.proofs.Stored.{whole_kept, err_kept}

@@ -1,6 +1,6 @@
 -- One host more.
 use Rattle.ec_convert.specs.Host.{given_host}
-use Rattle.ec_calls.specs.Outcomes.{with_memory}
+use Rattle.ec_call_defs.specs.Outcomes.{with_memory}
 use Rattle.ec_runtime.proofs.Kept.{with_host}
 use Rattle.ec_runtime.proofs.Targets.{target_stops, target_goes_on, room}
 use Rattle.ec_runtime.proofs.storing.keep_targets.Goals as goal

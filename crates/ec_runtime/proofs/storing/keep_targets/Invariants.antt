@@ -1,8 +1,8 @@
 use Rattle.std.proofs.Common.{◌≡◌, drop}
-use Rattle.ec_evaluation.specs.State.{State}
-use Rattle.ec_transfer.specs.Area.{IsArea}
-use Rattle.ec_calls.specs.Outcomes.{with_memory}
-use Rattle.ec_calls.specs.Storing.{targets_kept}
+use Rattle.ec_meaning_defs.specs.evaluation.State.{State}
+use Rattle.ec_transfer_defs.specs.Area.{IsArea}
+use Rattle.ec_call_defs.specs.Outcomes.{with_memory}
+use Rattle.ec_call_defs.specs.Storing.{targets_kept}
 use Rattle.ec_runtime.specs.Views.{hosts_view}
 use Rattle.ec_runtime.proofs.storing.keep_targets.Given as goal
 

@@ -1,5 +1,5 @@
 use Rattle.std.proofs.Common.{◌≡◌, ◌≤◌, length, take}
-use Rattle.ec_typing.specs.Worlds as rule
+use Rattle.ec_typing_defs.specs.Worlds as rule
 use Rattle.ec_scopes.specs.Entries.{outer_view}
 use Rattle.ec_scopes.proofs.scopes.name_in.Given as goal
 

@@ -1,6 +1,6 @@
 -- What was counted, and what is left to count, give the length of the whole.
 use Rattle.std.proofs.Common.{◌≡◌, ◌+◌, ◌≤◌, length}
-use Rattle.ec_transfer.specs.Area.{text_length}
+use Rattle.ec_transfer_defs.specs.Area.{text_length}
 use Rattle.ec_sqlca.proofs.message.text_length.Given as goal
 
 abbrev pub invariant-loop-rest : goal.invariant-loop-rest

@@ -5,7 +5,7 @@ use Rattle.std.proofs.lemmas.Bool.Decides.{nat_tests}
 use Rattle.std.proofs.lemmas.Int.{to_z-of_z}
 use Rattle.std.proofs.lemmas.Result.{err_from_is_err_and}
 use mir.Val.{SFits}
-use Rattle.ec_functions.specs.Strings.{compared, reads_from}
+use Rattle.ec_meaning_defs.specs.functions.Strings.{compared, reads_from}
 use Rattle.ec_stdlib.proofs.SingleReads.{differing, ending, first_traps, going, read_err, read_ok, reads_some, second_traps}
 use Rattle.ec_stdlib.proofs.compare.compare.Goals as goal
 use Rattle.ec_stdlib.proofs.compare.compare.Goals.{else-texts-via-then-texts+else-left-eq0, else-texts-via-else-texts}

@@ -1,5 +1,5 @@
 use Rattle.std.proofs.Common.{◌≡◌, ◌-◌, ◌<◌, length, drop}
-use Rattle.ec_functions.specs.Strings.{compared, reads_from}
+use Rattle.ec_meaning_defs.specs.functions.Strings.{compared, reads_from}
 use Rattle.ec_stdlib.proofs.compare.compare.Given as goal
 
 abbrev pub invariant-loop-at : goal.invariant-loop-at

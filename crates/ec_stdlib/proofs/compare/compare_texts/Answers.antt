@@ -1,6 +1,6 @@
 -- As many bytes as the object has from the first pointer on, and one more, are enough.
 use Rattle.std.proofs.Common.{◌∙◌}
-use Rattle.ec_functions.specs.Strings.{reads_from}
+use Rattle.ec_meaning_defs.specs.functions.Strings.{reads_from}
 use Rattle.ec_stdlib.proofs.SingleReads.{enough}
 use Rattle.ec_stdlib.proofs.compare.compare_texts.Goals as goal
 

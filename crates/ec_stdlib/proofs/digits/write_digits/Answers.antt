@@ -1,7 +1,7 @@
 -- No digit is written yet.
 use Rattle.std.proofs.Common.{ap, arith}
 use Rattle.std.proofs.lemmas.List.{drop_all}
-use Rattle.ec_functions.specs.Printing.{digits_before}
+use Rattle.ec_meaning_defs.specs.functions.Printing.{digits_before}
 use Rattle.ec_stdlib.proofs.digits.write_digits.Goals as goal
 
 pub loop-at-init : goal.loop-at-init

@@ -1,5 +1,5 @@
 use Rattle.std.proofs.Common.{◌≡◌, ◌≤◌, drop}
-use Rattle.ec_functions.specs.Printing.{digits_before, digits_of}
+use Rattle.ec_meaning_defs.specs.functions.Printing.{digits_before, digits_of}
 use Rattle.ec_stdlib.proofs.digits.write_digits.Given as goal
 
 abbrev pub invariant-loop-at : goal.invariant-loop-at

@@ -1,8 +1,8 @@
 -- A part that was put.
 use Rattle.std.proofs.Common.{◌∙◌, sym, ap, drop, Ok, ◌+◌}
 use Rattle.std.specs.Prelude.{map}
-use Rattle.ec_formats.specs.Known.{part_view}
-use Rattle.ec_functions.specs.Printing.{joined, printed}
+use Rattle.ec_printf.specs.formats.Known.{part_view}
+use Rattle.ec_meaning_defs.specs.functions.Printing.{joined, printed}
 use Rattle.ec_values.specs.Words.{word_view}
 use Rattle.ec_stdlib.proofs.Parts.{drop_item, printed_more}
 use Rattle.ec_stdlib.proofs.format.print.Goals as goal

@@ -1,8 +1,8 @@
 use Rattle.std.proofs.Common.{◌≡◌, drop, Ok}
 use Rattle.std.specs.Prelude.{map}
-use Rattle.ec_functions.specs.Printing.{joined, printed}
+use Rattle.ec_meaning_defs.specs.functions.Printing.{joined, printed}
 use Rattle.ec_values.specs.Words.{word_view}
-use Rattle.ec_formats.specs.Known.{part_view}
+use Rattle.ec_printf.specs.formats.Known.{part_view}
 use Rattle.ec_stdlib.proofs.format.print.Given as goal
 
 abbrev pub invariant-loop-part : goal.invariant-loop-part

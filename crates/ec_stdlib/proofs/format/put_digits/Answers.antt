@@ -1,8 +1,8 @@
 -- What stands from the first digit on are the digits.
 use Rattle.std.proofs.Common.{◌≡◌, ◌∙◌, ◌++◌, ℕ, List, subst, OnOk}
 use Rattle.std.proofs.lemmas.Int.{to_z-of_z}
-use Rattle.ec_formats.specs.Known.{field_view, style_view}
-use Rattle.ec_functions.specs.Printing.{base_of, digits_of, in_field, is_capital}
+use Rattle.ec_printf.specs.formats.Known.{field_view, style_view}
+use Rattle.ec_meaning_defs.specs.functions.Printing.{base_of, digits_of, in_field, is_capital}
 use Rattle.ec_stdlib.proofs.format.put_digits.Goals as goal
 
 pub returns : goal.returns

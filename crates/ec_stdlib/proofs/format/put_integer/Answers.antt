@@ -4,7 +4,7 @@ use Rattle.std.specs.Prelude.{map}
 use Rattle.std.specs.Int.{w128}
 use Rattle.std.proofs.lemmas.Int.{to_z-of_z}
 use mir.Val.{SFits}
-use Rattle.ec_formats.specs.Known.{field_view, style_view}
+use Rattle.ec_printf.specs.formats.Known.{field_view, style_view}
 use Rattle.ec_values.specs.Words.{word_view}
 use Rattle.ec_stdlib.proofs.Parts.{integer_put}
 use Rattle.ec_stdlib.proofs.format.put_integer.Goals as goal

@@ -3,8 +3,8 @@ use Rattle.std.proofs.Common.{◌≡◌, ◌++◌, ℤ, subst, rules, OnOk}
 use Rattle.std.specs.Int.{w128}
 use Rattle.std.proofs.lemmas.Int.{to_z-of_z}
 use mir.Val.{SFits}
-use Rattle.ec_formats.specs.Known.{field_view, style_view}
-use Rattle.ec_functions.specs.Printing.{integer_bytes}
+use Rattle.ec_printf.specs.formats.Known.{field_view, style_view}
+use Rattle.ec_meaning_defs.specs.functions.Printing.{integer_bytes}
 use Rattle.ec_stdlib.proofs.format.put_number.Goals as goal
 
 pub returns : goal.returns

@@ -1,9 +1,9 @@
 -- What the part's function put, whatever the memory.
 use Rattle.std.proofs.Common.{subst, sym, ap}
 use Rattle.std.specs.Prelude.{map}
-use Rattle.ec_formats.specs.Known.{part_view}
-use Rattle.ec_functions.specs.Formats.{Part}
-use Rattle.ec_functions.specs.Printing.{part_put}
+use Rattle.ec_printf.specs.formats.Known.{part_view}
+use Rattle.ec_meaning_defs.specs.functions.Formats.{Part}
+use Rattle.ec_meaning_defs.specs.functions.Printing.{part_put}
 use Rattle.ec_values.specs.Words.{word_view}
 use Rattle.ec_stdlib.specs.Does.{PutsPart}
 use Rattle.ec_stdlib.proofs.format.put_part.Goals as goal

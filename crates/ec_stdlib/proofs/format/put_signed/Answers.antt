@@ -2,8 +2,8 @@
 use Rattle.std.proofs.Common.{◌≡◌, ◌++◌, ℕ, pos, Bool, true, false, List, [], ◌∷◌, ap, sym, subst, arith, OnOk}
 use Rattle.std.specs.Prelude.{int_lt, unsigned_abs, if◌then◌else◌}
 use Rattle.std.proofs.lemmas.Int.{ints, to_z-of_z}
-use Rattle.ec_formats.specs.Known.{field_view, style_view}
-use Rattle.ec_functions.specs.Printing.{base_of, digits_of, in_field, is_capital, sign_of}
+use Rattle.ec_printf.specs.formats.Known.{field_view, style_view}
+use Rattle.ec_meaning_defs.specs.functions.Printing.{base_of, digits_of, in_field, is_capital, sign_of}
 use Rattle.ec_stdlib.proofs.format.put_signed.Goals as goal
 
 abbrev sign_if : Bool → List ℕ

@@ -3,7 +3,7 @@ use Rattle.std.proofs.Common.{rules}
 use Rattle.std.specs.Int.{w128}
 use Rattle.std.proofs.lemmas.Int.{to_z-of_z}
 use mir.Val.{SFits}
-use Rattle.ec_objects.specs.Kinds.{kind_type}
+use Rattle.ec_memory_defs.specs.Kinds.{kind_type}
 use Rattle.ec_values.specs.Words.{HasWord}
 use Rattle.ec_values.proofs.Loads.{loaded_bounds}
 use Rattle.ec_values.proofs.access.load_other.Goals as goal

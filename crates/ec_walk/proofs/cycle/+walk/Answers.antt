@@ -2,8 +2,8 @@ use Rattle.std.proofs.Common.{◌≡◌, ◌∙◌, ℕ, List, [], ◌∷◌, �
 use Rattle.ec_ctypes.specs.declared.tree.decl.Decl as a
 use Rattle.ec_ctypes.specs.views.Exprs.{expr_view, base_view, dims_view, declarators_view}
 use Rattle.ec_known.specs.Forms.{arguments_view}
-use Rattle.ec_typing.specs.Worlds.{Rule}
-use Rattle.ec_typing.specs.Expressions.{lengths, is_varchar, last_length, member_decl, member_items}
+use Rattle.ec_typing_defs.specs.Worlds.{Rule}
+use Rattle.ec_typing_defs.specs.Expressions.{lengths, is_varchar, last_length, member_decl, member_items}
 use Rattle.ec_scopes.specs.Entries.{place_view, named_view, type_view}
 use Rattle.ec_scopes.specs.Seen.{world_of, IsDone}
 use Rattle.ec_scopes.proofs.Steps.{goes_same, goes_step, goes_from}

@@ -1,8 +1,8 @@
 use Rattle.std.proofs.Common.{◌≡◌, ◌+◌, ◌*◌, List, [], ◌++◌, length, drop, map}
 use Rattle.ec_ctypes.specs.views.Exprs.{expr_view, exprs_view, dims_view, inits_view, decl_view, decls_view, declarators_view}
 use Rattle.ec_known.specs.Forms.{arguments_view}
-use Rattle.ec_typing.specs.Worlds.{chain}
-use Rattle.ec_typing.specs.Expressions.{expr, args, lengths, members, member_decl, member_items, all_init_exprs}
+use Rattle.ec_typing_defs.specs.Worlds.{chain}
+use Rattle.ec_typing_defs.specs.Expressions.{expr, args, lengths, members, member_decl, member_items, all_init_exprs}
 use Rattle.ec_scopes.specs.Entries.{place_view, named_view, type_view}
 use Rattle.ec_scopes.specs.Seen.{world_of, notes_of}
 use Rattle.ec_scopes.proofs.Steps.{Goes}

@@ -1,7 +1,7 @@
 use Rattle.std.proofs.Common.{◌≡◌, ◌∙◌, Bool, not, sym, ap, subst}
 use Rattle.ec_base.specs.declared.fault.FaultKind.TheVariants.{F10}
-use Rattle.ec_typing.specs.Worlds.{demand}
-use Rattle.ec_typing.specs.Expressions.{member_named}
+use Rattle.ec_typing_defs.specs.Worlds.{demand}
+use Rattle.ec_typing_defs.specs.Expressions.{member_named}
 use Rattle.ec_scopes.specs.Entries.{place_view, type_view, named_view}
 use Rattle.ec_scopes.specs.Seen.{world_of, IsDone}
 use Rattle.ec_scopes.proofs.Steps.{then_done, pure_done}

@@ -1,7 +1,7 @@
 use Rattle.std.proofs.Common.{◌≡◌, ◌++◌, drop, map}
 use Rattle.ec_ctypes.specs.views.Checked.{mark_view}
 use Rattle.ec_ctypes.specs.views.Embedded.{emb_view}
-use Rattle.ec_statement_parts.specs.Handlers.{marks_in}
+use Rattle.ec_typing_defs.specs.statement_parts.Handlers.{marks_in}
 use Rattle.ec_whenever.specs.Tables.{marks_for}
 use Rattle.ec_whenever.proofs.table.add_marks.Given as goal
 

@@ -2,7 +2,7 @@ use Rattle.std.proofs.Common.{◌≡◌, ◌∙◌, List, map, subst, sym}
 use Rattle.ec_ctypes.specs.trees.Checked.{MarkData}
 use Rattle.ec_ctypes.specs.views.Checked.{mark_view}
 use Rattle.ec_ctypes.specs.views.Embedded.{emb_view}
-use Rattle.ec_statement_parts.specs.Handlers.{marks_in}
+use Rattle.ec_typing_defs.specs.statement_parts.Handlers.{marks_in}
 use Rattle.ec_whenever.specs.Tables.{table_of, AnswersFor}
 use Rattle.ec_whenever.proofs.Tables.{table_answers}
 use Rattle.ec_whenever.proofs.table.handlers.Goals as goal

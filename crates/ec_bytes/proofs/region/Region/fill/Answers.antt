@@ -1,7 +1,7 @@
 -- The cells after the call.
 use Rattle.std.proofs.Common.{◌∙◌, ap, replicate, rules}
 use Rattle.std.proofs.lemmas.List.{length-replicate}
-use Rattle.ec_objects.specs.Cells.{written}
+use Rattle.ec_memory_defs.specs.Cells.{written}
 use Rattle.ec_bytes.proofs.Cells.{filled_as_set, placed, same_length}
 use Rattle.ec_bytes.proofs.Held.{held_kept, held_put}
 use Rattle.ec_bytes.proofs.region.Region.fill.Goals as goal

@@ -1,11 +1,11 @@
 use Rattle.std.proofs.Common.{subst, sym, refl, Ok, Err}
 use Rattle.std.specs.Prelude.{slice_get}
 use Rattle.ec_code.specs.Views.{program_view}
-use Rattle.ec_evaluation.specs.Whole.{main_run}
+use Rattle.ec_meaning_defs.specs.evaluation.Whole.{main_run}
 use Rattle.ec_machine.specs.declared.machine.Machine.{Machine}
 use Rattle.ec_machine.specs.Goes.{at, tasks}
-use Rattle.ec_opening.specs.Opens.{Opens}
-use Rattle.ec_resolved.specs.Programs.{opening_objects}
+use Rattle.ec_interp.specs.opening.Opens.{Opens}
+use Rattle.ec_meaning_defs.specs.resolved.Programs.{opening_objects}
 use Rattle.ec_interp.specs.Ends.{halt_of}
 use Rattle.ec_interp.specs.Ran.{RanOver}
 use Rattle.ec_interp.proofs.Whole.{halts_same, opened_run, ran_so, unopened, whole_run}

@@ -3,12 +3,12 @@ use Rattle.std.specs.Option.{option_map}
 use Rattle.std.specs.Prelude.{reverse, slice_get}
 use Rattle.ec_code.specs.Views.{expression_view, expressions_view, full_step_view, full_view, function_view, head_view, plain_view, statement_view, statements_view}
 use Rattle.ec_code.specs.declared.expression.Full.{out-Full}
-use Rattle.ec_evaluation.specs.Evaluate.{Step as Knowing, Task, World, calls, collect, eval}
-use Rattle.ec_evaluation.specs.Execute.{act, body_run, called, in_function, run, run_all, settle}
-use Rattle.ec_evaluation.specs.Results.{Res, answered, back, closing, done_there, function_end, given, made, on, on_done, on_value, returned, value, without_answer}
-use Rattle.ec_evaluation.specs.State.{State}
-use Rattle.ec_formats.specs.Known.{known_view}
-use Rattle.ec_functions.specs.Functions.{effect_of}
+use Rattle.ec_meaning_defs.specs.evaluation.Evaluate.{Step as Knowing, Task, World, calls, collect, eval}
+use Rattle.ec_meaning_defs.specs.evaluation.Execute.{act, body_run, called, in_function, run, run_all, settle}
+use Rattle.ec_meaning_defs.specs.evaluation.Results.{Res, answered, back, closing, done_there, function_end, given, made, on, on_done, on_value, returned, value, without_answer}
+use Rattle.ec_meaning_defs.specs.evaluation.State.{State}
+use Rattle.ec_printf.specs.formats.Known.{known_view}
+use Rattle.ec_meaning_defs.specs.functions.Functions.{effect_of}
 use Rattle.ec_machine.proofs.Evaluating.{full_leads, to_Full, to_Plain}
 use Rattle.ec_machine.proofs.Finding.{alone_finds, alone_near, ended_with, finds_after, finds_as, finds_at, finds_from, finds_left, finds_none, finds_some, finds_stop, finds_value, front_back, goes_after, leaves_as, leaves_fewer, near_left, near_none, near_stop, near_value, no_values_found, stays_on, taken_back}
 use Rattle.ec_machine.proofs.Moves.{back_again, closed, followed_led, goes_as, goes_at, no_objects, pushed, stands_by}
@@ -23,12 +23,12 @@ use Rattle.ec_machine.specs.Goes.{at, env_of, taken, tasks}
 use Rattle.ec_machine.specs.Quick.{passing}
 use Rattle.ec_machine.specs.Weights.{expression_weight, expressions_weight, frames_weight, full_step_weight, head_weight, remaining, steps_weight}
 use Rattle.ec_machine.specs.declared.frame.Way.{Way}
-use Rattle.ec_objects.specs.Memory.{last_number, scalar_size}
+use Rattle.ec_memory_defs.specs.Memory.{last_number, scalar_size}
 use Rattle.ec_plain.proofs.Walks.{followed_over}
 use Rattle.ec_plain.specs.Answered.{at as over_memory, context, ending_of, scope_view}
 use Rattle.ec_plain.specs.Ready.{readied}
 use Rattle.ec_plain.specs.Steps.{both_on, one_on, step_on, two_on}
-use Rattle.ec_resolved.specs.Resolved.{library}
+use Rattle.ec_meaning_defs.specs.resolved.Resolved.{library}
 use Rattle.ec_values.specs.Words.{word_view}
 use Rattle.ec_machine.specs.declared.frame.Callee.TheVariants as callee
 use Rattle.ec_plain.specs.declared.both.Ready.TheVariants as ready

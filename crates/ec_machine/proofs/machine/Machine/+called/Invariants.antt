@@ -1,7 +1,7 @@
 use Rattle.std.proofs.Common.{length, ◌+◌, ◌*◌, ℕ, ◌<◌, ◌≡◌, ◌≤◌}
-use Rattle.ec_evaluation.specs.Evaluate.{Step as Knowing, World}
-use Rattle.ec_evaluation.specs.Results.{value}
-use Rattle.ec_evaluation.specs.State.{State}
+use Rattle.ec_meaning_defs.specs.evaluation.Evaluate.{Step as Knowing, World}
+use Rattle.ec_meaning_defs.specs.evaluation.Results.{value}
+use Rattle.ec_meaning_defs.specs.evaluation.State.{State}
 use Rattle.ec_machine.specs.Found.{Stays}
 use Rattle.ec_machine.specs.Frames.{behind_by, here}
 use Rattle.ec_machine.specs.Goes.{Fits, at, env_of, taken, tasks}

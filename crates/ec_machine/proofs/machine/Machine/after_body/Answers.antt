@@ -2,8 +2,8 @@ use Rattle.std.proofs.Common.{ap, arith}
 use Rattle.std.specs.Prelude.{reverse}
 use Rattle.ec_machine.specs.Frames.{resume, behind_of, body_of, here, led, test_of}
 use Rattle.ec_machine.specs.Goes.{at, env_of, tasks}
-use Rattle.ec_evaluation.specs.Execute.{again}
-use Rattle.ec_evaluation.specs.Results.{after_body}
+use Rattle.ec_meaning_defs.specs.evaluation.Execute.{again}
+use Rattle.ec_meaning_defs.specs.evaluation.Results.{after_body}
 use Rattle.ec_machine.proofs.Moves.{stands_by}
 use Rattle.ec_machine.proofs.Weighing.{nearer}
 use Rattle.ec_machine.proofs.machine.Machine.after_body.Goals as goal

@@ -1,5 +1,5 @@
 use Rattle.ec_code.specs.Views.{statements_view}
-use Rattle.ec_evaluation.specs.Execute.{look_all}
+use Rattle.ec_meaning_defs.specs.evaluation.Execute.{look_all}
 use Rattle.ec_machine.specs.declared.frame.Frame.TheVariants as frame
 use Rattle.ec_machine.specs.Frames.{here}
 use Rattle.ec_machine.specs.Goes.{at, env_of, tasks}

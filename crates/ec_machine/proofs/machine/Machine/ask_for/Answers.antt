@@ -1,10 +1,10 @@
 use Rattle.std.proofs.Common.{ap, arith, refl, sym, true, false}
 use Rattle.std.specs.Prelude.{reverse}
 use Rattle.ec_code.specs.Views.{expression_view}
-use Rattle.ec_evaluation.specs.Evaluate.{eval, turn_of}
-use Rattle.ec_evaluation.specs.Results.{on, on_value}
+use Rattle.ec_meaning_defs.specs.evaluation.Evaluate.{eval, turn_of}
+use Rattle.ec_meaning_defs.specs.evaluation.Results.{on, on_value}
 use Rattle.ec_plain.specs.Answered.{at as over_memory}
-use Rattle.ec_resolved.specs.Operations.{is_true}
+use Rattle.ec_meaning_defs.specs.resolved.Operations.{is_true}
 use Rattle.ec_machine.specs.declared.frame.Focus.TheVariants as focus
 use Rattle.ec_machine.specs.declared.frame.Frame.TheVariants as frame
 use Rattle.ec_machine.specs.Frames.{behind_of, body_of, evaluated_for, here, resume, test_of}

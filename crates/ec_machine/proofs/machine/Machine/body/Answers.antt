@@ -1,7 +1,7 @@
 use Rattle.std.proofs.Common.{ap, arith, refl}
 use Rattle.ec_code.specs.Views.{statement_view}
-use Rattle.ec_evaluation.specs.Execute.{again, run}
-use Rattle.ec_evaluation.specs.Results.{after_body}
+use Rattle.ec_meaning_defs.specs.evaluation.Execute.{again, run}
+use Rattle.ec_meaning_defs.specs.evaluation.Results.{after_body}
 use Rattle.ec_machine.specs.Frames.{behind_of, body_of, here, test_of}
 use Rattle.ec_machine.specs.Goes.{at, env_of, tasks}
 use Rattle.ec_machine.specs.Quick.{behind_body, bodily}

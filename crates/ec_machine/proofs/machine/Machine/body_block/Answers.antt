@@ -2,9 +2,9 @@
 use Rattle.std.proofs.Common.{◌∙◌, refl, ap, sym, arith, [], None, Ok}
 use Rattle.std.specs.Prelude.{reverse}
 use Rattle.ec_code.specs.Views.{statement_view, statements_view}
-use Rattle.ec_evaluation.specs.Execute.{again, enter, run, run_all, settle}
-use Rattle.ec_evaluation.specs.Results.{after_body, closing, on_done}
-use Rattle.ec_objects.specs.Memory.{end_to, last_number}
+use Rattle.ec_meaning_defs.specs.evaluation.Execute.{again, enter, run, run_all, settle}
+use Rattle.ec_meaning_defs.specs.evaluation.Results.{after_body, closing, on_done}
+use Rattle.ec_memory_defs.specs.Memory.{end_to, last_number}
 use Rattle.ec_machine.specs.declared.frame.Frame.TheVariants as frame
 use Rattle.ec_machine.specs.Frames.{behind_of, body_of, here, resume, test_of}
 use Rattle.ec_machine.specs.Goes.{at, env_of, tasks}

@@ -1,8 +1,8 @@
 use Rattle.std.proofs.Common.{◌∙◌, ap, refl, sym, None, Ok, Err}
 use Rattle.ec_code.specs.Views.{full_view}
-use Rattle.ec_evaluation.specs.Evaluate.{eval}
-use Rattle.ec_evaluation.specs.Execute.{again}
-use Rattle.ec_evaluation.specs.Results.{after_body, on, on_value}
+use Rattle.ec_meaning_defs.specs.evaluation.Evaluate.{eval}
+use Rattle.ec_meaning_defs.specs.evaluation.Execute.{again}
+use Rattle.ec_meaning_defs.specs.evaluation.Results.{after_body, on, on_value}
 use Rattle.ec_machine.specs.declared.frame.Frame.TheVariants as frame
 use Rattle.ec_machine.specs.Frames.{behind_of, body_of, here, test_of}
 use Rattle.ec_machine.specs.Goes.{at, env_of, tasks}

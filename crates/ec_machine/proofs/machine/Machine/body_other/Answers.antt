@@ -1,8 +1,8 @@
 -- A block that declares nothing, or any other statement.
 use Rattle.std.proofs.Common.{ap, arith, refl, []}
 use Rattle.ec_code.specs.Views.{statement_view, statements_view}
-use Rattle.ec_evaluation.specs.Execute.{again, enter, run, run_all}
-use Rattle.ec_evaluation.specs.Results.{after_body}
+use Rattle.ec_meaning_defs.specs.evaluation.Execute.{again, enter, run, run_all}
+use Rattle.ec_meaning_defs.specs.evaluation.Results.{after_body}
 use Rattle.ec_machine.specs.declared.frame.Focus.TheVariants as focus
 use Rattle.ec_machine.specs.declared.frame.Frame.TheVariants as frame
 use Rattle.ec_machine.specs.Frames.{behind_of, body_of, here, test_of}

@@ -1,9 +1,9 @@
 use Rattle.std.proofs.Common.{◌∙◌, ap, arith, true, false}
 use Rattle.ec_code.specs.Views.{expression_view, plain_view, statement_view}
-use Rattle.ec_evaluation.specs.Evaluate.{eval}
-use Rattle.ec_evaluation.specs.Execute.{run}
-use Rattle.ec_evaluation.specs.Results.{on_value}
-use Rattle.ec_resolved.specs.Operations.{is_true}
+use Rattle.ec_meaning_defs.specs.evaluation.Evaluate.{eval}
+use Rattle.ec_meaning_defs.specs.evaluation.Execute.{run}
+use Rattle.ec_meaning_defs.specs.evaluation.Results.{on_value}
+use Rattle.ec_meaning_defs.specs.resolved.Operations.{is_true}
 use Rattle.ec_machine.specs.Frames.{here}
 use Rattle.ec_machine.specs.Goes.{at, env_of, tasks}
 use Rattle.ec_machine.specs.declared.frame.Frame.TheVariants as frame

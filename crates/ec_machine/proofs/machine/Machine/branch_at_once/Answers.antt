@@ -1,8 +1,8 @@
 use Rattle.std.proofs.Common.{◌∙◌, refl, sym, arith, true, false}
 use Rattle.ec_code.specs.Views.{statement_view}
-use Rattle.ec_evaluation.specs.Execute.{run}
-use Rattle.ec_evaluation.specs.Results.{on_value}
-use Rattle.ec_resolved.specs.Operations.{is_true}
+use Rattle.ec_meaning_defs.specs.evaluation.Execute.{run}
+use Rattle.ec_meaning_defs.specs.evaluation.Results.{on_value}
+use Rattle.ec_meaning_defs.specs.resolved.Operations.{is_true}
 use Rattle.ec_machine.specs.Frames.{here}
 use Rattle.ec_machine.proofs.Weighing.{err_near}
 use Rattle.ec_plain.specs.Outcomes.{outcome_view}

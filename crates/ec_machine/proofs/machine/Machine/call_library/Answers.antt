@@ -1,6 +1,6 @@
 use Rattle.std.proofs.Common.{arith}
-use Rattle.ec_evaluation.specs.Results.{without_answer}
-use Rattle.ec_resolved.specs.Resolved.{library}
+use Rattle.ec_meaning_defs.specs.evaluation.Results.{without_answer}
+use Rattle.ec_meaning_defs.specs.resolved.Resolved.{library}
 use Rattle.ec_machine.specs.declared.frame.Frame.TheVariants as frame
 use Rattle.ec_machine.specs.Frames.{here, waiting}
 use Rattle.ec_machine.specs.Goes.{at, env_of, tasks}

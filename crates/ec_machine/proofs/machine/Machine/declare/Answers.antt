@@ -1,11 +1,11 @@
 use Rattle.std.proofs.Common.{◌∙◌, ap, sym, arith}
 use Rattle.std.specs.Prelude.{reverse}
-use Rattle.ec_evaluation.specs.Results.{over, on, present, changed}
-use Rattle.ec_objects.specs.Memory.{unset}
+use Rattle.ec_meaning_defs.specs.evaluation.Results.{over, on, present, changed}
+use Rattle.ec_memory_defs.specs.Memory.{unset}
 use Rattle.ec_machine.specs.Frames.{resume}
 use Rattle.ec_machine.specs.Goes.{at, env_of, tasks}
 use Rattle.ec_machine.proofs.Moves.{resume_over}
-use Rattle.ec_evaluation.specs.State.{stuck, trapped}
+use Rattle.ec_meaning_defs.specs.evaluation.State.{stuck, trapped}
 use Rattle.ec_machine.proofs.Weighing.{err_near, nearer}
 use Rattle.ec_machine.proofs.machine.Machine.declare.Goals as goal
 

@@ -1,7 +1,7 @@
 use Rattle.std.proofs.Common.{◌∙◌, ap, arith}
 use Rattle.ec_code.specs.Views.{full_view, plain_view}
-use Rattle.ec_evaluation.specs.Evaluate.{eval}
-use Rattle.ec_evaluation.specs.Results.{on, on_value}
+use Rattle.ec_meaning_defs.specs.evaluation.Evaluate.{eval}
+use Rattle.ec_meaning_defs.specs.evaluation.Results.{on, on_value}
 use Rattle.ec_machine.specs.Frames.{here}
 use Rattle.ec_machine.specs.Goes.{env_of}
 use Rattle.ec_machine.specs.Weights.{expression_weight}

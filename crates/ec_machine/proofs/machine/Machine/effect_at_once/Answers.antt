@@ -1,5 +1,5 @@
 use Rattle.std.proofs.Common.{◌∙◌, refl, sym, arith, Ok}
-use Rattle.ec_evaluation.specs.Results.{on, on_value}
+use Rattle.ec_meaning_defs.specs.evaluation.Results.{on, on_value}
 use Rattle.ec_machine.proofs.Weighing.{err_near, nearer}
 use Rattle.ec_plain.specs.Outcomes.{outcome_view}
 use Rattle.ec_machine.specs.declared.frame.Flow.TheVariants as flow

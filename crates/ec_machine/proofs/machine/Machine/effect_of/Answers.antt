@@ -1,8 +1,8 @@
 use Rattle.std.proofs.Common.{ap, arith, sym}
 use Rattle.std.specs.Prelude.{reverse}
 use Rattle.ec_code.specs.Views.{full_view}
-use Rattle.ec_evaluation.specs.Evaluate.{eval}
-use Rattle.ec_evaluation.specs.Results.{on, on_value}
+use Rattle.ec_meaning_defs.specs.evaluation.Evaluate.{eval}
+use Rattle.ec_meaning_defs.specs.evaluation.Results.{on, on_value}
 use Rattle.ec_machine.specs.Frames.{here, resume}
 use Rattle.ec_machine.specs.Goes.{env_of, tasks}
 use Rattle.ec_machine.specs.Weights.{frames_weight}

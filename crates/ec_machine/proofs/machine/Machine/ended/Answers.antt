@@ -2,7 +2,7 @@ use Rattle.std.proofs.Common.{◌∙◌, ap, map}
 use Rattle.std.specs.Option.{option_map}
 use Rattle.ec_base.specs.declared.stop.Trap.TheVariants.{NoValue}
 use Rattle.ec_code.specs.Views.{full_step_view}
-use Rattle.ec_evaluation.specs.Results.{back}
+use Rattle.ec_meaning_defs.specs.evaluation.Results.{back}
 use Rattle.ec_plain.proofs.Walks.{followed_over}
 use Rattle.ec_values.specs.Words.{word_view}
 use Rattle.ec_machine.specs.declared.stop.End.TheVariants as ends

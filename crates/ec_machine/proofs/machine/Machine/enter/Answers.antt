@@ -1,10 +1,10 @@
 use Rattle.std.proofs.Common.{◌∙◌, ap, sym, map, ℕ, List, [], ◌∷◌, ◌++◌, arith}
 use Rattle.std.specs.Prelude.{reverse}
 use Rattle.ec_code.specs.Views.{size_view, statements_view}
-use Rattle.ec_evaluation.specs.Execute.{inside, settle}
-use Rattle.ec_evaluation.specs.Results.{Res, closing, made}
-use Rattle.ec_evaluation.specs.State.{State}
-use Rattle.ec_objects.specs.Memory.{last_number}
+use Rattle.ec_meaning_defs.specs.evaluation.Execute.{inside, settle}
+use Rattle.ec_meaning_defs.specs.evaluation.Results.{Res, closing, made}
+use Rattle.ec_meaning_defs.specs.evaluation.State.{State}
+use Rattle.ec_memory_defs.specs.Memory.{last_number}
 use Rattle.ec_plain.specs.Answered.{scope_view}
 use Rattle.ec_machine.specs.declared.frame.Frame.TheVariants as frame
 use Rattle.ec_machine.specs.declared.machine.Machine.{Machine}

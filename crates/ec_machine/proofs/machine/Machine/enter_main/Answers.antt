@@ -1,9 +1,9 @@
 use Rattle.std.proofs.Common.{◌≡◌, ◌∙◌, ap, sym, map, refl, ℕ, List, [], true}
 use Rattle.std.specs.Prelude.{reverse}
 use Rattle.ec_code.specs.Views.{function_view, size_view, statements_view}
-use Rattle.ec_evaluation.specs.Execute.{body_run, in_function, run_all, settle}
-use Rattle.ec_evaluation.specs.Results.{Res, finished, made, on}
-use Rattle.ec_evaluation.specs.State.{State}
+use Rattle.ec_meaning_defs.specs.evaluation.Execute.{body_run, in_function, run_all, settle}
+use Rattle.ec_meaning_defs.specs.evaluation.Results.{Res, finished, made, on}
+use Rattle.ec_meaning_defs.specs.evaluation.State.{State}
 use Rattle.ec_plain.specs.Answered.{scope_view}
 use Rattle.ec_machine.specs.declared.machine.Machine.{Machine}
 use Rattle.ec_machine.specs.Frames.{last_of, objects_of, resume}

@@ -1,6 +1,6 @@
 use Rattle.std.proofs.Common.{arith, ap, ◌∙◌}
 use Rattle.ec_code.specs.Views.{full_view, plain_view}
-use Rattle.ec_evaluation.specs.Evaluate.{eval}
+use Rattle.ec_meaning_defs.specs.evaluation.Evaluate.{eval}
 use Rattle.ec_machine.specs.Frames.{here}
 use Rattle.ec_machine.specs.Goes.{env_of}
 use Rattle.ec_machine.proofs.Evaluating.{to_Plain, to_Full}

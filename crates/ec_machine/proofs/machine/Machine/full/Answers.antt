@@ -1,6 +1,6 @@
 use Rattle.std.proofs.Common.{◌∙◌, ap, arith, sym}
 use Rattle.ec_code.specs.Views.{full_view}
-use Rattle.ec_evaluation.specs.Evaluate.{eval}
+use Rattle.ec_meaning_defs.specs.evaluation.Evaluate.{eval}
 use Rattle.ec_machine.specs.Found.{found_view}
 use Rattle.ec_machine.specs.Frames.{here}
 use Rattle.ec_machine.specs.Goes.{env_of}

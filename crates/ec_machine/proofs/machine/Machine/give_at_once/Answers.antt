@@ -1,11 +1,10 @@
 use Rattle.std.proofs.Common.{◌∙◌, refl, sym, arith, Some}
-use Rattle.ec_evaluation.specs.Results.{on_value, returned}
+use Rattle.ec_meaning_defs.specs.evaluation.Results.{on_value, returned}
 use Rattle.ec_values.specs.Words.{word_view}
-use Rattle.ec_machine.specs.Goes.{tasks}
+use Rattle.ec_machine.specs.Goes.{tasks, env_of}
 use Rattle.ec_machine.proofs.Moves.{returns_stand}
 use Rattle.ec_machine.proofs.Weighing.{err_near}
 use Rattle.ec_plain.specs.Outcomes.{outcome_view}
-use Rattle.ec_machine.specs.Goes.{env_of}
 use Rattle.ec_machine.proofs.Plainly.{evaluated, unevaluated}
 use Rattle.ec_machine.proofs.machine.Machine.give_at_once.Goals as goal
 

@@ -1,7 +1,7 @@
 use Rattle.std.proofs.Common.{◌∙◌, ap, sym, map, [], ◌∷◌, ◌++◌, arith, ◌+◌}
 use Rattle.std.specs.Prelude.{reverse}
 use Rattle.ec_code.specs.Views.{expressions_view, full_step_view}
-use Rattle.ec_evaluation.specs.Evaluate.{collect}
+use Rattle.ec_meaning_defs.specs.evaluation.Evaluate.{collect}
 use Rattle.ec_plain.specs.Steps.{both_on}
 use Rattle.ec_values.specs.Words.{word_view}
 use Rattle.ec_machine.specs.declared.frame.Frame.TheVariants as frame

@@ -1,8 +1,8 @@
 use Rattle.std.proofs.Common.{◌∙◌, ap, sym, subst, map, Some, arith}
 use Rattle.std.specs.Prelude.{reverse}
 use Rattle.ec_code.specs.Views.{full_step_view}
-use Rattle.ec_evaluation.specs.Results.{returned, value}
-use Rattle.ec_evaluation.specs.State.{stuck}
+use Rattle.ec_meaning_defs.specs.evaluation.Results.{returned, value}
+use Rattle.ec_meaning_defs.specs.evaluation.State.{stuck}
 use Rattle.ec_plain.specs.Steps.{followed}
 use Rattle.ec_plain.proofs.Walks.{followed_over}
 use Rattle.ec_values.specs.Words.{word_view}

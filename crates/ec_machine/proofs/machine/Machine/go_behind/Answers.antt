@@ -1,8 +1,8 @@
 use Rattle.std.proofs.Common.{ap, arith, refl, sym}
 use Rattle.ec_code.specs.Views.{expression_view}
-use Rattle.ec_evaluation.specs.Evaluate.{eval}
-use Rattle.ec_evaluation.specs.Execute.{tested}
-use Rattle.ec_evaluation.specs.Results.{on_value}
+use Rattle.ec_meaning_defs.specs.evaluation.Evaluate.{eval}
+use Rattle.ec_meaning_defs.specs.evaluation.Execute.{tested}
+use Rattle.ec_meaning_defs.specs.evaluation.Results.{on_value}
 use Rattle.ec_plain.specs.Answered.{at as over_memory}
 use Rattle.ec_machine.specs.declared.frame.Focus.TheVariants as focus
 use Rattle.ec_machine.specs.declared.frame.Frame.TheVariants as frame

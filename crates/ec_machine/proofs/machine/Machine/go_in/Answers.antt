@@ -1,8 +1,8 @@
 use Rattle.std.proofs.Common.{◌∙◌, ap, arith, sym}
 use Rattle.std.specs.Prelude.{reverse}
 use Rattle.ec_code.specs.Views.{statements_view}
-use Rattle.ec_evaluation.specs.Execute.{look_all, settle}
-use Rattle.ec_evaluation.specs.Results.{went}
+use Rattle.ec_meaning_defs.specs.evaluation.Execute.{look_all, settle}
+use Rattle.ec_meaning_defs.specs.evaluation.Results.{went}
 use Rattle.ec_machine.specs.declared.frame.Frame.TheVariants as frame
 use Rattle.ec_machine.specs.Frames.{behind_by, here, left_by, outside, resume}
 use Rattle.ec_machine.specs.Goes.{at, env_of, tasks}

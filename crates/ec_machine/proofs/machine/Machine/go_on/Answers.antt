@@ -1,5 +1,5 @@
 use Rattle.std.proofs.Common.{◌∙◌, ap, arith, sym}
-use Rattle.ec_evaluation.specs.Results.{value}
+use Rattle.ec_meaning_defs.specs.evaluation.Results.{value}
 use Rattle.ec_values.specs.Words.{word_view}
 use Rattle.ec_machine.specs.Found.{found_view}
 use Rattle.ec_machine.specs.Frames.{behind_by, here}

@@ -1,6 +1,6 @@
 use Rattle.std.proofs.Common.{◌∙◌, ap, arith, sym}
 use Rattle.std.specs.Option.{option_map}
-use Rattle.ec_evaluation.specs.Results.{back}
+use Rattle.ec_meaning_defs.specs.evaluation.Results.{back}
 use Rattle.ec_values.specs.Words.{word_view}
 use Rattle.ec_machine.specs.Found.{found_view}
 use Rattle.ec_machine.specs.Frames.{behind_by, here, left_by, outside}

@@ -1,6 +1,6 @@
 use Rattle.std.proofs.Common.{ap, sym, arith}
 use Rattle.std.specs.Prelude.{reverse}
-use Rattle.ec_evaluation.specs.Results.{value}
+use Rattle.ec_meaning_defs.specs.evaluation.Results.{value}
 use Rattle.ec_values.specs.Words.{word_view}
 use Rattle.ec_machine.specs.Frames.{resume}
 use Rattle.ec_machine.specs.Goes.{at, env_of, tasks}

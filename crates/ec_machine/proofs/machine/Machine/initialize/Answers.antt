@@ -1,10 +1,10 @@
 use Rattle.std.proofs.Common.{◌∙◌, ap, sym, [], arith}
 use Rattle.std.specs.Prelude.{reverse}
 use Rattle.ec_code.specs.Views.{expressions_view}
-use Rattle.ec_evaluation.specs.Evaluate.{collect}
-use Rattle.ec_evaluation.specs.Results.{over, on, present, changed}
-use Rattle.ec_evaluation.specs.State.{stuck, trapped}
-use Rattle.ec_objects.specs.Memory.{fill}
+use Rattle.ec_meaning_defs.specs.evaluation.Evaluate.{collect}
+use Rattle.ec_meaning_defs.specs.evaluation.Results.{over, on, present, changed}
+use Rattle.ec_meaning_defs.specs.evaluation.State.{stuck, trapped}
+use Rattle.ec_memory_defs.specs.Memory.{fill}
 use Rattle.ec_machine.specs.Frames.{here, resume}
 use Rattle.ec_machine.specs.Goes.{at, env_of, tasks}
 use Rattle.ec_machine.proofs.Moves.{resume_over, stands_by}

@@ -1,6 +1,6 @@
 use Rattle.std.proofs.Common.{ap, arith}
 use Rattle.std.specs.Prelude.{reverse}
-use Rattle.ec_evaluation.specs.Results.{turn, went}
+use Rattle.ec_meaning_defs.specs.evaluation.Results.{turn, went}
 use Rattle.ec_machine.specs.Frames.{resume}
 use Rattle.ec_machine.specs.Goes.{at, env_of, tasks}
 use Rattle.ec_machine.proofs.Moves.{lifted}

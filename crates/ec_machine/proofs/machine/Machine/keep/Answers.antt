@@ -1,7 +1,7 @@
 use Rattle.std.proofs.Common.{◌∙◌, ◌++◌, ◌∷◌, [], ap, sym}
 use Rattle.ec_code.specs.Views.{plain_view}
-use Rattle.ec_evaluation.specs.Evaluate.{eval}
-use Rattle.ec_evaluation.specs.Results.{on_value}
+use Rattle.ec_meaning_defs.specs.evaluation.Evaluate.{eval}
+use Rattle.ec_meaning_defs.specs.evaluation.Results.{on_value}
 use Rattle.ec_plain.specs.Outcomes.{outcome_view}
 use Rattle.ec_machine.specs.Frames.{here, waiting}
 use Rattle.ec_machine.specs.Goes.{at, env_of}

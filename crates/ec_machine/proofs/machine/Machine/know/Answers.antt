@@ -1,10 +1,10 @@
 use Rattle.std.proofs.Common.{◌≡◌, ◌∙◌, ap, arith, map, refl, subst, sym, Err}
 use Rattle.std.specs.Option.{option_map}
 use Rattle.ec_code.specs.Views.{full_step_view}
-use Rattle.ec_evaluation.specs.Results.{done_there}
-use Rattle.ec_evaluation.specs.State.{exited, stuck, trapped}
-use Rattle.ec_formats.specs.Known.{channel_view, known_view}
-use Rattle.ec_functions.specs.Functions.{Effect, effect_of, puts_bytes, traps, ends, misfit}
+use Rattle.ec_meaning_defs.specs.evaluation.Results.{done_there}
+use Rattle.ec_meaning_defs.specs.evaluation.State.{exited, stuck, trapped}
+use Rattle.ec_printf.specs.formats.Known.{channel_view, known_view}
+use Rattle.ec_meaning_defs.specs.functions.Functions.{Effect, effect_of, puts_bytes, traps, ends, misfit}
 use Rattle.ec_plain.proofs.Walks.{followed_over}
 use Rattle.ec_stdlib.specs.Does.{Does}
 use Rattle.ec_values.specs.Words.{word_view}

@@ -1,8 +1,8 @@
 use Rattle.std.proofs.Common.{◌+◌, ap, arith}
 use Rattle.std.specs.Option.{option_map}
 use Rattle.ec_code.specs.Views.{statements_view}
-use Rattle.ec_evaluation.specs.Execute.{settle}
-use Rattle.ec_evaluation.specs.Results.{back, went}
+use Rattle.ec_meaning_defs.specs.evaluation.Execute.{settle}
+use Rattle.ec_meaning_defs.specs.evaluation.Results.{back, went}
 use Rattle.ec_values.specs.Words.{word_view}
 use Rattle.ec_machine.specs.Frames.{behind_by, here, led, left_by, outside}
 use Rattle.ec_machine.specs.Goes.{at, env_of, tasks}

@@ -1,7 +1,7 @@
 use Rattle.std.proofs.Common.{◌∙◌, ap, arith}
 use Rattle.ec_code.specs.Views.{statement_view, statements_view}
-use Rattle.ec_evaluation.specs.Execute.{run, run_all}
-use Rattle.ec_evaluation.specs.Results.{on_done}
+use Rattle.ec_meaning_defs.specs.evaluation.Execute.{run, run_all}
+use Rattle.ec_meaning_defs.specs.evaluation.Results.{on_done}
 use Rattle.ec_machine.specs.declared.frame.Frame.TheVariants as frame
 use Rattle.ec_machine.specs.Frames.{here}
 use Rattle.ec_machine.specs.Goes.{at, env_of, tasks}

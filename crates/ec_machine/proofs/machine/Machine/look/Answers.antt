@@ -2,7 +2,7 @@ use Rattle.std.proofs.Common.{◌∙◌, ap, sym, arith, map}
 use Rattle.std.specs.Prelude.{reverse}
 use Rattle.ec_code.specs.declared.statement.Loop.{out-Loop}
 use Rattle.ec_code.specs.Views.{size_view, statements_view}
-use Rattle.ec_evaluation.specs.Execute.{enter, look, look_all}
+use Rattle.ec_meaning_defs.specs.evaluation.Execute.{enter, look, look_all}
 use Rattle.ec_machine.specs.declared.frame.Frame.TheVariants as frame
 use Rattle.ec_machine.specs.Frames.{body_of, here, resume}
 use Rattle.ec_machine.specs.Goes.{at, env_of, tasks}

@@ -1,7 +1,7 @@
 use Rattle.std.proofs.Common.{◌∙◌, ap, arith}
 use Rattle.std.specs.Prelude.{reverse}
 use Rattle.ec_code.specs.Views.{statement_view}
-use Rattle.ec_evaluation.specs.Execute.{look}
+use Rattle.ec_meaning_defs.specs.evaluation.Execute.{look}
 use Rattle.ec_machine.specs.declared.frame.Frame.TheVariants as frame
 use Rattle.ec_machine.specs.Frames.{here, resume}
 use Rattle.ec_machine.specs.Goes.{at, env_of, tasks}

@@ -1,7 +1,7 @@
 use Rattle.std.proofs.Common.{◌≤◌, ap, arith, refl}
 use Rattle.std.specs.Prelude.{reverse}
 use Rattle.ec_code.specs.Views.{statement_view}
-use Rattle.ec_evaluation.specs.Execute.{run}
+use Rattle.ec_meaning_defs.specs.evaluation.Execute.{run}
 use Rattle.ec_machine.specs.Frames.{here, resume}
 use Rattle.ec_machine.specs.Goes.{at, env_of, tasks}
 use Rattle.ec_machine.specs.Weights.{statement_weight}

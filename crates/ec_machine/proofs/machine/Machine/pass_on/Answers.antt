@@ -1,6 +1,6 @@
 use Rattle.std.proofs.Common.{◌∙◌, ap, arith, sym}
 use Rattle.ec_code.specs.Views.{expressions_view}
-use Rattle.ec_evaluation.specs.Evaluate.{collect}
+use Rattle.ec_meaning_defs.specs.evaluation.Evaluate.{collect}
 use Rattle.ec_machine.specs.Found.{found_view}
 use Rattle.ec_machine.specs.Frames.{behind_by, here, received}
 use Rattle.ec_machine.specs.Goes.{env_of, taken}

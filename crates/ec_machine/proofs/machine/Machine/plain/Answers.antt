@@ -1,7 +1,7 @@
 use Rattle.std.proofs.Common.{◌∙◌, ap, sym, arith}
 use Rattle.std.specs.Prelude.{reverse}
 use Rattle.ec_code.specs.Views.{plain_view}
-use Rattle.ec_evaluation.specs.Evaluate.{eval}
+use Rattle.ec_meaning_defs.specs.evaluation.Evaluate.{eval}
 use Rattle.ec_plain.specs.Answered.{answered, context, ending_of}
 use Rattle.ec_machine.specs.Frames.{here, resume}
 use Rattle.ec_machine.specs.Goes.{at, env_of, tasks}

@@ -1,8 +1,8 @@
 use Rattle.std.proofs.Common.{arith}
 use Rattle.std.specs.Option.{option_map}
-use Rattle.ec_evaluation.specs.Results.{done_there}
-use Rattle.ec_formats.specs.Known.{channel_view}
-use Rattle.ec_functions.specs.Functions.{puts_bytes}
+use Rattle.ec_meaning_defs.specs.evaluation.Results.{done_there}
+use Rattle.ec_printf.specs.formats.Known.{channel_view}
+use Rattle.ec_meaning_defs.specs.functions.Functions.{puts_bytes}
 use Rattle.ec_values.specs.Words.{word_view}
 use Rattle.ec_machine.specs.declared.frame.Frame.TheVariants as frame
 use Rattle.ec_machine.specs.Goes.{at, env_of, tasks}

@@ -1,7 +1,7 @@
 use Rattle.std.proofs.Common.{ap, arith}
 use Rattle.ec_code.specs.Views.{statements_view}
-use Rattle.ec_evaluation.specs.Execute.{run_all}
-use Rattle.ec_evaluation.specs.Results.{on_done}
+use Rattle.ec_meaning_defs.specs.evaluation.Execute.{run_all}
+use Rattle.ec_meaning_defs.specs.evaluation.Results.{on_done}
 use Rattle.ec_machine.specs.Frames.{here, led}
 use Rattle.ec_machine.specs.Goes.{env_of}
 use Rattle.ec_machine.proofs.Moves.{goes_as}

@@ -1,7 +1,7 @@
 use Rattle.std.proofs.Common.{◌∙◌, arith, map, refl, Some, Ok, Err}
 use Rattle.ec_code.specs.Views.{function_view}
-use Rattle.ec_evaluation.specs.Evaluate.{Task, turn_of}
-use Rattle.ec_evaluation.specs.Execute.{act}
+use Rattle.ec_meaning_defs.specs.evaluation.Evaluate.{Task, turn_of}
+use Rattle.ec_meaning_defs.specs.evaluation.Execute.{act}
 use Rattle.ec_machine.specs.Frames.{behind_of, body_of, here, test_of}
 use Rattle.ec_machine.specs.Goes.{at, env_of, tasks}
 use Rattle.ec_machine.specs.Quick.{behind_body, bodily, testing, turning}

@@ -2,11 +2,11 @@ use Rattle.std.proofs.Common.{◌∙◌, ap, map, arith, true, false}
 use Rattle.std.specs.Prelude.{reverse}
 use Rattle.std.specs.Option.{option_map}
 use Rattle.ec_code.specs.Views.{expression_view, expressions_view, loop_view, size_view, statement_view, statements_view}
-use Rattle.ec_evaluation.specs.Evaluate.{eval}
-use Rattle.ec_evaluation.specs.Execute.{declared, enter, initialized, returning, run, run_all}
-use Rattle.ec_evaluation.specs.Results.{on, on_value, turn, went}
-use Rattle.ec_evaluation.specs.State.{stuck}
-use Rattle.ec_resolved.specs.Operations.{is_true}
+use Rattle.ec_meaning_defs.specs.evaluation.Evaluate.{eval}
+use Rattle.ec_meaning_defs.specs.evaluation.Execute.{declared, enter, initialized, returning, run, run_all}
+use Rattle.ec_meaning_defs.specs.evaluation.Results.{on, on_value, turn, went}
+use Rattle.ec_meaning_defs.specs.evaluation.State.{stuck}
+use Rattle.ec_meaning_defs.specs.resolved.Operations.{is_true}
 use Rattle.ec_machine.specs.Frames.{here, resume}
 use Rattle.ec_machine.specs.Goes.{at, env_of, tasks}
 use Rattle.ec_machine.proofs.Moves.{goes_as, resume_over}

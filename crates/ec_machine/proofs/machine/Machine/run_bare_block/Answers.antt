@@ -2,9 +2,9 @@
 use Rattle.std.proofs.Common.{◌≤◌, ◌+◌, ◌∙◌, refl, ap, sym, arith, []}
 use Rattle.std.specs.Prelude.{reverse}
 use Rattle.ec_code.specs.Views.{statement_view, statements_view}
-use Rattle.ec_evaluation.specs.Execute.{enter, run, run_all, settle}
-use Rattle.ec_evaluation.specs.Results.{closing, on, on_done}
-use Rattle.ec_objects.specs.Memory.{end_to, last_number}
+use Rattle.ec_meaning_defs.specs.evaluation.Execute.{enter, run, run_all, settle}
+use Rattle.ec_meaning_defs.specs.evaluation.Results.{closing, on, on_done}
+use Rattle.ec_memory_defs.specs.Memory.{end_to, last_number}
 use Rattle.ec_machine.specs.Frames.{here, resume}
 use Rattle.ec_machine.specs.Goes.{at, env_of, tasks}
 use Rattle.ec_machine.specs.Weights.{statement_weight, statements_weight}

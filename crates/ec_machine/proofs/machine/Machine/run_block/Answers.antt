@@ -1,7 +1,7 @@
 use Rattle.std.proofs.Common.{arith, map, ap, refl, []}
 use Rattle.std.specs.Prelude.{reverse}
 use Rattle.ec_code.specs.Views.{size_view, statements_view}
-use Rattle.ec_evaluation.specs.Execute.{enter, run_all}
+use Rattle.ec_meaning_defs.specs.evaluation.Execute.{enter, run_all}
 use Rattle.ec_machine.specs.Frames.{here}
 use Rattle.ec_machine.specs.Goes.{at, env_of, tasks}
 use Rattle.ec_machine.proofs.Moves.{lifted, stands_by}

@@ -1,5 +1,5 @@
-use Rattle.ec_evaluation.specs.Evaluate.{turn_of}
-use Rattle.ec_evaluation.specs.Execute.{tested}
+use Rattle.ec_meaning_defs.specs.evaluation.Evaluate.{turn_of}
+use Rattle.ec_meaning_defs.specs.evaluation.Execute.{tested}
 use Rattle.ec_machine.specs.Frames.{behind_of, body_of, here, test_of}
 use Rattle.ec_machine.specs.Goes.{env_of}
 use Rattle.ec_machine.proofs.Moves.{goes_as}

@@ -2,9 +2,9 @@ use Rattle.std.proofs.Common.{ap, None, Some, arith}
 use Rattle.std.specs.Prelude.{reverse}
 use Rattle.std.specs.Option.{option_map}
 use Rattle.ec_code.specs.Views.{expression_view}
-use Rattle.ec_evaluation.specs.Evaluate.{eval}
-use Rattle.ec_evaluation.specs.Execute.{returning}
-use Rattle.ec_evaluation.specs.Results.{on_value, returned}
+use Rattle.ec_meaning_defs.specs.evaluation.Evaluate.{eval}
+use Rattle.ec_meaning_defs.specs.evaluation.Execute.{returning}
+use Rattle.ec_meaning_defs.specs.evaluation.Results.{on_value, returned}
 use Rattle.ec_machine.specs.Frames.{here, resume}
 use Rattle.ec_machine.specs.Goes.{at, env_of, tasks}
 use Rattle.ec_machine.proofs.Moves.{goes_as, returns_stand, stands_by}

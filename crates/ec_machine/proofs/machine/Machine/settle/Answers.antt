@@ -1,7 +1,7 @@
 use Rattle.std.proofs.Common.{◌∙◌, ap, sym, arith, ◌+◌}
 use Rattle.std.specs.Prelude.{reverse}
 use Rattle.ec_code.specs.Views.{statements_view}
-use Rattle.ec_evaluation.specs.Execute.{settle}
+use Rattle.ec_meaning_defs.specs.evaluation.Execute.{settle}
 use Rattle.ec_machine.specs.Frames.{here, led, resume}
 use Rattle.ec_machine.specs.Goes.{at, env_of, tasks}
 use Rattle.ec_machine.proofs.Moves.{stands_by}

@@ -1,8 +1,8 @@
 use Rattle.std.proofs.Common.{◌∙◌, sym, subst, Ok}
 use Rattle.std.specs.Prelude.{reverse}
 use Rattle.ec_code.specs.Views.{statement_view, statements_view}
-use Rattle.ec_evaluation.specs.Execute.{run, run_all, settle}
-use Rattle.ec_evaluation.specs.Results.{on_done}
+use Rattle.ec_meaning_defs.specs.evaluation.Execute.{run, run_all, settle}
+use Rattle.ec_meaning_defs.specs.evaluation.Results.{on_done}
 use Rattle.ec_machine.specs.declared.frame.Focus.TheVariants as focus
 use Rattle.ec_machine.specs.Frames.{behind_by, here, left_by, outside, resume}
 use Rattle.ec_machine.specs.Goes.{Goes, at, env_of, tasks}

@@ -1,8 +1,8 @@
 use Rattle.std.proofs.Common.{◌∙◌, ◌∷◌, [], ap, sym}
 use Rattle.std.specs.Prelude.{reverse}
 use Rattle.ec_code.specs.Views.{statements_view}
-use Rattle.ec_evaluation.specs.Execute.{run_all}
-use Rattle.ec_evaluation.specs.Results.{on_done}
+use Rattle.ec_meaning_defs.specs.evaluation.Execute.{run_all}
+use Rattle.ec_meaning_defs.specs.evaluation.Results.{on_done}
 use Rattle.ec_machine.specs.declared.frame.Frame.TheVariants as frame
 use Rattle.ec_machine.specs.Frames.{here, outside, plug, resume}
 use Rattle.ec_machine.specs.Goes.{env_of}

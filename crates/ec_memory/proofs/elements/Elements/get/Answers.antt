@@ -1,6 +1,6 @@
 -- The element, or that one of its bytes is unset.
 use Rattle.std.proofs.Common.{◌∙◌, ap}
-use Rattle.ec_objects.specs.Memory.{span}
+use Rattle.ec_memory_defs.specs.Memory.{span}
 use Rattle.ec_memory.specs.Store.{seen}
 use Rattle.ec_memory.proofs.Strides.{got, element_unset}
 use Rattle.ec_memory.proofs.elements.Elements.get.Goals as goal

@@ -3,8 +3,8 @@ use Rattle.std.proofs.Common.{◌∙◌, sym, ap}
 use Rattle.std.proofs.lemmas.Result.{err_from_is_err_and}
 use Rattle.ec_memory.proofs.Calls.{rising_of, room_of, found_at, wrote, trapped_of, copy_trapped}
 use Rattle.ec_memory.proofs.Reading.{part_length}
-use Rattle.ec_objects.specs.Cells.{part_of}
-use Rattle.ec_objects.specs.Memory.{and_then, with_cells}
+use Rattle.ec_memory_defs.specs.Cells.{part_of}
+use Rattle.ec_memory_defs.specs.Memory.{and_then, with_cells}
 use Rattle.ec_memory.proofs.store.Store.copy.Goals as goal
 
 pub reach-requires : goal.reach-requires

@@ -2,7 +2,7 @@
 use Rattle.std.proofs.Common.{◌≡◌, ◌+◌, ◌*◌, ◌^◌, ◌≤◌, ◌<◌, Bool, true, false, MatchBool, ap, arith, length, refl}
 use Rattle.std.specs.Prelude.{nat_le}
 use Rattle.std.proofs.lemmas.Bool.Decides.{nat_tests}
-use Rattle.ec_objects.specs.Memory.{live_bytes}
+use Rattle.ec_memory_defs.specs.Memory.{live_bytes}
 use Rattle.ec_memory.proofs.Calls.{last_made}
 use Rattle.ec_memory.proofs.Line.{count_bytes}
 use Rattle.ec_memory.proofs.store.Store.has_room.Goals.{then-count-via-then-count, then-count-via-else-count+then-self-count}

@@ -1,6 +1,6 @@
 -- The value that the scalar stands for.
 use Rattle.std.proofs.Common.{◌∙◌, sym, ap, Ok}
-use Rattle.ec_objects.specs.Memory.{and_then, span, decoded}
+use Rattle.ec_memory_defs.specs.Memory.{and_then, span, decoded}
 use Rattle.ec_memory.proofs.Reading.{span_length}
 use Rattle.ec_memory.proofs.Calls.{loaded_value, loaded_trap}
 use Rattle.ec_memory.proofs.store.Store.load_scalar.Goals as goal

@@ -2,7 +2,7 @@
 use Rattle.std.proofs.Common.{◌∙◌, ap, rules, arith, w64}
 use Rattle.std.proofs.Math.Facts.{to_z-of_z}
 use mir.Val.{SFits}
-use Rattle.ec_objects.specs.Memory.{moved}
+use Rattle.ec_memory_defs.specs.Memory.{moved}
 use Rattle.ec_memory.proofs.Calls.{rising_of, object_room, moved_of}
 use Rattle.ec_memory.proofs.store.Store.move_ptr.Goals as goal
 

@@ -3,7 +3,7 @@ use Rattle.std.proofs.Common.{◌∙◌, ap, rules, arith}
 use Rattle.std.specs.Int.{w128}
 use Rattle.std.proofs.Math.Facts.{to_z-of_z}
 use mir.Val.{SFits}
-use Rattle.ec_objects.specs.Memory.{moved}
+use Rattle.ec_memory_defs.specs.Memory.{moved}
 use Rattle.ec_memory.proofs.Calls.{rising_of, object_room, moved_of}
 use Rattle.ec_memory.proofs.store.Store.move_ptr_wide.Goals as goal
 

@@ -1,6 +1,6 @@
 -- The value of the bytes, or that one of them is unset.
 use Rattle.std.proofs.Common.{◌∙◌, ap, subst, ℕ, List, Some, None, arith}
-use Rattle.ec_objects.specs.Cells.{Cell, part_of, value_of}
+use Rattle.ec_memory_defs.specs.Cells.{Cell, part_of, value_of}
 use Rattle.ec_bytes.specs.Scalars.{HoldBytes}
 use Rattle.ec_memory.proofs.Calls.{rising_of, room_of, read_value, read_small}
 use Rattle.ec_memory.proofs.store.Store.read.Goals as goal

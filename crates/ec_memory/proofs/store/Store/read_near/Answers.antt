@@ -2,8 +2,8 @@
 use Rattle.std.proofs.Common.{◌≡◌, ◌∙◌, ap, subst, ℕ, List, Option, Some, None, Result, Ok, Err, arith}
 use Rattle.std.specs.Option.{IfSome}
 use Rattle.ec_base.specs.declared.stop.Trap.{Trap}
-use Rattle.ec_objects.specs.Cells.{Cell, part_of, value_of}
-use Rattle.ec_objects.specs.Memory.{or_unset}
+use Rattle.ec_memory_defs.specs.Cells.{Cell, part_of, value_of}
+use Rattle.ec_memory_defs.specs.Memory.{or_unset}
 use Rattle.ec_bytes.specs.Scalars.{HoldBytes}
 use Rattle.ec_memory.specs.Store.{seen}
 use Rattle.ec_memory.proofs.Calls.{room_of, read_value, read_small}

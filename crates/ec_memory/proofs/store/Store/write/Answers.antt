@@ -1,7 +1,7 @@
 -- The memory behind the call.
 use Rattle.std.proofs.Common.{◌∙◌, sym, ap, Some, arith}
 use Rattle.std.proofs.lemmas.List.{length-map}
-use Rattle.ec_objects.specs.Cells.{set_cells, written}
+use Rattle.ec_memory_defs.specs.Cells.{set_cells, written}
 use Rattle.ec_memory.proofs.Calls.{rising_of, room_of, wrote}
 use Rattle.ec_memory.proofs.store.Store.write.Goals as goal
 

@@ -2,7 +2,7 @@
 use Rattle.std.proofs.Common.{ap, rules}
 use mir.Val.{SFits}
 use mir.Syntax.{w64}
-use Rattle.ec_objects.specs.Memory.{number}
+use Rattle.ec_memory_defs.specs.Memory.{number}
 use Rattle.ec_memory.proofs.Numbers.{signed_8}
 use Rattle.ec_memory.proofs.value.I64Held.value.Goals as goal
 

@@ -7,7 +7,7 @@ use Rattle.ec_ctypes.specs.trees.Checked.{BoundData}
 use Rattle.ec_ctypes.specs.trees.Embedded.{EmbData}
 use Rattle.ec_ctypes.specs.views.Checked.{bound_view, typed_view}
 use Rattle.ec_ctypes.specs.views.Embedded.{emb_view}
-use Rattle.ec_hosts.specs.Bound.{bound_answer}
+use Rattle.ec_host_defs.specs.Bound.{bound_answer}
 use Rattle.ec_params.specs.Answers.{Told, answer_with}
 use Rattle.ec_params.proofs.Bound.{answer_is}
 use Rattle.ec_params.proofs.Gotten.{got_mapped, got_there}

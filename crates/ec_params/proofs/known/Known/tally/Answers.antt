@@ -1,9 +1,8 @@
-use Rattle.std.proofs.Common.{◌∙◌, ap, sym, List}
+use Rattle.std.proofs.Common.{◌∙◌, ap, sym, List, Option}
 use Rattle.ec_ctypes.specs.declared.types.ty.StructDef.{StructDef}
 use Rattle.ec_ctypes.specs.views.Types.{ty_view, structs_view}
 use Rattle.ec_params.specs.Tallies.{known_tally, leaves_tally}
-use Rattle.ec_hosts.specs.Leaves.{leaves}
-use Rattle.std.proofs.Common.{Option}
+use Rattle.ec_host_defs.specs.Leaves.{leaves}
 use Rattle.ec_params.specs.declared.tallies.Tally.{Tally}
 use Rattle.ec_params.proofs.Tallied.{tally_known}
 use Rattle.ec_params.proofs.known.Known.tally.Goals as goal

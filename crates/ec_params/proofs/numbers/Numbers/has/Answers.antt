@@ -1,5 +1,5 @@
 use Rattle.std.proofs.Common.{◌∙◌, ap, List, Bool}
-use Rattle.ec_hosts.specs.Programs.{is_among}
+use Rattle.ec_host_defs.specs.Programs.{is_among}
 use Rattle.ec_params.specs.Numbers.{flag_at}
 use Rattle.ec_params.proofs.Marking.{found_flag}
 use Rattle.ec_params.proofs.numbers.Numbers.has.Goals as goal

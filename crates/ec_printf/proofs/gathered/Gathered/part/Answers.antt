@@ -1,6 +1,6 @@
 use Rattle.std.proofs.Common.{◌≡◌, ◌∙◌, [], ◌∷◌, ◌++◌, map, ap, sym, append_assoc}
 use Rattle.std.proofs.lemmas.List.{map-append}
-use Rattle.ec_formats.specs.Known.{part_view}
+use Rattle.ec_printf.specs.formats.Known.{part_view}
 use Rattle.ec_printf.specs.Gathering.{front_of, plain_before}
 use Rattle.ec_printf.proofs.Joining.{directive_behind}
 use Rattle.ec_printf.proofs.gathered.Gathered.part.Goals as goal

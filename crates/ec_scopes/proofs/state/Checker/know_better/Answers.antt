@@ -1,5 +1,5 @@
 use Rattle.std.proofs.Common.{◌∙◌, refl, ap}
-use Rattle.ec_typing.specs.Worlds.{know_better}
+use Rattle.ec_typing_defs.specs.Worlds.{know_better}
 use Rattle.ec_scopes.specs.Entries.{entry_view, named_view}
 use Rattle.ec_scopes.specs.Seen.{world_of, notes_of}
 use Rattle.ec_scopes.proofs.Steps.{change_done}

@@ -2,7 +2,7 @@ use Rattle.std.proofs.Common.{◌∙◌, sym, ap}
 use Rattle.std.specs.Prelude.{option_map}
 use Rattle.ec_scopes.specs.Entries.{entry_view, outer_view}
 use Rattle.ec_scopes.specs.Seen.{world_of}
-use Rattle.ec_typing.specs.Worlds.{or_else, look_up_in}
+use Rattle.ec_typing_defs.specs.Worlds.{or_else, look_up_in}
 use Rattle.ec_scopes.proofs.Views.{find-named}
 use Rattle.ec_scopes.proofs.state.Checker.look_up.Goals as goal
 

@@ -1,5 +1,5 @@
 use Rattle.std.proofs.Common.{◌∙◌, refl, sym}
-use Rattle.ec_typing.specs.Worlds.{new_struct}
+use Rattle.ec_typing_defs.specs.Worlds.{new_struct}
 use Rattle.ec_scopes.specs.Seen.{world_of, notes_of}
 use Rattle.ec_scopes.proofs.Closings.{infos-length}
 use Rattle.ec_scopes.proofs.state.Checker.new_struct.Goals as goal

@@ -1,7 +1,7 @@
 use Rattle.std.proofs.Common.{◌≡◌, ◌∙◌, ℕ, List, Some, is_some, ap, subst}
-use Rattle.ec_typing.specs.Tables.{find}
-use Rattle.ec_typing.specs.Worlds.{change, with_tag}
-use Rattle.ec_typing.specs.Expressions.{varchar_object, varchar_struct, varchar_tag}
+use Rattle.ec_typing_defs.specs.Tables.{find}
+use Rattle.ec_typing_defs.specs.Worlds.{change, with_tag}
+use Rattle.ec_typing_defs.specs.Expressions.{varchar_object, varchar_struct, varchar_tag}
 use Rattle.ec_scopes.specs.Entries.{place_view}
 use Rattle.ec_scopes.specs.Seen.{world_of, IsDone}
 use Rattle.ec_scopes.proofs.Steps.{then_done, ask_then, pure_done}

@@ -1,6 +1,6 @@
 use Rattle.std.proofs.Common.{◌∙◌, ◌+◌, ◌<◌, length, sym, ap, arith}
 use Rattle.std.proofs.lemmas.List.{drop_all}
-use Rattle.ec_typing.specs.Expressions.{stands_for_all}
+use Rattle.ec_typing_defs.specs.Expressions.{stands_for_all}
 use Rattle.ec_scopes.specs.Counts.{counted}
 use Rattle.ec_scopes.specs.Entries.{named_view, type_view}
 use Rattle.ec_scopes.specs.Structs.{infos}

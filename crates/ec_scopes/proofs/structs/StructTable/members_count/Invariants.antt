@@ -1,5 +1,5 @@
 use Rattle.std.proofs.Common.{◌≡◌, ◌+◌, ◌≤◌, length, drop}
-use Rattle.ec_typing.specs.Expressions.{stands_for_all}
+use Rattle.ec_typing_defs.specs.Expressions.{stands_for_all}
 use Rattle.ec_scopes.specs.Counts.{counted}
 use Rattle.ec_scopes.specs.Entries.{named_view, type_view}
 use Rattle.ec_scopes.specs.Structs.{infos}

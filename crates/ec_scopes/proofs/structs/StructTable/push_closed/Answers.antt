@@ -1,5 +1,5 @@
 use Rattle.std.proofs.Common.{◌∙◌, ◌++◌, ◌∷◌, [], set, sym, ap, true}
-use Rattle.ec_typing.specs.Worlds.{struct_named}
+use Rattle.ec_typing_defs.specs.Worlds.{struct_named}
 use Rattle.ec_scopes.specs.Entries.{named_view, type_view}
 use Rattle.ec_scopes.specs.Measures.{measured}
 use Rattle.ec_scopes.specs.Structs.{infos, begun_at, closed_of}

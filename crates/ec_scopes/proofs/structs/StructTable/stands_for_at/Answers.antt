@@ -1,6 +1,6 @@
 use Rattle.std.proofs.Common.{◌∙◌, ap, option_map}
 use Rattle.ec_ctypes.specs.trees.Types.{structure}
-use Rattle.ec_typing.specs.Expressions.{stands_for}
+use Rattle.ec_typing_defs.specs.Expressions.{stands_for}
 use Rattle.ec_scopes.specs.Counts.{counted}
 use Rattle.ec_scopes.specs.Structs.{infos}
 use Rattle.ec_scopes.proofs.HostCounts.{or_zero, struct_count}

@@ -1,5 +1,5 @@
 use Rattle.std.proofs.Common.{◌∙◌, ap}
-use Rattle.ec_typing.specs.Tables.{find}
+use Rattle.ec_typing_defs.specs.Tables.{find}
 use Rattle.ec_scopes.proofs.Tables.{find-rows}
 use Rattle.ec_scopes.proofs.table.Table.get.Goals as goal
 

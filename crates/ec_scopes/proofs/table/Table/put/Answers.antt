@@ -1,5 +1,5 @@
 use Rattle.std.proofs.Common.{◌∙◌, ap, map, is_some}
-use Rattle.ec_typing.specs.Tables.{find, put}
+use Rattle.ec_typing_defs.specs.Tables.{find, put}
 use Rattle.ec_scopes.proofs.Tables.{row, find-rows, put-rows}
 use Rattle.ec_scopes.proofs.table.Table.put.Goals as goal
 

@@ -2,7 +2,7 @@ use Rattle.std.proofs.Common.{◌∙◌, ap, sym}
 use Rattle.std.proofs.lemmas.Int.{to_z-of_z}
 use Rattle.std.specs.Int.{w128}
 use Rattle.std.specs.Prelude.{FitsSigned}
-use Rattle.ec_typing.specs.Constants.{common_operated}
+use Rattle.ec_typing_defs.specs.Constants.{common_operated}
 use Rattle.ec_type_rules.proofs.Values.{usual_wide, unshifted}
 use Rattle.ec_type_rules.proofs.constants.values.binary_value.Goals as goal
 

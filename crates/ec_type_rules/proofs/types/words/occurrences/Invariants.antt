@@ -1,5 +1,5 @@
 use Rattle.std.proofs.Common.{◌≡◌, ◌+◌, ◌≤◌, drop}
-use Rattle.ec_typing.specs.Types.{occurrences}
+use Rattle.ec_typing_defs.specs.Types.{occurrences}
 use Rattle.ec_type_rules.proofs.types.words.occurrences.Given as goal
 
 abbrev pub invariant-loop-other : goal.invariant-loop-other

@@ -1,7 +1,7 @@
 use Rattle.std.proofs.Common.{◌≤◌, ◌∙◌, ap, map, length, arith}
 use Rattle.std.proofs.lemmas.List.{length-map}
 use Rattle.ec_ctypes.specs.views.Checked.{mark_view}
-use Rattle.ec_statement_parts.specs.Handlers.{action_among}
+use Rattle.ec_typing_defs.specs.statement_parts.Handlers.{action_among}
 use Rattle.ec_whenever.specs.Chosen.{last_action}
 use Rattle.ec_whenever.specs.Tables.{is_sorted}
 use Rattle.ec_whenever.proofs.Searching.{found, mapped_front}

@@ -1,0 +1,1 @@
+pub mod library_step_lemmas

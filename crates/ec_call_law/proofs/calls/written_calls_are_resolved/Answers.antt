@@ -1,8 +1,0 @@
-use Rattle.ec_call_law.proofs.CallsMade.{made, made_alone}
-use Rattle.ec_call_law.proofs.calls.written_calls_are_resolved.Goals as goal
-
-pub returns : goal.returns
-returns c = record {
-  expressions = λ at t w g is_text line call h. made c.written_arguments_are_resolved.ensures at t w g is_text line call h;
-  statements = λ t w g is_text line call h. made_alone c.written_arguments_are_resolved.ensures t w g is_text line call h;
-}

@@ -1,8 +1,0 @@
-use Rattle.ec_call_law.proofs.Faultless.{pointer_seen, pointers_seen}
-use Rattle.ec_call_law.proofs.pointers.pointers_are_seen.Goals as goal
-
-pub returns : goal.returns
-returns c = record {
-  one = λ at s w e t x p h. pointer_seen at s w e t x p h;
-  all = λ at s w g xs h p. pointers_seen at s w g xs h p;
-}

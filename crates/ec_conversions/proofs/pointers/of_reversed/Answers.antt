@@ -1,7 +1,0 @@
-use Rattle.std.proofs.Common.{◌∙◌, ap}
-use Rattle.ec_conversions.proofs.Defaults.{other_reversed}
-use Rattle.ec_resolving.specs.Conversions as form
-use Rattle.ec_conversions.proofs.pointers.of_reversed.Goals as goal
-
-pub returns-in_default : goal.returns-in_default
-returns-in_default c = λ x y. c.compared.ensures x y ∙ ap (λ e. form.compared (form.comparison_of c.args.op) e y) (c.to_pointer.ensures x) ∙ other_reversed c.args.op c.args.size c.args.left x y c.in_default.not-And c.in_default.not-Or c.in_default.not-Add

@@ -1,9 +1,0 @@
-//! The hosts of a cursor, where it is declared and where it is opened.
-
-ghost use Rattle.ec_cursor_law.specs.Cursors.{ReferencesAreFoundAgain};
-
-/// References in which nothing was wrong are resolved as they were, wherever more is known and their names denote the same.
-#[tactic(none)]
-pub fn references_are_found_again()
-    ensures { ReferencesAreFoundAgain }
-{}

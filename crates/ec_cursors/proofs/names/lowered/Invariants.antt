@@ -1,6 +1,0 @@
-use Rattle.std.proofs.Common.{◌≡◌, ◌++◌, drop, map}
-use Rattle.ec_language.specs.Letters.{lower}
-use Rattle.ec_cursors.proofs.names.lowered.Given as goal
-
-abbrev pub invariant-loop-byte : goal.invariant-loop-byte
-invariant-loop-byte l = l.bytes ++ map lower (drop l.byte-index l.name) ≡ map lower l.name

@@ -1,5 +1,0 @@
-use Rattle.ec_cut_laws.proofs.Written.{are_written}
-use Rattle.ec_cut_laws.proofs.laws.calls_are_written.Goals as goal
-
-pub returns : goal.returns
-returns g c = λ is_text. are_written is_text

@@ -1,0 +1,11 @@
+pub mod Leaves
+pub mod Statements
+pub mod Places
+pub mod Inputs
+pub mod Storing
+pub mod Executing
+pub mod Handling
+pub mod Direct
+pub mod Examples
+pub mod Sources
+pub mod simulation

@@ -1,0 +1,3 @@
+pub mod Written
+pub mod Sources
+pub mod Agreement

@@ -1,8 +1,0 @@
-use Rattle.ec_evaluation.proofs.WholeRuns.{more_answers, more_go_on}
-use Rattle.ec_evaluation.proofs.laws.further_answers.Goals as goal
-
-pub returns : goal.returns
-returns c = record {
-  not_waiting = λ step takes p s more n. more_answers step takes p s more n;
-  waiting = λ step takes p s more. more_go_on step takes p s more;
-}

@@ -1,5 +1,0 @@
-use Rattle.ec_evaluation.proofs.WholeRuns.{agreeing_same}
-use Rattle.ec_evaluation.proofs.laws.steps_that_agree.Goals as goal
-
-pub returns : goal.returns
-returns c = λ step step' text agree p s. agreeing_same step step' text agree p s

@@ -1,5 +1,0 @@
-use Rattle.ec_exact.proofs.LimitsAside.{one_derived, derived_read}
-use Rattle.ec_exact.proofs.laws.derived_trees_are_read.Goals as goal
-
-pub returns : goal.returns
-returns c = record { single = λ ts u v d e. one_derived _ u v d e; read = derived_read }

@@ -1,5 +1,0 @@
-use Rattle.ec_exact.proofs.Answered.{exact_answer, only_answer}
-use Rattle.ec_exact.proofs.laws.readings_are_exact.Goals as goal
-
-pub returns : goal.returns
-returns c = record { answered = exact_answer; one_answer = only_answer }

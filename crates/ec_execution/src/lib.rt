@@ -1,8 +1,0 @@
-//! What running written C does. The definitions are in `specs/`; here what holds of them, as the contract of a function
-//! that does nothing.
-#![tactic(auto)]
-
-mod laws;
-
-pub use ec_library_calls;
-pub use laws::written_programs_are_single;

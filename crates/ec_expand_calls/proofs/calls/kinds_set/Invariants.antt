@@ -1,0 +1,7 @@
+use Rattle.std.proofs.Common.{◌≡◌, ◌++◌, drop, map}
+use Rattle.ec_ctypes.specs.views.Embedded.{set_item_view}
+use Rattle.ec_expansion_defs.specs.Calls.{kinds_of}
+use Rattle.ec_expand_calls.proofs.calls.kinds_set.Given as goal
+
+abbrev pub invariant-loop-item : goal.invariant-loop-item
+invariant-loop-item l = l.kinds ++ kinds_of (map set_item_view (drop l.item-index l.item-items)) ≡ kinds_of (map set_item_view l.items)

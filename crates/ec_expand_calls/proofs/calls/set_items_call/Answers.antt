@@ -1,0 +1,9 @@
+use Rattle.std.proofs.Common.{◌∙◌, ap}
+use Rattle.ec_ctypes.specs.declared.checked.library.LibName.TheVariants as library
+use Rattle.ec_ctypes.specs.Texts.{library_text}
+use Rattle.ec_ctypes.specs.trees.Exprs.{call}
+use Rattle.ec_expand_calls.proofs.Pushing.{after, made}
+use Rattle.ec_expand_calls.proofs.calls.set_items_call.Goals as goal
+
+pub returns : goal.returns
+returns c = c.in_ok-finish.ensures ∙ ap (call (library_text library.SetDesc)) (made (after c.in_ok-args.ensures (after c.in_ok-push_member_at.ensures (after c.in_ok-push_items.ensures c.in_ok-push_symbol.ensures))))

@@ -1,0 +1,2 @@
+pub mod LinesBehind
+pub mod OneLine

@@ -1,8 +1,0 @@
-mod Elements
-mod Hosts
-mod Indicators
-mod Leaves
-mod Options
-mod Structs
-mod Types
-mod Ways

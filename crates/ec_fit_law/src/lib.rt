@@ -1,8 +1,0 @@
-//! The numbers that are written for hosts are those of a call, as the contracts of functions that do nothing.
-#![tactic(auto)]
-
-mod laws;
-
-pub use ec_table_law;
-pub use ec_table_law::ec_place_law;
-pub use laws::hosts_fit_their_calls;

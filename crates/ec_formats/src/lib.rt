@@ -1,7 +1,0 @@
-//! The known functions by name, and the formats of `printf` taken apart.
-#![tactic(auto)]
-
-mod known;
-
-pub use ec_functions::ec_objects;
-pub use known::{Amount, Channel, Field, Known, Part, Style};

@@ -1,5 +1,0 @@
-pub mod Following
-pub mod Passing
-pub mod Reaching
-pub mod Sizing
-pub mod Uses

@@ -1,6 +1,0 @@
-use Rattle.ec_ctypes.specs.views.Units.{func_view}
-use Rattle.ec_function_forms.proofs.Parts.{parts_reached}
-use Rattle.ec_function_forms.proofs.functions.function_rule.Goals as goal
-
-pub returns : goal.returns
-returns c = parts_reached c.function_parts.result (func_view c.args.f.now) c.args.resolver.now c.function_parts.new.resolver c.function_parts.ensures

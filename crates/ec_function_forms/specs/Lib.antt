@@ -1,7 +1,0 @@
-pub use Rattle.ec_storage.specs as ec_storage
-pub mod Clean
-pub mod Counting
-pub mod Entries
-pub mod Functions
-pub mod Params
-pub mod Types

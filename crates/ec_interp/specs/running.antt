@@ -1,0 +1,6 @@
+pub mod Halts
+pub mod LibraryRuns
+pub mod Printing
+pub mod Runs
+pub mod Sessions
+pub mod Without

@@ -1,9 +1,0 @@
-mod Both
-mod EmbeddedRules
-mod Expressions
-mod Initializers
-mod Operands
-mod Programs
-mod Rules
-mod Sections
-mod Statements

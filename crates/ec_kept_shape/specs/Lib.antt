@@ -1,2 +1,0 @@
-pub use Rattle.ec_sections.specs as ec_sections
-pub mod Phases

@@ -1,0 +1,4 @@
+pub mod evaluation
+pub mod functions
+pub mod observed
+pub mod resolved

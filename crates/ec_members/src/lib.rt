@@ -1,9 +1,0 @@
-//! Members of structs, with their offsets (ISO/IEC 9899:1999, 6.5.2.3 and 6.7.2.1).
-#![tactic(auto)]
-
-mod members;
-mod offsets;
-
-pub use ec_forms;
-pub use ec_forms::{ec_conversions, ec_storage};
-pub use members::{arrow_rule, member_rule};

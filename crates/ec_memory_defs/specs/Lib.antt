@@ -1,0 +1,4 @@
+pub mod Cells
+pub mod Kinds
+pub mod Memory
+pub mod MemoryExamples

@@ -1,8 +1,0 @@
-mod Cursors
-mod Declares
-mod DenotingEmbedded
-mod Hosts
-mod Indexes
-mod Walking
-mod WalkingPrograms
-mod WalkingStatements

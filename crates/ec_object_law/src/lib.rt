@@ -1,8 +1,0 @@
-//! The numbers of objects and of functions, as the contract of a function that does nothing.
-#![tactic(auto)]
-
-mod laws;
-
-pub use ec_block_law;
-pub use ec_block_law::ec_cursor_law;
-pub use laws::cursors_are_of_objects;

@@ -1,1 +1,0 @@
-pub use Rattle.ec_ctypes.proofs as ec_ctypes_proofs

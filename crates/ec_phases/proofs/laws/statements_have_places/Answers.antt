@@ -1,6 +1,0 @@
-use Rattle.ec_phases.proofs.Order.{stand_in_order}
-use Rattle.ec_phases.proofs.Places.{are_numbered}
-use Rattle.ec_phases.proofs.laws.statements_have_places.Goals as goal
-
-pub returns : goal.returns
-returns c = record { places = (λ pieces ts are. (are_numbered pieces ts are).0); order = stand_in_order }

@@ -1,0 +1,5 @@
+pub mod OneReading
+pub mod Order
+pub mod Places
+pub mod translation_lemmas
+pub mod written_lemmas

@@ -1,0 +1,4 @@
+pub mod Laws
+pub mod Sources
+pub mod translation
+pub mod written

@@ -1,5 +1,0 @@
-use Rattle.ec_place_law.proofs.HostsLead.{host_leads}
-use Rattle.ec_place_law.proofs.hosts.hosts_lead_to_their_places.Goals as goal
-
-pub returns : goal.returns
-returns g = λ at s w z hosts functions r names h x a. host_leads at s w z hosts functions r names h x a

@@ -1,5 +1,0 @@
-use Rattle.ec_place_law.proofs.ReferencesFound.{reference_placed}
-use Rattle.ec_place_law.proofs.references.references_are_places.Goals as goal
-
-pub returns : goal.returns
-returns g = λ at s w z hosts functions r names e h typed clean ds denoted there t solid. reference_placed at s w functions names z r hosts e h typed clean ds denoted there t solid

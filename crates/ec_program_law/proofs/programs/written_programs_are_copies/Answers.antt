@@ -1,8 +1,0 @@
-use Rattle.ec_program_law.proofs.CopiedPrograms.{program_copied}
-use Rattle.ec_program_law.proofs.OfParts.{plain_of, varchars_of, declarations_of}
-use Rattle.ec_program_law.specs.Programs.{written_of, blocks_in}
-use Rattle.ec_program_law.proofs.programs.written_programs_are_copies.Goals as goal
-
-pub returns : goal.returns
-returns c = λ t embedded stand none h walk are.
-    program_copied (blocks_in t (written_of embedded t.unit)) embedded t.unit stand none walk are h.expressions h.types h.lengths (plain_of h) (varchars_of h) (declarations_of h)

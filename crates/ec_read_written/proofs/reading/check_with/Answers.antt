@@ -1,7 +1,0 @@
-use Rattle.ec_ctypes.specs.views.Checked.{handlers_view}
-use Rattle.ec_ctypes.specs.views.Units.{unit_view}
-use Rattle.ec_read_written.proofs.Checks.{checks_told}
-use Rattle.ec_read_written.proofs.reading.check_with.Goals as goal
-
-pub returns-in-Ok : goal.returns-in-Ok
-returns-in-Ok c = checks_told (unit_view c.args.unit) c.args.table.hosts (handlers_view c.in-Ok.marks) _ c.requires c.in-Ok.ensures.marks c.check.ensures

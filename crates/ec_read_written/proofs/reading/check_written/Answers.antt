@@ -1,8 +1,0 @@
-use Rattle.std.proofs.Common.{subst}
-use Rattle.ec_written.specs.Written.{checked_plain, checked_written}
-use Rattle.ec_read_written.specs.Answers.{Is}
-use Rattle.ec_read_written.proofs.reading.check_written.Goals as goal
-
-pub returns : goal.returns
-unfolding checked_written
-returns c = subst (λ u. Is (checked_plain u) c.check_plain.result) c.plain.ensures c.check_plain.ensures

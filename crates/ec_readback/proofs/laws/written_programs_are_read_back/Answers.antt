@@ -1,5 +1,0 @@
-use Rattle.ec_readback.proofs.ReadBack.{has_tree, is_read_back, alone_read}
-use Rattle.ec_readback.proofs.laws.written_programs_are_read_back.Goals as goal
-
-pub returns : goal.returns
-returns c = record { read = is_read_back; aside = has_tree; alone = alone_read }

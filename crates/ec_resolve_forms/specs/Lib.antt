@@ -1,0 +1,4 @@
+pub mod Arguments
+pub mod Readings
+pub mod Seen
+pub mod members

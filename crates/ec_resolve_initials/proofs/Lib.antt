@@ -1,0 +1,4 @@
+pub mod Aiming
+pub mod FrameLemmas
+pub mod Spotting
+pub mod Steps

@@ -1,0 +1,4 @@
+pub mod Filled
+pub mod Frames
+pub mod Left
+pub mod Spots

@@ -1,0 +1,3 @@
+pub mod conversions
+pub mod initial_parts
+pub mod storage

@@ -1,0 +1,11 @@
+pub mod Agreement
+pub mod Calling
+pub mod Conversions
+pub mod Embedded
+pub mod Examples
+pub mod Expressions
+pub mod Initializers
+pub mod Operands
+pub mod Programs
+pub mod Statements
+pub mod Storage

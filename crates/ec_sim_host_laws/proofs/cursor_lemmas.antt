@@ -1,0 +1,4 @@
+pub mod Again
+pub mod Both
+pub mod Growing
+pub mod Names

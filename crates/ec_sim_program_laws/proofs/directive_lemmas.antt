@@ -1,0 +1,4 @@
+pub mod Gone
+pub mod Making
+pub mod Staying
+pub mod Unwritten

@@ -1,0 +1,12 @@
+pub mod Embedded
+pub mod Expressions
+pub mod Fits
+pub mod Fitting
+pub mod Initializers
+pub mod Operands
+pub mod Programs
+pub mod Rules
+pub mod Sources
+pub mod Statements
+pub mod Structs
+pub mod Walking

@@ -1,0 +1,3 @@
+pub mod AllArguments
+pub mod BoundSame
+pub mod Pointers

@@ -1,0 +1,4 @@
+pub mod AlikeInitializers
+pub mod Expressions
+pub mod Plain
+pub mod Structs

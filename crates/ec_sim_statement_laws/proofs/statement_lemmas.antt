@@ -1,0 +1,14 @@
+pub mod Bare
+pub mod Blocks
+pub mod ByType
+pub mod Copying
+pub mod Done
+pub mod Evaluated
+pub mod Keeping
+pub mod Kept
+pub mod Memories
+pub mod Plain
+pub mod Tests
+pub mod TidyRuns
+pub mod Whole
+pub mod Written

@@ -1,0 +1,13 @@
+pub mod Alike
+pub mod Calls
+pub mod Checks
+pub mod Forms
+pub mod Known
+pub mod Laws
+pub mod Lengths
+pub mod Optional
+pub mod Rules
+pub mod Silent
+pub mod Varchars
+pub mod Walks
+pub mod Worlds

@@ -1,0 +1,3 @@
+pub mod CallsMade
+pub mod Faultless
+pub mod Placed

@@ -1,0 +1,12 @@
+pub mod Closed
+pub mod EmbeddedRules
+pub mod Expressions
+pub mod Initializers
+pub mod Lists
+pub mod Names
+pub mod Operands
+pub mod Orders
+pub mod Programs
+pub mod Rules
+pub mod Shaped
+pub mod Statements

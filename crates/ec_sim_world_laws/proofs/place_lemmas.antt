@@ -1,0 +1,10 @@
+pub mod AlikeStays
+pub mod GrowthStays
+pub mod HostsLead
+pub mod LeavesLie
+pub mod Lists
+pub mod MembersSame
+pub mod PlacesFound
+pub mod ReferencesFound
+pub mod Shapes
+pub mod TablesSame

@@ -1,0 +1,4 @@
+pub mod Places
+pub mod References
+pub mod Statements
+pub mod Structs

@@ -1,7 +1,0 @@
-use Rattle.std.proofs.Common.{◌≡◌, ◌++◌, drop, map}
-use Rattle.ec_ctypes.specs.views.Tokens.{token_view}
-use Rattle.ec_hosts.specs.Examples.{statement_places}
-use Rattle.ec_source.proofs.statements.statement_places.Given as goal
-
-abbrev pub invariant-loop-token : goal.invariant-loop-token
-invariant-loop-token l = l.places ++ statement_places (map token_view (drop l.token-index l.tokens)) ≡ statement_places (map token_view l.tokens)

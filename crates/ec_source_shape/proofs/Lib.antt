@@ -1,7 +1,0 @@
-mod Derived
-mod Includes
-mod LineUnits
-mod SourceTokens
-mod Values
-mod Parts
-mod Steps

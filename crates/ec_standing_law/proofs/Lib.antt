@@ -1,7 +1,0 @@
-mod Derived
-mod Directives
-mod Lengths
-mod Sources
-mod Standing
-mod Tokens
-mod Trees

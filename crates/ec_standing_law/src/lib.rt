@@ -1,8 +1,0 @@
-//! Trees of accepted sources stand as the law on programs wants it.
-#![tactic(auto)]
-
-mod laws;
-
-pub use ec_program_law;
-pub use ec_program_law::{ec_bound_shape, ec_known_law};
-pub use laws::{sections_keep_lengths, shapes_stand, sources_stand, statements_stand_in_trees};

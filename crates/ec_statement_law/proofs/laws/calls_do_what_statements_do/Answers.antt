@@ -1,5 +1,0 @@
-use Rattle.ec_statement_law.proofs.Done.{done_same}
-use Rattle.ec_statement_law.proofs.laws.calls_do_what_statements_do.Goals as goal
-
-pub returns : goal.returns
-returns c = λ structs line x h s. done_same structs line x h s

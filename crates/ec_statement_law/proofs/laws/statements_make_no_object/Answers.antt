@@ -1,5 +1,0 @@
-use Rattle.ec_statement_law.proofs.Keeping.{settled_tidy}
-use Rattle.ec_statement_law.proofs.laws.statements_make_no_object.Goals as goal
-
-pub returns : goal.returns
-returns g = λ structs line messages x s. settled_tidy structs line messages x s

@@ -1,5 +1,0 @@
-use Rattle.ec_statement_law.proofs.Tests.{tests_same}
-use Rattle.ec_statement_law.proofs.laws.tests_do_what_handlers_do.Goals as goal
-
-pub returns : goal.returns
-returns g = λ step w c line actions s. tests_same step w c line actions s

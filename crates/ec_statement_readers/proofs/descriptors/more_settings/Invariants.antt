@@ -1,0 +1,12 @@
+use Rattle.std.proofs.Common.{◌≡◌, ◌-◌, codes, map}
+use Rattle.ec_ctypes.specs.views.Embedded.{set_item_view}
+use Rattle.ec_embedded.specs.Terminals.{sign}
+use Rattle.ec_references.specs.Readers.{further, one_further, next_is, turns_from}
+use Rattle.ec_references.specs.States.{seen}
+use Rattle.ec_statement_readers.specs.Readers.{setting}
+use Rattle.ec_statement_readers.proofs.descriptors.more_settings.Given as goal
+
+abbrev pub invariant-loop-turn : goal.invariant-loop-turn
+invariant-loop-turn l =
+    further setting (map set_item_view l.fn.items) (seen l.fn.cursor).counts (seen l.fn.cursor).tokens
+    ≡ turns_from (next_is (sign (codes ","))) (one_further setting) (l._turn-end - l._turn) (map set_item_view l.items) (seen l.cursor).counts (seen l.cursor).tokens

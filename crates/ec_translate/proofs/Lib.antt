@@ -1,3 +1,0 @@
-pub use Rattle.ec_source.proofs as ec_source_proofs
-pub mod BoundLists
-pub mod Telling

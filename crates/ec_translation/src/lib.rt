@@ -1,8 +1,0 @@
-//! What is written of a source. The definitions are in `specs/`; here what holds of them, as the contract of a function
-//! that does nothing.
-#![tactic(auto)]
-
-mod laws;
-
-pub use ec_phases;
-pub use laws::translations_are_single;

@@ -1,0 +1,16 @@
+pub mod Answers
+pub mod Constants
+pub mod Embedded
+pub mod Examples
+pub mod Expressions
+pub mod Formats
+pub mod Initializers
+pub mod Known
+pub mod Library
+pub mod Operands
+pub mod Programs
+pub mod Statements
+pub mod Tables
+pub mod Types
+pub mod Worlds
+pub mod statement_parts

@@ -1,5 +1,0 @@
-use Rattle.ec_written_calls.proofs.Pushing.{after}
-use Rattle.ec_written_calls.proofs.arguments.push_constant.Goals as goal
-
-pub returns : goal.returns
-returns c = after c.in_ok-push_symbol.ensures (after c.in_ok-push_bytes.ensures (after c.in_ok-push_numbers.ensures c.in_ok-push_no_indicator.ensures))

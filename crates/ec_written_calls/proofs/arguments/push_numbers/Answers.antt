@@ -1,5 +1,0 @@
-use Rattle.ec_written_calls.proofs.Pushing.{after}
-use Rattle.ec_written_calls.proofs.arguments.push_numbers.Goals as goal
-
-pub returns : goal.returns
-returns c = after c.in_ok-push_long.ensures (after c.in_ok-push_long-2.ensures c.in_ok-push_long-3.ensures)

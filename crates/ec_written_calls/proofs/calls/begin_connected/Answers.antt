@@ -1,5 +1,0 @@
-use Rattle.ec_written_calls.proofs.Pushing.{after}
-use Rattle.ec_written_calls.proofs.calls.begin_connected.Goals as goal
-
-pub returns : goal.returns
-returns c = after c.in_ok-args.ensures c.in_ok-push_text_at.ensures

@@ -1,0 +1,17 @@
+pub mod Bounds
+pub mod Characters
+pub mod Derived
+pub mod Each
+pub mod EmbeddedRules
+pub mod Expressions
+pub mod Forms
+pub mod Initializers
+pub mod Operands
+pub mod Places
+pub mod Programs
+pub mod References
+pub mod Rules
+pub mod SentParts
+pub mod StatementTokens
+pub mod Statements
+pub mod TreeNumbers

@@ -1,0 +1,9 @@
+pub mod Both
+pub mod EmbeddedRules
+pub mod Expressions
+pub mod Initializers
+pub mod Operands
+pub mod Programs
+pub mod Rules
+pub mod Sections
+pub mod Statements

@@ -1,3 +1,0 @@
-mod Calls
-mod WrittenParts
-mod WrittenStatements

@@ -1,5 +1,0 @@
-use Rattle.ec_written_shape.proofs.WrittenStatements.{program_is}
-use Rattle.ec_written_shape.proofs.laws.expanded_programs_have_written_shape.Goals as goal
-
-pub returns : goal.returns
-returns c = program_is

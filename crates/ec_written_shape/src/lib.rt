@@ -1,7 +1,0 @@
-//! What is written of a source has the written shape.
-#![tactic(auto)]
-
-mod laws;
-
-pub use ec_source_shape;
-pub use laws::{blocks_have_written_shape, expanded_programs_have_written_shape};

@@ -1,3 +1,0 @@
-mod Statements
-mod StatementTexts
-mod WrittenSources

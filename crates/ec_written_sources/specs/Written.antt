@@ -1,7 +1,0 @@
--- What is written of an accepted source.
-use Rattle.ec_ctypes.specs.trees.Units.{UnitData}
-use Rattle.ec_expansion.specs.Programs.{written_program}
-use Rattle.ec_bound_shape.specs.ec_phases.Sources.{BoundProgram}
-
-abbrev pub written_of : BoundProgram → UnitData
-written_of p = written_program p.program p.bounds
