@@ -3,6 +3,7 @@ pub mod Lending
 pub mod MemSink
 pub mod MemSource
 pub mod Names
+pub mod Numbers
 pub mod Putting
 pub mod Reading
 pub mod Texts

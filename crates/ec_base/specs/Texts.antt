@@ -1,9 +1,9 @@
 -- How faults, limits and traps are printed.
 use Rattle.std.specs.Prelude.{ℕ, List, codes}
 use Rattle.ec_base.specs.declared.fault.FaultKind.{FaultKind}
-use Rattle.ec_base.specs.declared.fault.FaultKind.TheVariants.{F1, F2, F3, F4, F5, F6, F7, F8, F9, F10, F11, F12, F13, F14, F15, F16, F17, F18, F19, F20, F21, F22, F23, F24, F25, F26, F27, F28, F29, F30}
+use Rattle.ec_base.specs.declared.fault.FaultKind.TheVariants.{F1, F2, F3, F4, F5, F6, F7, F8, F9, F10, F11, F12, F13, F14, F15, F16, F17, F18, F19, F20, F21, F22, F23, F24, F25, F26, F27, F28, F29, F30, F31, F32}
 use Rattle.ec_base.specs.declared.fault.LimitKind.{LimitKind}
-use Rattle.ec_base.specs.declared.fault.LimitKind.TheVariants.{L1, L2, L3, L4, L5, L6, L7, L8}
+use Rattle.ec_base.specs.declared.fault.LimitKind.TheVariants.{L1, L2, L3, L4, L5, L6, L7, L8, L9, L10, L11}
 use Rattle.ec_base.specs.declared.stop.Trap.{Trap}
 use Rattle.ec_base.specs.declared.stop.Trap.TheVariants.{Outside, Dead, Null, Unset, Overflow, Shift, Zero, NoValue, BadLen, Spent}
 
@@ -39,6 +39,8 @@ fault_text F27 = codes "F27 cursor twice"
 fault_text F28 = codes "F28 cursor host"
 fault_text F29 = codes "F29 directive place"
 fault_text F30 = codes "F30 handler"
+fault_text F31 = codes "F31 unknown part"
+fault_text F32 = codes "F32 unbalanced condition"
 
 -- the number of a limit
 abbrev pub limit_text : LimitKind → List ℕ
@@ -50,6 +52,9 @@ limit_text L5 = codes "L5"
 limit_text L6 = codes "L6"
 limit_text L7 = codes "L7"
 limit_text L8 = codes "L8"
+limit_text L9 = codes "L9"
+limit_text L10 = codes "L10"
+limit_text L11 = codes "L11"
 
 -- the name of a trap
 abbrev pub trap_text : Trap → List ℕ

@@ -61,6 +61,10 @@ pub enum FaultKind {
     F29,
     /// A WHENEVER action that cannot stand at a statement.
     F30,
+    /// An INCLUDE of a part that a bundle does not have.
+    F31,
+    /// A condition of conditional text without its other end.
+    F32,
 }
 
 /// A limit of the tool. Each has a number, by which it is printed.
@@ -82,4 +86,10 @@ pub enum LimitKind {
     L7,
     /// A generated program with a number above 10,000.
     L8,
+    /// More than 8 sources in one input.
+    L9,
+    /// Inclusions nested more than 16 deep.
+    L10,
+    /// A transcript of more than 2^24 bytes.
+    L11,
 }

@@ -11,6 +11,7 @@ mod list;
 mod mem_sink;
 mod mem_source;
 mod name;
+mod numbers;
 mod putting;
 mod reading;
 mod sink;

@@ -40,6 +40,8 @@ impl FaultKind {
             FaultKind::F28 => "F28 cursor host",
             FaultKind::F29 => "F29 directive place",
             FaultKind::F30 => "F30 handler",
+            FaultKind::F31 => "F31 unknown part",
+            FaultKind::F32 => "F32 unbalanced condition",
         }
     }
 }
@@ -58,6 +60,9 @@ impl LimitKind {
             LimitKind::L6 => "L6",
             LimitKind::L7 => "L7",
             LimitKind::L8 => "L8",
+            LimitKind::L9 => "L9",
+            LimitKind::L10 => "L10",
+            LimitKind::L11 => "L11",
         }
     }
 }

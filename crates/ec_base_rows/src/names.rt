@@ -5,7 +5,7 @@ use ec_base::{Bytes, FaultKind, LimitKind, Line, Name, OutOfMemory, Stop, Trap};
 use std::alloc::Global;
 
 /// All faults.
-const FAULTS: [FaultKind; 30] = [
+const FAULTS: [FaultKind; 32] = [
     FaultKind::F1,
     FaultKind::F2,
     FaultKind::F3,
@@ -36,10 +36,12 @@ const FAULTS: [FaultKind; 30] = [
     FaultKind::F28,
     FaultKind::F29,
     FaultKind::F30,
+    FaultKind::F31,
+    FaultKind::F32,
 ];
 
 /// All limits.
-const LIMITS: [LimitKind; 8] = [
+const LIMITS: [LimitKind; 11] = [
     LimitKind::L1,
     LimitKind::L2,
     LimitKind::L3,
@@ -48,6 +50,9 @@ const LIMITS: [LimitKind; 8] = [
     LimitKind::L6,
     LimitKind::L7,
     LimitKind::L8,
+    LimitKind::L9,
+    LimitKind::L10,
+    LimitKind::L11,
 ];
 
 /// All traps.

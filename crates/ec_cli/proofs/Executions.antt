@@ -5,7 +5,7 @@ use Rattle.std.specs.declared.alloc.Global.{Global as Allocator}
 use Rattle.std.specs.declared.dyn_box.DynBox.{DynBox}
 use Rattle.ec_base.specs.declared.fault.FaultKind.{FaultKind}
 use Rattle.ec_base.specs.declared.fault.LimitKind.{LimitKind}
-use Rattle.ec_base.specs.declared.fault.LimitKind.TheVariants.{L1, L2, L3, L4, L5, L6, L7, L8}
+use Rattle.ec_base.specs.declared.fault.LimitKind.TheVariants.{L1, L2, L3, L4, L5, L6, L7, L8, L9, L10, L11}
 use Rattle.ec_base.specs.declared.line.Line.{Line}
 use Rattle.ec_base.specs.declared.stop.InputStop.{InputStop}
 use Rattle.ec_base.specs.declared.stop.InputStop.TheVariants as input_stop
@@ -92,6 +92,9 @@ limit_same L5 h = refl
 limit_same L6 h = refl
 limit_same L7 h = absurd (h refl)
 limit_same L8 h = refl
+limit_same L9 h = refl
+limit_same L10 h = refl
+limit_same L11 h = refl
 
 -- ---- a text that is read
 

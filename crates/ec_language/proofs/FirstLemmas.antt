@@ -6,11 +6,12 @@ use Rattle.std.proofs.lemmas.Bool.Decides.{nat_tests}
 use Rattle.ec_base.specs.declared.fault.FaultKind.{FaultKind}
 use Rattle.ec_base.specs.declared.fault.FaultKind.TheVariants as fault
 use Rattle.ec_base.specs.declared.fault.LimitKind.TheVariants.{L2}
+use Rattle.ec_base.specs.Numbers.{fault_number}
 use Rattle.ec_base.specs.declared.stop.Stop.{Stop}
 use Rattle.ec_base.specs.declared.stop.Stop.TheVariants.{Refused, Limit}
 use Rattle.ec_ctypes.specs.trees.Tokens.{TokData, TokenData}
 use Rattle.ec_language.specs.Tokens.{Part, numbered, numbered_part, with_token, token, max_tokens}
-use Rattle.ec_language.specs.First.{Violation, comes_before, IsFirst, IsAmong, first_of, earlier, rank, fault_number, violations_of, fault_in, limit_at, stop_of, stop_at}
+use Rattle.ec_language.specs.First.{Violation, comes_before, IsFirst, IsAmong, first_of, earlier, rank, violations_of, fault_in, limit_at, stop_of, stop_at}
 
 -- the order of pairs of numbers
 abbrev less : ℕ → ℕ → ℕ → ℕ → Bool
@@ -138,6 +139,8 @@ fault_is_small fault.F27 = omega arith
 fault_is_small fault.F28 = omega arith
 fault_is_small fault.F29 = omega arith
 fault_is_small fault.F30 = omega arith
+fault_is_small fault.F31 = omega arith
+fault_is_small fault.F32 = omega arith
 
 -- ---- the violations of parts
 

@@ -1,9 +1,8 @@
 -- Of all faults and limits of a text, the first one decides: that at the least place; at one place a fault before a limit, and of two faults the one of the lower number. An input that is too long is refused before all.
 use Rattle.std.specs.Prelude.{◌≡◌, ◌⊎◌, ◌≤◌, ◌<◌, ℕ, suc, ◌+◌, ◌^◌, Bool, false, ◌&&◌, ◌||◌, ◌==◌, nat_lt, List, [], ◌∷◌, ◌++◌, length, Option, Some, None, Result, Ok, Err, if◌then◌else◌}
-use Rattle.ec_base.specs.declared.fault.FaultKind.{FaultKind}
-use Rattle.ec_base.specs.declared.fault.FaultKind.TheVariants.{F1, F2, F3, F4, F5, F6, F7, F8, F9, F10, F11, F12, F13, F14, F15, F16, F17, F18, F19, F20, F21, F22, F23, F24, F25, F26, F27, F28, F29, F30}
 use Rattle.ec_base.specs.declared.fault.LimitKind.{LimitKind}
-use Rattle.ec_base.specs.declared.fault.LimitKind.TheVariants.{L1, L2, L3, L4, L5, L6, L7, L8}
+use Rattle.ec_base.specs.declared.fault.LimitKind.TheVariants.{L2, L3, L6}
+use Rattle.ec_base.specs.Numbers.{fault_number, limit_number}
 use Rattle.ec_base.specs.declared.stop.Stop.{Stop}
 use Rattle.ec_base.specs.declared.stop.Stop.TheVariants.{Refused, Limit, OutOfMemory}
 use Rattle.ec_ctypes.specs.declared.text.piece.Piece.{Piece}
@@ -23,48 +22,6 @@ use Rattle.ec_language.specs.Syntax.{limits, TreeOrStop}
 pub record Violation : Type 0 where
   pub place : ℕ
   pub stop : Stop
-
-abbrev pub fault_number : FaultKind → ℕ
-fault_number F1 = 1
-fault_number F2 = 2
-fault_number F3 = 3
-fault_number F4 = 4
-fault_number F5 = 5
-fault_number F6 = 6
-fault_number F7 = 7
-fault_number F8 = 8
-fault_number F9 = 9
-fault_number F10 = 10
-fault_number F11 = 11
-fault_number F12 = 12
-fault_number F13 = 13
-fault_number F14 = 14
-fault_number F15 = 15
-fault_number F16 = 16
-fault_number F17 = 17
-fault_number F18 = 18
-fault_number F19 = 19
-fault_number F20 = 20
-fault_number F21 = 21
-fault_number F22 = 22
-fault_number F23 = 23
-fault_number F24 = 24
-fault_number F25 = 25
-fault_number F26 = 26
-fault_number F27 = 27
-fault_number F28 = 28
-fault_number F29 = 29
-fault_number F30 = 30
-
-abbrev pub limit_number : LimitKind → ℕ
-limit_number L1 = 1
-limit_number L2 = 2
-limit_number L3 = 3
-limit_number L4 = 4
-limit_number L5 = 5
-limit_number L6 = 6
-limit_number L7 = 7
-limit_number L8 = 8
 
 -- At one place: faults by their numbers, and then limits. Numbers below 100 are left for faults. Want of memory is no violation.
 abbrev pub rank : Stop → ℕ

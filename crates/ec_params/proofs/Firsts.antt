@@ -4,7 +4,8 @@ use Rattle.std.proofs.lemmas.Bool.Decides.{nat_tests}
 use Rattle.std.specs.Prelude.{nat_lt, ◌==◌, ◌&&◌, ◌||◌}
 use Rattle.ec_base.specs.declared.fault.FaultKind.{FaultKind}
 use Rattle.ec_ctypes.specs.trees.Embedded.{EmbData}
-use Rattle.ec_language.specs.First.{fault_number, earlier, first_of, stop_at}
+use Rattle.ec_base.specs.Numbers.{fault_number}
+use Rattle.ec_language.specs.First.{earlier, first_of, stop_at}
 use Rattle.ec_host_defs.specs.Bound.{violation_at}
 use Rattle.ec_params.specs.Answers.{stop_for}
 use Rattle.ec_params.specs.Least.{lower, least}

@@ -3,7 +3,7 @@ use Rattle.std.proofs.Common.{◌≡◌, ℕ, Bool, true, false, List, [], ◌�
 use Rattle.std.specs.Prelude.{nat_lt}
 use Rattle.std.proofs.lemmas.Bool.Decides.{nat_tests}
 use Rattle.ec_base.specs.declared.fault.FaultKind.{FaultKind}
-use Rattle.ec_language.specs.First.{fault_number}
+use Rattle.ec_base.specs.Numbers.{fault_number}
 use Rattle.ec_params.specs.Least.{lower, lower_of, least}
 
 -- three numbers that are in order by all three tests

@@ -1,7 +1,7 @@
 -- Of faults at one place, that of the lowest number.
 use Rattle.std.specs.Prelude.{nat_lt, List, [], ◌∷◌, Option, Some, None, if◌then◌else◌}
 use Rattle.ec_base.specs.declared.fault.FaultKind.{FaultKind}
-use Rattle.ec_language.specs.First.{fault_number}
+use Rattle.ec_base.specs.Numbers.{fault_number}
 
 abbrev pub lower : FaultKind → Option FaultKind → Option FaultKind
 lower a None = Some a
