@@ -4,7 +4,7 @@ use Rattle.ec_base.specs.declared.line.Line.{Line}
 use Rattle.ec_ctypes.specs.declared.text.piece.Piece.{Piece}
 use Rattle.ec_ctypes.specs.declared.text.piece.PieceKind.{PieceKind}
 use Rattle.ec_ctypes.specs.declared.text.piece.PieceKind.TheVariants.{C, Emb, InPlace, SectionStart, SectionEnd}
-use Rattle.ec_host_defs.specs.Examples.{is_statement}
+use Rattle.ec_host_defs.specs.Statements.{is_statement}
 use Rattle.ec_language.specs.Tokens.{HasSqlTokens, HaveSqlTokens}
 use Rattle.ec_front.specs.source.Answers.{HaveLines}
 use Rattle.ec_run.specs.Runnable.{AddsLine, WordLines, end, other, statement}

@@ -15,7 +15,7 @@ use Rattle.ec_language.specs.Tokens.{SqlTokens}
 use Rattle.ec_embedded.specs.Answers.{end_line}
 use Rattle.ec_embedded.specs.Findings.{word_line}
 use Rattle.ec_embedded.specs.ServerText.{Tokens}
-use Rattle.ec_host_defs.specs.Examples.{is_statement}
+use Rattle.ec_host_defs.specs.Statements.{is_statement}
 use Rattle.ec_expansion_defs.specs.Programs.{written_program}
 use Rattle.ec_meaning_defs.specs.evaluation.State.{Answer}
 use Rattle.ec_meaning_defs.specs.evaluation.Whole.{Observed}

@@ -7,7 +7,7 @@ ghost use Rattle.ec_language.specs.Tokens.{HasSqlTokens, HaveSqlTokens};
 ghost use Rattle.ec_clex.specs.Sql.{sql_view, sql_views};
 ghost use Rattle.ec_embedded.specs.Findings as findings;
 ghost use Rattle.ec_embedded.specs.Terminals.{is, any_word};
-ghost use Rattle.ec_host_defs.specs.Examples as hosts;
+ghost use Rattle.ec_host_defs.specs.Statements as hosts;
 ghost use Rattle.ec_front.specs.source.Answers.{HaveLines};
 ghost use Rattle.ec_phases_defs.specs.Sources.{ReadsTree};
 ghost use Rattle.ec_run.specs.Runnable as spec;
