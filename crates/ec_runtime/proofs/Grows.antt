@@ -14,7 +14,8 @@ use Rattle.ec_transfer_defs.specs.declared.finding.Finding.TheVariants as found
 use Rattle.ec_transfer_defs.specs.Conversion.{trapped, refused as refused_there, Stored, parameter}
 use Rattle.ec_transfer_defs.specs.Hosts.{HostData}
 use Rattle.ec_meaning_defs.specs.evaluation.State.{Answer, Connection, State}
-use Rattle.ec_call_defs.specs.Growth.{state_of, IsFront, Grows}
+use Rattle.ec_meaning_defs.specs.observed.Run.{IsFront}
+use Rattle.ec_call_defs.specs.Growth.{state_of, Grows}
 use Rattle.ec_call_defs.specs.Outcomes.{Text, Field, Outcome, gives, finished, over, next, trying, present, with_memory, counted_area, refused, raised, begun_area}
 use Rattle.ec_call_defs.specs.Connections.{wanted_name, found_connection, connection_of, connection_for, connection_named, answered, asked, controlled, control_sent, begins, begin_text, begun}
 use Rattle.ec_call_defs.specs.Inputs.{host_data, text_read, value_read, member_read}
@@ -27,10 +28,10 @@ nil_right [] = refl
 nil_right (x ∷ xs) = λ j. x ∷ nil_right xs j
 
 pub same_front : (xs : List Logged) → IsFront xs xs
-same_front xs = record { more = []; is = nil_right xs }
+same_front xs = record { rest = []; same = nil_right xs }
 
 longer : (xs ys zs : List Logged) → IsFront xs ys → IsFront ys zs → IsFront xs zs
-longer xs ys zs p q = record { more = p.more ++ q.more; is = q.is ∙ (λ j. p.is j ++ q.more) ∙ append_assoc xs p.more q.more }
+longer xs ys zs p q = record { rest = p.rest ++ q.rest; same = q.same ∙ (λ j. p.same j ++ q.rest) ∙ append_assoc xs p.rest q.rest }
 
 -- what follows adds to what was said
 pub front_next : {A B : Type 0} (xs : List Logged) (o : Outcome A) (go : A → State → Outcome B) → IsFront xs (state_of o).conversation → ((a : A) → Grows (go a)) → IsFront xs (state_of (next o go)).conversation
@@ -63,7 +64,7 @@ asked_grows slot request s = go s.answers
   where
     go : (answers : List Answer) → IsFront s.conversation (state_of (answered slot request answers s)).conversation
     go [] = same_front s.conversation
-    go (a ∷ more) = record { more = record { slot = Some slot; request = request; reply = a.1 } ∷ []; is = refl }
+    go (a ∷ more) = record { rest = record { slot = Some slot; request = request; reply = a.1 } ∷ []; same = refl }
 
 pub controlled_grows : (line : ℕ) (r : Reply) → Grows (controlled line r)
 controlled_grows line (Rows table tx) s = same_front s.conversation

@@ -1,7 +1,7 @@
 use Rattle.std.proofs.Common.{◌≡◌}
 use Rattle.ec_interp.specs.running.LibraryRuns.{ComesWith}
 use Rattle.ec_interp.specs.running.Runs.{answer_with}
-use Rattle.ec_interp.proofs.running.driving.run_on_with.Given as goal
+use Rattle.ec_interp.proofs.running.driving.run_on.Given as goal
 
 abbrev pub invariant-loop-next : goal.invariant-loop-next
 invariant-loop-next g l = record {
