@@ -69,20 +69,34 @@ fn replies(alloc: Global) -> Result<List<Reply>, OutOfMemory> {
     replies.push(Reply::Done {
         count: None,
         tx: Tx::Idle,
+        notice: false,
     })?;
     Ok(replies)
 }
 
-/// `BREAKS..`: prints what a link answers four times that has three replies and breaks at these asks, how often it broke, and
-/// how much was said.
-pub fn link(alloc: Global, words: &str, out: &mut Bytes) -> Result<(), OutOfMemory> {
-    let breaks = numbers(alloc, words)?;
-    let mut link = MemLink::new(alloc, replies(alloc)?, breaks.as_slice())?;
+// Prints what a link answers four times, `none` for want of memory, how often it broke, and how much was said.
+fn put_answers(mut link: MemLink, out: &mut Bytes) -> Result<(), OutOfMemory> {
     for _ in 0..4 {
-        let reply = link.ask(&Request::Close)?;
-        put_word(out, reply_word(&reply))?;
+        match link.ask(&Request::Close) {
+            Ok(reply) => put_word(out, reply_word(&reply))?,
+            Err(_) => put_word(out, b"none")?,
+        }
     }
     put_number(out, link.broke())?;
     put_number(out, link.said().len() as u64)?;
     end_line(out)
+}
+
+/// `BREAKS..`: prints what a link answers that has three replies and breaks at these asks.
+pub fn link(alloc: Global, words: &str, out: &mut Bytes) -> Result<(), OutOfMemory> {
+    let breaks = numbers(alloc, words)?;
+    let link = MemLink::new(alloc, replies(alloc)?, breaks.as_slice())?;
+    put_answers(link, out)
+}
+
+/// `REFUSALS..`: prints what a link answers that has three replies, breaks at ask 1 and is refused at these asks.
+pub fn refusals(alloc: Global, words: &str, out: &mut Bytes) -> Result<(), OutOfMemory> {
+    let refusals = numbers(alloc, words)?;
+    let link = MemLink::with_refusals(alloc, replies(alloc)?, &[1], refusals.as_slice())?;
+    put_answers(link, out)
 }

@@ -27,10 +27,11 @@ enum Calls {
     Writer,
     Table,
     Link,
+    Refusals,
 }
 
 /// The word that names each.
-const CALLS: [(&str, Calls); 10] = [
+const CALLS: [(&str, Calls); 11] = [
     ("copies", Calls::Copies),
     ("boxed", Calls::Boxed),
     ("name", Calls::Name),
@@ -41,6 +42,7 @@ const CALLS: [(&str, Calls); 10] = [
     ("writer", Calls::Writer),
     ("table", Calls::Table),
     ("link", Calls::Link),
+    ("refusals", Calls::Refusals),
 ];
 
 // What a word names.
@@ -66,6 +68,7 @@ fn make(alloc: Global, calls: Calls, rest: &str, out: &mut Bytes) -> Result<(), 
         Calls::Writer => streams::writer(alloc, rest, out),
         Calls::Table => links::table(alloc, rest, out),
         Calls::Link => links::link(alloc, rest, out),
+        Calls::Refusals => links::refusals(alloc, rest, out),
     }
 }
 

@@ -17,8 +17,8 @@ server_code state = elim (same_name state (codes "23505")) [
 
 -- a statement that has no rows and no count: it was carried out, or the call ends
 abbrev pub taken : ℕ → Reply → State → Outcome (Unit {0})
-taken line (Rows table tx) s = gives tt s
-taken line (Done count tx) s = gives tt s
+taken line (Rows table tx notice) s = gives tt s
+taken line (Done count tx notice) s = gives tt s
 taken line (Refused state message tx) s = refused line (server_code state.0) state.0 message s
 taken line Connected s = raised line found.ReplyOutOfPlace s
 taken line NoTarget s = raised line found.ReplyOutOfPlace s
@@ -39,8 +39,8 @@ done line false None s = gives tt s
 -- a reply to a statement, where outputs are wanted or not, and what is done with rows
 abbrev pub replied : ℕ → Bool → (Sheet → State → Outcome (Unit {0})) →
     Reply → State → Outcome (Unit {0})
-replied line wanted store (Rows table tx) s = store table s
-replied line wanted store (Done count tx) s =
+replied line wanted store (Rows table tx notice) s = store table s
+replied line wanted store (Done count tx notice) s =
     done line wanted count (with_memory (counted_area (count_of count) s.memory) s)
 replied line wanted store (Refused state message tx) s =
     refused line (server_code state.0) state.0 message s

@@ -1,5 +1,5 @@
 -- Calls as the worked examples make them, and what is seen of them.
-use Rattle.std.specs.Prelude.{ℕ, Bool, true, ℤ, pos, List, [], ◌∷◌, map, drop, codes, Option, Some, None}
+use Rattle.std.specs.Prelude.{ℕ, Bool, true, false, ℤ, pos, List, [], ◌∷◌, map, drop, codes, Option, Some, None}
 use Rattle.ec_arguments.specs.Arguments.{absent, word, Member, host, descriptor, normal, Call, run}
 use Rattle.ec_ctypes.specs.Arithmetic.{converted}
 use Rattle.ec_ctypes.specs.declared.checked.library.Sym.TheVariants as sym
@@ -66,7 +66,8 @@ columns [] = []
 columns (name ∷ names) = record { name = name; code = pos 4 } ∷ columns names
 
 abbrev pub rows_told : Tx → List Text → List (List Field) → Reply
-rows_told tx names rows = reply.Rows (record { cols = columns names; rows = rows }) tx
+rows_told tx names rows =
+    reply.Rows (record { cols = columns names; rows = rows }) tx false
 
 abbrev pub rows_of : List Text → List (List Field) → Reply
 rows_of names rows = rows_told Idle names rows
@@ -76,7 +77,7 @@ abbrev pub column : List Text → Reply
 column texts = rows_of (codes "a" ∷ []) (map (λ text. Some text ∷ []) texts)
 
 abbrev pub done : Option ℕ → Reply
-done count = reply.Done count Idle
+done count = reply.Done count Idle false
 
 abbrev pub denied : Text → Text → Reply
 denied sqlstate message = reply.Refused (record { 0 = sqlstate }) message Idle

@@ -154,7 +154,7 @@ pub fn reply_examples()
     ensures no_target { runs [] [] (over_ready [] (reply.NoTarget ∷ []))
         ≡ fails (negsuc 399) (codes "08P01") (pos 0) [] (text_sent [] ∷ []) }
     ensures told { connections_left (run absent (normal []) [] []) (over_ready [] (reply.Done None
-        tx.Failed ∷ []))
+        tx.Failed false ∷ []))
         ≡ (link (codes "db") 0 true tx.Failed ∷ [], Some (codes "db")) }
     ensures untold { connections_left (run absent (normal []) [] []) (state (link (codes "db") 0
         true tx.Active ∷ []) [] [] (from 0 reply.Broken ∷ []))
@@ -190,7 +190,7 @@ pub fn input_examples()
 /// A transaction begins by itself where autocommit is off and the server is in none.
 pub fn transaction_examples()
     ensures due { runs [] [] (state (link (codes "db") 4 false tx.Idle ∷ []) [] [] (from 4
-        (reply.Done None tx.Active) ∷ from 4 (done (Some 1)) ∷ []))
+        (reply.Done None tx.Active false) ∷ from 4 (done (Some 1)) ∷ []))
         ≡ well (pos 1) [] ((Some 4, request.Text (codes "begin transaction") []) ∷ (
           Some 4,
           request.Text (codes "s") [],
@@ -220,7 +220,7 @@ pub fn transaction_examples()
               "begin transaction") [],
         ) ∷ []) }
     ensures told_by_begin { connections_left (run absent (normal []) [] []) (state (link (codes
-        "db") 0 false tx.Idle ∷ []) [] [] (from 0 (reply.Done None tx.Active) ∷ from 0 reply.Broken
+        "db") 0 false tx.Idle ∷ []) [] [] (from 0 (reply.Done None tx.Active false) ∷ from 0 reply.Broken
         ∷ []))
         ≡ (link (codes "db") 0 false tx.Active ∷ [], Some (codes "db")) }
     ensures waits { runs [] [] (state (link (codes "db") 0 false tx.Idle ∷ []) [] [] [])

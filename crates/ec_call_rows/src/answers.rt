@@ -38,6 +38,7 @@ fn rows(alloc: Global, words: &str) -> Result<Option<Reply>, OutOfMemory> {
         Some(table) => Ok(Some(Reply::Rows {
             table,
             tx: Tx::Idle,
+            notice: false,
         })),
         None => Ok(None),
     }
@@ -56,6 +57,7 @@ fn wide(alloc: Global, words: &str) -> Result<Option<Reply>, OutOfMemory> {
         Some(table) => Ok(Some(Reply::Rows {
             table,
             tx: Tx::Idle,
+            notice: false,
         })),
         None => Ok(None),
     }
@@ -91,6 +93,7 @@ fn done(word: &str) -> Option<Reply> {
     Some(Reply::Done {
         count,
         tx: Tx::Idle,
+        notice: false,
     })
 }
 

@@ -23,6 +23,8 @@ pub enum Word {
     Last,
     Slot,
     Breaks,
+    Refusals,
+    Notice,
     Reply,
     Column,
     Fields,
@@ -35,7 +37,7 @@ pub enum Word {
 }
 
 /// How each word is written.
-const WORDS: [(&[u8], Word); 26] = [
+const WORDS: [(&[u8], Word); 28] = [
     (b"", Word::Nothing),
     (b"#", Word::Nothing),
     (b"row", Word::Row),
@@ -53,6 +55,8 @@ const WORDS: [(&[u8], Word); 26] = [
     (b"last", Word::Last),
     (b"slot", Word::Slot),
     (b"breaks", Word::Breaks),
+    (b"refusals", Word::Refusals),
+    (b"notice", Word::Notice),
     (b"<", Word::Reply),
     (b"c", Word::Column),
     (b"r", Word::Fields),

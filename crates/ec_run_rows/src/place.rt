@@ -7,15 +7,16 @@ use ec_link::{Col, MemLink, Reply, Row, SqlState, Table, Tx};
 use std::alloc::Global;
 use std::mem;
 
-/// A slot: whether it is ready, its name, the replies of its link, and the asks that break.
+/// A slot: whether it is ready, its name, the replies of its link, and the asks that break and that are refused.
 #[derive(Drop)]
 pub struct Place {
     pub ready: bool,
     pub name: Name,
     pub breaks: List<u64>,
+    pub refusals: List<u64>,
     replies: List<Reply>,
-    // Rows of which not all lines are taken.
-    open: Option<Tx>,
+    // Rows of which not all lines are taken: the state, and whether there is a notice.
+    open: Option<(Tx, bool)>,
     cols: List<Col>,
     rows: List<Row>,
 }
@@ -27,6 +28,14 @@ fn told(word: &[u8]) -> Option<Tx> {
         Some(b'A') => Some(Tx::Active),
         Some(b'F') => Some(Tx::Failed),
         _ => None,
+    }
+}
+
+// Whether a reply ends with a notice.
+fn noticed(word: &[u8]) -> Option<bool> {
+    match word_of(word) {
+        Some(Word::Notice) => Some(true),
+        _ => { if word.is_empty() { Some(false) } else { None } }
     }
 }
 
@@ -51,6 +60,7 @@ impl Place {
             ready,
             name,
             breaks: List::new(alloc),
+            refusals: List::new(alloc),
             replies: List::new(alloc),
             open: None,
             cols: List::new(alloc),
@@ -61,11 +71,11 @@ impl Place {
     // Makes a reply of the rows that are open.
     fn close(&mut self) -> Result<(), Stop> {
         let alloc = self.replies.allocator();
-        if let Some(tx) = self.open.take() {
+        if let Some((tx, notice)) = self.open.take() {
             let cols = mem::replace(&mut self.cols, List::new(alloc));
             let rows = mem::replace(&mut self.rows, List::new(alloc));
             let table = Table::new(cols, rows).ok_or(Stop::Form)?;
-            self.replies.push(Reply::Rows { table, tx })?;
+            self.replies.push(Reply::Rows { table, tx, notice })?;
         }
         Ok(())
     }
@@ -74,6 +84,7 @@ impl Place {
     pub fn take(&mut self, alloc: Global, word: Word, rest: &[u8]) -> Result<(), Stop> {
         match word {
             Word::Breaks => set_numbers(alloc, &mut self.breaks, rest),
+            Word::Refusals => set_numbers(alloc, &mut self.refusals, rest),
             Word::Reply => self.reply(alloc, rest),
             Word::Column => self.col(alloc, rest),
             Word::Fields => self.row(alloc, rest),
@@ -88,12 +99,11 @@ impl Place {
 
     // Opens rows, whose lines are to come.
     fn begin(&mut self, line: &[u8]) -> Result<(), Stop> {
-        self.open = told(line);
-        if self.open.is_some() {
-            Ok(())
-        } else {
-            Err(Stop::Form)
-        }
+        let (word, rest) = cut(line, b' ');
+        let tx = told(word).ok_or(Stop::Form)?;
+        let notice = noticed(rest).ok_or(Stop::Form)?;
+        self.open = Some((tx, notice));
+        Ok(())
     }
 
     /// Takes the line of a reply, behind its `< `.
@@ -111,12 +121,14 @@ impl Place {
         }
     }
 
-    // `done`: the state, and the count or `-`.
+    // `done`: the state, the count or `-`, and whether there is a notice.
     fn done(&mut self, line: &[u8]) -> Result<(), Stop> {
         let (word, rest) = cut(line, b' ');
         let tx = told(word).ok_or(Stop::Form)?;
-        let count = number(rest);
-        self.replies.push(Reply::Done { count, tx })?;
+        let (word, rest) = cut(rest, b' ');
+        let count = number(word);
+        let notice = noticed(rest).ok_or(Stop::Form)?;
+        self.replies.push(Reply::Done { count, tx, notice })?;
         Ok(())
     }
 
@@ -167,10 +179,11 @@ impl Place {
         let Place {
             name,
             breaks,
+            refusals,
             replies,
             ..
         } = self;
-        let link = MemLink::new(alloc, replies, breaks.as_slice())?;
+        let link = MemLink::with_refusals(alloc, replies, breaks.as_slice(), refusals.as_slice())?;
         Ok((name, link))
     }
 }

@@ -113,10 +113,19 @@ fn put_row(text: &mut Bytes, row: &Row) -> Result<(), OutOfMemory> {
     Ok(())
 }
 
+// Puts that there is a notice, if there is one.
+fn put_notice(text: &mut Bytes, notice: bool) -> Result<(), OutOfMemory> {
+    if notice {
+        text.extend_from_slice(b" notice")?;
+    }
+    Ok(())
+}
+
 // Puts rows, each on a line of its own.
-fn put_table(text: &mut Bytes, table: &Table, tx: Tx) -> Result<(), OutOfMemory> {
+fn put_table(text: &mut Bytes, table: &Table, tx: Tx, notice: bool) -> Result<(), OutOfMemory> {
     text.extend_from_slice(b"rows ")?;
     text.extend_from_slice(letter(tx))?;
+    put_notice(text, notice)?;
     for col in table.cols().as_slice() {
         put_col(text, col)?;
     }
@@ -127,14 +136,15 @@ fn put_table(text: &mut Bytes, table: &Table, tx: Tx) -> Result<(), OutOfMemory>
 }
 
 // Puts how many rows were changed, if that was told.
-fn put_done(text: &mut Bytes, count: Option<u64>, tx: Tx) -> Result<(), OutOfMemory> {
+fn put_done(text: &mut Bytes, count: Option<u64>, tx: Tx, notice: bool) -> Result<(), OutOfMemory> {
     text.extend_from_slice(b"done ")?;
     text.extend_from_slice(letter(tx))?;
     text.push(b' ')?;
     match count {
-        Some(count) => put_number(text, count),
-        None => text.push(b'-'),
+        Some(count) => put_number(text, count)?,
+        None => text.push(b'-')?,
     }
+    put_notice(text, notice)
 }
 
 // Puts a reply.
@@ -143,8 +153,8 @@ fn put_reply(text: &mut Bytes, reply: &Reply) -> Result<(), OutOfMemory> {
         Reply::Connected => text.extend_from_slice(b"connected"),
         Reply::NoTarget => text.extend_from_slice(b"notarget"),
         Reply::Broken => text.extend_from_slice(b"broken"),
-        Reply::Done { count, tx } => put_done(text, *count, *tx),
-        Reply::Rows { table, tx } => put_table(text, table, *tx),
+        Reply::Done { count, tx, notice } => put_done(text, *count, *tx, *notice),
+        Reply::Rows { table, tx, notice } => put_table(text, table, *tx, *notice),
         Reply::Refused { state, message, tx } => {
             text.extend_from_slice(b"refused ")?;
             text.extend_from_slice(letter(*tx))?;

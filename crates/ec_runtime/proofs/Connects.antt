@@ -138,8 +138,8 @@ opened_says : (line : ℕ) (name : Text) (answer : Answer) (s : State) → (reac
 opened_says line name (None, reply) s = refl
 opened_says line name (Some slot, Connected) s = refl
 opened_says line name (Some slot, NoTarget) s = refl
-opened_says line name (Some slot, Rows _ _) s = refl
-opened_says line name (Some slot, Done _ _) s = refl
+opened_says line name (Some slot, Rows _ _ _) s = refl
+opened_says line name (Some slot, Done _ _ _) s = refl
 opened_says line name (Some slot, Refused _ _ _) s = refl
 opened_says line name (Some slot, Broken) s = refl
 
@@ -179,8 +179,8 @@ module _ (line : ℕ) (name : Text) (asks : Request) (m : Memory) (cs : List Con
       go (Some slot) Connected (inl e) s rest = absurd (cc (e))
       go (Some slot) Connected (inr n) s rest = absurd (n refl)
       go (Some slot) NoTarget n s rest = refl
-      go (Some slot) (Rows _ _) n s rest = refl
-      go (Some slot) (Done _ _) n s rest = refl
+      go (Some slot) (Rows _ _ _) n s rest = refl
+      go (Some slot) (Done _ _ _) n s rest = refl
       go (Some slot) (Refused _ _ _) n s rest = refl
       go (Some slot) Broken n s rest = refl
 

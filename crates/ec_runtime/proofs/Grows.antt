@@ -67,8 +67,8 @@ asked_grows slot request s = go s.answers
     go (a ∷ more) = record { rest = record { slot = Some slot; request = request; reply = a.1 } ∷ []; same = refl }
 
 pub controlled_grows : (line : ℕ) (r : Reply) → Grows (controlled line r)
-controlled_grows line (Rows table tx) s = same_front s.conversation
-controlled_grows line (Done count tx) s = same_front s.conversation
+controlled_grows line (Rows table tx notice) s = same_front s.conversation
+controlled_grows line (Done count tx notice) s = same_front s.conversation
 controlled_grows line (Refused state message tx) s = same_front s.conversation
 controlled_grows line Connected s = same_front s.conversation
 controlled_grows line NoTarget s = same_front s.conversation
@@ -148,16 +148,16 @@ done_grows line false (Some (suc n)) s = same_front s.conversation
 done_grows line false None s = same_front s.conversation
 
 pub replied_grows : (line : ℕ) (wanted : Bool) (store : Sheet → State → Outcome (Unit {0})) → ((table : Sheet) → Grows (store table)) → (r : Reply) → Grows (replied line wanted store r)
-replied_grows line wanted store h (Rows table tx) s = h table s
-replied_grows line wanted store h (Done count tx) s = done_grows line wanted count (with_memory (counted_area (count_of count) s.memory) s)
+replied_grows line wanted store h (Rows table tx notice) s = h table s
+replied_grows line wanted store h (Done count tx notice) s = done_grows line wanted count (with_memory (counted_area (count_of count) s.memory) s)
 replied_grows line wanted store h (Refused state message tx) s = same_front s.conversation
 replied_grows line wanted store h Connected s = same_front s.conversation
 replied_grows line wanted store h NoTarget s = same_front s.conversation
 replied_grows line wanted store h Broken s = same_front s.conversation
 
 pub taken_grows : (line : ℕ) (r : Reply) → Grows (taken line r)
-taken_grows line (Rows table tx) s = same_front s.conversation
-taken_grows line (Done count tx) s = same_front s.conversation
+taken_grows line (Rows table tx notice) s = same_front s.conversation
+taken_grows line (Done count tx notice) s = same_front s.conversation
 taken_grows line (Refused state message tx) s = same_front s.conversation
 taken_grows line Connected s = same_front s.conversation
 taken_grows line NoTarget s = same_front s.conversation

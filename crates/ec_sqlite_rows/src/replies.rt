@@ -60,12 +60,12 @@ pub fn show(out: &mut Bytes, reply: &Reply) -> Result<(), OutOfMemory> {
         Reply::Connected => out.extend_from_slice(b" connected")?,
         Reply::NoTarget => out.extend_from_slice(b" no target")?,
         Reply::Broken => out.extend_from_slice(b" broken")?,
-        Reply::Rows { table, tx } => {
+        Reply::Rows { table, tx, .. } => {
             out.extend_from_slice(b" rows ")?;
             out.extend_from_slice(letter(*tx))?;
             push_table(out, table)?;
         }
-        Reply::Done { count, tx } => {
+        Reply::Done { count, tx, .. } => {
             out.extend_from_slice(b" done ")?;
             out.extend_from_slice(letter(*tx))?;
             push_count(out, count)?;

@@ -267,8 +267,8 @@ module _ (P : State → Type 0) (E : Endings) (G : State → State → Type 0) (
   -- ---- transaction control
 
   controlled_does : (n : ℕ) (r : Reply) → Does (λ s. controlled n r s)
-  controlled_does n (Rows table tx) = gives_does tt
-  controlled_does n (Done count tx) = gives_does tt
+  controlled_does n (Rows table tx notice) = gives_does tt
+  controlled_does n (Done count tx notice) = gives_does tt
   controlled_does n (Refused sqlstate message tx) = raised_does n found.ControlRefused
   controlled_does n Connected = raised_does n found.ControlRefused
   controlled_does n NoTarget = raised_does n found.ControlRefused
@@ -318,8 +318,8 @@ module _ (P : State → Type 0) (E : Endings) (G : State → State → Type 0) (
   -- ---- replies
 
   taken_does : (n : ℕ) (r : Reply) → Does (λ s. taken n r s)
-  taken_does n (Rows table tx) = gives_does tt
-  taken_does n (Done count tx) = gives_does tt
+  taken_does n (Rows table tx notice) = gives_does tt
+  taken_does n (Done count tx notice) = gives_does tt
   taken_does n (Refused sqlstate message tx) = refused_does (Unit {0}) n (server_code sqlstate.0) sqlstate.0 message
   taken_does n Connected = raised_does n found.ReplyOutOfPlace
   taken_does n NoTarget = raised_does n found.ReplyOutOfPlace
@@ -334,8 +334,8 @@ module _ (P : State → Type 0) (E : Endings) (G : State → State → Type 0) (
   done_does n false None = gives_does tt
 
   replied_does : (n : ℕ) (wanted : Bool) (store : Sheet → State → Outcome (Unit {0})) → ((table : Sheet) → Does (store table)) → (r : Reply) → Does (λ s. replied n wanted store r s)
-  replied_does n wanted store h (Rows table tx) = h table
-  replied_does n wanted store h (Done count tx) = memory_does (λ m. counted_area (count_of count) m) (done_does n wanted count)
+  replied_does n wanted store h (Rows table tx notice) = h table
+  replied_does n wanted store h (Done count tx notice) = memory_does (λ m. counted_area (count_of count) m) (done_does n wanted count)
   replied_does n wanted store h (Refused sqlstate message tx) = refused_does (Unit {0}) n (server_code sqlstate.0) sqlstate.0 message
   replied_does n wanted store h Connected = raised_does n found.ReplyOutOfPlace
   replied_does n wanted store h NoTarget = raised_does n found.ReplyOutOfPlace
@@ -424,8 +424,8 @@ module _ (P : State → Type 0) (E : Endings) (G : State → State → Type 0) (
   opened_does : (n : ℕ) (name : Text) (a : Answer) → Does (λ s. opened_by n name a s)
   opened_does n name (Some slot, Connected) =
       session_does tt (λ cs. cs ++ record { name = name; slot = slot; autocommit = false; told = Idle; prepared = [] } ∷ []) (λ old c. Some name) (λ ds. ds)
-  opened_does n name (Some slot, Rows table tx) = raised_does n found.NotConnected
-  opened_does n name (Some slot, Done count tx) = raised_does n found.NotConnected
+  opened_does n name (Some slot, Rows table tx notice) = raised_does n found.NotConnected
+  opened_does n name (Some slot, Done count tx notice) = raised_does n found.NotConnected
   opened_does n name (Some slot, Refused sqlstate message tx) = raised_does n found.NotConnected
   opened_does n name (Some slot, NoTarget) = raised_does n found.NotConnected
   opened_does n name (Some slot, Broken) = raised_does n found.NotConnected

@@ -171,8 +171,8 @@ module _ (line : ℕ) where
   reply_keeps slot r s = answered_keeps slot r s.answers s
 
   controlled_keeps : (reply : Reply) (s : State) → Keeps s.memory (controlled line reply s)
-  controlled_keeps (Rows table tx) s = tidy_same s.memory
-  controlled_keeps (Done count tx) s = tidy_same s.memory
+  controlled_keeps (Rows table tx notice) s = tidy_same s.memory
+  controlled_keeps (Done count tx notice) s = tidy_same s.memory
   controlled_keeps (Refused state message tx) s = told_tidy _ _ _ line s.memory
   controlled_keeps Connected s = told_tidy _ _ _ line s.memory
   controlled_keeps NoTarget s = told_tidy _ _ _ line s.memory
@@ -185,8 +185,8 @@ module _ (line : ℕ) where
   begin_keeps c s = test_keeps s.memory (begins c) (control_sent line c begin_text s) (gives tt s) (control_keeps c begin_text s) (tidy_same s.memory)
 
   taken_keeps : (reply : Reply) (s : State) → Keeps s.memory (taken line reply s)
-  taken_keeps (Rows table tx) s = tidy_same s.memory
-  taken_keeps (Done count tx) s = tidy_same s.memory
+  taken_keeps (Rows table tx notice) s = tidy_same s.memory
+  taken_keeps (Done count tx notice) s = tidy_same s.memory
   taken_keeps (Refused state message tx) s = told_tidy _ _ _ line s.memory
   taken_keeps Connected s = told_tidy _ _ _ line s.memory
   taken_keeps NoTarget s = told_tidy _ _ _ line s.memory
@@ -204,8 +204,8 @@ module _ (line : ℕ) where
 
   replied_keeps : (wanted : Bool) (store : Sheet → State → Outcome (Unit {0})) → ((table : Sheet) (s : State) → Keeps s.memory (store table s))
       → (reply : Reply) (s : State) → Keeps s.memory (replied line wanted store reply s)
-  replied_keeps wanted store f (Rows table tx) s = f table s
-  replied_keeps wanted store f (Done count tx) s =
+  replied_keeps wanted store f (Rows table tx notice) s = f table s
+  replied_keeps wanted store f (Done count tx notice) s =
       keeps_then s.memory (counted_area (count_of count) s.memory) (done line wanted count (with_memory (counted_area (count_of count) s.memory) s)) (counted_tidy (count_of count) s.memory)
       (done_keeps wanted count (with_memory (counted_area (count_of count) s.memory) s))
   replied_keeps wanted store f (Refused state message tx) s = told_tidy _ _ _ line s.memory
@@ -338,8 +338,8 @@ module _ (line : ℕ) where
   opened_keeps : (name : Text) (slot : Option ℕ) (reply : Reply) (s : State) → Keeps s.memory (opened_by line name (slot, reply) s)
   opened_keeps name (Some slot) Connected s = tidy_same s.memory
   opened_keeps name (Some slot) NoTarget s = told_tidy _ _ _ line s.memory
-  opened_keeps name (Some slot) (Rows table tx) s = told_tidy _ _ _ line s.memory
-  opened_keeps name (Some slot) (Done count tx) s = told_tidy _ _ _ line s.memory
+  opened_keeps name (Some slot) (Rows table tx notice) s = told_tidy _ _ _ line s.memory
+  opened_keeps name (Some slot) (Done count tx notice) s = told_tidy _ _ _ line s.memory
   opened_keeps name (Some slot) (Refused state message tx) s = told_tidy _ _ _ line s.memory
   opened_keeps name (Some slot) Broken s = told_tidy _ _ _ line s.memory
   opened_keeps name None reply s = told_tidy _ _ _ line s.memory
