@@ -43,8 +43,9 @@ pub fn server_examples()
         with_indicator "y" "j" ∷ []))) }
     ensures half_a_suffix { answer_to "EXEC SQL SELECT :x. y;"
         ≡ gives (tree.server_text (b "SELECT " ∷ p "x" ∷ b ". y" ∷ []) no_outs) }
-    ensures large_index { answer_to "EXEC SQL SELECT :x[9223372036854775808];"
-        ≡ gives (tree.server_text (b "SELECT " ∷ p "x" ∷ b "[9223372036854775808]" ∷ [])
+    ensures large_index { answer_to "EXEC SQL SELECT\n:x[9223372036854775808];" ≡ dead_on 2 }
+    ensures half_a_large_index { answer_to "EXEC SQL SELECT :x[9223372036854775808;"
+        ≡ gives (tree.server_text (b "SELECT " ∷ p "x" ∷ b "[9223372036854775808" ∷ [])
         no_outs) }
     ensures gap_behind_arrow { answer_to "EXEC SQL SELECT :x ->y;"
         ≡ gives (tree.server_text (b "SELECT " ∷ p "x" ∷ b " ->y" ∷ []) no_outs) }
