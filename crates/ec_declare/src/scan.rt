@@ -1,9 +1,10 @@
 //! The first fault of marks and VARCHARs.
 
-ghost use Rattle.std.specs.Prelude.{◌≡◌, OnOk};
+ghost use Rattle.std.specs.Prelude.{◌≡◌, OnOk, None};
 ghost use Rattle.ec_declare.specs.Scanning as spec;
 ghost use Rattle.ec_declare.specs.Scanning.{at_start};
 ghost use Rattle.ec_declare.specs.Seen.{scan_view, uses_view};
+ghost use Rattle.ec_host_defs.specs.sections.Answers as sections;
 ghost use Rattle.ec_host_defs.specs.sections.Places.{holds, mark};
 
 use crate::uses::Uses;
@@ -33,6 +34,16 @@ fn fault_of(in_section: bool, uses: Uses) -> Option<FaultKind>
         return Some(FaultKind::F13);
     }
     None
+}
+
+/// Whether uses stand in a section, by the mark before them, if there is one, or by the section of their place.
+fn section_at(mark: Option<bool>, in_section: bool) -> bool
+    ensures { result ≡ sections.section_at mark in_section }
+{
+    match mark {
+        Some(opens) => opens,
+        None => in_section,
+    }
 }
 
 /// A fault on this line.
@@ -81,9 +92,17 @@ impl Scan {
     /// A place that holds these uses.
     pub(crate) fn place(&mut self, line: Line, uses: Uses)
         ensures { scan_view self.new
-            ≡ spec.step (holds line (uses_view uses)) (scan_view self.old) }
+            ≡ spec.step (holds None line (uses_view uses)) (scan_view self.old) }
     {
-        let fault = stop_on(line, fault_of(self.in_section, uses));
+        self.place_behind(None, line, uses);
+    }
+
+    /// A place whose uses stand behind a mark that is still to come, if there is one.
+    pub(crate) fn place_behind(&mut self, mark: Option<bool>, line: Line, uses: Uses)
+        ensures { scan_view self.new
+            ≡ spec.step (holds mark line (uses_view uses)) (scan_view self.old) }
+    {
+        let fault = stop_on(line, fault_of(section_at(mark, self.in_section), uses));
         self.first = or_else(self.first, fault);
     }
 
