@@ -1,0 +1,10 @@
+//! Shows what the precompiler makes of texts: their pieces, their tokens, or their trees. `docs/SHOWN.md` has the form.
+
+mod arithmetic;
+mod pieces;
+mod rows;
+mod task;
+mod trees;
+
+pub use rows::show_rows;
+pub use task::{show, task_named};
