@@ -10,6 +10,7 @@ pub enum ListStep {
     List,
     Room,
     Push,
+    Reserve,
     Extend,
     Length,
     Get,
@@ -27,10 +28,11 @@ pub enum ListStep {
 }
 
 /// The word of each.
-const STEPS: [(&str, ListStep); 17] = [
+const STEPS: [(&str, ListStep); 18] = [
     ("list", ListStep::List),
     ("room", ListStep::Room),
     ("push", ListStep::Push),
+    ("reserve", ListStep::Reserve),
     ("extend", ListStep::Extend),
     ("length", ListStep::Length),
     ("get", ListStep::Get),
@@ -126,6 +128,7 @@ pub fn step(
         ListStep::List => begin(list, bytes_of(alloc, given)?),
         ListStep::Room => begin(list, List::with_capacity(alloc, place)?),
         ListStep::Push => list.push(byte_at(given, 0))?,
+        ListStep::Reserve => reserve(alloc, list, given)?,
         ListStep::Extend => list.extend_from_slice(bytes_of(alloc, given)?.as_slice())?,
         ListStep::Length => put_length(list, out)?,
         ListStep::Get => put_item(out, list.get(place).copied())?,
@@ -142,6 +145,23 @@ pub fn step(
         ListStep::Vec => put_vec(alloc, list, out)?,
     }
     Ok(())
+}
+
+// Takes room for one more element, and puts it there where there is one.
+fn reserve(alloc: Global, list: &mut List<u8>, given: &[u64]) -> Result<(), OutOfMemory> {
+    match std::mem::replace(list, List::new(alloc)).reserve() {
+        Ok(room) => {
+            *list = match given {
+                [] => room.into_list(),
+                _ => room.push_reserved(byte_at(given, 0)),
+            };
+            Ok(())
+        }
+        Err(kept) => {
+            *list = kept;
+            Err(OutOfMemory)
+        }
+    }
 }
 
 // Begins with another list.
