@@ -8,13 +8,14 @@ ghost use Rattle.ec_host_defs.specs.sections.Answers as sections;
 ghost use Rattle.ec_host_defs.specs.sections.Places.{holds, mark};
 
 use crate::uses::Uses;
-use ec_base::{FaultKind, Line, OutOfMemory, Stop};
+use ec_base::{FaultKind, Line, List, OutOfMemory, Stop};
+use std::alloc::Global;
 
 /// What is kept of the places so far.
-#[derive(Clone, Copy, Debug)]
+#[derive(Debug, Drop)]
 pub(crate) struct Scan {
-    /// How many sections are open.
-    pub depth: u64,
+    /// The lines of the marks whose sections are open, the outermost first.
+    pub open: List<Line>,
     /// Whether the last mark opens one.
     pub in_section: bool,
     /// The line of the outermost open mark, where no fault stands before it.
@@ -77,12 +78,12 @@ fn waiting(first: Option<Stop>, line: Line) -> Option<Line>
 }
 
 impl Scan {
-    /// Before the first place.
-    pub(crate) fn new() -> Scan
+    /// Before the first place. It takes no memory.
+    pub(crate) fn new(alloc: Global) -> Scan
         ensures { scan_view result ≡ at_start }
     {
         Scan {
-            depth: 0,
+            open: List::new(alloc),
             in_section: false,
             pending: None,
             first: None,
@@ -111,16 +112,12 @@ impl Scan {
         ensures { OnOk result (scan_view self.new
             ≡ spec.opened (scan_view self.old).depth line (scan_view self.old)) }
     {
-        if self.depth == 0 {
+        if self.open.is_empty() {
             self.pending = waiting(self.first, line);
-            self.depth = 1;
         } else {
-            let Some(depth) = self.depth.checked_add(1) else {
-                return Err(OutOfMemory);
-            };
-            self.depth = depth;
             self.first = or_else(self.first, Some(Stop::Refused(FaultKind::F9, line)));
         }
+        self.open.push(line)?;
         self.in_section = true;
         Ok(())
     }
@@ -130,13 +127,13 @@ impl Scan {
         ensures { scan_view self.new
             ≡ spec.closed (scan_view self.old).depth line (scan_view self.old) }
     {
-        match self.depth {
-            0 => self.first = or_else(self.first, Some(Stop::Refused(FaultKind::F9, line))),
-            1 => {
-                self.depth = 0;
-                self.pending = None;
+        match self.open.pop() {
+            None => self.first = or_else(self.first, Some(Stop::Refused(FaultKind::F9, line))),
+            Some(_) => {
+                if self.open.is_empty() {
+                    self.pending = None;
+                }
             }
-            _ => self.depth -= 1,
         }
         self.in_section = false;
     }
