@@ -79,6 +79,12 @@ column texts = rows_of (codes "a" ∷ []) (map (λ text. Some text ∷ []) texts
 abbrev pub done : Option ℕ → Reply
 done count = reply.Done count Idle false
 
+-- the same with a notice of the server
+abbrev pub noted : Reply → Reply
+noted (reply.Rows table tx notice) = reply.Rows table tx true
+noted (reply.Done count tx notice) = reply.Done count tx true
+noted other = other
+
 abbrev pub denied : Text → Text → Reply
 denied sqlstate message = reply.Refused (record { 0 = sqlstate }) message Idle
 
@@ -207,6 +213,10 @@ fails code sqlstate count objects said = (goes_on, code, sqlstate, count, object
 abbrev pub connections_left : Call ℕ → State → List Connection × Option Text
 connections_left call s =
     ((left_by (call_done 3 call s)).connections, (left_by (call_done 3 call s)).current)
+
+-- the first three warnings, of any kind, of a value that was cut and of a notice: 87 is a W
+abbrev pub warnings_left : Call ℕ → State → List ℕ
+warnings_left call s = area_part (left_by (call_done 3 call s)).memory 240 3
 
 abbrev pub descriptors_left : Call ℕ → State → List (Text × List Item)
 descriptors_left call s = (left_by (call_done 3 call s)).descriptors

@@ -16,7 +16,7 @@ use Rattle.ec_transfer_defs.specs.Hosts.{HostData}
 use Rattle.ec_meaning_defs.specs.evaluation.State.{Answer, Connection, State}
 use Rattle.ec_meaning_defs.specs.observed.Run.{IsFront}
 use Rattle.ec_call_defs.specs.Growth.{state_of, Grows}
-use Rattle.ec_call_defs.specs.Outcomes.{Text, Field, Outcome, gives, finished, over, next, trying, present, with_memory, counted_area, refused, raised, begun_area}
+use Rattle.ec_call_defs.specs.Outcomes.{Text, Field, Outcome, gives, finished, over, next, trying, present, with_memory, counted_area, noticed, heard, refused, raised, begun_area}
 use Rattle.ec_call_defs.specs.Connections.{wanted_name, found_connection, connection_of, connection_for, connection_named, answered, asked, controlled, control_sent, begins, begin_text, begun}
 use Rattle.ec_call_defs.specs.Inputs.{host_data, text_read, value_read, member_read}
 use Rattle.ec_call_defs.specs.Storing.{stored_by, field_kept, in_column, column_kept, targets_kept, any_fewer, measured, counted_rows}
@@ -148,8 +148,9 @@ done_grows line false (Some (suc n)) s = same_front s.conversation
 done_grows line false None s = same_front s.conversation
 
 pub replied_grows : (line : ℕ) (wanted : Bool) (store : Sheet → State → Outcome (Unit {0})) → ((table : Sheet) → Grows (store table)) → (r : Reply) → Grows (replied line wanted store r)
-replied_grows line wanted store h (Rows table tx notice) s = h table s
-replied_grows line wanted store h (Done count tx notice) s = done_grows line wanted count (with_memory (counted_area (count_of count) s.memory) s)
+replied_grows line wanted store h (Rows table tx notice) s = h table (heard notice s)
+replied_grows line wanted store h (Done count tx notice) s =
+    done_grows line wanted count (with_memory (counted_area (count_of count) (noticed notice s.memory)) s)
 replied_grows line wanted store h (Refused state message tx) s = same_front s.conversation
 replied_grows line wanted store h Connected s = same_front s.conversation
 replied_grows line wanted store h NoTarget s = same_front s.conversation
