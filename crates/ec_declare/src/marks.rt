@@ -1,10 +1,9 @@
 //! The last mark in a statement.
 
 ghost use Rattle.std.specs.Prelude.{◌≡◌};
-ghost use Rattle.ec_ctypes.specs.views.Stmts.{stmt_view, kind_view, stmts_view, stmt_option_view};
+ghost use Rattle.ec_ctypes.specs.views.Stmts.{stmt_view, kind_view, stmts_view};
 ghost use Rattle.ec_host_defs.specs.sections.Places as spec;
 
-use ec_base::Boxed;
 use ec_ctypes::{Stmt, StmtKind};
 
 /// The second of two, if it is there.
@@ -32,11 +31,17 @@ fn last_mark_of(tree: &StmtKind) -> Option<bool>
     match tree {
         StmtKind::Mark(opens) => Some(*opens),
         StmtKind::Block(of) => last_mark_among(of.as_slice()),
-        StmtKind::If(_, of, other) => later(last_mark(of.get()), last_mark_option(other)),
-        StmtKind::While(_, of)
-        | StmtKind::Do(of, _)
-        | StmtKind::For(_, of)
-        | StmtKind::Label(_, of) => last_mark(of.get()),
+        StmtKind::If(_, of, other) => {
+            let last = last_mark(of.get());
+            match other {
+                Some(of) => later(last, last_mark(of.get())),
+                None => last,
+            }
+        }
+        StmtKind::While(_, of) => last_mark(of.get()),
+        StmtKind::Do(of, _) => last_mark(of.get()),
+        StmtKind::For(_, of) => last_mark(of.get()),
+        StmtKind::Label(_, of) => last_mark(of.get()),
         StmtKind::Empty
         | StmtKind::Expr(_)
         | StmtKind::Break
@@ -49,6 +54,7 @@ fn last_mark_of(tree: &StmtKind) -> Option<bool>
 }
 
 #[cycle(marks)]
+#[tactic(auto, using(crate::proofs::Joining::following))]
 fn last_mark_among(trees: &[Stmt]) -> Option<bool>
     ensures { result ≡ spec.last_mark_among (stmts_view trees.now) }
 {
@@ -57,14 +63,4 @@ fn last_mark_among(trees: &[Stmt]) -> Option<bool>
         last = later(last, last_mark(tree));
     }
     last
-}
-
-#[cycle(marks)]
-fn last_mark_option(tree: &Option<Boxed<Stmt>>) -> Option<bool>
-    ensures { result ≡ spec.last_mark_option (stmt_option_view tree.now) }
-{
-    match tree {
-        Some(of) => last_mark(of.get()),
-        None => None,
-    }
 }

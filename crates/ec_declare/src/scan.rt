@@ -37,11 +37,11 @@ fn fault_of(in_section: bool, uses: Uses) -> Option<FaultKind>
     None
 }
 
-/// Whether uses stand in a section, by the mark before them, if there is one, or by the section of their place.
-fn section_at(mark: Option<bool>, in_section: bool) -> bool
-    ensures { result ≡ sections.section_at mark in_section }
+/// Whether uses stand in a section, by the last mark between their place and them, or else by that before the place.
+fn section_at(last: Option<bool>, in_section: bool) -> bool
+    ensures { result ≡ sections.section_at last in_section }
 {
-    match mark {
+    match last {
         Some(opens) => opens,
         None => in_section,
     }
@@ -98,12 +98,12 @@ impl Scan {
         self.place_behind(None, line, uses);
     }
 
-    /// A place whose uses stand behind a mark that is still to come, if there is one.
-    pub(crate) fn place_behind(&mut self, mark: Option<bool>, line: Line, uses: Uses)
+    /// A place whose uses stand further on, behind the last mark in between, if there is one.
+    pub(crate) fn place_behind(&mut self, last: Option<bool>, line: Line, uses: Uses)
         ensures { scan_view self.new
-            ≡ spec.step (holds mark line (uses_view uses)) (scan_view self.old) }
+            ≡ spec.step (holds last line (uses_view uses)) (scan_view self.old) }
     {
-        let fault = stop_on(line, fault_of(section_at(mark, self.in_section), uses));
+        let fault = stop_on(line, fault_of(section_at(last, self.in_section), uses));
         self.first = or_else(self.first, fault);
     }
 

@@ -49,9 +49,10 @@ fn target_rule(checker: &mut Checker, at: Place, o: Operand) -> Operand
     ensures { IsDone (rule.target_rule (place_view at) (operand_view o) (world_of checker.old))
         checker.old checker.new (operand_view result) }
 {
-    match o.ty {
+    let Operand { ty, is_fixed, .. } = o;
+    match ty {
         None => Operand::unknown(),
-        Some(Ty::Ptr(to)) => target(o.is_fixed, to.into_inner()),
+        Some(Ty::Ptr(to)) => target(is_fixed, to.into_inner()),
         Some(_) => fault(checker, at, FaultKind::F14),
     }
 }

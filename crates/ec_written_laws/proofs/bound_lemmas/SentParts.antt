@@ -1,5 +1,5 @@
 -- Statements that pass to the server, and the DECLARE of a cursor: their references are simple, and their texts are bytes.
-use Rattle.std.proofs.Common.{◌≡◌, ℕ, zero, suc, Bool, true, false, not, ◌&&◌, ◌||◌, ◌-◌, List, [], ◌∷◌, ◌++◌, length, drop, refl, sym, ap, ◌∙◌, subst, Option, Some, None, if◌then◌else◌}
+use Rattle.std.proofs.Common.{◌≡◌, ℕ, zero, suc, Bool, true, false, not, ◌||◌, ◌-◌, List, [], ◌∷◌, ◌++◌, length, drop, refl, sym, ap, ◌∙◌, subst, Option, Some, None, if◌then◌else◌}
 use Rattle.std.specs.Prelude.{codes, ◌==◌}
 use Rattle.ec_ctypes.specs.trees.Exprs.{ExprData, identifier, member, arrow, index}
 use Rattle.ec_ctypes.specs.trees.Embedded.{HostData, TextArgData, word_arg, OutsData, listed_outs, area_outs, PartData, bytes_part, host_part, EmbKindData, declare_cursor}
@@ -11,8 +11,7 @@ use Rattle.ec_embedded.specs.ServerText.{Tokens, Reading, begins_host, is_member
 use Rattle.ec_embedded.specs.Statements.{prepared_in, declared_for}
 use Rattle.ec_embedded.specs.References.{unquoted, text_of_host, decimal_constant}
 use Rattle.ec_embedded.specs.Terminals as term
-use Rattle.ec_embedded.specs.Terminals.{Counts, step_by, Begins, input, reference, suffix, is, any_word, glued_word, glued_number, glued_sign, suffix_sign, plain_quote}
-use Rattle.ec_language.proofs.Ends.{both as both_true}
+use Rattle.ec_embedded.specs.Terminals.{Counts, step_by, Begins, input, reference, suffix, is, any_word, glued_word, glued_number, plain_quote}
 use Rattle.ec_written_laws.specs.bound.Names.{is_simple_index, is_simple}
 use Rattle.ec_written_laws.proofs.bound_lemmas.Rules.{join}
 use Rattle.ec_written_laws.proofs.bound_lemmas.Each.{OfList, list_both, OfHost, OfText, OfOuts, OfPart}
