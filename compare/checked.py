@@ -1,4 +1,4 @@
-"""Asks ec_text_rows what the checks say of texts (docs/SHOWN.md), and what rows over the definitions need."""
+"""Asks ec_text_rows what the checks say of texts (docs/rows/SHOWN.md), and what rows over the definitions need."""
 
 import re
 import subprocess

@@ -1,4 +1,4 @@
-"""Runs ec_text_rows on rows (docs/SHOWN.md)."""
+"""Runs ec_text_rows on rows (docs/rows/SHOWN.md)."""
 
 import re
 import subprocess

@@ -1,4 +1,4 @@
-//! Calls known functions as rows say: `docs/CALLING.md` has their form.
+//! Calls known functions as rows say: `docs/rows/CALLING.md` has their form.
 
 mod answer;
 mod format;

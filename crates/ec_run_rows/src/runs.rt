@@ -1,4 +1,4 @@
-//! Runs the tool over rows: lines say what each call is given, and what it leaves is printed. `docs/ROWS.md` has the form of
+//! Runs the tool over rows: lines say what each call is given, and what it leaves is printed. `docs/rows/ROWS.md` has the form of
 //! both.
 
 mod call;

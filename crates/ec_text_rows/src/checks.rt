@@ -1,4 +1,4 @@
-//! Prints what the checks say of each program: `fine`, the first fault with its line, or the limit. `docs/SHOWN.md` has the
+//! Prints what the checks say of each program: `fine`, the first fault with its line, or the limit. `docs/rows/SHOWN.md` has the
 //! form.
 
 mod checking;

@@ -1,4 +1,4 @@
-//! Prints the tree of each embedded statement, or why it is refused. `docs/SHOWN.md` has the form.
+//! Prints the tree of each embedded statement, or why it is refused. `docs/rows/SHOWN.md` has the form.
 
 mod expressions;
 mod forms;
