@@ -1,5 +1,5 @@
-//! Rows of the calls that every crate stands on: of `ec_base` and `ec_link`. Each line is a call, and is printed with what
-//! it answers. `docs/rows/ROWS.md` has the form of the lines.
+//! Rows of the calls that every crate stands on: of `ec_base` and `ec_link`. Each line is a call, and is printed
+//! with what it answers. `docs/rows/ROWS.md` has the form of the lines.
 
 mod links;
 mod lists;

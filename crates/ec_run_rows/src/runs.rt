@@ -1,5 +1,5 @@
-//! Runs the tool over rows: lines say what each call is given, and what it leaves is printed. `docs/rows/ROWS.md` has the form of
-//! both.
+//! Runs the tool over rows: lines say what each call is given, and what it leaves is printed. `docs/rows/ROWS.md`
+//! has the form of both.
 
 mod call;
 mod line;

@@ -1,5 +1,5 @@
-//! Prints what the checks say of each program: `fine`, the first fault with its line, or the limit. `docs/rows/SHOWN.md` has the
-//! form.
+//! Prints what the checks say of each program: `fine`, the first fault with its line, or the limit.
+//! `docs/rows/SHOWN.md` has the form.
 
 mod checking;
 mod rows;

@@ -1,4 +1,5 @@
-//! Shows what the precompiler makes of texts: their pieces, their tokens, or their trees. `docs/rows/SHOWN.md` has the form.
+//! Shows what the precompiler makes of texts: their pieces, their tokens, or their trees. `docs/rows/SHOWN.md` has
+//! the form.
 
 mod arithmetic;
 mod pieces;
