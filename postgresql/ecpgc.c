@@ -1,6 +1,6 @@
 /*
- * The calls of written C that libecpg has in another form, as include/ecpglib.h names them. Nothing is kept between two
- * calls, so threads may make them as they may make libecpg's.
+ * The calls of written C that libecpg has in another form, as include/ecpglib.h names them. Nothing is kept between
+ * two calls, so threads may make them as they may make libecpg's.
  */
 #define ECPGC_INSIDE
 #include <ecpglib.h>
@@ -29,9 +29,9 @@ struct words {
 };
 
 /*
- * A struct of many words lies among the arguments as these words would. libecpg takes no va_list and stops at the end of
- * the list, so any struct that is large enough serves. Where a function names three arguments, REGISTERS words come in
- * registers before the struct.
+ * A struct of many words lies among the arguments as these words would. libecpg takes no va_list and stops at the end
+ * of the list, so any struct that is large enough serves. Where a function names three arguments, REGISTERS words come
+ * in registers before the struct.
  */
 enum { REGISTERS = 3, FEW = 128, SOME = 2048, MOST = 32768 };
 struct few { long at[FEW]; };
@@ -114,7 +114,8 @@ static bool is_char(enum ECPGttype type)
 
 /*
  * The member of a type whose other values come next. libecpg reads a length of 0 as "a pointer stands there", so what
- * isn't of characters has 1 for it. Of a `char *` it wants a distance of 1: with that of a pointer it looks for an array.
+ * isn't of characters has 1 for it. Of a `char *` it wants a distance of 1: with that of a pointer it looks for an
+ * array of them.
  */
 static struct member next_member(enum ECPGttype type, va_list *list)
 {
@@ -187,11 +188,14 @@ static bool begins(const char *text, const char *word)
     return strncasecmp(text, word, length) == 0 && isspace((unsigned char)text[length]);
 }
 
-/*
- * The text with $0 for each parameter. Of FETCH, MOVE and SET the server takes none; for $0 libecpg puts the value into
- * the text. What is quoted stays.
- */
-static char *without_parameters(const char *text)
+/* Whether a statement is of those in which the server takes no parameters, and libecpg puts values into the text. */
+static bool is_inserted(const char *text)
+{
+    return begins(text, "FETCH") || begins(text, "MOVE") || begins(text, "SET") || begins(text, "ALTER");
+}
+
+/* The text with $0 for each parameter, where libecpg puts the value. What is quoted stays. */
+static char *with_places(const char *text)
 {
     char *copy = malloc(strlen(text) + 1), *to = copy, quote = 0;
 
@@ -258,8 +262,8 @@ void ecpgc_do(int line, const char *connection, int kind, ...)
         va_end(list);
         return;
     }
-    if (kind == ECPGst_normal && (begins(text, "FETCH") || begins(text, "MOVE") || begins(text, "SET"))) {
-        changed = without_parameters(text);
+    if (kind == ECPGst_normal && is_inserted(text)) {
+        changed = with_places(text);
         text = changed;
     }
     if (text == NULL)
@@ -376,7 +380,8 @@ void ecpgc_set_desc_header(int line, const char *descriptor, ...)
 /* Whether libecpg takes an item from a member of this type: all but the value itself from numbers alone. */
 static bool is_taken(enum ECPGdtype item, enum ECPGttype type)
 {
-    return item == ECPGd_data || !(is_char(type) || type == ECPGt_varchar || type == ECPGt_const || type == ECPGt_bool);
+    return item == ECPGd_data
+        || !(is_char(type) || type == ECPGt_varchar || type == ECPGt_const || type == ECPGt_bool);
 }
 
 /*

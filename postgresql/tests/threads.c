@@ -16,11 +16,12 @@ static void *work(void *argument)
     ECPGconnect(1, "db", NULL, NULL, name);
     ECPGprepare(2, name, statement, "SELECT $1::int + generate_series(1, 3)");
     for (one = 0; one < ROUNDS; one++) {
-        ECPGdo(3, name, ECPGst_open, "DECLARE rows CURSOR FOR ", statement, ECPGt_int, &one, 0L, 1L, 4L, ECPGt_NO_INDICATOR,
-            NULL, 0L, 0L, 0L, ECPGt_EOIT, ECPGt_EORT);
+        ECPGdo(3, name, ECPGst_open, "DECLARE rows CURSOR FOR ", statement,
+            ECPGt_int, &one, 0L, 1L, 4L, ECPGt_NO_INDICATOR, NULL, 0L, 0L, 0L, ECPGt_EOIT, ECPGt_EORT);
         failed += sqlca.sqlcode != 0;
-        ECPGdo(4, name, ECPGst_normal, "FETCH ABSOLUTE $1 FROM rows", ECPGt_int, &(int){1}, 0L, 1L, 4L, ECPGt_NO_INDICATOR,
-            NULL, 0L, 0L, 0L, ECPGt_EOIT, ECPGt_int, &found, 0L, 1L, 4L, ECPGt_NO_INDICATOR, NULL, 0L, 0L, 0L, ECPGt_EORT);
+        ECPGdo(4, name, ECPGst_normal, "FETCH FORWARD $1 FROM rows",
+            ECPGt_int, &(int){1}, 0L, 1L, 4L, ECPGt_NO_INDICATOR, NULL, 0L, 0L, 0L, ECPGt_EOIT,
+            ECPGt_int, &found, 0L, 1L, 4L, ECPGt_NO_INDICATOR, NULL, 0L, 0L, 0L, ECPGt_EORT);
         failed += sqlca.sqlcode != 0;
         sum += found;
         ECPGdo(5, name, ECPGst_normal, "CLOSE rows", ECPGt_EOIT, ECPGt_EORT);
