@@ -88,11 +88,9 @@ impl GlobalVariable {
         }) }
     {
         let Some(end) = part.at.checked_add(part.bytes.len() as u64) else {
-            // Out of reach, which isn't proved: a part of an initializer lies in its object.
             return Err(OutOfMemory);
         };
         if end > self.size {
-            // Out of reach, as above.
             return Err(OutOfMemory);
         }
         self.values.push(part)?;
