@@ -16,8 +16,8 @@ one_first source written text true a b (x, r, e) (y, q, f) = e ∙ ap refusal_of
 pub there_is_a_first : ((text : Text) → (answer : Result BoundProgram Stop) × ReadsSource text answer)
     → ((text : Text) → (answer : Result TypedData Stop) × ReadsWritten text answer)
     → (text : Text) (written : Bool) → (found : Option Stop) × First text written found
-there_is_a_first source written text false = let r = source text in (refusal_of r.0, r.0, r.1, refl)
-there_is_a_first source written text true = let r = written text in (refusal_of r.0, r.0, r.1, refl)
+there_is_a_first source written text false = let r = source text in (refusal_of r.0, (r.0, r.1, refl))
+there_is_a_first source written text true = let r = written text in (refusal_of r.0, (r.0, r.1, refl))
 
 program_of : (text : Text) (answer : Result BoundProgram Stop) → ReadsSource text answer → None ≡ refusal_of answer → (p : BoundProgram) × ReadsSource text (Ok p)
 program_of text (Ok p) r e = (p, r)
