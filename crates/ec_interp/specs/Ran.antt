@@ -1,5 +1,5 @@
 -- What a whole run leaves, beside what its program means.
-use Rattle.std.specs.Prelude.{◌≡◌, ℕ, List, [], Option, Some, None}
+use Rattle.std.specs.Prelude.{◌≡◌, ℕ, List, [], ◌++◌, Option, Some, None}
 use Rattle.ec_link.specs.declared.logged.Logged.{Logged}
 use Rattle.ec_meaning_defs.specs.observed.Observed.{answers_in}
 use Rattle.ec_meaning_defs.specs.observed.Run.{IsFront}

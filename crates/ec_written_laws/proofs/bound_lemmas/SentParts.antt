@@ -1,5 +1,5 @@
 -- Statements that pass to the server, and the DECLARE of a cursor: their references are simple, and their texts are bytes.
-use Rattle.std.proofs.Common.{◌≡◌, ℕ, zero, suc, Bool, true, false, not, ◌||◌, ◌-◌, List, [], ◌∷◌, ◌++◌, length, drop, refl, sym, ap, ◌∙◌, subst, Option, Some, None, if◌then◌else◌}
+use Rattle.std.proofs.Common.{◌≡◌, ℕ, zero, suc, Bool, true, false, not, ◌&&◌, ◌||◌, ◌-◌, List, [], ◌∷◌, ◌++◌, length, drop, refl, sym, ap, ◌∙◌, subst, Option, Some, None, if◌then◌else◌}
 use Rattle.std.specs.Prelude.{codes, ◌==◌}
 use Rattle.ec_ctypes.specs.trees.Exprs.{ExprData, identifier, member, arrow, index}
 use Rattle.ec_ctypes.specs.trees.Embedded.{HostData, TextArgData, word_arg, OutsData, listed_outs, area_outs, PartData, bytes_part, host_part, EmbKindData, declare_cursor}
