@@ -240,9 +240,9 @@ module _ (knowing : Knowing) (counts : CountsTurns knowing) (p : Program) (turns
       printed = [];
       complained = [];
       prints = prints_none held faults held' faults' out err;
-      output = ((meaning ready rest).output, refl);
-      errors = ((meaning ready rest).errors, refl);
-      conversation = ((meaning ready rest).conversation, refl);
+      output = record { rest = (meaning ready rest).output; same = refl };
+      errors = record { rest = (meaning ready rest).errors; same = refl };
+      conversation = record { rest = (meaning ready rest).conversation; same = refl };
     };
   }
 
