@@ -80,7 +80,7 @@ module _ {X : Type 0} {F : X → Type 0} (talk : DynBox X Global F → Option Ta
   answered_so growth (Err (calls.Trapped trap)) s rest says left = says line.0
   answered_so growth (Err calls.OutOfMemory) s rest says left =
       let front = left (record s { turns = turns }) rest in
-      (front.more, ap (λ t. t.conversation) (sym (settled_state line.0 (action (placed_there (seen_by m was) (answers_in growth ++ rest) (record s { turns = turns }))))) ∙ front.is)
+      (front.rest, ap (λ t. t.conversation) (sym (settled_state line.0 (action (placed_there (seen_by m was) (answers_in growth ++ rest) (record s { turns = turns }))))) ∙ front.same)
 
   pub served_made : (result : Result (Unit {0}) CallStop) → Served talk faults action m old was m' new now result
       → Made (λ w first s. settled line.0 (action s)) (position m turns (known_of old was)) (position m' turns (known_of new now)) (answer_of line result)
