@@ -1,0 +1,67 @@
+-- What is left of words behind the first one.
+use Rattle.std.proofs.Common.{◌≡◌, ◌∙◌, ℕ, ◌==◌, eqb, Bool, true, false, ◌&&◌, List, [], ◌∷◌, ◌++◌, if◌then◌else◌, drop, refl, ap, sym, absurd}
+use Rattle.std.specs.Prelude.{IsTrue, ◌↔◌, nat_eq, slice_index}
+use Rattle.std.specs.Cmp.Lexicographic.{pointwise}
+use Rattle.std.proofs.lemmas.Bool.{false≢true, eq-eqb, eqb-true}
+use Rattle.ec_sqlitelink.specs.declared.marks.Place.{Place}
+use Rattle.ec_sqlitelink.specs.declared.marks.Place.TheVariants.{Free}
+use Rattle.ec_sqlitelink.specs.Marks.{behind}
+use Rattle.ec_sqlitelink.specs.Words.{Word, is_gap, word_at, passed, word_here, words_from, words_of, behind_gap, first, others}
+
+-- what is passed over is dropped
+pub passed_over : (k : ℕ) (text : List ℕ) → words_from Free k text ≡ words_from Free 0 (drop k text)
+passed_over zero text = refl
+passed_over (suc k) [] = refl
+passed_over (suc k) (b ∷ more) = passed_over k more
+
+-- the words of a text that begins with one
+abbrev pub words_there : List ℕ → List Word
+words_there [] = []
+words_there (b ∷ more) = word_at (b ∷ more) ∷ words_from Free (passed b more) more
+
+gap_step : (place : Place) (b : ℕ) (more : List ℕ) (gap : Bool) (next : Place)
+    → words_from next 0 more ≡ words_there (behind_gap next more)
+    → word_here gap (b ∷ more) ++ words_from (if gap then next else Free) (if gap then 0 else passed b more) more
+    ≡ words_there (if gap then behind_gap next more else b ∷ more)
+gap_step place b more true next ih = ih
+gap_step place b more false next ih = refl
+
+-- the words of a text are those behind its gap
+pub behind_gaps : (place : Place) (text : List ℕ) → words_from place 0 text ≡ words_there (behind_gap place text)
+behind_gaps place [] = refl
+behind_gaps place (b ∷ more) =
+    gap_step place b more (is_gap place b (slice_index more 0)) (behind place b (slice_index more 0))
+    (behind_gaps (behind place b (slice_index more 0)) more)
+
+pub next_word : (text : List ℕ) (b : ℕ) (more : List ℕ) → behind_gap Free text ≡ b ∷ more
+    → words_of text ≡ word_at (b ∷ more) ∷ words_of (drop (passed b more) more)
+next_word text b more e =
+    behind_gaps Free text ∙ ap words_there e
+    ∙ ap (λ words. word_at (b ∷ more) ∷ words) (passed_over (passed b more) more)
+
+pub no_word : (text : List ℕ) → behind_gap Free text ≡ [] → words_of text ≡ []
+no_word text e = behind_gaps Free text ∙ ap words_there e
+
+-- ---- texts that are the same
+
+pub same_from : (a b : List ℕ) → pointwise nat_eq a b ≡ true → a ≡ b
+same_from [] [] h = refl
+same_from [] (y ∷ b) h = absurd (false≢true h)
+same_from (x ∷ a) [] h = absurd (false≢true h)
+same_from (x ∷ a) (y ∷ b) h = heads (nat_eq x y) refl h
+  where
+    heads : (t : Bool) → nat_eq x y ≡ t → (t && pointwise nat_eq a b) ≡ true → (x ∷ a) ≡ (y ∷ b)
+    heads true e h = ap (λ z. z ∷ a) (eqb-true x y e) ∙ ap (λ l. y ∷ l) (same_from a b h)
+    heads false e h = absurd (false≢true h)
+
+pub same_to : (a : List ℕ) → pointwise nat_eq a a ≡ true
+same_to [] = refl
+same_to (x ∷ a) = ap (λ t. t && pointwise nat_eq a a) (eq-eqb x x refl) ∙ same_to a
+
+pub decides_same : (r : Bool) (a b : List ℕ) → (IsTrue r ↔ (a ≡ b)) → r ≡ pointwise nat_eq a b
+decides_same true a b h = sym (ap (λ l. pointwise nat_eq l b) (h.0 refl) ∙ same_to b)
+decides_same false a b h = tested (pointwise nat_eq a b) refl
+  where
+    tested : (t : Bool) → pointwise nat_eq a b ≡ t → false ≡ t
+    tested true e = absurd (false≢true (h.1 (same_from a b e)))
+    tested false e = refl
