@@ -1,5 +1,5 @@
 -- What is left of words behind the first one.
-use Rattle.std.proofs.Common.{◌≡◌, ◌∙◌, ℕ, ◌==◌, eqb, Bool, true, false, ◌&&◌, List, [], ◌∷◌, ◌++◌, if◌then◌else◌, drop, refl, ap, sym, absurd}
+use Rattle.std.proofs.Common.{◌≡◌, ◌∙◌, ℕ, zero, suc, ◌==◌, eqb, Bool, true, false, ◌&&◌, List, [], ◌∷◌, ◌++◌, Option, Some, None, if◌then◌else◌, drop, refl, ap, sym}
 use Rattle.std.specs.Prelude.{IsTrue, ◌↔◌, nat_eq, slice_index}
 use Rattle.std.specs.Cmp.Lexicographic.{pointwise}
 use Rattle.std.proofs.lemmas.Bool.{false≢true, eq-eqb, eqb-true}
@@ -42,17 +42,32 @@ next_word text b more e =
 pub no_word : (text : List ℕ) → behind_gap Free text ≡ [] → words_of text ≡ []
 no_word text e = behind_gaps Free text ∙ ap words_there e
 
+pub first_some : (text : List ℕ) (b : ℕ) (more : List ℕ) → behind_gap Free text ≡ b ∷ more
+    → Some (word_at (b ∷ more)) ≡ first (words_of text)
+first_some text b more e = sym (ap first (next_word text b more e))
+
+pub others_some : (text : List ℕ) (b : ℕ) (more : List ℕ) → behind_gap Free text ≡ b ∷ more
+    → words_of (drop (passed b more) more) ≡ others (words_of text)
+others_some text b more e = sym (ap others (next_word text b more e))
+
+pub first_none : (text : List ℕ) → behind_gap Free text ≡ [] → None ≡ first (words_of text)
+first_none text e = sym (ap first (no_word text e))
+
+pub others_none : (text : List ℕ) → behind_gap Free text ≡ [] → [] ≡ others (words_of text)
+others_none text e = sym (ap others (no_word text e))
+
 -- ---- texts that are the same
+
+same_step : (x y : ℕ) (a b : List ℕ) (t : Bool) → nat_eq x y ≡ t → (pointwise nat_eq a b ≡ true → a ≡ b)
+    → (t && pointwise nat_eq a b) ≡ true → (x ∷ a) ≡ (y ∷ b)
+same_step x y a b true e ih h = ap (λ z. z ∷ a) (eqb-true x y e) ∙ ap (λ l. y ∷ l) (ih h)
+same_step x y a b false e ih h = absurd (false≢true h)
 
 pub same_from : (a b : List ℕ) → pointwise nat_eq a b ≡ true → a ≡ b
 same_from [] [] h = refl
 same_from [] (y ∷ b) h = absurd (false≢true h)
 same_from (x ∷ a) [] h = absurd (false≢true h)
-same_from (x ∷ a) (y ∷ b) h = heads (nat_eq x y) refl h
-  where
-    heads : (t : Bool) → nat_eq x y ≡ t → (t && pointwise nat_eq a b) ≡ true → (x ∷ a) ≡ (y ∷ b)
-    heads true e h = ap (λ z. z ∷ a) (eqb-true x y e) ∙ ap (λ l. y ∷ l) (same_from a b h)
-    heads false e h = absurd (false≢true h)
+same_from (x ∷ a) (y ∷ b) h = same_step x y a b (nat_eq x y) refl (same_from a b) h
 
 pub same_to : (a : List ℕ) → pointwise nat_eq a a ≡ true
 same_to [] = refl

@@ -51,8 +51,8 @@ fn whole(text: &[u8]) -> Option<i64>
     ensures { result ≡ whole_of text.now }
 {
     match std::str::from_utf8(text) {
-        Ok(text) => match text.parse::<i64>() {
-            Ok(number) => exact(text.as_bytes(), number),
+        Ok(written) => match written.parse::<i64>() {
+            Ok(number) => exact(text, number),
             Err(_) => None,
         },
         Err(_) => None,

@@ -1,6 +1,7 @@
 //! The words of a text for the server, one after the other.
-ghost use Rattle.std.specs.Prelude.{◌≡◌, ◌≤◌, ◌==◌, length, position, option_map};
+ghost use Rattle.std.specs.Prelude.{◌≡◌, ◌≤◌, ◌==◌, length, not, position, option_map};
 ghost use Rattle.ec_sqlitelink.specs.declared.marks.Place.TheVariants.{Free};
+ghost use Rattle.ec_sqlitelink.specs.Marks.{is_word_byte};
 ghost use Rattle.ec_sqlitelink.specs.Words.{is_comment, behind_gap, name_length, word_length, word_at, quote_passed, passed, words_of, is, takes, first, others, behind_word};
 ghost use Rattle.ec_sqlitelink.specs.Reading.{word_of, left};
 
@@ -59,14 +60,29 @@ impl<'a> Word<'a> {
     }
 }
 
+// The first quote of a text.
+fn quote_in(text: &[u8]) -> Option<usize>
+    ensures { result ≡ position (λ b. b == 34) text.now }
+{
+    text.iter().position(|byte| *byte == b'"')
+}
+
+// The first byte of a text that belongs to no word.
+fn gap_in(text: &[u8]) -> Option<usize>
+    ensures { result ≡ position (λ b. not (is_word_byte b)) text.now }
+{
+    text.iter().position(|byte| !is_word_byte(*byte))
+}
+
 // How many bytes of the text belong to a name that it goes on with.
 fn name_length(text: &[u8]) -> usize
     ensures counted { result ≡ name_length text.now }
     ensures within { result ≤ length text.now }
 {
-    text.iter()
-        .position(|byte| *byte == b'"')
-        .unwrap_or(text.len())
+    match quote_in(text) {
+        Some(at) => at,
+        None => text.len(),
+    }
 }
 
 // How many bytes of the text belong to a word that it goes on with.
@@ -74,9 +90,10 @@ fn word_length(text: &[u8]) -> usize
     ensures counted { result ≡ word_length text.now }
     ensures within { result ≤ length text.now }
 {
-    text.iter()
-        .position(|byte| !is_word_byte(*byte))
-        .unwrap_or(text.len())
+    match gap_in(text) {
+        Some(at) => at,
+        None => text.len(),
+    }
 }
 
 // The word at the front of a text.
@@ -96,7 +113,7 @@ fn quote_passed(more: &[u8]) -> usize
     ensures counted { result ≡ quote_passed (position (λ b. b == 34) more.now) more.now }
     ensures within { result ≤ length more.now }
 {
-    match more.iter().position(|byte| *byte == b'"') {
+    match quote_in(more) {
         Some(at) => at + 1,
         None => more.len(),
     }
@@ -136,7 +153,7 @@ impl<'a> Words<'a> {
     }
 
     /// Takes the next word, if one is left.
-    #[tactic(auto, using(crate::proofs::WordLemmas::next_word, crate::proofs::WordLemmas::no_word))]
+    #[tactic(auto, using(crate::proofs::WordLemmas::first_some, crate::proofs::WordLemmas::others_some, crate::proofs::WordLemmas::first_none, crate::proofs::WordLemmas::others_none))]
     pub fn next(&mut self) -> Option<Word<'a>>
         ensures word { option_map word_of result ≡ first (left self.old) }
         ensures others { left self.new ≡ others (left self.old) }
