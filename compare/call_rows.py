@@ -1,4 +1,4 @@
-"""Rows of crates/ec_run_rows (docs/ROWS.md) on programs of written C: as they are given, and what each has to leave."""
+"""Rows of crates/ec_run_rows (docs/rows/ROWS.md) on programs of written C: as they are given, and what each has to leave."""
 
 import re
 from dataclasses import dataclass, field

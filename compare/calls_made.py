@@ -4,7 +4,7 @@
     compare/calls_made.py TURNS FILE
 
 runs a program of written C without a slot. The link of a slot has a script of replies. A reply is a tuple: its kind, and what
-docs/ROWS.md says behind it, as bytes and numbers: ("rows", "I", [(name, code)], [[field]]), ("done", "I", count),
+docs/rows/ROWS.md says behind it, as bytes and numbers: ("rows", "I", [(name, code)], [[field]]), ("done", "I", count),
 ("refused", "I", state, message), ("connected",), ("notarget",) and ("broken",). A field and a parameter are bytes, or None for NULL.
 """
 

@@ -1,4 +1,4 @@
-"""Asks ec_check_rows what the checks say of texts (docs/SHOWN.md), and what rows over the definitions need."""
+"""Asks ec_text_rows what the checks say of texts (docs/rows/SHOWN.md), and what rows over the definitions need."""
 
 import re
 import subprocess
@@ -9,16 +9,16 @@ TOP = Path(__file__).resolve().parent.parent
 
 def built():
     """Proves and builds the program."""
-    folder = TOP / "crates" / "ec_check_rows"
-    subprocess.run(["rt", "run"], cwd=folder, input=b"", check=True, stdout=subprocess.DEVNULL)
-    return folder / "out" / "ec_check_rows"
+    folder = TOP / "crates" / "ec_text_rows"
+    subprocess.run(["rt", "run", "--", "checks"], cwd=folder, input=b"", check=True, stdout=subprocess.DEVNULL)
+    return folder / "out" / "ec_text_rows"
 
 
 def by_program(program, texts, written=None):
     """What the program prints of each text: `fine`, a fault with its line, or a limit. `written` tells which are written C."""
     labels = [f"written {n}" if written and written[n] else str(n) for n in range(len(texts))]
     rows = "".join(f"=== {label}\n{text}\n" for label, text in zip(labels, texts))
-    ended = subprocess.run([program], input=rows, capture_output=True, encoding="utf-8")
+    ended = subprocess.run([program, "checks"], input=rows, capture_output=True, encoding="utf-8")
     parts = re.split(r"^=== (.*)\n", ended.stdout, flags=re.M)
     if ended.returncode or parts[1::2] != labels:
         raise SystemExit(f"compare: {program} ended with {ended.returncode}: {ended.stderr}")

@@ -63,6 +63,7 @@ class Found:
     value: object = None  # an integer, "trap", or None of what is no constant
     world: bool = False  # the name of an object at file level
     fixed: bool = False  # known before the program runs, though no integer constant
+    leads: bool = False  # what `*` gives: whether its address is known before the program runs
     text: object = None  # the bytes of a literal
 
 
@@ -554,14 +555,14 @@ class Checker:
                 return Found()
             if not (o.place or o.target):
                 return self.bad(at, "F15")
-            return Found(pointer(o.type), fixed=o.world)
+            return Found(pointer(o.type), fixed=o.world or o.leads)
         o = self.value(at, e)
         if o.type is None:
             return Found()
         if op == "*":
             if not is_pointer(o.type):
                 return self.bad(at, "F14")
-            return Found(o.type[1], place=o.type[1] != VOID, target=True)
+            return Found(o.type[1], place=o.type[1] != VOID, target=True, leads=o.fixed)
         if not (scalar(o.type) if op == "!" else is_number(o.type)):
             return self.bad(at, "F14")
         if not is_number(o.type):

@@ -1,6 +1,6 @@
 """The text of a tree as the precompiler lays out C, from the rules of docs/LANGUAGE.md alone; and its printed form.
 
-A tree is a tuple whose first part names its form, as in docs/SHOWN.md. Statements, declarations and functions have their
+A tree is a tuple whose first part names its form, as in docs/rows/SHOWN.md. Statements, declarations and functions have their
 line behind the name.
 """
 
@@ -167,7 +167,7 @@ def written(tops):
     return HEAD + "".join(map(top, tops))
 
 
-# ---- the printed form of docs/SHOWN.md, on one line
+# ---- the printed form of docs/rows/SHOWN.md, on one line
 
 
 def bytes_shown(data):

@@ -1,4 +1,4 @@
-"""Runs ec_text_rows on rows (docs/SHOWN.md)."""
+"""Runs ec_text_rows on rows (docs/rows/SHOWN.md)."""
 
 import re
 import subprocess
@@ -20,7 +20,7 @@ def run(program, rows):
         lines.append(f"=== {task}: {label}")
         if text:
             lines.append(written(text))
-    ended = subprocess.run([program, "rows"], input="\n".join(lines) + "\n", capture_output=True, encoding="utf-8")
+    ended = subprocess.run([program, "texts"], input="\n".join(lines) + "\n", capture_output=True, encoding="utf-8")
     if ended.returncode:
         raise SystemExit(f"compare: {program} ended with {ended.returncode}: {ended.stderr}")
     parts = HEAD.split(ended.stdout)

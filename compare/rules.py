@@ -1,4 +1,4 @@
-"""What both readers share: stops, lines, and the printed form (docs/SHOWN.md)."""
+"""What both readers share: stops, lines, and the printed form (docs/rows/SHOWN.md)."""
 
 FAULTS = {
     1: "F1 unclosed comment",

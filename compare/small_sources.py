@@ -5,6 +5,8 @@ refusal, the whole C, or parts of it.
 """
 
 SOURCES, LARGE, TOLD = {}, {}, {}
+# How `run` ends that reads what is written: a call with a member more has 4,097 postfix parts, which is L3.
+RUN = {"deep-host-4095": 0, "deep-host-4096": 71, "deep-host-4097": 71}
 MAIN = "int main(void) { return 0; }\n"
 OPEN, CLOSE = "EXEC SQL BEGIN DECLARE SECTION;\n", "EXEC SQL END DECLARE SECTION;\n"
 
@@ -44,6 +46,12 @@ return 0;
 """
 
 
+def deep_host(n):
+    """A host whose one leaf lies in so many structs."""
+    structs = "".join(f"struct s{i} {{ struct s{i - 1} m; }};\n" for i in range(2, n + 1))
+    return "struct s1 { int a; };\n" + structs + OPEN + f"struct s{n} h;\n" + CLOSE + main("EXEC SQL SELECT a INTO :h;")
+
+
 def told():
     """What the answers to some sources have to be."""
     for name, text in {
@@ -57,6 +65,8 @@ def told():
         LARGE[f"operators-{n}"] = f"int main(void) {{ return 0{' + 0' * n}; }}"
     for n in (2**24, 2**24 + 1):
         LARGE[f"blanks-{n}"] = " " * n
+    for n in (4095, 4096, 4097):
+        LARGE[f"deep-host-{n}"] = deep_host(n)
     TOLD.update({
         "select": SELECT_WRITTEN.replace("\\\n", ""), "empty": "F20 1", "cursor-of-another": "F28 6", "nested-65": "L3",
         "inputs-1001": "L4",
@@ -69,6 +79,7 @@ def told():
         "array-of-structs": ["ECPGt_char, &a[0].c, 1L, 2L, 8L, ", "ECPGt_int, &a[0].n, 0L, 2L, 8L, "],
         "sent": ['"select a,b from \\"T x\\" where c=$1::int and s=\'a  b\'", ECPGt_int, &x, 0L, 1L, 4L, '.replace('\\"',
         '\\042')],
+        **{f"deep-host-{n}": [f", ECPGt_int, &h{'.m' * (n - 1)}.a, 0L, 1L, 4L, "] for n in (4095, 4096, 4097)},
         "nested-64": [], "inputs-1000": [], "members-1000-output": [], "large-array": [], "stars-64": [], "operators-4096": [],
     })
 

@@ -1,5 +1,5 @@
 #!/usr/bin/env python3
-"""Compares the rows of crates/ec_sqlite_rows with what SQLite itself answers, by Python's module sqlite3.
+"""Compares the rows `sqlite` of crates/ec_base_rows with what SQLite itself answers, by Python's module sqlite3.
 
 Where the library refuses a statement its state is compared and not its message. A prepared statement that is executed is
 compared by its text. Transaction control is written as SQLite has it, by PostgreSQL's rules; compare/run_controls asks
@@ -12,7 +12,7 @@ import sqlite3
 import sys
 from pathlib import Path
 
-ROWS = Path(__file__).resolve().parent.parent / "crates" / "ec_sqlite_rows"
+ROWS = Path(__file__).resolve().parent.parent / "crates" / "ec_base_rows"
 LINK_ONLY = re.compile(r"(?i)^(prepare|deallocate|connect|close)\b|^text (declare|fetch|close)\b")
 SKIPPED = re.compile(r"('[^']*'|\"[^\"]*\"|/\*.*?\*/|--[^\n]*)|\$(\d)")
 FIRST_WORD = re.compile(r"(?is)(\s|/\*.*?\*/|--[^\n]*\n?)*(\w*)")
@@ -98,11 +98,17 @@ def answer(connection, text, params):
     return printed_rows(connection, [column[0] for column in cursor.description], rows)
 
 
+def section(name):
+    """The section of the rows in a file."""
+    parts = re.split(r"^section (.*)\n", (ROWS / name).read_text(), flags=re.M)[1:]
+    return dict(zip(parts[::2], parts[1::2]))["sqlite"]
+
+
 def stored():
     """The lines of the input, each with what stands below it in the output."""
-    output = (ROWS / "stdout").read_text().splitlines()
+    output, given = (section(name).splitlines() for name in ("stdout", "stdin"))
     at = 0
-    for line in (ROWS / "stdin").read_text().splitlines():
+    for line in given:
         assert output[at] == line, (output[at], line)
         end = at + 1
         while end < len(output) and output[end].startswith(" "):

@@ -162,8 +162,9 @@ class Statements:
         return self.words("WHENEVER") + condition + self.random.choice((call, jump, plain))()
 
     def include(self):
+        path = self.one_of([".", ".", "/", "f"], ["/", "f"], ["sqlca", ".", "h"], ["sqlca"] + self.any_token(), self.any_token())
         return self.words("INCLUDE") + self.one_of(self.words("sqlca"), self.words("SQLCA"), self.name(), ['"f"'], ["<", "f", ">"],
-                                                   ["5"], [])
+                                                   ["'f'"], ["5"], [], path)
 
     def transaction(self):
         tokens = self.words(self.one_of("BEGIN", "START", "COMMIT", "END", "ROLLBACK", "ABORT", "SAVEPOINT", "RELEASE"))

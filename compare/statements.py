@@ -28,6 +28,14 @@ class Stop(Exception):
     """A fault or a limit, as it is printed."""
 
 
+class NoIndex(Exception):
+    """A number of 2^63 or more that stands as an index: no form goes on with it."""
+
+    def __init__(self, place):
+        super().__init__(place)
+        self.place = place
+
+
 def fault(name, text, line):
     return Stop(f"{name} {text} at line {line}")
 
@@ -536,6 +544,8 @@ class Form:
 class Texts(Form):
     """Statements that pass to the server: hosts and the INTO list cut out of any tokens."""
 
+    suffixes = ()  # where a reference that was read had a suffix too many, when one stops at its index
+
     def longest_reference(self, at):
         """A reference is as long as it can be: its end and tree, and where it has a suffix too many."""
         tokens = self.tokens
@@ -552,6 +562,10 @@ class Texts(Form):
                 new, end = f"({form} {tree} {printed_bytes(tokens[at + 1].text)})", at + 2
             elif tokens[at].is_mark(b"[") and tight(at + 1) and tight(at + 2) and tokens[at + 2].is_mark(b"]"):
                 index = tokens[at + 1]
+                if index.sort == "number" and index.text.isdigit() and integer(index) is None:
+                    if suffixes >= MOST_SUFFIXES:
+                        self.suffixes += (("suffix", at),)
+                    raise NoIndex(at + 1)
                 index = printed_bytes(index.text) if index.sort == "word" else integer(index)
                 if index is None:
                     break
@@ -561,6 +575,7 @@ class Texts(Form):
             suffixes += 1
             if suffixes == MOST_SUFFIXES + 1:
                 limits.append(("suffix", at))
+                self.suffixes += (("suffix", at),)
             tree, at = new, end
         return at, tree, limits
 
@@ -615,12 +630,17 @@ class Texts(Form):
                     at, outs, more = self.cut_list(at + 1)
                 except Stop:
                     return None, self.farthest, limits, outs
+                except NoIndex as stop:
+                    return None, stop.place, [*limits, *self.suffixes], outs
                 limits += more
                 cut = True
                 continue
             blank = b" " if not first and (tokens[at].gap or cut) else b""
             cut = first = False
-            host = self.host_here(at)
+            try:
+                host = self.host_here(at)
+            except NoIndex as stop:
+                return None, stop.place, [*limits, ("input", at), *self.suffixes], outs
             text += blank
             if host is not None:
                 if text:
@@ -657,8 +677,9 @@ def is_left_out(tokens):
         return True
     if first.is_word("INCLUDE"):
         second = tokens[1]
-        return (second.sort == "word" and not second.is_word("SQLCA")) or second.is_mark(b"<") or (
-            second.sort == "quote" and second.text[:1] == b'"')
+        if second.is_word("SQLCA") and tokens[2].is_mark(b";"):
+            return False
+        return second.sort in ("word", "quote") or (second.sort == "mark" and second.text in (b"<", b".", b"/"))
     if first.is_word("PREPARE") and tokens[1].sort == "word" and word(2, "AS"):
         return True
     if first.is_word("DECLARE") and tokens[1].sort == "word" and word(2, "STATEMENT", "BINARY"):

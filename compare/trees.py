@@ -1,4 +1,4 @@
-"""Trees of derivations, in the printed form, by docs/LANGUAGE.md and docs/SHOWN.md."""
+"""Trees of derivations, in the printed form, by docs/LANGUAGE.md and docs/rows/SHOWN.md."""
 
 from rules import quoted
 from tokens import shown

@@ -1,132 +1,75 @@
-//! Rows of the calls that every crate stands on: of `ec_base` and `ec_link`. Each line of standard input is a call, and is
-//! printed with what it answers. `docs/ROWS.md` has the form of the lines.
+//! Rows of what stands at the bottom: lists, streams and links, layout and memory, values, the functions that programs
+//! call, and SQLite. Each subject has its section (`ec_rows`).
 #![tactic(auto)]
 
-mod links;
-mod lists;
-mod names;
-mod streams;
-mod words;
+mod answers;
+mod ground;
+mod memory;
+mod sqlite;
+mod stdlib;
+mod values;
 
-use crate::lists::ListStep;
-use crate::words::{cut, end_line, numbers};
-use ec_base::{Bytes, InputStop, List, OutOfMemory, StdSink, StdSource, put_all, read_all};
-use std::alloc::Global;
+use crate::memory::State;
+use crate::stdlib::Calls;
+use crate::values::Values;
+use ec_base::Bytes;
+use ec_rows::{Failure, Sections, show_input, text_of};
 use std::process::ExitCode;
 
-/// What is called by a line.
+// What the rows of a section are about.
 #[derive(Clone, Copy)]
-enum Calls {
-    Copies,
-    Boxed,
-    Name,
-    Names,
-    Read,
-    Put,
-    Reader,
-    Writer,
-    Table,
-    Link,
+enum Subject {
+    Ground,
+    Memory,
+    Values,
+    Stdlib,
+    Sqlite,
 }
 
-/// The word that names each.
-const CALLS: [(&str, Calls); 10] = [
-    ("copies", Calls::Copies),
-    ("boxed", Calls::Boxed),
-    ("name", Calls::Name),
-    ("names", Calls::Names),
-    ("read", Calls::Read),
-    ("put", Calls::Put),
-    ("reader", Calls::Reader),
-    ("writer", Calls::Writer),
-    ("table", Calls::Table),
-    ("link", Calls::Link),
+/// The name of each section.
+const SUBJECTS: [(&str, Subject); 5] = [
+    ("ground", Subject::Ground),
+    ("memory", Subject::Memory),
+    ("values", Subject::Values),
+    ("stdlib", Subject::Stdlib),
+    ("sqlite", Subject::Sqlite),
 ];
 
-// What a word names.
-fn calls_of(word: &str) -> Option<Calls> {
-    for (written, calls) in CALLS {
-        if written == word {
-            return Some(calls);
+// The subject of this name.
+fn subject_named(name: &[u8]) -> Option<Subject> {
+    for (known, subject) in SUBJECTS {
+        if known.as_bytes() == name {
+            return Some(subject);
         }
     }
     None
 }
 
-// Makes a call, and prints what it answers.
-fn make(alloc: Global, calls: Calls, rest: &str, out: &mut Bytes) -> Result<(), OutOfMemory> {
-    match calls {
-        Calls::Copies => lists::copies(alloc, rest, out),
-        Calls::Boxed => lists::boxed(alloc, rest, out),
-        Calls::Name => names::name(alloc, rest, out),
-        Calls::Names => names::names(out),
-        Calls::Read => streams::read(alloc, rest, out),
-        Calls::Put => streams::put(alloc, rest, out),
-        Calls::Reader => streams::reader(alloc, rest, out),
-        Calls::Writer => streams::writer(alloc, rest, out),
-        Calls::Table => links::table(alloc, rest, out),
-        Calls::Link => links::link(alloc, rest, out),
-    }
-}
+// The sections of this program.
+struct Rows;
 
-// Does what a line says. Where it is a step with a list, that is `list`.
-fn follow(
-    alloc: Global,
-    line: &str,
-    list: &mut List<u8>,
-    out: &mut Bytes,
-) -> Result<(), OutOfMemory> {
-    let (word, rest) = cut(line);
-    if let Some(step) = ListStep::named(word) {
-        lists::step(alloc, step, numbers(alloc, rest)?.as_slice(), list, out)?;
-        return lists::show(list, out);
-    }
-    match calls_of(word) {
-        Some(calls) => make(alloc, calls, rest, out),
-        None => {
-            out.extend_from_slice(b" no call")?;
-            end_line(out)
+impl Sections for Rows {
+    fn show(
+        &self,
+        rt: &HostRuntime,
+        name: &[u8],
+        rows: &[u8],
+        out: &mut Bytes,
+    ) -> Result<(), Failure> {
+        let alloc = rt.alloc();
+        let subject = subject_named(name).ok_or(Failure::Usage)?;
+        let rows = text_of(rows)?;
+        match subject {
+            Subject::Ground => ground::show(alloc, rows, out)?,
+            Subject::Memory => answers::show(alloc, &mut State::new(alloc), rows, out)?,
+            Subject::Values => answers::show(alloc, &mut Values::new(alloc), rows, out)?,
+            Subject::Stdlib => answers::show(alloc, &mut Calls::new(alloc), rows, out)?,
+            Subject::Sqlite => sqlite::show(rt, rows, out)?,
         }
-    }
-}
-
-// What all lines are answered.
-fn answers(alloc: Global, text: &str) -> Result<Bytes, OutOfMemory> {
-    let mut list = List::new(alloc);
-    let mut out = Bytes::new(alloc);
-    for line in text.lines() {
-        out.extend_from_slice(line.as_bytes())?;
-        end_line(&mut out)?;
-        if !line.is_empty() && !line.starts_with("#") {
-            follow(alloc, line, &mut list, &mut out)?;
-        }
-    }
-    Ok(out)
-}
-
-// The lines of standard input.
-fn input(rt: &HostRuntime) -> Result<Bytes, InputStop> {
-    read_all(rt.alloc(), &mut StdSource::new(rt.stdin()), 1 << 20)
-}
-
-// Makes the calls that standard input says. Whether it was done.
-fn run(rt: &HostRuntime) -> bool {
-    let Ok(bytes) = input(rt) else {
-        return false;
-    };
-    let Ok(text) = std::str::from_utf8(bytes.as_slice()) else {
-        return false;
-    };
-    match answers(rt.alloc(), text) {
-        Ok(out) => put_all(&mut StdSink::new(rt.stdout()), out.as_slice()).is_ok(),
-        Err(OutOfMemory) => false,
+        Ok(())
     }
 }
 
 fn main(rt: HostRuntime) -> ExitCode {
-    if run(&rt) {
-        ExitCode::SUCCESS
-    } else {
-        ExitCode::FAILURE
-    }
+    show_input(&rt, &Rows)
 }

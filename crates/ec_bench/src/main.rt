@@ -1,13 +1,17 @@
-//! Reads a source on standard input by one part of the precompiler, and prints how much it found, so that the part can be
-//! measured: `ec_bench pieces`, `tokens`, `syntax`, `written`, `statements` or `checks`.
+//! Does what is measured. `ec_bench pieces`, `tokens`, `syntax`, `written`, `statements` and `checks` read a source on
+//! standard input by one part of the precompiler, and print how much it found. `ec_bench load`, `store`, `move` and `make` do
+//! one thing with the memory of a C program again and again, and print how often that went well.
 #![tactic(auto)]
 
 mod count;
+mod memory;
 
 use crate::count::{
     count_checked, count_pieces, count_statements, count_tokens, count_tops, count_written,
 };
+use crate::memory::{Work, count_done};
 use ec_base::{InputStop, OutOfMemory, StdSource, Stop, read_all};
+use ec_memory::MakeStop;
 use std::alloc::Global;
 use std::env;
 use std::process::ExitCode;
@@ -47,7 +51,16 @@ impl From<Stop> for Failure {
     }
 }
 
-// What is counted.
+impl From<MakeStop> for Failure {
+    fn from(stop: MakeStop) -> Failure {
+        match stop {
+            MakeStop::OutOfMemory => Failure::OutOfMemory,
+            MakeStop::Spent => Failure::Stopped,
+        }
+    }
+}
+
+// What of a source is counted.
 #[derive(Clone, Copy)]
 enum Part {
     Pieces,
@@ -58,36 +71,44 @@ enum Part {
     Checks,
 }
 
-// The part that a word names.
-fn part_named(word: &str) -> Option<Part> {
-    if word == "pieces" {
-        return Some(Part::Pieces);
-    }
-    if word == "tokens" {
-        return Some(Part::Tokens);
-    }
-    if word == "syntax" {
-        return Some(Part::Syntax);
-    }
-    if word == "written" {
-        return Some(Part::Written);
-    }
-    if word == "statements" {
-        return Some(Part::Statements);
-    }
-    if word == "checks" {
-        return Some(Part::Checks);
+// What is measured.
+#[derive(Clone, Copy)]
+enum Measured {
+    Source(Part),
+    Memory(Work),
+}
+
+/// The word that names each.
+const MEASURED: [(&str, Measured); 10] = [
+    ("pieces", Measured::Source(Part::Pieces)),
+    ("tokens", Measured::Source(Part::Tokens)),
+    ("syntax", Measured::Source(Part::Syntax)),
+    ("written", Measured::Source(Part::Written)),
+    ("statements", Measured::Source(Part::Statements)),
+    ("checks", Measured::Source(Part::Checks)),
+    ("load", Measured::Memory(Work::Load)),
+    ("store", Measured::Memory(Work::Store)),
+    ("move", Measured::Memory(Work::Move)),
+    ("make", Measured::Memory(Work::Make)),
+];
+
+// What a word names.
+fn measured_by(word: &str) -> Option<Measured> {
+    for (known, measured) in MEASURED {
+        if known == word {
+            return Some(measured);
+        }
     }
     None
 }
 
-// The part that the words behind the program's name ask for.
-fn asked_for(rt: &HostRuntime) -> Option<Part> {
+// What the words behind the program's name ask for.
+fn asked_for(rt: &HostRuntime) -> Option<Measured> {
     match env::args(rt) {
         Ok(all) => {
             let mut words = all.skip(1);
             match (words.next(), words.next()) {
-                (Some(word), None) => part_named(word.as_str()),
+                (Some(word), None) => measured_by(word.as_str()),
                 _ => None,
             }
         }
@@ -110,13 +131,17 @@ fn count_of(alloc: Global, part: Part, text: &[u8]) -> Result<usize, Failure> {
     }
 }
 
-fn run(rt: &HostRuntime) -> Result<usize, Failure> {
+// How many parts of this kind standard input has.
+fn count_read(rt: &HostRuntime, part: Part) -> Result<u64, Failure> {
+    let mut input = StdSource::new(rt.stdin());
+    let text = read_all(rt.alloc(), &mut input, MAX_TEXT)?;
+    Ok(count_of(rt.alloc(), part, text.as_slice())? as u64)
+}
+
+fn run(rt: &HostRuntime) -> Result<u64, Failure> {
     match asked_for(rt) {
-        Some(part) => {
-            let mut input = StdSource::new(rt.stdin());
-            let text = read_all(rt.alloc(), &mut input, MAX_TEXT)?;
-            count_of(rt.alloc(), part, text.as_slice())
-        }
+        Some(Measured::Source(part)) => count_read(rt, part),
+        Some(Measured::Memory(work)) => Ok(count_done(rt.alloc(), work)?),
         None => Err(Failure::Usage),
     }
 }

@@ -38,7 +38,7 @@ written_end xs at piece whole =
     ap (λ rest. take at xs ++ piece ++ rest) (drop_all (at + length piece) xs (omega arith)) ∙ append-nil (take at xs ++ piece)
 
 -- items in the middle of the first ones
-part_front : (xs : List ℕ) (len at n : ℕ) → at + n ≤ len → take n (drop at (take len xs)) ≡ take n (drop at xs)
+pub part_front : (xs : List ℕ) (len at n : ℕ) → at + n ≤ len → take n (drop at (take len xs)) ≡ take n (drop at xs)
 part_front xs len at n fits =
     let whole : len ≡ at + (len - at) = omega arith in
     ap (λ m. take n (drop at (take m xs))) whole

@@ -1,5 +1,5 @@
 -- A region of memory is a list of cells, of which it keeps the bytes and the marks.
-use Rattle.std.specs.Prelude.{ℕ, zero, suc, ◌≤◌, None, Some, List, [], ◌∷◌, length, take}
+use Rattle.std.specs.Prelude.{ℕ, zero, suc, ◌-◌, ◌*◌, ◌≤◌, None, Some, List, [], ◌∷◌, length, take}
 use Rattle.ec_memory_defs.specs.Cells.{Cell}
 
 -- the cells of bytes and of marks: a byte is set where its mark is 1
@@ -24,3 +24,7 @@ run_of [] = []
 run_of (None ∷ cells) = []
 run_of (Some zero ∷ cells) = []
 run_of (Some (suc b) ∷ cells) = suc b ∷ run_of cells
+
+-- there is room for the bytes of so many cells, and for their marks
+abbrev pub Roomy : ℕ → List ℕ → Type 0
+Roomy room memory = (room ≤ length memory) × (room ≤ 8 * (length memory - room - 8))

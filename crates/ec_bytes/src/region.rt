@@ -6,11 +6,12 @@ ghost use Rattle.ec_bytes.specs.Region.{run_of};
 ghost use Rattle.ec_bytes.specs.Scalars.{HoldBytes};
 ghost use Rattle.ec_memory_defs.specs.Cells.{bytes_of, part_of, filled_cells, set_cells, unset_cells, value_of, written};
 
-use crate::parts::{
-    SET, all_set, clear, decode, encode, make_room, part, put, run_length, shift, spread,
-};
+use crate::bits::{all_set, mark, move_marks};
+use crate::growth::make_room;
+use crate::parts::{decode, encode, part, put, run_length, shift, spread};
 use crate::scalar::Scalar;
 use ec_base::OutOfMemory;
+use ec_raw::Block;
 use std::alloc::Global;
 use std::marker::Model;
 
@@ -18,22 +19,23 @@ use std::marker::Model;
 /// holds nothing is what ISO/IEC 9899:1999 calls indeterminate (6.2.4, 6.7.8).
 #[derive(Debug, Drop)]
 pub struct Region {
-    // Behind the first `len` of both stand those of cells that were dropped.
-    bytes: Vec<u8>,
-    set: Vec<u8>,
+    // The bytes of `room` cells, and behind them a mark for each. Those behind the first `len` are of no cell.
+    block: Block,
+    room: usize,
     len: usize,
 }
 
 impl Model for Region {
-    ghost use Rattle.std.specs.Prelude.{List};
+    ghost use Rattle.std.specs.Prelude.{List, ◌≤◌};
     ghost use Rattle.ec_memory_defs.specs.Cells.{Cell};
-    ghost use Rattle.ec_bytes.specs.Region.{Holds, held};
+    ghost use Rattle.ec_bytes.specs.Bits.{marks_of};
+    ghost use Rattle.ec_bytes.specs.Region.{Roomy, held};
 
     ghost Value = { List Cell };
 
-    ghost view = { λ r. held r.len r.bytes.items r.set.items };
+    ghost view = { λ r. held r.len r.block (marks_of r.room r.block) };
 
-    ghost invariant = { λ r. Holds r.len r.bytes.items r.set.items };
+    ghost invariant = { λ r. (r.len ≤ r.room) × Roomy r.room r.block };
 }
 
 impl Region {
@@ -42,8 +44,8 @@ impl Region {
         ensures { result ≡ [] }
     {
         Region {
-            bytes: Vec::new(alloc),
-            set: Vec::new(alloc),
+            block: Block::new(alloc),
+            room: 0,
             len: 0,
         }
     }
@@ -67,9 +69,9 @@ impl Region {
         let Some(len) = start.checked_add(n) else {
             return Err(OutOfMemory);
         };
-        make_room(&mut self.bytes, len)?;
-        make_room(&mut self.set, len)?;
-        clear(&mut self.set, start, n);
+        make_room(&mut self.block, &mut self.room, len)?;
+        let room = self.room;
+        mark(self.block.bytes_mut(), room, start, n, false);
         self.len = len;
         Ok(start)
     }
@@ -88,8 +90,9 @@ impl Region {
         ensures cells { option_map (λ piece. piece.now) result ≡ bytes_of (part_of self.now at n) }
         ensures length { IfSome result (λ piece. length piece.now ≡ n) }
     {
-        if all_set(&self.set, at, n) {
-            Some(part(&self.bytes, at, n))
+        let memory = self.block.bytes();
+        if all_set(memory, self.room, at, n) {
+            Some(part(memory, at, n))
         } else {
             None
         }
@@ -100,9 +103,9 @@ impl Region {
         requires { at + n ≤ length self.now }
         ensures { result.now ≡ run_of (part_of self.now at n) }
     {
-        let bytes = part(&self.bytes, at, n);
-        let count = run_length(bytes, part(&self.set, at, n));
-        part(bytes, 0, count)
+        let memory = self.block.bytes();
+        let count = run_length(memory, self.room, at, n);
+        part(memory, at, count)
     }
 
     /// Writes the bytes of `piece` from `at` on. They fit the region.
@@ -111,8 +114,10 @@ impl Region {
         ensures cells { self.new ≡ written self.old at (set_cells piece.now) }
         ensures length { length self.new ≡ length self.old }
     {
-        put(&mut self.bytes, at, piece);
-        spread(&mut self.set, at, piece.len(), SET);
+        let room = self.room;
+        let memory = self.block.bytes_mut();
+        put(memory, at, piece);
+        mark(memory, room, at, piece.len(), true);
     }
 
     /// Writes `byte` into each of the `n` cells from `at` on, which lie in the region.
@@ -121,8 +126,10 @@ impl Region {
         ensures cells { self.new ≡ written self.old at (filled_cells n byte) }
         ensures length { length self.new ≡ length self.old }
     {
-        spread(&mut self.bytes, at, n, byte);
-        spread(&mut self.set, at, n, SET);
+        let room = self.room;
+        let memory = self.block.bytes_mut();
+        spread(memory, at, n, byte);
+        mark(memory, room, at, n, true);
     }
 
     /// Copies the `n` cells from `from` on, the unset ones too, to those from `to` on. Both lie in the region, and may
@@ -133,8 +140,10 @@ impl Region {
         ensures cells { self.new ≡ written self.old to (part_of self.old from n) }
         ensures length { length self.new ≡ length self.old }
     {
-        shift(&mut self.bytes, from, to, n);
-        shift(&mut self.set, from, to, n);
+        let room = self.room;
+        let memory = self.block.bytes_mut();
+        shift(memory, from, to, n);
+        move_marks(memory, room, from, to, n);
     }
 
     /// Takes the bytes out of the `n` cells from `at` on, which lie in the region, so that they are unset.
@@ -143,7 +152,8 @@ impl Region {
         ensures cells { self.new ≡ written self.old at (unset_cells n) }
         ensures length { length self.new ≡ length self.old }
     {
-        clear(&mut self.set, at, n);
+        let room = self.room;
+        mark(self.block.bytes_mut(), room, at, n, false);
     }
 
     /// The place of item `i` of those from `at` on that begin at each `step` cells. It lies in the region.
@@ -173,7 +183,9 @@ impl Region {
         ensures cells { self.new ≡ written self.old at (set_cells (T.encode value)) }
         ensures length { length self.new ≡ length self.old }
     {
-        encode(&mut self.bytes, at, value);
-        spread(&mut self.set, at, T::SIZE, SET);
+        let room = self.room;
+        let memory = self.block.bytes_mut();
+        encode(memory, at, value);
+        mark(memory, room, at, T::SIZE, true);
     }
 }

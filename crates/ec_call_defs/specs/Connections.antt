@@ -10,7 +10,7 @@ use Rattle.ec_link.specs.declared.request.Request.{Request}
 use Rattle.ec_link.specs.declared.request.Request.TheVariants as request
 use Rattle.ec_transfer_defs.specs.declared.finding.Finding.TheVariants as found
 use Rattle.ec_meaning_defs.specs.evaluation.State.{Answer, Connection, State}
-use Rattle.ec_call_defs.specs.Outcomes.{Text, waiting, Outcome, gives, over, next, raised}
+use Rattle.ec_call_defs.specs.Outcomes.{Text, waiting, Outcome, gives, over, next, heard, raised}
 
 -- names compare byte for byte
 abbrev pub same_name : Text → Text → Bool
@@ -42,8 +42,8 @@ connection_for line name s = connection_of line (wanted_name name s) s
 -- ---- what a reply tells of its transaction
 
 abbrev pub told_by : Reply → Option Tx
-told_by (Rows table tx) = Some tx
-told_by (Done count tx) = Some tx
+told_by (Rows table tx notice) = Some tx
+told_by (Done count tx notice) = Some tx
 told_by (Refused state message tx) = Some tx
 told_by Connected = None
 told_by NoTarget = None
@@ -80,10 +80,10 @@ asked slot request s = answered slot request s.answers s
 
 -- ---- transactions
 
--- a reply to transaction control: it was carried out, or the call ends
+-- a reply to transaction control: it was carried out, with a notice or without, or the call ends
 abbrev pub controlled : ℕ → Reply → State → Outcome (Unit {0})
-controlled line (Rows table tx) s = gives tt s
-controlled line (Done count tx) s = gives tt s
+controlled line (Rows table tx notice) s = gives tt (heard notice s)
+controlled line (Done count tx notice) s = gives tt (heard notice s)
 controlled line (Refused state message tx) s = raised line found.ControlRefused s
 controlled line Connected s = raised line found.ControlRefused s
 controlled line NoTarget s = raised line found.ControlRefused s

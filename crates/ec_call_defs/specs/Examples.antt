@@ -1,5 +1,5 @@
 -- Calls as the worked examples make them, and what is seen of them.
-use Rattle.std.specs.Prelude.{ℕ, Bool, true, ℤ, pos, List, [], ◌∷◌, map, drop, codes, Option, Some, None}
+use Rattle.std.specs.Prelude.{ℕ, Bool, true, false, ℤ, pos, List, [], ◌∷◌, map, drop, codes, Option, Some, None}
 use Rattle.ec_arguments.specs.Arguments.{absent, word, Member, host, descriptor, normal, Call, run}
 use Rattle.ec_ctypes.specs.Arithmetic.{converted}
 use Rattle.ec_ctypes.specs.declared.checked.library.Sym.TheVariants as sym
@@ -66,7 +66,8 @@ columns [] = []
 columns (name ∷ names) = record { name = name; code = pos 4 } ∷ columns names
 
 abbrev pub rows_told : Tx → List Text → List (List Field) → Reply
-rows_told tx names rows = reply.Rows (record { cols = columns names; rows = rows }) tx
+rows_told tx names rows =
+    reply.Rows (record { cols = columns names; rows = rows }) tx false
 
 abbrev pub rows_of : List Text → List (List Field) → Reply
 rows_of names rows = rows_told Idle names rows
@@ -76,7 +77,13 @@ abbrev pub column : List Text → Reply
 column texts = rows_of (codes "a" ∷ []) (map (λ text. Some text ∷ []) texts)
 
 abbrev pub done : Option ℕ → Reply
-done count = reply.Done count Idle
+done count = reply.Done count Idle false
+
+-- the same with a notice of the server
+abbrev pub noted : Reply → Reply
+noted (reply.Rows table tx notice) = reply.Rows table tx true
+noted (reply.Done count tx notice) = reply.Done count tx true
+noted other = other
 
 abbrev pub denied : Text → Text → Reply
 denied sqlstate message = reply.Refused (record { 0 = sqlstate }) message Idle
@@ -206,6 +213,10 @@ fails code sqlstate count objects said = (goes_on, code, sqlstate, count, object
 abbrev pub connections_left : Call ℕ → State → List Connection × Option Text
 connections_left call s =
     ((left_by (call_done 3 call s)).connections, (left_by (call_done 3 call s)).current)
+
+-- the first three warnings, of any kind, of a value that was cut and of a notice: 87 is a W
+abbrev pub warnings_left : Call ℕ → State → List ℕ
+warnings_left call s = area_part (left_by (call_done 3 call s)).memory 240 3
 
 abbrev pub descriptors_left : Call ℕ → State → List (Text × List Item)
 descriptors_left call s = (left_by (call_done 3 call s)).descriptors

@@ -1,10 +1,10 @@
 -- What a part of a library call leads to, and how a call goes on from there.
-use Rattle.std.specs.Prelude.{ℕ, ℤ, List, Option, Some, None, Result, Ok, Err}
+use Rattle.std.specs.Prelude.{ℕ, ℤ, Bool, true, false, List, Option, Some, None, Result, Ok, Err}
 use Rattle.ec_base.specs.declared.stop.Trap.{Trap}
 use Rattle.ec_link.specs.declared.request.Request.{Request}
 use Rattle.ec_memory_defs.specs.Memory.{Memory}
 use Rattle.ec_transfer_defs.specs.declared.finding.Finding.{Finding}
-use Rattle.ec_transfer_defs.specs.Area.{area_reset, area_raised, area_warned, area_counted}
+use Rattle.ec_transfer_defs.specs.Area.{area_reset, area_raised, area_warned, area_noticed, area_counted}
 use Rattle.ec_transfer_defs.specs.Codes.{code_of, state_of, text_of_finding}
 use Rattle.ec_meaning_defs.specs.evaluation.State.{State}
 
@@ -58,6 +58,10 @@ told_area code state message line m = area_raised m code state message line
 unfoldable pub warned_area : Memory → Memory
 warned_area m = area_warned m
 
+-- behind a notice of the server
+unfoldable pub noticed_area : Memory → Memory
+noticed_area m = area_noticed m
+
 -- behind a number of rows
 unfoldable pub counted_area : ℕ → Memory → Memory
 counted_area n m = area_counted m n
@@ -71,6 +75,15 @@ refused line code state message s =
 abbrev pub raised : {A : Type 0} → ℕ → Finding → State → Outcome A
 raised line finding s =
     refused line (code_of finding) (state_of finding) (text_of_finding finding) s
+
+-- behind an answer with a notice of the server or without one
+abbrev pub noticed : Bool → Memory → Memory
+noticed true m = noticed_area m
+noticed false m = m
+
+-- a notice is told before anything else is made of its answer
+abbrev pub heard : Bool → State → State
+heard notice s = with_memory (noticed notice s.memory) s
 
 -- the area is set to its opening value
 abbrev pub begun_area : State → Outcome (Unit {0})

@@ -2,7 +2,7 @@
 #![tactic(none)]
 
 ghost use Rattle.std.specs.Prelude.{◌≡◌, ◌-◌, true, false, pos, negsuc, [], ◌∷◌, ◌++◌, Some, None, codes, replicate};
-ghost use Rattle.ec_arguments.specs.Arguments.{absent, word, held, host, constant, descriptor, normal, prepared, immediate, opening, run};
+ghost use Rattle.ec_arguments.specs.Arguments.{absent, word, held, host, constant, descriptor, normal, prepared, immediate, opening, run, disconnect, set_autocommit, control, prepare};
 ghost use Rattle.ec_base.specs.declared.stop.Trap.TheVariants as trap;
 ghost use Rattle.ec_ctypes.specs.declared.checked.library.Sym.TheVariants as sym;
 ghost use Rattle.ec_link.specs.declared.reply.Reply.TheVariants as reply;
@@ -10,7 +10,7 @@ ghost use Rattle.ec_link.specs.declared.reply.Tx.TheVariants as tx;
 ghost use Rattle.ec_link.specs.declared.request.Request.TheVariants as request;
 ghost use Rattle.ec_memory_defs.specs.Cells.{set_cells, unset_cells};
 ghost use Rattle.ec_memory_defs.specs.Memory.{alive, ended, pointer_to};
-ghost use Rattle.ec_call_defs.specs.Examples.{link, ready, state, bytes, small, from, rows_told, rows_of, column, done, denied, int_in, int_told, chars_in, ints_in, goes_on, halts, does, runs, over_ready, text_sent, well, fails, connections_left};
+ghost use Rattle.ec_call_defs.specs.Examples.{link, ready, state, bytes, small, from, rows_told, rows_of, column, done, noted, denied, int_in, int_told, chars_in, ints_in, goes_on, halts, does, runs, over_ready, text_sent, well, fails, connections_left, warnings_left};
 ghost use Rattle.ec_call_defs.specs.Outcomes.{trapped, waiting};
 
 /// One row into one host, with an indicator and without.
@@ -154,7 +154,7 @@ pub fn reply_examples()
     ensures no_target { runs [] [] (over_ready [] (reply.NoTarget ∷ []))
         ≡ fails (negsuc 399) (codes "08P01") (pos 0) [] (text_sent [] ∷ []) }
     ensures told { connections_left (run absent (normal []) [] []) (over_ready [] (reply.Done None
-        tx.Failed ∷ []))
+        tx.Failed false ∷ []))
         ≡ (link (codes "db") 0 true tx.Failed ∷ [], Some (codes "db")) }
     ensures untold { connections_left (run absent (normal []) [] []) (state (link (codes "db") 0
         true tx.Active ∷ []) [] [] (from 0 reply.Broken ∷ []))
@@ -190,7 +190,7 @@ pub fn input_examples()
 /// A transaction begins by itself where autocommit is off and the server is in none.
 pub fn transaction_examples()
     ensures due { runs [] [] (state (link (codes "db") 4 false tx.Idle ∷ []) [] [] (from 4
-        (reply.Done None tx.Active) ∷ from 4 (done (Some 1)) ∷ []))
+        (reply.Done None tx.Active false) ∷ from 4 (done (Some 1)) ∷ []))
         ≡ well (pos 1) [] ((Some 4, request.Text (codes "begin transaction") []) ∷ (
           Some 4,
           request.Text (codes "s") [],
@@ -220,7 +220,7 @@ pub fn transaction_examples()
               "begin transaction") [],
         ) ∷ []) }
     ensures told_by_begin { connections_left (run absent (normal []) [] []) (state (link (codes
-        "db") 0 false tx.Idle ∷ []) [] [] (from 0 (reply.Done None tx.Active) ∷ from 0 reply.Broken
+        "db") 0 false tx.Idle ∷ []) [] [] (from 0 (reply.Done None tx.Active false) ∷ from 0 reply.Broken
         ∷ []))
         ≡ (link (codes "db") 0 false tx.Active ∷ [], Some (codes "db")) }
     ensures waits { runs [] [] (state (link (codes "db") 0 false tx.Idle ∷ []) [] [] [])
@@ -258,4 +258,38 @@ pub fn order_examples()
     ensures immediate_text { does (run absent (immediate (held (pointer_to 2 0))) [] []) (over_ready
         (bytes (codes "s" ++ 0 ∷ []) ∷ []) (done None ∷ []))
         ≡ well (pos 0) (bytes (codes "s" ++ 0 ∷ []) ∷ []) (text_sent [] ∷ []) }
+{}
+
+/// A notice is told before anything else is made of its answer, but of one to a request to close.
+pub fn notice_examples()
+    ensures rows { warnings_left (run absent (normal []) [] (int_in 2 ∷ [])) (over_ready (bytes
+        (small 9) ∷ []) (noted (column (codes "7" ∷ [])) ∷ []))
+        ≡ 87 ∷ 0 ∷ 87 ∷ [] }
+    ensures without { warnings_left (run absent (normal []) [] (int_in 2 ∷ [])) (over_ready (bytes
+        (small 9) ∷ []) (column (codes "7" ∷ []) ∷ []))
+        ≡ 0 ∷ 0 ∷ 0 ∷ [] }
+    ensures cut { warnings_left (run absent (normal []) [] (chars_in 2 0 2 1 2 ∷ [])) (over_ready
+        (bytes (9 ∷ 9 ∷ []) ∷ []) (noted (column (codes "abc" ∷ [])) ∷ []))
+        ≡ 87 ∷ 87 ∷ 87 ∷ [] }
+    ensures code { warnings_left (run absent (normal []) [] []) (over_ready [] (noted (done (Some
+        0)) ∷ []))
+        ≡ 87 ∷ 0 ∷ 87 ∷ [] }
+    ensures same_code { does (run absent (normal (codes "s")) [] []) (over_ready [] (noted (done
+        (Some 0)) ∷ []))
+        ≡ fails (pos 100) (codes "02000") (pos 0) [] (text_sent [] ∷ []) }
+    ensures begun { warnings_left (run absent (normal []) [] []) (state (link (codes "db") 0 false
+        tx.Idle ∷ []) [] [] (from 0 (noted (done None)) ∷ from 0 (denied (codes "42P01") []) ∷ []))
+        ≡ 87 ∷ 0 ∷ 87 ∷ [] }
+    ensures controlled { warnings_left (control absent (codes "COMMIT")) (over_ready [] (noted (done
+        None) ∷ []))
+        ≡ 87 ∷ 0 ∷ 87 ∷ [] }
+    ensures committed { warnings_left (set_autocommit true absent) (state (link (codes "db") 0 false
+        tx.Active ∷ []) [] [] (from 0 (noted (column [])) ∷ []))
+        ≡ 87 ∷ 0 ∷ 87 ∷ [] }
+    ensures prepared { warnings_left (prepare absent (codes "p") (word [])) (over_ready [] (noted
+        (done None) ∷ []))
+        ≡ 87 ∷ 0 ∷ 87 ∷ [] }
+    ensures closed { warnings_left (disconnect (word (codes "db"))) (over_ready [] (noted (done
+        None) ∷ []))
+        ≡ 0 ∷ 0 ∷ 0 ∷ [] }
 {}

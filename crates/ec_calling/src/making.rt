@@ -73,6 +73,7 @@ fn run(
     ensures still_holds { Holds library.new rack.new }
 {
     if !has_area(store) {
+        // Out of reach, which isn't proved: the first object is the area from the beginning.
         return Err(Stop::OutOfMemory);
     }
     match library.call(alloc, store, rack, call) {
@@ -106,6 +107,7 @@ fn carry(
         Ok(None) => Err(Stop::Over(End::Stuck)),
         Ok(Some(found)) => match served(alloc, &found) {
             Some(call) => run(alloc, store, rack, library, line, &call),
+            // A call that isn't made is refused before; that no other comes here isn't proved.
             None => Err(Stop::OutOfMemory),
         },
     }
@@ -141,6 +143,7 @@ pub(crate) fn make(
     let arguments = call.arguments.as_slice();
     match give(alloc, store, scope, arguments, values) {
         Err(why) => Err(stopped(line, why)),
+        // Out of reach, which isn't proved: no argument of a call of the library holds another.
         Ok(None) => Err(Stop::OutOfMemory),
         Ok(Some(given)) => {
             if !take_turn(turns) {

@@ -1,11 +1,2 @@
-pub mod Counting
-pub mod Keywords
-pub mod Levels
 pub mod NoVoid
-pub mod RankOperators
-pub mod RankSteps
-pub mod SeenTokens
-pub mod Separated
-pub mod Sees
 pub mod StarCounts
-pub mod Turns

@@ -1,86 +1,44 @@
--- Function values that read what stands one level deeper, with so many levels left where it stands.
+-- That the function values that readers of declarations hold read expressions, and what stands one level deeper.
 use Rattle.std.specs.Prelude.{ℕ, List, Result}
 use Rattle.std.specs.declared.alloc.Global.{Global}
 use denote.Ref.{MutBor}
-use Rattle.ec_ctypes.specs.declared.tree.decl.Base.{Base}
 use Rattle.ec_ctypes.specs.declared.tree.decl.Decl.{Decl}
 use Rattle.ec_ctypes.specs.declared.tree.decl.Init.{Init}
 use Rattle.ec_ctypes.specs.declared.tree.expr.Expr.{Expr}
 use Rattle.ec_ctypes.specs.views.Exprs.{expr_view}
-use Rattle.ec_language.specs.Syntax.{limits}
 use Rattle.ec_grammar.specs.declared.failure.Failure.{Failure}
 use Rattle.ec_grammar.specs.Input.{Reads}
-use Rattle.ec_grammar.specs.ReadDeclarations.{nested}
+use Rattle.ec_grammar.specs.ReadExpressions.{expression}
+use Rattle.ec_cursor.specs.Nests.{Needs, Ensures, PartNeeds, PartEnsures, NestsSubexpressions, NestsMembers, NestsInitializers}
+use Rattle.ec_cursor.specs.States.{Left, seen, within}
 use Rattle.ec_cdeclare.specs.declared.declarations.Declarations.{Declarations}
 use Rattle.ec_cdeclare.specs.declared.declarators.Declarators.{Declarators}
-use Rattle.ec_cdeclare.specs.declared.expressions.Expressions.{Expressions}
-use Rattle.ec_cdeclare.specs.declared.parts.Subexpression.{Subexpression}
-use Rattle.ec_cdeclare.specs.Parts.{subexpression_of, each_init, each_decl, type_view}
-use Rattle.ec_cdeclare.specs.States.{Left, seen}
+use Rattle.ec_cdeclare.specs.declared.expressions.ExpressionReaders.{ExpressionReaders}
 
--- ---- what a function value needs of a call, and what it ensures of its answer
-
-abbrev pub Needs : Type 1
-Needs = Global → MutBor Left → ℕ → Type 0
-
-abbrev pub Ensures : Type 0 → Type 1
-Ensures B = Global → MutBor Left → ℕ → Result B Failure → MutBor Left → Type 0
-
--- the same of one that is told which subexpression to read
-abbrev pub PartNeeds : Type 1
-PartNeeds = Global → MutBor Left → ℕ → Subexpression → Type 0
-
-abbrev pub PartEnsures : Type 1
-PartEnsures =
-    Global → MutBor Left → ℕ → Subexpression → Result Expr Failure → MutBor Left → Type 0
-
--- ---- that it reads what stands one level deeper
-
--- expressions
-pub record NestsSubexpressions (levels : ℕ) (pre : PartNeeds) (post : PartEnsures) : Type 0 where
-  pub callable : (alloc : Global) (old : MutBor Left) (p : Subexpression) → pre alloc old levels p
-  pub reads : (alloc : Global) (old new : MutBor Left) (p : Subexpression)
-      (r : Result Expr Failure) → post alloc old levels p r new
-      → Reads expr_view (subexpression_of p (nested limits levels) (seen old.now)) r (seen new.now)
-
--- types in parentheses
-pub record NestsTypes (levels : ℕ) (pre : Needs) (post : Ensures (Base × ℕ)) : Type 0 where
+-- that a function value reads whole expressions, where so many levels are left
+pub record ReadsWhole (levels : ℕ) (pre : Needs) (post : Ensures Expr) : Type 0 where
   pub callable : (alloc : Global) (old : MutBor Left) → pre alloc old levels
-  pub reads : (alloc : Global) (old new : MutBor Left) (r : Result (Base × ℕ) Failure)
+  pub reads : (alloc : Global) (old new : MutBor Left) (r : Result Expr Failure)
       → post alloc old levels r new
-      → Reads type_view ((nested limits levels).type_in_parentheses (seen old.now)) r (seen new.now)
-
--- members of structs
-pub record NestsMembers (levels : ℕ) (pre : Needs) (post : Ensures (List Decl)) : Type 0 where
-  pub callable : (alloc : Global) (old : MutBor Left) → pre alloc old levels
-  pub reads : (alloc : Global) (old new : MutBor Left) (r : Result (List Decl) Failure)
-      → post alloc old levels r new
-      → Reads each_decl ((nested limits levels).members (seen old.now)) r (seen new.now)
-
--- lists of initializers
-pub record NestsInitializers (levels : ℕ) (pre : Needs) (post : Ensures (List Init)) : Type 0 where
-  pub callable : (alloc : Global) (old : MutBor Left) → pre alloc old levels
-  pub reads : (alloc : Global) (old new : MutBor Left) (r : Result (List Init) Failure)
-      → post alloc old levels r new
-      → Reads each_init ((nested limits levels).initializer_list (seen old.now)) r (seen new.now)
+      → Reads expr_view (within levels expression (seen old.now)) r (seen new.now)
 
 -- ---- the same, of the function values that the readers of a level hold
 
-abbrev pub SubexpressionsNest : {E T : Type 0}
-    → (E → PartNeeds) → (E → PartEnsures) → Expressions E T → Type 0
+abbrev pub ExpressionsRead : {E X : Type 0}
+    → (X → Needs) → (X → Ensures Expr) → ExpressionReaders E X → Type 0
+ExpressionsRead pre post e = ReadsWhole e.levels (pre e.expression) (post e.expression)
+
+abbrev pub SubexpressionsNest : {E X : Type 0}
+    → (E → PartNeeds) → (E → PartEnsures) → ExpressionReaders E X → Type 0
 SubexpressionsNest pre post e =
     NestsSubexpressions e.levels (pre e.subexpression) (post e.subexpression)
 
-abbrev pub TypesNest : {E T : Type 0}
-    → (T → Needs) → (T → Ensures (Base × ℕ)) → Expressions E T → Type 0
-TypesNest pre post e = NestsTypes e.levels (pre e.type_in_parentheses) (post e.type_in_parentheses)
-
-abbrev pub InitializersNest : {E T I : Type 0}
-    → (I → Needs) → (I → Ensures (List Init)) → Declarators E T I → Type 0
+abbrev pub InitializersNest : {E X I : Type 0}
+    → (I → Needs) → (I → Ensures (List Init)) → Declarators E X I → Type 0
 InitializersNest pre post d =
     NestsInitializers d.expressions.levels (pre d.initializer_list) (post d.initializer_list)
 
-abbrev pub MembersNest : {E T I M : Type 0}
-    → (M → Needs) → (M → Ensures (List Decl)) → Declarations E T I M → Type 0
+abbrev pub MembersNest : {E X I M : Type 0}
+    → (M → Needs) → (M → Ensures (List Decl)) → Declarations E X I M → Type 0
 MembersNest pre post d =
     NestsMembers d.declarators.expressions.levels (pre d.members) (post d.members)

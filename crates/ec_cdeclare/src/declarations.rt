@@ -8,25 +8,23 @@ ghost use Rattle.ec_ctypes.specs.views.Units.{param_view};
 ghost use Rattle.ec_grammar.specs.Input.{own};
 ghost use Rattle.ec_grammar.specs.ReadDeclarations as spec;
 ghost use Rattle.ec_language.specs.Productions as language;
-ghost use Rattle.ec_cdeclare.specs.Nests.{SubexpressionsNest, TypesNest, InitializersNest, MembersNest};
-ghost use Rattle.ec_cdeclare.specs.Parts.{each_declarator, each_decl, each_param, start_view, for_start_view, for_head_view, for_condition, for_step};
-ghost use Rattle.ec_cdeclare.specs.States.{Reading, within};
+ghost use Rattle.ec_cdeclare.specs.Nests.{ExpressionsRead, SubexpressionsNest, InitializersNest, MembersNest};
+ghost use Rattle.ec_cursor.specs.Parts.{each_declarator, each_decl, each_param, start_view, for_start_view, for_head_view, for_condition, for_step};
+ghost use Rattle.ec_cursor.specs.States.{Reading, within};
 
-use crate::cursor::{Cursor, Start};
 use crate::declarators::Declarators;
-use crate::lists::{list_of, separated};
-use crate::parts::{ForHead, ForStart, Subexpression};
-use crate::starts::begins_type;
-use crate::texts::copy_name;
 use crate::types::{Types, stars};
 use ec_base::{List, Name, beside};
 use ec_ctypes::{Base, Decl, Declarator, Expr, Init, Param, Punct};
+use ec_cursor::{
+    Cursor, ForHead, ForStart, Start, Subexpression, begins_type, copy_name, list_of, separated,
+};
 use ec_grammar::{Failure, Kind};
 use std::alloc::Global;
 
 #[derive(Clone, Copy)]
-pub struct Declarations<E, T, I, M> {
-    pub declarators: Declarators<E, T, I>,
+pub struct Declarations<E, X, I, M> {
+    pub declarators: Declarators<E, X, I>,
     pub members: M,
 }
 
@@ -78,10 +76,10 @@ fn without_void(alloc: Global, params: List<Param>) -> List<Param>
 
 impl<
     E,
-    T,
+    X,
     I,
     M: Fn(Global, &mut Cursor<'_>, u32) -> Result<List<Decl>, Failure> + Copy,
-> Declarations<E, T, I, M> {
+> Declarations<E, X, I, M> {
     /// What a declaration begins with.
     fn specifiers(&self, cursor: &mut Cursor<'_>) -> Result<Base, Failure>
         requires members { MembersNest M.pre M.post self.now }
@@ -99,10 +97,10 @@ impl<
 
 impl<
     E: Fn(Global, &mut Cursor<'_>, u32, Subexpression) -> Result<Expr, Failure>,
-    T,
+    X,
     I,
     M: Fn(Global, &mut Cursor<'_>, u32) -> Result<List<Decl>, Failure> + Copy,
-> Declarations<E, T, I, M> {
+> Declarations<E, X, I, M> {
     #[tactic(auto, unfolding(ec_grammar::specs::ReadDeclarations::parameter_name))]
     fn parameter_name(&self, cursor: &mut Cursor<'_>) -> Result<Option<Name>, Failure>
         ensures { Reading (λ name. name)
@@ -205,15 +203,15 @@ impl<
 
 impl<
     E: Fn(Global, &mut Cursor<'_>, u32, Subexpression) -> Result<Expr, Failure>,
-    T: Fn(Global, &mut Cursor<'_>, u32) -> Result<(Base, u32), Failure>,
+    X: Fn(Global, &mut Cursor<'_>, u32) -> Result<Expr, Failure>,
     I: Fn(Global, &mut Cursor<'_>, u32) -> Result<List<Init>, Failure>,
     M: Fn(Global, &mut Cursor<'_>, u32) -> Result<List<Decl>, Failure> + Copy,
-> Declarations<E, T, I, M> {
+> Declarations<E, X, I, M> {
     /// A declaration, maybe with no declarator.
     #[tactic(auto, unfolding(ec_grammar::specs::ReadDeclarations::declaration))]
     pub fn declaration(&self, cursor: &mut Cursor<'_>) -> Result<Decl, Failure>
         requires subexpressions { SubexpressionsNest E.pre E.post self.now.declarators.expressions }
-        requires types { TypesNest T.pre T.post self.now.declarators.expressions }
+        requires expressions { ExpressionsRead X.pre X.post self.now.declarators.expressions }
         requires initializers { InitializersNest I.pre I.post self.now.declarators }
         requires members { MembersNest M.pre M.post self.now }
         ensures { Reading decl_view
@@ -231,7 +229,7 @@ impl<
     #[tactic(auto, unfolding(ec_grammar::specs::ReadDeclarations::member_declaration))]
     fn member_declaration(&self, cursor: &mut Cursor<'_>) -> Result<Decl, Failure>
         requires subexpressions { SubexpressionsNest E.pre E.post self.now.declarators.expressions }
-        requires types { TypesNest T.pre T.post self.now.declarators.expressions }
+        requires expressions { ExpressionsRead X.pre X.post self.now.declarators.expressions }
         requires initializers { InitializersNest I.pre I.post self.now.declarators }
         requires members { MembersNest M.pre M.post self.now }
         ensures { Reading decl_view
@@ -251,7 +249,7 @@ impl<
         mut found: List<Decl>,
     ) -> Result<List<Decl>, Failure>
         requires subexpressions { SubexpressionsNest E.pre E.post self.now.declarators.expressions }
-        requires types { TypesNest T.pre T.post self.now.declarators.expressions }
+        requires expressions { ExpressionsRead X.pre X.post self.now.declarators.expressions }
         requires initializers { InitializersNest I.pre I.post self.now.declarators }
         requires members { MembersNest M.pre M.post self.now }
         ensures { Reading each_decl
@@ -272,7 +270,7 @@ impl<
     #[tactic(auto, unfolding(ec_grammar::specs::ReadDeclarations::members))]
     pub fn members(&self, cursor: &mut Cursor<'_>) -> Result<List<Decl>, Failure>
         requires subexpressions { SubexpressionsNest E.pre E.post self.now.declarators.expressions }
-        requires types { TypesNest T.pre T.post self.now.declarators.expressions }
+        requires expressions { ExpressionsRead X.pre X.post self.now.declarators.expressions }
         requires initializers { InitializersNest I.pre I.post self.now.declarators }
         requires members { MembersNest M.pre M.post self.now }
         ensures { Reading each_decl (within self.now.declarators.expressions.levels spec.members)
@@ -288,7 +286,7 @@ impl<
 
     fn first_expression(&self, cursor: &mut Cursor<'_>) -> Result<ForStart, Failure>
         requires subexpressions { SubexpressionsNest E.pre E.post self.now.declarators.expressions }
-        requires types { TypesNest T.pre T.post self.now.declarators.expressions }
+        requires expressions { ExpressionsRead X.pre X.post self.now.declarators.expressions }
         ensures { Reading for_start_view
             (within self.now.declarators.expressions.levels spec.first_expression)
             cursor.old result cursor.new }
@@ -301,7 +299,7 @@ impl<
     #[tactic(auto, unfolding(ec_grammar::specs::ReadDeclarations::for_start))]
     fn for_start(&self, cursor: &mut Cursor<'_>) -> Result<ForStart, Failure>
         requires subexpressions { SubexpressionsNest E.pre E.post self.now.declarators.expressions }
-        requires types { TypesNest T.pre T.post self.now.declarators.expressions }
+        requires expressions { ExpressionsRead X.pre X.post self.now.declarators.expressions }
         requires initializers { InitializersNest I.pre I.post self.now.declarators }
         requires members { MembersNest M.pre M.post self.now }
         ensures { Reading for_start_view
@@ -322,7 +320,7 @@ impl<
         condition: Option<Expr>,
     ) -> Result<ForHead, Failure>
         requires subexpressions { SubexpressionsNest E.pre E.post self.now.declarators.expressions }
-        requires types { TypesNest T.pre T.post self.now.declarators.expressions }
+        requires expressions { ExpressionsRead X.pre X.post self.now.declarators.expressions }
         ensures { Reading for_head_view
             (within self.now.declarators.expressions.levels
             for_step (for_start_view first) (expr_option_view condition))
@@ -344,7 +342,7 @@ impl<
 
     fn for_condition(&self, cursor: &mut Cursor<'_>, first: ForStart) -> Result<ForHead, Failure>
         requires subexpressions { SubexpressionsNest E.pre E.post self.now.declarators.expressions }
-        requires types { TypesNest T.pre T.post self.now.declarators.expressions }
+        requires expressions { ExpressionsRead X.pre X.post self.now.declarators.expressions }
         ensures { Reading for_head_view
             (within self.now.declarators.expressions.levels for_condition (for_start_view first))
             cursor.old result cursor.new }
@@ -364,7 +362,7 @@ impl<
     #[tactic(auto, unfolding(ec_grammar::specs::ReadDeclarations::for_head))]
     pub fn for_head(&self, cursor: &mut Cursor<'_>) -> Result<ForHead, Failure>
         requires subexpressions { SubexpressionsNest E.pre E.post self.now.declarators.expressions }
-        requires types { TypesNest T.pre T.post self.now.declarators.expressions }
+        requires expressions { ExpressionsRead X.pre X.post self.now.declarators.expressions }
         requires initializers { InitializersNest I.pre I.post self.now.declarators }
         requires members { MembersNest M.pre M.post self.now }
         ensures { Reading for_head_view

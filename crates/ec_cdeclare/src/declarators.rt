@@ -10,26 +10,24 @@ ghost use Rattle.ec_grammar.specs.ReadDeclarations as spec;
 ghost use Rattle.ec_grammar.specs.ReadDeclarations.{nested};
 ghost use Rattle.ec_grammar.specs.declared.kind.Kind.TheVariants as kind;
 ghost use Rattle.ec_language.specs.Syntax.{limits};
-ghost use Rattle.ec_cdeclare.specs.Nests.{SubexpressionsNest, TypesNest, InitializersNest};
-ghost use Rattle.ec_cdeclare.specs.Parts.{each_length, each_init, each_declarator, init_option, some_declarators};
-ghost use Rattle.ec_cdeclare.specs.States.{Reading, within};
+ghost use Rattle.ec_cdeclare.specs.Nests.{ExpressionsRead, SubexpressionsNest, InitializersNest};
+ghost use Rattle.ec_cursor.specs.Parts.{each_length, each_init, each_declarator, init_option, some_declarators};
+ghost use Rattle.ec_cursor.specs.States.{Reading, within};
 
-use crate::counts::Counted;
-use crate::cursor::Cursor;
-use crate::expressions::Expressions;
-use crate::lists::{list_of, separated};
-use crate::parts::Subexpression;
-use crate::starts::{begins_declarator, begins_expression, begins_initializer};
-use crate::texts::copy_name;
+use crate::expressions::ExpressionReaders;
 use crate::types::stars;
 use ec_base::{List, Name, beside};
 use ec_ctypes::{Base, Declarator, Expr, Init, Punct};
+use ec_cursor::{
+    Counted, Cursor, Subexpression, begins_declarator, begins_expression, begins_initializer,
+    copy_name, list_of, separated,
+};
 use ec_grammar::{Failure, Kind};
 use std::alloc::Global;
 
 #[derive(Clone, Copy)]
-pub struct Declarators<E, T, I> {
-    pub expressions: Expressions<E, T>,
+pub struct Declarators<E, X, I> {
+    pub expressions: ExpressionReaders<E, X>,
     pub initializer_list: I,
 }
 
@@ -57,9 +55,9 @@ fn declarator(stars: u32, name: Name, dims: List<Option<Expr>>, init: Option<Ini
     }
 }
 
-impl<E: Fn(Global, &mut Cursor<'_>, u32, Subexpression) -> Result<Expr, Failure>, T, I> Declarators<
+impl<E: Fn(Global, &mut Cursor<'_>, u32, Subexpression) -> Result<Expr, Failure>, X, I> Declarators<
     E,
-    T,
+    X,
     I,
 > {
     fn operators(&self, cursor: &mut Cursor<'_>) -> Result<Expr, Failure>
@@ -141,9 +139,9 @@ impl<E: Fn(Global, &mut Cursor<'_>, u32, Subexpression) -> Result<Expr, Failure>
 
 impl<
     E: Fn(Global, &mut Cursor<'_>, u32, Subexpression) -> Result<Expr, Failure>,
-    T: Fn(Global, &mut Cursor<'_>, u32) -> Result<(Base, u32), Failure>,
+    X: Fn(Global, &mut Cursor<'_>, u32) -> Result<Expr, Failure>,
     I: Fn(Global, &mut Cursor<'_>, u32) -> Result<List<Init>, Failure>,
-> Declarators<E, T, I> {
+> Declarators<E, X, I> {
     fn braced(&self, cursor: &mut Cursor<'_>) -> Result<Init, Failure>
         requires { InitializersNest I.pre I.post self.now }
         ensures { Reading init_view
@@ -158,7 +156,7 @@ impl<
     #[tactic(auto, unfolding(ec_grammar::specs::ReadDeclarations::initializer))]
     fn initializer(&self, cursor: &mut Cursor<'_>) -> Result<Init, Failure>
         requires subexpressions { SubexpressionsNest E.pre E.post self.now.expressions }
-        requires types { TypesNest T.pre T.post self.now.expressions }
+        requires expressions { ExpressionsRead X.pre X.post self.now.expressions }
         requires initializers { InitializersNest I.pre I.post self.now }
         ensures { Reading init_view (within self.now.expressions.levels spec.initializer)
             cursor.old result cursor.new }
@@ -179,7 +177,7 @@ impl<
         mut found: List<Init>,
     ) -> Result<List<Init>, Failure>
         requires subexpressions { SubexpressionsNest E.pre E.post self.now.expressions }
-        requires types { TypesNest T.pre T.post self.now.expressions }
+        requires expressions { ExpressionsRead X.pre X.post self.now.expressions }
         requires initializers { InitializersNest I.pre I.post self.now }
         ensures { Reading each_init
             (within self.now.expressions.levels spec.more_initializers (each_init found))
@@ -204,7 +202,7 @@ impl<
     #[tactic(auto, unfolding(ec_grammar::specs::ReadDeclarations::initializer_list))]
     pub fn initializer_list(&self, cursor: &mut Cursor<'_>) -> Result<List<Init>, Failure>
         requires subexpressions { SubexpressionsNest E.pre E.post self.now.expressions }
-        requires types { TypesNest T.pre T.post self.now.expressions }
+        requires expressions { ExpressionsRead X.pre X.post self.now.expressions }
         requires initializers { InitializersNest I.pre I.post self.now }
         ensures { Reading each_init (within self.now.expressions.levels spec.initializer_list)
             cursor.old result cursor.new }
@@ -221,7 +219,7 @@ impl<
     #[tactic(auto, unfolding(ec_grammar::specs::ReadDeclarations::initializer_option))]
     pub fn initializer_option(&self, cursor: &mut Cursor<'_>) -> Result<Option<Init>, Failure>
         requires subexpressions { SubexpressionsNest E.pre E.post self.now.expressions }
-        requires types { TypesNest T.pre T.post self.now.expressions }
+        requires expressions { ExpressionsRead X.pre X.post self.now.expressions }
         requires initializers { InitializersNest I.pre I.post self.now }
         ensures { Reading init_option (within self.now.expressions.levels spec.initializer_option)
             cursor.old result cursor.new }
@@ -236,7 +234,7 @@ impl<
     #[tactic(auto, unfolding(ec_grammar::specs::ReadDeclarations::declarator_part))]
     fn declarator_part(&self, cursor: &mut Cursor<'_>) -> Result<Declarator, Failure>
         requires subexpressions { SubexpressionsNest E.pre E.post self.now.expressions }
-        requires types { TypesNest T.pre T.post self.now.expressions }
+        requires expressions { ExpressionsRead X.pre X.post self.now.expressions }
         requires initializers { InitializersNest I.pre I.post self.now }
         ensures { Reading declarator_view (within self.now.expressions.levels spec.declarator_part)
             cursor.old result cursor.new }
@@ -253,7 +251,7 @@ impl<
     #[tactic(auto, unfolding(ec_grammar::specs::Input::own))]
     pub fn own_declarator(&self, cursor: &mut Cursor<'_>) -> Result<Declarator, Failure>
         requires subexpressions { SubexpressionsNest E.pre E.post self.now.expressions }
-        requires types { TypesNest T.pre T.post self.now.expressions }
+        requires expressions { ExpressionsRead X.pre X.post self.now.expressions }
         requires initializers { InitializersNest I.pre I.post self.now }
         ensures { Reading declarator_view
             (own (within self.now.expressions.levels spec.declarator_part))
@@ -272,7 +270,7 @@ impl<
         found: List<Declarator>,
     ) -> Result<List<Declarator>, Failure>
         requires subexpressions { SubexpressionsNest E.pre E.post self.now.expressions }
-        requires types { TypesNest T.pre T.post self.now.expressions }
+        requires expressions { ExpressionsRead X.pre X.post self.now.expressions }
         requires initializers { InitializersNest I.pre I.post self.now }
         ensures { Reading each_declarator
             (within self.now.expressions.levels spec.more_declarators (each_declarator found))
@@ -288,7 +286,7 @@ impl<
     /// A declarator and further ones, behind a comma each.
     pub fn declarators(&self, cursor: &mut Cursor<'_>) -> Result<List<Declarator>, Failure>
         requires subexpressions { SubexpressionsNest E.pre E.post self.now.expressions }
-        requires types { TypesNest T.pre T.post self.now.expressions }
+        requires expressions { ExpressionsRead X.pre X.post self.now.expressions }
         requires initializers { InitializersNest I.pre I.post self.now }
         ensures { Reading each_declarator (within self.now.expressions.levels some_declarators)
             cursor.old result cursor.new }
@@ -302,7 +300,7 @@ impl<
     #[tactic(auto, unfolding(ec_grammar::specs::ReadDeclarations::declarators_option))]
     pub fn declarators_option(&self, cursor: &mut Cursor<'_>) -> Result<List<Declarator>, Failure>
         requires subexpressions { SubexpressionsNest E.pre E.post self.now.expressions }
-        requires types { TypesNest T.pre T.post self.now.expressions }
+        requires expressions { ExpressionsRead X.pre X.post self.now.expressions }
         requires initializers { InitializersNest I.pre I.post self.now }
         ensures { Reading each_declarator
             (within self.now.expressions.levels spec.declarators_option)

@@ -8,16 +8,13 @@ ghost use Rattle.ec_grammar.specs.ReadDeclarations as spec;
 ghost use Rattle.ec_grammar.specs.ReadDeclarations.{nested};
 ghost use Rattle.ec_grammar.specs.declared.kind.Kind.TheVariants as kind;
 ghost use Rattle.ec_language.specs.Syntax.{limits};
-ghost use Rattle.ec_cdeclare.specs.Nests.{NestsMembers};
-ghost use Rattle.ec_cdeclare.specs.Parts.{decls_option, each_decl, type_view};
-ghost use Rattle.ec_cdeclare.specs.States.{Reading, within};
+ghost use Rattle.ec_cursor.specs.Nests.{NestsMembers};
+ghost use Rattle.ec_cursor.specs.Parts.{decls_option, each_decl, type_view};
+ghost use Rattle.ec_cursor.specs.States.{Reading, within};
 
-use crate::counts::Counted;
-use crate::cursor::Cursor;
-use crate::lists::list_of;
-use crate::texts::copy_name;
 use ec_base::{Boxed, List, Name, OutOfMemory, beside};
 use ec_ctypes::{Base, Decl, Punct};
+use ec_cursor::{Counted, Cursor, copy_name, list_of};
 use ec_grammar::{Failure, Kind};
 use std::alloc::Global;
 

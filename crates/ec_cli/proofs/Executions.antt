@@ -42,7 +42,7 @@ use Rattle.ec_cli.specs.Forms.{Program, IsRunAs, Meaning, meaning_as, RunsText, 
 use Rattle.ec_cli.specs.Racks.{RunsOver}
 use Rattle.ec_cli.specs.declared.form.Form.{Form}
 use Rattle.ec_cli.specs.declared.form.Form.TheVariants.{Source, Written}
-use Rattle.ec_run.specs.Answers.{TellsRunnable}
+use Rattle.ec_execute.specs.source.Answers.{TellsRunnable}
 use Rattle.ec_cli.specs.declared.ending.Ending.{Ending}
 use Rattle.ec_cli.specs.declared.ending.Ending.TheVariants.{Wrote, Exited, Trapped, TurnsSpent, Usage, Refused, Limit, ReadFault, WriteFault, OutOfMemory}
 use Rattle.ec_cli.proofs.SameRack.{same_log, same_talks, same_links, same_dropped}

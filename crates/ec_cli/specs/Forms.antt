@@ -11,7 +11,7 @@ use Rattle.ec_execute.specs.Executables.{executable_view}
 use Rattle.ec_execution_defs.specs.Programs as execution
 use Rattle.ec_execution_defs.specs.Programs.{IsProgram, meaning}
 use Rattle.ec_phases_defs.specs.Sources.{BoundProgram}
-use Rattle.ec_run.specs.Runnable.{IsRunnable, source_meaning}
+use Rattle.ec_execute.specs.source.Runnable.{IsRunnable, source_meaning}
 use Rattle.ec_words.specs.Words.{Word, asked_by}
 use Rattle.ec_cli.specs.declared.form.Form.{Form}
 use Rattle.ec_cli.specs.declared.form.Form.TheVariants.{Source, Written}

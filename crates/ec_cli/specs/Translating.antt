@@ -12,7 +12,7 @@ use Rattle.ec_base.specs.declared.stop.Stop.TheVariants as stops
 use Rattle.ec_base.specs.Causes.{Rose}
 use Rattle.ec_base.specs.Putting.{Puts, PutsPart}
 use Rattle.ec_meaning_defs.specs.observed.Headline.{IsRead, RefusesAt, IsTooLong, ReadsWithin}
-use Rattle.ec_run.specs.Meanings.{KeepsMeaning}
+use Rattle.ec_execute.specs.source.Meanings.{KeepsMeaning}
 use Rattle.ec_phases_defs.specs.translation.Translations.{IsTranslation}
 use Rattle.ec_words.specs.Words.{names_translation}
 use Rattle.ec_cli.specs.declared.ending.Ending.{Ending}

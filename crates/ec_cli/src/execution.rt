@@ -11,9 +11,9 @@ use crate::ending::Ending;
 use crate::form::Form;
 use crate::limits::{INPUT_LIMIT, is_crowded};
 use ec_base::{Bytes, InputStop, LimitKind, Sink, Source as Input, Stop, read_all};
+use ec_execute::source::read_source;
 use ec_execute::{Executable, RunEnd, read_program, run};
 use ec_link::{Link, Rack};
-use ec_run::read_source;
 use std::alloc::Global;
 
 // The ending of a run.

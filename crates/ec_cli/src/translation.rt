@@ -8,7 +8,7 @@ use crate::limits::INPUT_LIMIT;
 use ec_base::{
     Bytes, Failed, InputStop, LimitKind, Sink, Source as Input, Stop, put_all, read_all,
 };
-use ec_run::translate_source;
+use ec_execute::source::translate_source;
 use std::alloc::Global;
 
 // Puts a text, and passes on what was kept back.

@@ -8,7 +8,7 @@ use Rattle.ec_ctypes.specs.views.Tokens.{tok_view, tokens_view}
 use Rattle.ec_language.specs.Grammar.{PlacedTokens}
 use Rattle.ec_language.specs.Productions.{placed_from, section_behind}
 use Rattle.ec_grammar.specs.ReadUnit.{line_at}
-use Rattle.ec_cdeclare.proofs.SeenTokens.{placed_length}
+use Rattle.ec_cursor.proofs.SeenTokens.{placed_length}
 
 pub line_at_none : (w : PlacedTokens) → line_at w 0 ≡ record { 0 = 0 }
 line_at_none [] = refl

@@ -8,8 +8,8 @@ use Rattle.ec_language.specs.Syntax.{limits}
 use Rattle.ec_grammar.specs.declared.failure.Failure.{Failure}
 use Rattle.ec_grammar.specs.Input.{Reads}
 use Rattle.ec_grammar.specs.ReadStatements.{nested_statements}
-use Rattle.ec_cdeclare.specs.Nests.{Needs, Ensures}
-use Rattle.ec_cdeclare.specs.States.{Left, seen}
+use Rattle.ec_cursor.specs.Nests.{Needs, Ensures}
+use Rattle.ec_cursor.specs.States.{Left, seen}
 use Rattle.ec_csyntax.specs.declared.statements.Statements.{Statements}
 use Rattle.ec_csyntax.specs.Views.{each_stmt}
 

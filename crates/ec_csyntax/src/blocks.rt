@@ -2,8 +2,8 @@
 
 ghost use Rattle.ec_ctypes.specs.views.Stmts.{stmt_view};
 ghost use Rattle.ec_grammar.specs.ReadStatements as spec;
-ghost use Rattle.ec_cdeclare.specs.Parts.{start_view};
-ghost use Rattle.ec_cdeclare.specs.States.{Reading};
+ghost use Rattle.ec_cursor.specs.Parts.{start_view};
+ghost use Rattle.ec_cursor.specs.States.{Reading};
 ghost use Rattle.ec_csyntax.specs.Arms.{block_item_of};
 ghost use Rattle.ec_csyntax.specs.declared.forms.ItemForm.TheVariants as forms;
 ghost use Rattle.ec_csyntax.specs.Levels.{within_statements};
@@ -14,8 +14,9 @@ use crate::forms::{ItemForm, item_form};
 use crate::makers::at;
 use crate::statements::Statements;
 use ec_base::{Boxed, List};
-use ec_cdeclare::{Cursor, Start, begins_block_item, declaration};
+use ec_cparts::declaration;
 use ec_ctypes::{Punct, Stmt, StmtKind};
+use ec_cursor::{Cursor, Start, begins_block_item};
 use ec_grammar::{Failure, Kind};
 use std::alloc::Global;
 

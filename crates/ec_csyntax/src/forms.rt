@@ -2,11 +2,11 @@
 
 ghost use Rattle.std.specs.Prelude.{◌≡◌};
 ghost use Rattle.ec_grammar.specs.Input.{kind_at, kind_next};
-ghost use Rattle.ec_cdeclare.specs.States.{seen};
+ghost use Rattle.ec_cursor.specs.States.{seen};
 ghost use Rattle.ec_csyntax.specs.Forms as spec;
 
-use ec_cdeclare::Cursor;
 use ec_ctypes::Punct;
+use ec_cursor::Cursor;
 use ec_grammar::Kind;
 
 /// The forms of statements (ISO/IEC 9899:1999, 6.8).

@@ -4,14 +4,14 @@ ghost use Rattle.std.specs.Prelude.{◌≡◌, IfOk, [], ◌∷◌, ◌++◌};
 ghost use Rattle.ec_ctypes.specs.trees.Stmts as trees;
 ghost use Rattle.ec_ctypes.specs.views.Exprs.{expr_view, expr_option_view, decl_view};
 ghost use Rattle.ec_ctypes.specs.views.Stmts.{stmt_view, kind_view, stmt_of, stmts_of};
-ghost use Rattle.ec_cdeclare.specs.Parts.{start_view, for_head_view};
+ghost use Rattle.ec_cursor.specs.Parts.{start_view, for_head_view};
 ghost use Rattle.ec_grammar.specs.ReadStatements as spec;
 ghost use Rattle.ec_language.specs.Productions as places;
 ghost use Rattle.ec_csyntax.specs.Views.{each_stmt, stmt_option};
 
 use ec_base::{Boxed, Line, List, OutOfMemory, beside};
-use ec_cdeclare::{ForHead, ForStart, Start, list_of};
 use ec_ctypes::{Decl, Expr, ForParts, Stmt, StmtKind};
+use ec_cursor::{ForHead, ForStart, Start, list_of};
 use std::alloc::Global;
 
 /// A statement of this kind.

@@ -3,13 +3,13 @@
 ghost use Rattle.ec_ctypes.specs.views.Stmts.{stmt_view};
 ghost use Rattle.ec_grammar.specs.ReadStatements.{nested_statements};
 ghost use Rattle.ec_language.specs.Syntax.{limits};
-ghost use Rattle.ec_cdeclare.specs.States.{Reading};
+ghost use Rattle.ec_cursor.specs.States.{Reading};
 ghost use Rattle.ec_csyntax.specs.Views.{each_stmt};
 
 use crate::statements::Statements;
 use ec_base::List;
-use ec_cdeclare::{Cursor, begins_statement};
 use ec_ctypes::{Punct, Stmt};
+use ec_cursor::{Cursor, begins_statement};
 use ec_grammar::{Failure, Kind};
 use std::alloc::Global;
 

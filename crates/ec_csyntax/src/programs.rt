@@ -13,8 +13,8 @@ ghost use Rattle.ec_csyntax.specs.Answers.{GivesUnlessNoMemory};
 
 use crate::units::unit;
 use ec_base::{FaultKind, LimitKind, Line, List, Stop};
-use ec_cdeclare::Cursor;
 use ec_ctypes::{Token, Unit};
+use ec_cursor::Cursor;
 use ec_grammar::Failure;
 use ec_grammar::exact::readings_are_exact;
 use std::alloc::Global;

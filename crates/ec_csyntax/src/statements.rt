@@ -7,8 +7,8 @@ ghost use Rattle.ec_ctypes.specs.views.Stmts.{stmt_view};
 ghost use Rattle.ec_grammar.specs.ReadStatements as spec;
 ghost use Rattle.ec_grammar.specs.ReadStatements.{nested_statements};
 ghost use Rattle.ec_language.specs.Syntax.{limits};
-ghost use Rattle.ec_cdeclare.specs.Parts.{start_view};
-ghost use Rattle.ec_cdeclare.specs.States.{Reading};
+ghost use Rattle.ec_cursor.specs.Parts.{start_view};
+ghost use Rattle.ec_cursor.specs.States.{Reading};
 ghost use Rattle.ec_csyntax.specs.Arms.{statement_of, branches};
 ghost use Rattle.ec_csyntax.specs.declared.forms.Form.TheVariants as forms;
 ghost use Rattle.ec_csyntax.specs.Levels.{within_statements};
@@ -19,10 +19,9 @@ use crate::forms::{Form, statement_form};
 use crate::makers::{at, block_of, branch, for_loop};
 use crate::texts::embedded_number;
 use ec_base::{Boxed, List, beside};
-use ec_cdeclare::{
-    Cursor, Start, copy_name, expression, expression_option, for_head, parenthesized,
-};
+use ec_cparts::{expression, expression_option, for_head, parenthesized};
 use ec_ctypes::{Expr, Punct, Stmt, StmtKind};
+use ec_cursor::{Cursor, Start, copy_name};
 use ec_grammar::{Failure, Kind};
 use std::alloc::Global;
 

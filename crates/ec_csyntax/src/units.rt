@@ -7,8 +7,8 @@ ghost use Rattle.ec_ctypes.specs.views.Units.{top_view, unit_view};
 ghost use Rattle.ec_grammar.specs.ReadStatements as spec;
 ghost use Rattle.ec_language.specs.Productions.{declared};
 ghost use Rattle.ec_language.specs.Syntax.{limits};
-ghost use Rattle.ec_cdeclare.specs.Parts.{start_view, each_declarator, each_length, init_option};
-ghost use Rattle.ec_cdeclare.specs.States.{Reading};
+ghost use Rattle.ec_cursor.specs.Parts.{start_view, each_declarator, each_length, init_option};
+ghost use Rattle.ec_cursor.specs.States.{Reading};
 ghost use Rattle.ec_csyntax.specs.Arms.{item_of};
 ghost use Rattle.ec_csyntax.specs.declared.forms.TopForm.TheVariants as forms;
 ghost use Rattle.ec_csyntax.specs.Tops as tops;
@@ -19,11 +19,9 @@ use crate::forms::{TopForm, top_form};
 use crate::nested::nested_block;
 use crate::texts::embedded_number;
 use ec_base::{Boxed, List, Name, beside};
-use ec_cdeclare::{
-    Cursor, Start, begins_item, copy_name, copy_text, initializer_option, lengths, list_of,
-    more_declarators, parameter_part, specifiers, stars,
-};
+use ec_cparts::{initializer_option, lengths, more_declarators, parameter_part, specifiers, stars};
 use ec_ctypes::{Base, Decl, Declarator, Expr, Func, Init, Punct, Stmt, Top, Unit};
+use ec_cursor::{Cursor, Start, begins_item, copy_name, copy_text, list_of};
 use ec_grammar::{Failure, Kind};
 use std::alloc::Global;
 

@@ -69,20 +69,3 @@ one_char = struct ((codes "c", arithmetic Char) ∷ [])
 abbrev pub examples : List StructData
 examples = char_int ∷ nested ∷ varchar_5 ∷ bool_short
     ∷ char_long ∷ unlisted ∷ rows ∷ itself ∷ ahead ∷ one_char ∷ []
-
--- the structs of sqlca: 0, that of its member sqlerrm, and 1, the whole
-abbrev pub sqlca_structs : List StructData
-sqlca_structs =
-    struct ((codes "sqlerrml", arithmetic Int)
-    ∷ (codes "sqlerrmc", array (arithmetic Char) 150) ∷ [])
-    ∷ struct
-    ((codes "sqlcaid", array (arithmetic Char) 8)
-    ∷ (codes "sqlabc", arithmetic Long)
-    ∷ (codes "sqlcode", arithmetic Long)
-    ∷ (codes "sqlerrm", structure 0)
-    ∷ (codes "sqlerrp", array (arithmetic Char) 8)
-    ∷ (codes "sqlerrd", array (arithmetic Long) 6)
-    ∷ (codes "sqlwarn", array (arithmetic Char) 8)
-    ∷ (codes "sqlstate", array (arithmetic Char) 5)
-    ∷ [])
-    ∷ []

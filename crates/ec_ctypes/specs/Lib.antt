@@ -3,6 +3,7 @@ pub mod Layout
 pub mod LayoutExamples
 pub mod Order
 pub mod Sizes
+pub mod SqlcaStructs
 pub mod Texts
 pub mod trees
 pub mod views

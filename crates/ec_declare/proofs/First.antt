@@ -10,7 +10,7 @@ use Rattle.ec_base.specs.declared.stop.Stop.{Stop}
 use Rattle.ec_base.specs.declared.stop.Stop.TheVariants.{Refused}
 use Rattle.ec_language.specs.First.{Violation, rank, comes_before, earlier, first_of, stop_at}
 use Rattle.ec_declare.specs.Scanning.{ScanData, at_start, or_else, fault_of, stop_on, waiting, step, feed, stop_by, stop_of}
-use Rattle.ec_host_defs.specs.sections.Answers.{fault_unless, faults_of, is_none_open, is_closed, depth_behind, section_behind, faults_at, violations_at, violations_from}
+use Rattle.ec_host_defs.specs.sections.Answers.{fault_unless, faults_of, is_none_open, is_closed, depth_behind, section_behind, section_at, faults_at, violations_at, violations_from}
 use Rattle.ec_host_defs.specs.sections.Places.{PlaceData, holds, mark, Places}
 use Rattle.ec_host_defs.specs.sections.Uses.{UsesData}
 
@@ -79,19 +79,19 @@ two_told : (n : ℕ) (line : Line) (vs : List Violation) → all_from (n + 1) vs
 two_told n line vs h = ap (earlier (at_place n line F9)) (one_told n line F13 vs h) ∙ (let e : comes_before (at_place n line F13) (at_place n line F9) ≡ false = same_place n in rw e refl)
 
 -- what uses say: whether one is left out, whether there are any, whether they stand in a section, and whether one has no length
-told_by : (n : ℕ) (line : Line) (vs : List Violation) → all_from (n + 1) vs ≡ true → (out any section lacks : Bool) → stop_at (first_of (violations_at n (holds line (record { any = any; left_out = out; lacks_length = lacks })) (faults_of section (record { any = any; left_out = out; lacks_length = lacks })) ++ vs)) ≡ or_else (stop_on line (fault_of section (record { any = any; left_out = out; lacks_length = lacks }))) (stop_at (first_of vs))
-told_by n line vs h true any true true = ap stop_at (two_told n line vs h)
-told_by n line vs h true any true false = ap stop_at (one_told n line F9 vs h)
-told_by n line vs h true any false lacks = ap stop_at (one_told n line F9 vs h)
-told_by n line vs h false true true true = ap stop_at (one_told n line F13 vs h)
-told_by n line vs h false true true false = refl
-told_by n line vs h false true false lacks = ap stop_at (one_told n line F9 vs h)
-told_by n line vs h false false true true = ap stop_at (one_told n line F13 vs h)
-told_by n line vs h false false true false = refl
-told_by n line vs h false false false lacks = refl
+told_by : (n : ℕ) (last : Option Bool) (line : Line) (vs : List Violation) → all_from (n + 1) vs ≡ true → (out any section lacks : Bool) → stop_at (first_of (violations_at n (holds last line (record { any = any; left_out = out; lacks_length = lacks })) (faults_of section (record { any = any; left_out = out; lacks_length = lacks })) ++ vs)) ≡ or_else (stop_on line (fault_of section (record { any = any; left_out = out; lacks_length = lacks }))) (stop_at (first_of vs))
+told_by n last line vs h true any true true = ap stop_at (two_told n line vs h)
+told_by n last line vs h true any true false = ap stop_at (one_told n line F9 vs h)
+told_by n last line vs h true any false lacks = ap stop_at (one_told n line F9 vs h)
+told_by n last line vs h false true true true = ap stop_at (one_told n line F13 vs h)
+told_by n last line vs h false true true false = refl
+told_by n last line vs h false true false lacks = ap stop_at (one_told n line F9 vs h)
+told_by n last line vs h false false true true = ap stop_at (one_told n line F13 vs h)
+told_by n last line vs h false false true false = refl
+told_by n last line vs h false false false lacks = refl
 
-told : (n : ℕ) (line : Line) (uses : UsesData) (section : Bool) (vs : List Violation) → all_from (n + 1) vs ≡ true → stop_at (first_of (violations_at n (holds line uses) (faults_of section uses) ++ vs)) ≡ or_else (stop_on line (fault_of section uses)) (stop_at (first_of vs))
-told n line uses section vs h = told_by n line vs h uses.left_out uses.any section uses.lacks_length
+told : (n : ℕ) (last : Option Bool) (line : Line) (uses : UsesData) (section : Bool) (vs : List Violation) → all_from (n + 1) vs ≡ true → stop_at (first_of (violations_at n (holds last line uses) (faults_of section uses) ++ vs)) ≡ or_else (stop_on line (fault_of section uses)) (stop_at (first_of vs))
+told n last line uses section vs h = told_by n last line vs h uses.left_out uses.any section uses.lacks_length
 
 -- ---- what is kept
 
@@ -100,7 +100,7 @@ kept depth section pending first = record { depth = depth; section = section; pe
 
 spoiled : (ps : Places) (depth : ℕ) (section : Bool) (x : Stop) → stop_of (feed ps (kept depth section None (Some x))) ≡ Some x
 spoiled [] depth section x = refl
-spoiled (holds line uses ∷ ps) depth section x = spoiled ps depth section x
+spoiled (holds last line uses ∷ ps) depth section x = spoiled ps depth section x
 spoiled (mark true line ∷ ps) zero section x = spoiled ps 1 true x
 spoiled (mark true line ∷ ps) (suc depth) section x = spoiled ps (suc (suc depth)) true x
 spoiled (mark false line ∷ ps) zero section x = spoiled ps 0 false x
@@ -113,7 +113,7 @@ if_closed false first line = Some (Refused F9 line)
 
 spoiled_open : (ps : Places) (depth : ℕ) (section : Bool) (p : Line) (x : Stop) → stop_of (feed ps (kept (suc depth) section (Some p) (Some x))) ≡ if_closed (is_closed depth ps) (Some x) p
 spoiled_open [] depth section p x = refl
-spoiled_open (holds line uses ∷ ps) depth section p x = spoiled_open ps depth section p x
+spoiled_open (holds last line uses ∷ ps) depth section p x = spoiled_open ps depth section p x
 spoiled_open (mark true line ∷ ps) depth section p x = spoiled_open ps (suc depth) true p x
 spoiled_open (mark false line ∷ ps) zero section p x = spoiled ps 0 false x
 spoiled_open (mark false line ∷ ps) (suc depth) section p x = spoiled_open ps depth false p x
@@ -133,9 +133,9 @@ opened_mark n line vs h false = sym (ap stop_at (one_told n line F9 vs h))
 mutual
   clean : (ps : Places) (n : ℕ) (section : Bool) → stop_of (feed ps (kept 0 section None None)) ≡ stop_at (first_of (violations_from n 0 section ps))
   clean [] n section = refl
-  clean (holds line uses ∷ ps) n section =
+  clean (holds last line uses ∷ ps) n section =
       let vs = violations_from (n + 1) 0 section ps in
-      behind_holds ps section line (stop_at (first_of vs)) (clean ps (n + 1) section) (fault_of section uses) ∙ sym (told n line uses section vs (places_from (n + 1) 0 section ps))
+      behind_holds ps section line (stop_at (first_of vs)) (clean ps (n + 1) section) (fault_of (section_at last section) uses) ∙ sym (told n last line uses (section_at last section) vs (places_from (n + 1) 0 section ps))
   clean (mark true line ∷ ps) n section =
       let vs = violations_from (n + 1) 1 true ps in
       clean_open ps (n + 1) 0 true line ∙ opened_mark n line vs (places_from (n + 1) 1 true ps) (is_closed 0 ps)
@@ -145,9 +145,9 @@ mutual
 
   clean_open : (ps : Places) (n depth : ℕ) (section : Bool) (p : Line) → stop_of (feed ps (kept (suc depth) section (Some p) None)) ≡ if_closed (is_closed depth ps) (stop_at (first_of (violations_from n (suc depth) section ps))) p
   clean_open [] n depth section p = refl
-  clean_open (holds line uses ∷ ps) n depth section p =
+  clean_open (holds last line uses ∷ ps) n depth section p =
       let vs = violations_from (n + 1) (suc depth) section ps in
-      behind_open_holds ps depth section p line (stop_at (first_of vs)) (clean_open ps (n + 1) depth section p) (fault_of section uses) ∙ ap (λ first. if_closed (is_closed depth ps) first p) (sym (told n line uses section vs (places_from (n + 1) (suc depth) section ps)))
+      behind_open_holds ps depth section p line (stop_at (first_of vs)) (clean_open ps (n + 1) depth section p) (fault_of (section_at last section) uses) ∙ ap (λ first. if_closed (is_closed depth ps) first p) (sym (told n last line uses (section_at last section) vs (places_from (n + 1) (suc depth) section ps)))
   clean_open (mark true line ∷ ps) n depth section p =
       let vs = violations_from (n + 1) (suc (suc depth)) true ps in
       spoiled_open ps (suc depth) true p (Refused F9 line) ∙ ap (λ first. if_closed (is_closed (suc depth) ps) first p) (sym (ap stop_at (one_told n line F9 vs (places_from (n + 1) (suc (suc depth)) true ps))))

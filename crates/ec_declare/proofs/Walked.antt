@@ -6,7 +6,7 @@ use Rattle.ec_ctypes.specs.trees.Stmts.{StmtData, stmt, StmtKindData, empty_stmt
 use Rattle.ec_ctypes.specs.trees.Units.{ParamData, FuncData, TopData, include_top, directive_top, decl_top, func_top, mark_top}
 use Rattle.ec_declare.specs.Scanning.{ScanData, step, feed}
 use Rattle.ec_declare.specs.Walking.{walk_expr, walk_exprs, walk_base, walk_decls, walk_decl, walk_declarators, walk_declarator, walk_dims, walk_dim, walk_init_option, walk_init, walk_inits, walk_option, walk_stmt, walk_kind, walk_stmts, walk_stmt_option, walk_params, walk_body, walk_function, walk_top, walk_tops}
-use Rattle.ec_host_defs.specs.sections.Places.{Places, holds, mark, of_expr, of_exprs, of_base, of_decls, of_decl, of_declarators, of_declarator, of_dims, of_dim, of_init_option, of_init, of_inits, of_option, of_stmt, of_kind, of_stmts, of_stmt_option, of_params, of_body, of_function, of_top, of_tops}
+use Rattle.ec_host_defs.specs.sections.Places.{Places, holds, mark, last_mark, of_expr, of_exprs, of_base, of_decls, of_decl, of_declarators, of_declarator, of_dims, of_dim, of_init_option, of_init, of_inits, of_option, of_stmt, of_kind, of_stmts, of_stmt_option, of_params, of_body, of_function, of_top, of_tops}
 use Rattle.ec_host_defs.specs.sections.Uses.{◌&◌, in_base, in_declarators, in_kind, in_function}
 use Rattle.ec_declare.proofs.Feeding.{fed}
 
@@ -48,7 +48,7 @@ mutual
 
   pub walked_decl : (d : DeclData) (w : ScanData) → walk_decl d w ≡ feed (of_decl d) w
   walked_decl (decl b items section line) w =
-      let x = step (holds line (in_base b & in_declarators b items)) w in
+      let x = step (holds None line (in_base b & in_declarators b items)) w in
       joined (of_base b) (of_declarators items) x (walk_base b x) (walk_declarators items (walk_base b x)) (walked_base b x) (walked_declarators items (walk_base b x))
 
   pub walked_declarators : (ds : DeclaratorList) (w : ScanData) → walk_declarators ds w ≡ feed (of_declarators ds) w
@@ -88,20 +88,20 @@ mutual
 
   pub walked_kind : (line : Line) (k : StmtKindData) (w : ScanData) → walk_kind line k w ≡ feed (of_kind line k) w
   walked_kind line empty_stmt w = refl
-  walked_kind line (expr_stmt e) w = walked_expr e (step (holds line (in_kind (expr_stmt e))) w)
-  walked_kind line (block_stmt ss) w = walked_stmts ss (step (holds line (in_kind (block_stmt ss))) w)
+  walked_kind line (expr_stmt e) w = walked_expr e (step (holds None line (in_kind (expr_stmt e))) w)
+  walked_kind line (block_stmt ss) w = walked_stmts ss (step (holds None line (in_kind (block_stmt ss))) w)
   walked_kind line (if_stmt e s other) w =
-      let x = step (holds line (in_kind (if_stmt e s other))) w in
+      let x = step (holds None line (in_kind (if_stmt e s other))) w in
       joined (of_expr e) (of_stmt s ++ of_stmt_option other) x (walk_expr e x) (walk_stmt_option other (walk_stmt s (walk_expr e x))) (walked_expr e x)
       (joined (of_stmt s) (of_stmt_option other) (walk_expr e x) (walk_stmt s (walk_expr e x)) (walk_stmt_option other (walk_stmt s (walk_expr e x))) (walked_stmt s (walk_expr e x)) (walked_stmt_option other (walk_stmt s (walk_expr e x))))
   walked_kind line (while_stmt e s) w =
-      let x = step (holds line (in_kind (while_stmt e s))) w in
+      let x = step (holds None line (in_kind (while_stmt e s))) w in
       joined (of_expr e) (of_stmt s) x (walk_expr e x) (walk_stmt s (walk_expr e x)) (walked_expr e x) (walked_stmt s (walk_expr e x))
   walked_kind line (do_stmt s e) w =
-      let x = step (holds line (in_kind (do_stmt s e))) w in
+      let x = step (holds (last_mark s) line (in_kind (do_stmt s e))) w in
       joined (of_stmt s) (of_expr e) x (walk_stmt s x) (walk_expr e (walk_stmt s x)) (walked_stmt s x) (walked_expr e (walk_stmt s x))
   walked_kind line (for_stmt a b c s) w =
-      let x = step (holds line (in_kind (for_stmt a b c s))) w in
+      let x = step (holds None line (in_kind (for_stmt a b c s))) w in
       let y = walk_option a x in
       let z = walk_option b y in
       let v = walk_option c z in
@@ -110,9 +110,9 @@ mutual
       (joined (of_option c) (of_stmt s) z v (walk_stmt s v) (walked_option c z) (walked_stmt s v)))
   walked_kind line break_stmt w = refl
   walked_kind line continue_stmt w = refl
-  walked_kind line (return_stmt e) w = walked_option e (step (holds line (in_kind (return_stmt e))) w)
+  walked_kind line (return_stmt e) w = walked_option e (step (holds None line (in_kind (return_stmt e))) w)
   walked_kind line (goto_stmt l) w = refl
-  walked_kind line (label_stmt l s) w = walked_stmt s (step (holds line (in_kind (label_stmt l s))) w)
+  walked_kind line (label_stmt l s) w = walked_stmt s (step (holds None line (in_kind (label_stmt l s))) w)
   walked_kind line (decl_stmt d) w = walked_decl d w
   walked_kind line (emb_stmt n) w = refl
   walked_kind line (mark_stmt opens) w = refl
@@ -138,7 +138,7 @@ walked_body (Some ss) w = walked_stmts ss w
 
 walked_function : (f : FuncData) (w : ScanData) → walk_function f w ≡ feed (of_function f) w
 walked_function f w =
-    let x = step (holds f.line (in_function f)) w in
+    let x = step (holds None f.line (in_function f)) w in
     let y = walk_base f.base x in
     let z = walk_params f.params y in
     joined (of_base f.base) (of_params f.params ++ of_body f.body) x y (walk_body f.body z) (walked_base f.base x) (joined (of_params f.params) (of_body f.body) y z (walk_body f.body z) (walked_params f.params y) (walked_body f.body z))

@@ -5,6 +5,7 @@ use Rattle.ec_base.specs.declared.fault.FaultKind.TheVariants.{F9, F13}
 use Rattle.ec_base.specs.declared.line.Line.{Line}
 use Rattle.ec_base.specs.declared.stop.Stop.{Stop}
 use Rattle.ec_base.specs.declared.stop.Stop.TheVariants.{Refused}
+use Rattle.ec_host_defs.specs.sections.Answers.{section_at}
 use Rattle.ec_host_defs.specs.sections.Places.{PlaceData, holds, mark, Places}
 use Rattle.ec_host_defs.specs.sections.Uses.{UsesData}
 
@@ -52,8 +53,9 @@ closed (suc zero) line s = record s { depth = 0; section = false; pending = None
 closed (suc (suc depth)) line s = record s { depth = suc depth; section = false }
 
 abbrev pub step : PlaceData → ScanData → ScanData
-step (holds line uses) s =
-    record s { first = or_else s.first (stop_on line (fault_of s.section uses)) }
+step (holds last line uses) s = record s {
+  first = or_else s.first (stop_on line (fault_of (section_at last s.section) uses));
+}
 step (mark true line) s = opened s.depth line s
 step (mark false line) s = closed s.depth line s
 

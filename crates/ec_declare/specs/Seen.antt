@@ -1,5 +1,5 @@
 -- What the code holds, as plain data.
-use Rattle.std.specs.Prelude.{Option, option_map}
+use Rattle.std.specs.Prelude.{length, Option, option_map}
 use Rattle.ec_ctypes.specs.declared.types.arith.Arith.{Arith}
 use Rattle.ec_declare.specs.declared.lengths.PlainConstant.{PlainConstant}
 use Rattle.ec_declare.specs.declared.uses.Uses.{Uses}
@@ -21,8 +21,12 @@ abbrev pub uses_view : Uses → UsesData
 uses_view u = record { any = u.any; left_out = u.left_out; lacks_length = u.lacks_length }
 
 abbrev pub scan_view : Scan → ScanData
-scan_view s =
-    record { depth = s.depth; section = s.in_section; pending = s.pending; first = s.first }
+scan_view s = record {
+  depth = length s.open;
+  section = s.in_section;
+  pending = s.pending;
+  first = s.first;
+}
 
 abbrev pub count_view : Count → CountData
 count_view c = record { next = c.next; hosts = c.hosts; functions = c.functions }

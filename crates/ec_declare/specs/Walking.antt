@@ -5,7 +5,7 @@ use Rattle.ec_ctypes.specs.trees.Exprs.{ExprData, integer, character, string, id
 use Rattle.ec_ctypes.specs.trees.Stmts.{StmtData, stmt, StmtKindData, empty_stmt, expr_stmt, block_stmt, if_stmt, while_stmt, do_stmt, for_stmt, break_stmt, continue_stmt, return_stmt, goto_stmt, label_stmt, decl_stmt, emb_stmt, mark_stmt, StmtList, no_stmts, stmts, StmtOption, no_stmt, some_stmt}
 use Rattle.ec_ctypes.specs.trees.Units.{ParamData, FuncData, TopData, include_top, directive_top, decl_top, func_top, mark_top}
 use Rattle.ec_declare.specs.Scanning.{ScanData, step}
-use Rattle.ec_host_defs.specs.sections.Places.{holds, mark}
+use Rattle.ec_host_defs.specs.sections.Places.{holds, mark, last_mark}
 use Rattle.ec_host_defs.specs.sections.Uses.{◌&◌, in_base, in_declarators, in_kind, in_function}
 
 abbrev mutual
@@ -44,7 +44,7 @@ abbrev mutual
   pub walk_decl : DeclData → ScanData → ScanData
   walk_decl (decl b items section line) w =
       walk_declarators items
-      (walk_base b (step (holds line (in_base b & in_declarators b items)) w))
+      (walk_base b (step (holds None line (in_base b & in_declarators b items)) w))
 
   pub walk_declarators : DeclaratorList → ScanData → ScanData
   walk_declarators no_declarators w = w
@@ -82,25 +82,25 @@ abbrev mutual
   walk_stmt (stmt line kind) w = walk_kind line kind w
 
   pub walk_kind : Line → StmtKindData → ScanData → ScanData
-  walk_kind line empty_stmt w = step (holds line (in_kind empty_stmt)) w
-  walk_kind line (expr_stmt e) w = walk_expr e (step (holds line (in_kind (expr_stmt e))) w)
-  walk_kind line (block_stmt ss) w = walk_stmts ss (step (holds line (in_kind (block_stmt ss))) w)
+  walk_kind line empty_stmt w = step (holds None line (in_kind empty_stmt)) w
+  walk_kind line (expr_stmt e) w = walk_expr e (step (holds None line (in_kind (expr_stmt e))) w)
+  walk_kind line (block_stmt ss) w = walk_stmts ss (step (holds None line (in_kind (block_stmt ss))) w)
   walk_kind line (if_stmt e s other) w = walk_stmt_option other
-      (walk_stmt s (walk_expr e (step (holds line (in_kind (if_stmt e s other))) w)))
+      (walk_stmt s (walk_expr e (step (holds None line (in_kind (if_stmt e s other))) w)))
   walk_kind line (while_stmt e s) w =
-      walk_stmt s (walk_expr e (step (holds line (in_kind (while_stmt e s))) w))
+      walk_stmt s (walk_expr e (step (holds None line (in_kind (while_stmt e s))) w))
   walk_kind line (do_stmt s e) w =
-      walk_expr e (walk_stmt s (step (holds line (in_kind (do_stmt s e))) w))
+      walk_expr e (walk_stmt s (step (holds (last_mark s) line (in_kind (do_stmt s e))) w))
   walk_kind line (for_stmt x y z s) w =
       walk_stmt s (walk_option z
-      (walk_option y (walk_option x (step (holds line (in_kind (for_stmt x y z s))) w))))
-  walk_kind line break_stmt w = step (holds line (in_kind break_stmt)) w
-  walk_kind line continue_stmt w = step (holds line (in_kind continue_stmt)) w
-  walk_kind line (return_stmt e) w = walk_option e (step (holds line (in_kind (return_stmt e))) w)
-  walk_kind line (goto_stmt l) w = step (holds line (in_kind (goto_stmt l))) w
-  walk_kind line (label_stmt l s) w = walk_stmt s (step (holds line (in_kind (label_stmt l s))) w)
+      (walk_option y (walk_option x (step (holds None line (in_kind (for_stmt x y z s))) w))))
+  walk_kind line break_stmt w = step (holds None line (in_kind break_stmt)) w
+  walk_kind line continue_stmt w = step (holds None line (in_kind continue_stmt)) w
+  walk_kind line (return_stmt e) w = walk_option e (step (holds None line (in_kind (return_stmt e))) w)
+  walk_kind line (goto_stmt l) w = step (holds None line (in_kind (goto_stmt l))) w
+  walk_kind line (label_stmt l s) w = walk_stmt s (step (holds None line (in_kind (label_stmt l s))) w)
   walk_kind line (decl_stmt d) w = walk_decl d w
-  walk_kind line (emb_stmt n) w = step (holds line (in_kind (emb_stmt n))) w
+  walk_kind line (emb_stmt n) w = step (holds None line (in_kind (emb_stmt n))) w
   walk_kind line (mark_stmt opens) w = step (mark opens line) w
 
   pub walk_stmts : StmtList → ScanData → ScanData
@@ -122,7 +122,7 @@ walk_body (Some ss) w = walk_stmts ss w
 abbrev pub walk_function : FuncData → ScanData → ScanData
 walk_function f w =
     walk_body f.body
-    (walk_params f.params (walk_base f.base (step (holds f.line (in_function f)) w)))
+    (walk_params f.params (walk_base f.base (step (holds None f.line (in_function f)) w)))
 
 abbrev pub walk_top : TopData → ScanData → ScanData
 walk_top (include_top bytes) w = w

@@ -16,11 +16,11 @@ use ec_ctypes::{HostTable, Top, Unit};
 use std::alloc::Global;
 
 /// The first fault of marks and VARCHARs.
-fn first_stop(trees: &[Top]) -> Result<Option<Stop>, OutOfMemory>
+fn first_stop(alloc: Global, trees: &[Top]) -> Result<Option<Stop>, OutOfMemory>
     ensures { IfOk result (λ stop. stop
         ≡ stop_at (first_of (violations_from 0 0 false (of_tops (map top_view trees.now))))) }
 {
-    let mut scan = Scan::new();
+    let mut scan = Scan::new(alloc);
     tops(&mut scan, trees)?;
     Ok(scan.stop())
 }
@@ -36,7 +36,7 @@ fn first_stop(trees: &[Top]) -> Result<Option<Stop>, OutOfMemory>
 pub fn hosts(alloc: Global, unit: &Unit) -> Result<HostTable, Stop>
     ensures { Told (λ table. table.hosts) result (hosts_answer (unit_view unit.now)) }
 {
-    let stop = first_stop(unit.tops.as_slice())?;
+    let stop = first_stop(alloc, unit.tops.as_slice())?;
     match stop {
         Some(stop) => Err(stop),
         None => {

@@ -38,6 +38,7 @@ impl Count {
             ≡ spec.counted section is_function (count_view self.old)) }
     {
         let Some(next) = self.next.checked_add(1) else {
+            // Out of reach, which isn't proved: a source has at most 2^22 tokens, so it has fewer declarations.
             return Err(OutOfMemory);
         };
         keep_if(section, self.next, &mut self.hosts)?;

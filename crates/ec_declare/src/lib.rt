@@ -4,6 +4,7 @@
 mod answers;
 mod counting;
 mod lengths;
+mod marks;
 mod places;
 mod scan;
 mod uses;

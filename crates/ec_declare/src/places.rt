@@ -9,6 +9,7 @@ ghost use Rattle.ec_declare.specs.Walking as spec;
 ghost use Rattle.ec_host_defs.specs.sections.Uses as uses;
 ghost use Rattle.ec_host_defs.specs.sections.Uses.{◌&◌};
 
+use crate::marks::last_mark;
 use crate::scan::Scan;
 use crate::uses::{Uses, in_base, in_declarators, in_function, in_kind};
 use ec_base::{Line, OutOfMemory};
@@ -224,7 +225,7 @@ fn kind(scan: &mut Scan, line: Line, tree: &StmtKind) -> Result<(), OutOfMemory>
             stmt(scan, of.get())
         }
         StmtKind::Do(of, test) => {
-            scan.place(line, in_kind(tree));
+            scan.place_behind(last_mark(of.get()), line, in_kind(tree));
             stmt(scan, of.get())?;
             expr(scan, test);
             Ok(())

@@ -1,19 +1,21 @@
 //! The first fault of marks and VARCHARs.
 
-ghost use Rattle.std.specs.Prelude.{◌≡◌, OnOk};
+ghost use Rattle.std.specs.Prelude.{◌≡◌, OnOk, None};
 ghost use Rattle.ec_declare.specs.Scanning as spec;
 ghost use Rattle.ec_declare.specs.Scanning.{at_start};
 ghost use Rattle.ec_declare.specs.Seen.{scan_view, uses_view};
+ghost use Rattle.ec_host_defs.specs.sections.Answers as sections;
 ghost use Rattle.ec_host_defs.specs.sections.Places.{holds, mark};
 
 use crate::uses::Uses;
-use ec_base::{FaultKind, Line, OutOfMemory, Stop};
+use ec_base::{FaultKind, Line, List, OutOfMemory, Stop};
+use std::alloc::Global;
 
 /// What is kept of the places so far.
-#[derive(Clone, Copy, Debug)]
+#[derive(Debug, Drop)]
 pub(crate) struct Scan {
-    /// How many sections are open.
-    pub depth: u64,
+    /// The lines of the marks whose sections are open, the outermost first.
+    pub open: List<Line>,
     /// Whether the last mark opens one.
     pub in_section: bool,
     /// The line of the outermost open mark, where no fault stands before it.
@@ -33,6 +35,16 @@ fn fault_of(in_section: bool, uses: Uses) -> Option<FaultKind>
         return Some(FaultKind::F13);
     }
     None
+}
+
+/// Whether uses stand in a section, by the last mark between their place and them, or else by that before the place.
+fn section_at(last: Option<bool>, in_section: bool) -> bool
+    ensures { result ≡ sections.section_at last in_section }
+{
+    match last {
+        Some(opens) => opens,
+        None => in_section,
+    }
 }
 
 /// A fault on this line.
@@ -66,12 +78,12 @@ fn waiting(first: Option<Stop>, line: Line) -> Option<Line>
 }
 
 impl Scan {
-    /// Before the first place.
-    pub(crate) fn new() -> Scan
+    /// Before the first place. It takes no memory.
+    pub(crate) fn new(alloc: Global) -> Scan
         ensures { scan_view result ≡ at_start }
     {
         Scan {
-            depth: 0,
+            open: List::new(alloc),
             in_section: false,
             pending: None,
             first: None,
@@ -81,9 +93,17 @@ impl Scan {
     /// A place that holds these uses.
     pub(crate) fn place(&mut self, line: Line, uses: Uses)
         ensures { scan_view self.new
-            ≡ spec.step (holds line (uses_view uses)) (scan_view self.old) }
+            ≡ spec.step (holds None line (uses_view uses)) (scan_view self.old) }
     {
-        let fault = stop_on(line, fault_of(self.in_section, uses));
+        self.place_behind(None, line, uses);
+    }
+
+    /// A place whose uses stand further on, behind the last mark in between, if there is one.
+    pub(crate) fn place_behind(&mut self, last: Option<bool>, line: Line, uses: Uses)
+        ensures { scan_view self.new
+            ≡ spec.step (holds last line (uses_view uses)) (scan_view self.old) }
+    {
+        let fault = stop_on(line, fault_of(section_at(last, self.in_section), uses));
         self.first = or_else(self.first, fault);
     }
 
@@ -92,16 +112,12 @@ impl Scan {
         ensures { OnOk result (scan_view self.new
             ≡ spec.opened (scan_view self.old).depth line (scan_view self.old)) }
     {
-        if self.depth == 0 {
+        if self.open.is_empty() {
             self.pending = waiting(self.first, line);
-            self.depth = 1;
         } else {
-            let Some(depth) = self.depth.checked_add(1) else {
-                return Err(OutOfMemory);
-            };
-            self.depth = depth;
             self.first = or_else(self.first, Some(Stop::Refused(FaultKind::F9, line)));
         }
+        self.open.push(line)?;
         self.in_section = true;
         Ok(())
     }
@@ -111,13 +127,13 @@ impl Scan {
         ensures { scan_view self.new
             ≡ spec.closed (scan_view self.old).depth line (scan_view self.old) }
     {
-        match self.depth {
-            0 => self.first = or_else(self.first, Some(Stop::Refused(FaultKind::F9, line))),
-            1 => {
-                self.depth = 0;
-                self.pending = None;
+        match self.open.pop() {
+            None => self.first = or_else(self.first, Some(Stop::Refused(FaultKind::F9, line))),
+            Some(_) => {
+                if self.open.is_empty() {
+                    self.pending = None;
+                }
             }
-            _ => self.depth -= 1,
         }
         self.in_section = false;
     }

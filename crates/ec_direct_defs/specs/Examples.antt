@@ -7,7 +7,7 @@ use Rattle.ec_link.specs.declared.logged.Logged.{Logged}
 use Rattle.ec_link.specs.declared.reply.Reply.{Reply}
 use Rattle.ec_link.specs.declared.request.Request.{Request}
 use Rattle.ec_link.specs.declared.request.Request.TheVariants as request
-use Rattle.ec_host_defs.specs.Examples.{checked_text}
+use Rattle.ec_host_defs.specs.ReadSource.{checked_text}
 use Rattle.ec_resolving_defs.specs.Programs.{stuck_program}
 use Rattle.ec_meaning_defs.specs.evaluation.State.{Answer, Ending}
 use Rattle.ec_meaning_defs.specs.evaluation.Whole.{Observed, program_meaning, without_atoms}

@@ -4,12 +4,15 @@ use Rattle.std.specs.Fmt.{decimal}
 use Rattle.ec_arguments.specs.Arguments.{TextArg}
 use Rattle.ec_ctypes.specs.declared.embedded.emb.Item.{Item as Kind}
 use Rattle.ec_ctypes.specs.trees.Types.{StructData}
+use Rattle.ec_link.specs.declared.reply.Reply.{Reply}
+use Rattle.ec_link.specs.declared.reply.Reply.TheVariants.{Connected, NoTarget, Rows, Done, Refused, Broken}
+use Rattle.ec_transfer_defs.specs.declared.finding.Finding.TheVariants as found
 use Rattle.ec_meaning_defs.specs.evaluation.State.{Item, State}
-use Rattle.ec_call_defs.specs.Outcomes.{Text, Field, Outcome, gives, next, present, begun_area}
+use Rattle.ec_call_defs.specs.Outcomes.{Text, Field, Outcome, gives, next, present, with_memory, noticed_area, begun_area, refused, raised}
 use Rattle.ec_call_defs.specs.Connections.{connection_for, asked, begun}
 use Rattle.ec_call_defs.specs.Inputs.{text_read, given_read}
 use Rattle.ec_call_defs.specs.Storing.{field_kept}
-use Rattle.ec_call_defs.specs.Answers.{replied}
+use Rattle.ec_call_defs.specs.Answers.{server_code, count_told}
 use Rattle.ec_call_defs.specs.Areas.{resized, item_at, item_text}
 use Rattle.ec_call_defs.specs.Running.{Wanted, text, execution, cursor, request_of, params_behind, area_found}
 use Rattle.ec_call_defs.specs.Connecting.{connect_call, set_connection_call}
@@ -42,6 +45,13 @@ targets_found line no_targets s = gives tt s
 targets_found line (leaf_targets ls) s = gives tt s
 targets_found line (area_target name) s = next (area_found line name s) (λ items t. gives tt t)
 
+-- ---- the answer
+
+-- a notice that the server gave with its answer is told in the area
+abbrev pub with_notice : Bool → State → State
+with_notice true s = with_memory (noticed_area s.memory) s
+with_notice false s = s
+
 -- ---- descriptors
 
 abbrev pub asks_indicator : {A : Type 0} → List (Kind × A) → Bool
@@ -52,6 +62,18 @@ abbrev pub has_indicator : Leaf ℕ → Bool
 has_indicator l = elim l.indicator [ None ↦ false | Some i ↦ true ]
 
 module _ (structs : List StructData) (line : ℕ) where
+  -- What is made of the answer to a statement: a notice is told first, and then rows are stored or a count is told. A
+  -- refusal, an answer out of place and a broken connection end the statement
+  abbrev pub answer_kept : Targets → Reply → State → Outcome (Unit {0})
+  answer_kept to (Rows table tx notice) s = table_kept structs line to table (with_notice notice s)
+  answer_kept to (Done count tx notice) s =
+      count_told line (are_wanted to) count (with_notice notice s)
+  answer_kept to (Refused state message tx) s =
+      refused line (server_code state.0) state.0 message s
+  answer_kept to Connected s = raised line found.ReplyOutOfPlace s
+  answer_kept to NoTarget s = raised line found.ReplyOutOfPlace s
+  answer_kept to Broken s = raised line found.ConnectionBroken s
+
   -- a statement with what it read
   abbrev pub carried_out : Option Text → Wanted → List Field → Option Text → Targets → State
       → Outcome (Unit {0})
@@ -63,7 +85,7 @@ module _ (structs : List StructData) (line : ℕ) where
       next (targets_found line to s) (λ _ s.
       next (begun line c s) (λ _ s.
       next (asked c.slot (request params) s) (λ reply s.
-      replied line (are_wanted to) (table_kept structs line to) reply s)))))))
+      answer_kept to reply s)))))))
 
   abbrev pub run_over : TextArg ℕ → Asked ℕ → Sent ℕ → Outputs ℕ → State → Outcome (Unit {0})
   run_over at wanted ins outs s =

@@ -1,7 +1,8 @@
 -- Statements that are left out, told by their words.
 use Rattle.std.specs.Prelude.{ℕ, Bool, true, false, not, ◌&&◌, ◌||◌, ◌==◌, List, [], ◌∷◌, drop, codes}
 use Rattle.ec_language.specs.Letters.{Text}
-use Rattle.ec_embedded.specs.Terminals.{Sort, name, sort_of, is, keyword, any_word, word_but, sign, is_word_among}
+use Rattle.ec_language.specs.SqlTokens.{SqlToken}
+use Rattle.ec_embedded.specs.Terminals.{Sort, name, sort_of, is, keyword, any_word, plain_quote, sign, is_word_among}
 use Rattle.ec_embedded.specs.ServerText.{Tokens, depth_behind}
 
 -- the tokens begin with these words
@@ -31,11 +32,20 @@ abbrev pub is_name : Sort → Bool
 is_name name = true
 is_name _ = false
 
+-- a name of a file may begin with it: a word, a quote of either kind, `<`, `.` or `/`
+abbrev pub begins_name : SqlToken → Bool
+begins_name t = is any_word t || is plain_quote t || is_name (sort_of t)
+    || is (sign (codes "<")) t || is (sign (codes ".")) t || is (sign (codes "/")) t
+
+abbrev pub is_sqlca : Tokens → Bool
+is_sqlca [] = false
+is_sqlca (t ∷ []) = is (keyword (codes "sqlca")) t
+is_sqlca (t ∷ u ∷ w) = false
+
 -- a file that INCLUDE names, which isn't sqlca
 abbrev pub names_file : Tokens → Bool
 names_file [] = false
-names_file (t ∷ w) = is (word_but (codes "sqlca")) t
-    || is_name (sort_of t) || is (sign (codes "<")) t
+names_file (t ∷ w) = begins_name t && not (is_sqlca (t ∷ w))
 
 -- An SQLDA that is named without SQL: DESCRIPTOR directly behind an INTO outside parentheses that isn't that of INSERT or MERGE, or, in OPEN and EXECUTE, behind USING. `inserts`: the token before is INSERT or MERGE.
 abbrev pub names_area : Bool → ℕ → Bool → Tokens → Bool

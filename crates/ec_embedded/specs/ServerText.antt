@@ -3,7 +3,7 @@ use Rattle.std.specs.Prelude.{ℕ, zero, suc, ◌-◌, Bool, true, false, not, �
 use Rattle.ec_embedded.specs.shapes.ReadShapes.{Outcome, done, stuck, over_limit, and_then}
 use Rattle.ec_language.specs.Letters.{Text}
 use Rattle.ec_language.specs.SqlTokens.{SqlToken}
-use Rattle.ec_embedded.specs.Terminals.{Counts, step_by, Begins, input, reference, suffix, is, keyword, any_word, glued_word, sign, suffix_sign, glued_sign, glued_number, plain_quote}
+use Rattle.ec_embedded.specs.Terminals.{Counts, step_by, Begins, input, reference, suffix, is, keyword, any_word, glued_word, sign, suffix_sign, glued_sign, glued_number, whole_number, plain_quote}
 use Rattle.ec_ctypes.specs.trees.Embedded.{HostData, TextArgData, word_arg, OutsData, no_outs, listed_outs, area_outs, PartData, bytes_part, host_part, EmbKindData, server_text, trans}
 use Rattle.ec_ctypes.specs.trees.Exprs.{ExprData, identifier, index, member, arrow}
 use Rattle.ec_embedded.specs.References.{unquoted, text_of_host, decimal_constant}
@@ -27,9 +27,14 @@ is_member a b = is (suffix_sign (codes ".")) a && is glued_word b
 abbrev pub is_arrow : SqlToken → SqlToken → Bool
 is_arrow a b = is (suffix_sign (codes "->")) a && is glued_word b
 
+-- a number of any value
 abbrev pub is_index : SqlToken → SqlToken → SqlToken → Bool
 is_index a b c = is (suffix_sign (codes "[")) a
-    && (is glued_word b || is glued_number b) && is (glued_sign (codes "]")) c
+    && (is glued_word b || (is whole_number b && not b.gap)) && is (glued_sign (codes "]")) c
+
+-- a number from 2^63 on is no index: it has no type of a decimal constant
+abbrev pub is_place : SqlToken → Bool
+is_place b = is glued_word b || is glued_number b
 
 abbrev pub place_at : SqlToken → ExprData
 place_at b = if is glued_word b then identifier b.bytes else decimal_constant b.bytes
@@ -54,8 +59,10 @@ suffixes n e (a ∷ b ∷ c ∷ w) = elim (is_member a b) [
   | false ↦ elim (is_arrow a b) [
     | true ↦ counted_suffix n (a ∷ b ∷ c ∷ w) (λ m. suffixes m (arrow e b.bytes) (c ∷ w))
     | false ↦ elim (is_index a b c) [
-      | true ↦ counted_suffix n (a ∷ b ∷ c ∷ w)
-          (λ m. suffixes m (index e (place_at b)) w)
+      | true ↦ counted_suffix n (a ∷ b ∷ c ∷ w) (λ m. elim (is_place b) [
+        | true ↦ suffixes m (index e (place_at b)) w
+        | false ↦ stuck (b ∷ c ∷ w)
+      ])
       | false ↦ done e n (a ∷ b ∷ c ∷ w)
     ]
   ]

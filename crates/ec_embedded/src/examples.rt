@@ -43,8 +43,9 @@ pub fn server_examples()
         with_indicator "y" "j" ∷ []))) }
     ensures half_a_suffix { answer_to "EXEC SQL SELECT :x. y;"
         ≡ gives (tree.server_text (b "SELECT " ∷ p "x" ∷ b ". y" ∷ []) no_outs) }
-    ensures large_index { answer_to "EXEC SQL SELECT :x[9223372036854775808];"
-        ≡ gives (tree.server_text (b "SELECT " ∷ p "x" ∷ b "[9223372036854775808]" ∷ [])
+    ensures large_index { answer_to "EXEC SQL SELECT\n:x[9223372036854775808];" ≡ dead_on 2 }
+    ensures half_a_large_index { answer_to "EXEC SQL SELECT :x[9223372036854775808;"
+        ≡ gives (tree.server_text (b "SELECT " ∷ p "x" ∷ b "[9223372036854775808" ∷ [])
         no_outs) }
     ensures gap_behind_arrow { answer_to "EXEC SQL SELECT :x ->y;"
         ≡ gives (tree.server_text (b "SELECT " ∷ p "x" ∷ b " ->y" ∷ []) no_outs) }
@@ -227,6 +228,11 @@ pub fn directive_examples()
 pub fn left_out_examples()
     ensures file { answer_to "EXEC SQL INCLUDE \"f\";" ≡ left_out_on 1 }
     ensures angles { answer_to "EXEC SQL INCLUDE <f>;" ≡ left_out_on 1 }
+    ensures single_quotes { answer_to "EXEC SQL INCLUDE 'f';" ≡ left_out_on 1 }
+    ensures dotted_name { answer_to "EXEC SQL INCLUDE sqlca.h;" ≡ left_out_on 1 }
+    ensures path { answer_to "EXEC SQL INCLUDE ../f;" ≡ left_out_on 1 }
+    ensures path_from_the_root { answer_to "EXEC SQL INCLUDE /f;" ≡ left_out_on 1 }
+    ensures further_word { answer_to "EXEC SQL INCLUDE sqlca x;" ≡ left_out_on 1 }
     ensures word_behind_at { answer_to "EXEC SQL AT c\nTYPE x;" ≡ left_out_on 2 }
     ensures prepare_as { answer_to "EXEC SQL PREPARE s AS SELECT;" ≡ left_out_on 1 }
     ensures deallocate_all { answer_to "EXEC SQL DEALLOCATE ALL;" ≡ left_out_on 1 }

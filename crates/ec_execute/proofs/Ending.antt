@@ -59,14 +59,14 @@ module _ {O E : Type 0} (held : O → Option (List ℕ)) (puts : O → ℕ) (tol
 
   -- ---- the machine
 
-  left_of : {m : Observed} {growth : List Logged} {out out' : O} {err err' : E} (printed complained : List ℕ) → ran.IsFront growth m.conversation → ran.IsFront printed m.output → ran.IsFront complained m.errors
+  left_of : {m : Observed} {growth : List Logged} {out out' : O} {err err' : E} (printed complained : List ℕ) → IsFront growth m.conversation → IsFront printed m.output → IsFront complained m.errors
       → Took held puts out out' printed → Took told tells err err' complained → RunsPart held puts told tells m growth out out' err err'
   left_of printed complained said a b p q = record {
     printed = printed;
     complained = complained;
-    conversation = record { rest = said.0; same = said.1 };
-    output_front = record { rest = a.0; same = a.1 };
-    errors_front = record { rest = b.0; same = b.1 };
+    conversation = said;
+    output_front = a;
+    errors_front = b;
     output = p;
     errors = q;
   }

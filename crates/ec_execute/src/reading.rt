@@ -49,6 +49,7 @@ fn resolve_checked(alloc: Global, typed: &Typed) -> Result<Executable, Stop>
     match resolve(alloc, true, &typed.unit) {
         Ok(resolved) => match linked(alloc, resolved) {
             Some(executable) => Ok(executable),
+            // Out of reach, which isn't proved: no pointer of a call holds another call.
             None => Err(Stop::OutOfMemory),
         },
         Err(_) => Err(Stop::OutOfMemory),

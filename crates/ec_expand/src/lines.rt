@@ -11,6 +11,7 @@ use ec_ctypes::{Stmt, StmtKind};
 pub(crate) fn next(line: u32) -> Result<u32, OutOfMemory>
     ensures { IfOk result (λ n. n ≡ suc line) }
 {
+    // Out of reach, which isn't proved: a source has at most 2^24 bytes, so its lines are below.
     line.checked_add(1).ok_or(OutOfMemory)
 }
 

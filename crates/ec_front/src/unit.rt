@@ -3,4 +3,4 @@
 
 mod reading;
 
-pub use reading::{read_unit, read_written};
+pub use reading::read_unit;

@@ -50,11 +50,6 @@ ways_within zero structs k = None
 ways_within (suc depth) structs k = option_and_then
     (λ d. members_ways structs (ways_within depth structs) k d.members) (slice_get structs k)
 
--- those of the struct of this number, which is this one if there is one
-abbrev pub known_ways : ℕ → List StructData → ℕ → Option StructData → Option (List Way)
-known_ways depth structs k found =
-    option_and_then (λ d. members_ways structs (ways_within depth structs) k d.members) found
-
 abbrev pub ways : List StructData → ℕ → Option (List Way)
 ways structs k = ways_within (length structs) structs k
 

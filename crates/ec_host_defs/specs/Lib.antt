@@ -5,5 +5,7 @@ pub mod Faults
 pub mod Leaves
 pub mod Places
 pub mod Programs
+pub mod ReadSource
+pub mod Statements
 pub mod Uses
 pub mod sections

@@ -5,6 +5,7 @@ use Rattle.ec_code.specs.declared.program.Program.{Program}
 use Rattle.ec_code.specs.Views.{program_view}
 use Rattle.ec_link.specs.declared.logged.Logged.{Logged}
 use Rattle.ec_meaning_defs.specs.observed.Observed.{answers_in}
+use Rattle.ec_meaning_defs.specs.observed.Run.{IsFront}
 use Rattle.ec_meaning_defs.specs.evaluation.Agree.{CountsTurns, Grows, state_of}
 use Rattle.ec_meaning_defs.specs.evaluation.Evaluate.{Step as Knowing}
 use Rattle.ec_meaning_defs.specs.evaluation.Results.{Res, value, on, broke, continued, went, back, over}
@@ -159,14 +160,14 @@ module _ (knowing : Knowing) (counts : CountsTurns knowing) (p : Program) (turns
       begun : Grows (grown printed complained growth (start ready answers)) (state_of (whole knowing (program_view p) (start ready answers)))
       begun = subst (λ o. Grows (grown printed complained growth (start ready answers)) (state_of o)) from_start (b (suc turns) (start ready answers) rest more)
 
-      output_front : ran.IsFront printed (meaning ready answers).output
-      output_front = (begun.printed.0, seen_output (whole knowing (program_view p) (start ready answers)) ∙ begun.printed.1)
+      output_front : IsFront printed (meaning ready answers).output
+      output_front = record { rest = begun.printed.0; same = seen_output (whole knowing (program_view p) (start ready answers)) ∙ begun.printed.1 }
 
-      errors_front : ran.IsFront complained (meaning ready answers).errors
-      errors_front = (begun.complained.0, seen_errors (whole knowing (program_view p) (start ready answers)) ∙ begun.complained.1)
+      errors_front : IsFront complained (meaning ready answers).errors
+      errors_front = record { rest = begun.complained.0; same = seen_errors (whole knowing (program_view p) (start ready answers)) ∙ begun.complained.1 }
 
-      conversation_front : ran.IsFront growth (meaning ready answers).conversation
-      conversation_front = (begun.said.0, seen_conversation (whole knowing (program_view p) (start ready answers)) ∙ begun.said.1)
+      conversation_front : IsFront growth (meaning ready answers).conversation
+      conversation_front = record { rest = begun.said.0; same = seen_conversation (whole knowing (program_view p) (start ready answers)) ∙ begun.said.1 }
 
   module _ {O E : Type 0} (held : O → Option (List ℕ)) (faults : O → ℕ) (held' : E → Option (List ℕ)) (faults' : E → ℕ) (x y : Option Session) (out out' : O) (err err' : E) (new : Machine) where
     over_so : (e : End) (r : IsOverWith held faults held' faults' turns (whole_run knowing p turns) x y out out' err err' new e) (ready : Option (ℕ × List ℕ)) (rest : List Answer) → ran.Begins x ready

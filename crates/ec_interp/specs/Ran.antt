@@ -1,7 +1,8 @@
 -- What a whole run leaves, beside what its program means.
-use Rattle.std.specs.Prelude.{◌≡◌, ℕ, List, [], ◌++◌, Option, Some, None}
+use Rattle.std.specs.Prelude.{◌≡◌, ℕ, List, [], Option, Some, None}
 use Rattle.ec_link.specs.declared.logged.Logged.{Logged}
 use Rattle.ec_meaning_defs.specs.observed.Observed.{answers_in}
+use Rattle.ec_meaning_defs.specs.observed.Run.{IsFront}
 use Rattle.ec_meaning_defs.specs.resolved.Programs.{Program}
 use Rattle.ec_meaning_defs.specs.evaluation.Evaluate.{Step as Knowing}
 use Rattle.ec_meaning_defs.specs.evaluation.State.{Answer, Ending, exited, trapped, turns_spent, stuck}
@@ -18,10 +19,6 @@ pub record IsNew (m : Machine) : Type 0 where
   pub store : m.frames.store ≡ []
   pub no_frames : m.frames.frames ≡ []
   pub no_objects : m.frames.scope.count ≡ 0
-
--- a list begins with another
-abbrev pub IsFront : {A : Type 0} → List A → List A → Type 0
-IsFront {A} front whole = (rest : List A) × (whole ≡ front ++ rest)
 
 -- `held` and `faults` are the members of the sinks
 module _ {O E : Type 0} (held : O → Option (List ℕ)) (faults : O → ℕ)

@@ -3,4 +3,3 @@ pub mod LibraryRuns
 pub mod Printing
 pub mod Runs
 pub mod Sessions
-pub mod Without

@@ -11,7 +11,7 @@ ghost use Rattle.ec_interp.specs.Ran.{IsNew, RanOver};
 
 use crate::end::{RunEnd, end_of, unopened};
 use crate::opening::open_program;
-use crate::running::{Library, run_main_with};
+use crate::running::{Library, run_main};
 use ec_base::Sink;
 use ec_code::{Function, Program};
 use ec_machine::Machine as Frames;
@@ -37,8 +37,7 @@ impl<'p> Machine<'p> {
     }
 
     /// Runs the program from its beginning to the end of the run, within so many turns, and puts
-    /// what it prints into two sinks. The library makes its calls; a program without any runs over
-    /// `NoLibrary`.
+    /// what it prints into two sinks. The library makes its calls.
     ///
     /// Where the run is over, by its own end, a trap or want of turns, both sinks took all that the
     /// program prints, all that it asks was asked, and the memory is that at the end. Where a sink
@@ -103,7 +102,7 @@ fn run_opened<'p, L: Library, O: Sink, E: Sink>(
 {
     let functions = program.functions.as_slice();
     match function_at(functions, program.main) {
-        Some(main) => end_of(run_main_with(frames, functions, main, library, out, err)),
+        Some(main) => end_of(run_main(frames, functions, main, library, out, err)),
         None => RunEnd::Stuck,
     }
 }

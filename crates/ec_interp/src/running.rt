@@ -7,6 +7,6 @@ mod halt;
 mod library;
 mod printing;
 
-pub use driving::{run_main, run_main_with, run_on, run_on_with};
+pub use driving::{run_main, run_on};
 pub use halt::Halt;
-pub use library::{Library, NoLibrary};
+pub use library::Library;

@@ -1,5 +1,6 @@
 -- Of all faults and limits of a text, the first one decides: that at the least place; at one place a fault before a limit, and of two faults the one of the lower number. An input that is too long is refused before all.
 use Rattle.std.specs.Prelude.{◌≡◌, ◌⊎◌, ◌≤◌, ◌<◌, ℕ, suc, ◌+◌, ◌^◌, Bool, false, ◌&&◌, ◌||◌, ◌==◌, nat_lt, List, [], ◌∷◌, ◌++◌, length, Option, Some, None, Result, Ok, Err, if◌then◌else◌}
+use Rattle.ec_base.specs.declared.fault.FaultKind.{FaultKind}
 use Rattle.ec_base.specs.declared.fault.LimitKind.{LimitKind}
 use Rattle.ec_base.specs.declared.fault.LimitKind.TheVariants.{L2, L3, L6}
 use Rattle.ec_base.specs.Numbers.{fault_number, limit_number}

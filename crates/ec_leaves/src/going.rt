@@ -83,6 +83,7 @@ fn behind(at: usize) -> Result<usize, OutOfMemory>
 {
     match at.checked_add(1) {
         Some(next) => Ok(next),
+        // Out of reach, which isn't proved: the members are in a list.
         None => Err(OutOfMemory),
     }
 }
@@ -226,6 +227,7 @@ fn run(alloc: Global, structs: &Structs, frame: Frame, walk: &mut Walk) -> Resul
             Turn::NoHost => return Ok(false),
         }
     }
+    // Out of reach, which isn't proved: a walk ends, and 2^64 turns take centuries.
     Err(OutOfMemory)
 }
 

@@ -59,10 +59,7 @@ fn member_of(alloc: Global, place: Boxed<Expr>, name: &Name) -> Result<Boxed<Exp
     Ok(Boxed::new(alloc, Expr::Member(place, name))?)
 }
 
-/// The most members that lead to a place. An expression of more of them isn't read back, and is too deep to be copied.
-const MOST_STEPS: usize = 4096;
-
-/// The place at the end of these members, where they are no more than `MOST_STEPS`.
+/// The place at the end of these members, however many they are.
 fn along(
     alloc: Global,
     place: Boxed<Expr>,
@@ -70,9 +67,6 @@ fn along(
 ) -> Result<Boxed<Expr>, OutOfMemory>
     ensures { IfOk result (λ inner. expr_view inner ≡ spec.along (expr_view place) path.now) }
 {
-    if path.len() > MOST_STEPS {
-        return Err(OutOfMemory);
-    }
     let mut inner = place;
     for step in path.as_slice() {
         inner = member_of(alloc, inner, &step.1)?;

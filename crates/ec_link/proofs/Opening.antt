@@ -47,8 +47,8 @@ growth_of-same old new e = growth_of-grown old new [] (e ∙ sym (append-nil old
 not_connected : (reply : Reply) → reply ≢ Connected → is_connected reply ≡ false
 not_connected Connected n = absurd (n refl)
 not_connected NoTarget n = refl
-not_connected (Rows _ _) n = refl
-not_connected (Done _ _) n = refl
+not_connected (Rows _ _ _) n = refl
+not_connected (Done _ _ _) n = refl
 not_connected (Refused _ _ _) n = refl
 not_connected Broken n = refl
 
@@ -56,8 +56,8 @@ not_connected Broken n = refl
 connected_reply : (reply : Reply) → is_connected reply ≡ true → reply ≡ Connected
 connected_reply Connected e = refl
 connected_reply NoTarget e = absurd (false≢true e)
-connected_reply (Rows _ _) e = absurd (false≢true e)
-connected_reply (Done _ _) e = absurd (false≢true e)
+connected_reply (Rows _ _ _) e = absurd (false≢true e)
+connected_reply (Done _ _ _) e = absurd (false≢true e)
 connected_reply (Refused _ _ _) e = absurd (false≢true e)
 connected_reply Broken e = absurd (false≢true e)
 

@@ -17,6 +17,13 @@ pub struct Conn {
 impl Conn {
     ghost use Rattle.ec_link.specs.Conn.{slot_of, link_of};
 
+    /// The number of its slot. It takes no memory.
+    pub fn slot(&self) -> u32
+        ensures { result ≡ slot_of self.now }
+    {
+        self.slot
+    }
+
     // Asks the link, and gives the exchange.
     pub(crate) fn exchange(&mut self, request: Request) -> Result<Logged, OutOfMemory>
         ensures slot { slot_of self.new ≡ slot_of self.old }

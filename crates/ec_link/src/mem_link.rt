@@ -1,7 +1,7 @@
-ghost use Rattle.std.specs.Prelude.{◌≡◌, ◌≤◌, [], IfOk, OnOk, OnErr, drop, if◌then◌else◌};
+ghost use Rattle.std.specs.Prelude.{◌≡◌, ◌≤◌, [], false, IfOk, OnOk, OnErr, drop, if◌then◌else◌};
 ghost use Rattle.ec_base.specs.Causes.{Rose, one_more};
 ghost use Rattle.ec_link.specs.Link.{talk_after};
-ghost use Rattle.ec_link.specs.MemLink.{breaks_next, next_reply, after_ask};
+ghost use Rattle.ec_link.specs.MemLink.{breaks_next, refuses_next, next_reply, after_ask, after_refusal};
 
 use crate::link::Link;
 use crate::reply::Reply;
@@ -12,13 +12,16 @@ use std::marker::Model;
 
 /// A link in memory, which gives the replies of a list in order. It tells its talk.
 ///
-/// The asks whose numbers, counted from 0, are named break: they are answered by `Broken`, and take no reply. So are
-/// the asks after the last reply. A number that reached the last value of `u64` stays there.
+/// Every ask has a number, counted from 0. The asks that are named to break are answered by `Broken`, and take no reply;
+/// so are the asks after the last reply. Those that are named to be refused are answered by want of memory, take no
+/// reply, and are no part of the talk; of an ask that is named twice that holds. A number that reached the last value of
+/// `u64` stays there.
 #[derive(Debug, Drop)]
 pub struct MemLink {
     replies: List<Reply>,
     given: usize,
     breaks: List<u64>,
+    refusals: List<u64>,
     asks: u64,
     said: List<(Request, Reply)>,
     broke: u64,
@@ -33,6 +36,7 @@ impl Model for MemLink {
     ghost view = { λ it. record {
       replies = drop it.given it.replies;
       breaks = it.breaks;
+      refusals = it.refusals;
       asks = it.asks;
       said = it.said;
       broke = it.broke;
@@ -42,13 +46,40 @@ impl Model for MemLink {
 impl MemLink {
     /// A link that gives these replies, and breaks at the asks with these numbers.
     pub fn new(alloc: Global, replies: List<Reply>, breaks: &[u64]) -> Result<MemLink, OutOfMemory>
-        ensures { IfOk result (λ link. link
-            ≡ record { replies = replies; breaks = breaks.now; asks = 0; said = []; broke = 0 }) }
+        ensures { IfOk result (λ link. link ≡ record {
+          replies = replies;
+          breaks = breaks.now;
+          refusals = [];
+          asks = 0;
+          said = [];
+          broke = 0;
+        }) }
+    {
+        MemLink::with_refusals(alloc, replies, breaks, &[])
+    }
+
+    /// A link that gives these replies, breaks at the asks with the first numbers, and finds no memory at those with the
+    /// second ones. A number that is in both lists is refused.
+    pub fn with_refusals(
+        alloc: Global,
+        replies: List<Reply>,
+        breaks: &[u64],
+        refusals: &[u64],
+    ) -> Result<MemLink, OutOfMemory>
+        ensures { IfOk result (λ link. link ≡ record {
+          replies = replies;
+          breaks = breaks.now;
+          refusals = refusals.now;
+          asks = 0;
+          said = [];
+          broke = 0;
+        }) }
     {
         Ok(MemLink {
             replies,
             given: 0,
             breaks: List::from_slice(alloc, breaks)?,
+            refusals: List::from_slice(alloc, refusals)?,
             asks: 0,
             said: List::new(alloc),
             broke: 0,
@@ -69,17 +100,28 @@ impl MemLink {
         self.broke
     }
 
-    // Whether the next ask is named.
+    // Whether the next ask is named to break.
     fn breaks_next(&self) -> bool
         ensures { result ≡ breaks_next self.now }
     {
         self.breaks.as_slice().contains(&self.asks)
     }
 
-    // A copy of the reply to the next ask.
-    fn next_reply(&self) -> Result<Reply, OutOfMemory>
-        ensures { IfOk result (λ reply. reply ≡ next_reply self.now) }
+    // Whether the next ask is named to be refused.
+    fn refuses_next(&self) -> bool
+        ensures { result ≡ refuses_next self.now }
     {
+        self.refusals.as_slice().contains(&self.asks)
+    }
+
+    // A copy of the reply to the next ask, where it is not refused.
+    fn next_reply(&self) -> Result<Reply, OutOfMemory>
+        ensures reply { IfOk result (λ reply. reply ≡ next_reply self.now) }
+        ensures refused { OnOk result (refuses_next self.now ≡ false) }
+    {
+        if self.refuses_next() {
+            return Err(OutOfMemory);
+        }
         if self.breaks_next() {
             return Ok(Reply::Broken);
         }
@@ -99,15 +141,20 @@ impl MemLink {
         }
     }
 
-    // Counts an ask that broke or not.
-    fn count(&mut self, broke: bool)
+    // Counts an ask.
+    fn count(&mut self)
+        ensures { self.new ≡ after_refusal self.old }
+    {
+        self.asks = self.asks.saturating_add(1);
+    }
+
+    // Counts an answer that told of a broken connection or not.
+    fn count_broken(&mut self, broke: bool)
         ensures counts { self.new ≡ record self.old {
-          asks = one_more self.old.asks;
           broke = if broke then one_more self.old.broke else self.old.broke;
         } }
         ensures later { self.old.broke ≤ self.new.broke }
     {
-        self.asks = self.asks.saturating_add(1);
         if broke {
             self.broke = self.broke.saturating_add(1);
         }
@@ -129,16 +176,19 @@ impl Link for MemLink {
         ensures broken { IfOk result
             (λ reply. reply ≡ Reply.Broken → Rose self.old.broke self.new.broke) }
         ensures reply { IfOk result (λ reply. reply ≡ next_reply self.old) }
+        ensures refused { OnOk result (refuses_next self.old ≡ false) }
         ensures after { OnOk result (self.new ≡ after_ask self.old req.now) }
-        ensures unchanged { OnErr result (self.new ≡ self.old) }
+        ensures counted { OnErr result (self.new ≡ after_refusal self.old) }
     {
         let named = self.breaks_next();
-        let reply = self.next_reply()?;
+        let answer = self.next_reply();
+        self.count();
+        let reply = answer?;
         self.said.push((req.clone()?, reply.clone()?))?;
         if !named {
             self.pass();
         }
-        self.count(reply.is_broken());
+        self.count_broken(reply.is_broken());
         Ok(reply)
     }
 }

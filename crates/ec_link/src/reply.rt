@@ -27,15 +27,18 @@ pub enum Reply {
     Connected,
     /// There is no such server.
     NoTarget,
-    /// The rows of a query.
+    /// The rows of a query, and whether the server gave a notice with them.
     Rows {
         table: Table,
         tx: Tx,
+        notice: bool,
     },
-    /// A statement without rows is done. The count is there for INSERT, UPDATE and DELETE.
+    /// A statement without rows is done. The count is there for INSERT, UPDATE and DELETE. The server gave a notice with
+    /// it or none.
     Done {
         count: Option<u64>,
         tx: Tx,
+        notice: bool,
     },
     /// The server refused the statement.
     Refused {
@@ -72,13 +75,15 @@ impl Clone for Reply {
         match self {
             Reply::Connected => Ok(Reply::Connected),
             Reply::NoTarget => Ok(Reply::NoTarget),
-            Reply::Rows { table, tx } => Ok(Reply::Rows {
+            Reply::Rows { table, tx, notice } => Ok(Reply::Rows {
                 table: table.clone()?,
                 tx: *tx,
+                notice: *notice,
             }),
-            Reply::Done { count, tx } => Ok(Reply::Done {
+            Reply::Done { count, tx, notice } => Ok(Reply::Done {
                 count: *count,
                 tx: *tx,
+                notice: *notice,
             }),
             Reply::Refused { state, message, tx } => Ok(Reply::Refused {
                 state: *state,

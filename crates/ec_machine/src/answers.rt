@@ -180,6 +180,7 @@ impl<'p> Machine<'p> {
         ensures nears { remaining self.old.turns result self.new ≤
             frames_weight self.old.frames + steps_weight way.entry.steps.now }
     {
+        // What stands here goes before it is read: the call puts what it came to in its place.
         let mut left = Err(Stop::OutOfMemory);
         match self.ended(way, value, &mut left).get() {
             Some(value) => self.go_on(functions, way.steps, value),

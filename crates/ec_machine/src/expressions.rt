@@ -71,6 +71,7 @@ impl<'p> Machine<'p> {
         ensures nears { remaining self.old.turns result self.new ≤
             frames_weight self.old.frames + full_weight full.now }
     {
+        // What stands here goes before it is read: the call puts what it came to in its place.
         let mut left = Err(Stop::OutOfMemory);
         match self.value_of(functions, LEVELS, full, &mut left).get() {
             Some(value) => Ok(Focus::Value(value)),
@@ -191,6 +192,7 @@ impl<'p> Machine<'p> {
         ensures nears { remaining self.old.turns result self.new ≤
             3 + frames_weight self.old.frames + expressions_weight values.now }
     {
+        // What stands here goes before it is read: the call puts what it came to in its place.
         let mut left = Err(Stop::OutOfMemory);
         match self
             .pass(functions, LEVELS, Callee::Object, 0, values, &[], &mut left)
@@ -279,6 +281,7 @@ impl<'p> Machine<'p> {
         ensures line { self.new.line ≡ self.old.line }
     {
         let Some(more) = count.checked_add(1) else {
+            // Out of reach, which isn't proved: so many values are in a list.
             return Err(Stop::OutOfMemory);
         };
         match evaluate_argument(&mut self.store, self.scope.objects(), argument).get() {
@@ -312,9 +315,11 @@ impl<'p> Machine<'p> {
             steps.now }
     {
         let Some(more) = count.checked_add(1) else {
+            // Out of reach, which isn't proved: so many values are in a list.
             return Err(Stop::OutOfMemory);
         };
         self.values.push(value)?;
+        // What stands here goes before it is read: the call puts what it came to in its place.
         let mut left = Err(Stop::OutOfMemory);
         match self
             .pass(functions, LEVELS, callee, more, arguments, steps, &mut left)
@@ -339,6 +344,7 @@ impl<'p> Machine<'p> {
         ensures nears { remaining self.old.turns result self.new ≤
             frames_weight self.old.frames + steps_weight steps.now }
     {
+        // What stands here goes before it is read: the call puts what it came to in its place.
         let mut left = Err(Stop::OutOfMemory);
         match self
             .follow(functions, LEVELS, steps, value, &mut left)

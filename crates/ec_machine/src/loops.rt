@@ -308,6 +308,7 @@ impl<'p> Machine<'p> {
     {
         let height = self.frames.len();
         self.frames.push(Frame::Body(line, inner))?;
+        // What stands here goes before it is read: the call puts what it came to in its place.
         let mut left = Err(Stop::OutOfMemory);
         match self.does(functions, full, &mut left) {
             Ok(Done::All) => {

@@ -44,6 +44,7 @@ impl Scope {
         ensures err { OnErr result (self.new ≡ self.old) }
     {
         let Some(count) = self.count.checked_add(1) else {
+            // Out of reach, which isn't proved: the objects are in a list.
             return Err(OutOfMemory);
         };
         self.pointers.push(ptr)?;

@@ -137,6 +137,7 @@ impl<'p> Machine<'p> {
         ensures nears { remaining self.old.turns result self.new ≤
             2 + frames_weight self.old.frames + full_weight full.now }
     {
+        // What stands here goes before it is read: the call puts what it came to in its place.
         let mut left = Err(Stop::OutOfMemory);
         match self.does(functions, full, &mut left) {
             Ok(Done::All) => Ok(Focus::Leads(Flow::On)),
@@ -260,6 +261,7 @@ impl<'p> Machine<'p> {
     {
         let height = self.frames.len();
         self.frames.push(Frame::Give)?;
+        // What stands here goes before it is read: the call puts what it came to in its place.
         let mut left = Err(Stop::OutOfMemory);
         match self.value_of(functions, LEVELS, full, &mut left).get() {
             Some(value) => {

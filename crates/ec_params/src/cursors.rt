@@ -89,6 +89,7 @@ fn next_number(number: u32) -> Result<u32, OutOfMemory>
 {
     match number.checked_add(1) {
         Some(next) => Ok(next),
+        // Out of reach, which isn't proved: a source has at most 2^22 tokens, so it has fewer statements.
         None => Err(OutOfMemory),
     }
 }

@@ -200,6 +200,7 @@ pub(crate) fn sum(a: usize, b: usize) -> Result<usize, OutOfMemory>
 {
     match a.checked_add(b) {
         Some(n) => Ok(n),
+        // Out of reach, which isn't proved: a source has at most 2^22 tokens, so it has fewer names.
         None => Err(OutOfMemory),
     }
 }

@@ -238,6 +238,7 @@ fn equal_counts(a: u64, b: u64) -> Result<bool, OutOfMemory>
         → IfOk result (λ same. same ≡ (m == n)) }
 {
     if a == MOST && b == MOST {
+        // Out of reach, which isn't proved: a type is at most 2^24 bytes large (L1), and each leaf has a byte of its own.
         return Err(OutOfMemory);
     }
     Ok(a == b)

@@ -1,3 +1,4 @@
+pub mod FirstRefusals
 pub mod OneReading
 pub mod Order
 pub mod Places

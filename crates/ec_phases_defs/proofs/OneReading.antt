@@ -20,7 +20,7 @@ use Rattle.ec_language.proofs.StatementTokens.{statements_have_tokens}
 use Rattle.ec_language.proofs.TextReads.{text_reads}
 use Rattle.ec_embedded.specs.Answers.{StatementOrStop}
 use Rattle.ec_embedded.proofs.OneAnswer.{piece_answered, one_of_piece}
-use Rattle.ec_host_defs.specs.Examples.{is_statement, statement_places, with_statement, with_statements}
+use Rattle.ec_host_defs.specs.Statements.{is_statement, statement_places, with_statement, with_statements}
 use Rattle.ec_phases_defs.specs.Laws.{statement_count}
 use Rattle.ec_phases_defs.specs.Sources.{ReadsStatements, end, other, stops, statement, ReadsTree, refused, statements, checked_tree, ReadsChecked, BoundProgram, bound_program, ReadsSource}
 use Rattle.ec_phases_defs.proofs.Places.{are_numbered}

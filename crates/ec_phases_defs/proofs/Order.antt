@@ -12,7 +12,7 @@ use Rattle.ec_language.specs.Letters.{Text}
 use Rattle.ec_embedded.specs.Answers.{placed}
 use Rattle.ec_embedded.specs.Findings.{Answer}
 use Rattle.ec_whenever.specs.Tables.{is_behind, are_in_order}
-use Rattle.ec_host_defs.specs.Examples.{with_statement, with_statements}
+use Rattle.ec_host_defs.specs.Statements.{with_statement, with_statements}
 use Rattle.ec_phases_defs.specs.Sources.{ReadsStatements, end, other, stops, statement, ReadsTree, refused, statements}
 use Rattle.ec_phases_defs.proofs.Places.{Rising, are_numbered}
 

@@ -13,7 +13,7 @@ use Rattle.ec_language.specs.Letters.{Text}
 use Rattle.ec_language.specs.Lexemes.{Class, word, number, character, string, punct, left_out, comment, is_fresh_after}
 use Rattle.ec_language.specs.Tokens.{Part, Item, blank, match, include, directive, last_directive, Step, CParts, end, item, bad, part_at, is_left_out_word, integer_tok, character_tok, string_tok, token_of, PieceParts, c_text, statement, opening, closing, declaration, embedded, fault_at, statements_behind, AllParts, join_two, join_first, join_strings, without_head, token, with_token, max_tokens, is_full, part_within, numbered_within, Tokens}
 use Rattle.ec_language.specs.Constants.{integer_constant, character_value, string_value}
-use Rattle.ec_host_defs.specs.Examples.{is_statement, statement_places}
+use Rattle.ec_host_defs.specs.Statements.{is_statement, statement_places}
 use Rattle.ec_phases_defs.specs.Laws.{statement_count}
 
 -- ---- how many parts are tokens of statements

@@ -8,7 +8,7 @@ use Rattle.ec_ctypes.specs.trees.Units.{UnitData}
 use Rattle.ec_language.specs.Letters.{Text}
 use Rattle.ec_language.specs.Tokens.{Tokens}
 use Rattle.ec_whenever.specs.Tables.{are_in_order}
-use Rattle.ec_host_defs.specs.Examples.{is_statement, statement_places}
+use Rattle.ec_host_defs.specs.Statements.{is_statement, statement_places}
 use Rattle.ec_phases_defs.specs.Sources.{ReadsTree, ReadsChecked, BoundProgram, ReadsSource}
 
 -- how many of the pieces are statements

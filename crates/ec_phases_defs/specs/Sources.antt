@@ -17,7 +17,7 @@ use Rattle.ec_typing_defs.specs.statement_parts.Handlers.{marks_in}
 use Rattle.ec_typing_defs.specs.Answers.{check_answer}
 use Rattle.ec_whenever.specs.Tables.{table_of}
 use Rattle.ec_host_defs.specs.Bound.{bound_answer}
-use Rattle.ec_host_defs.specs.Examples.{is_statement, statement_places, with_statement, with_statements}
+use Rattle.ec_host_defs.specs.Statements.{is_statement, statement_places, with_statement, with_statements}
 
 -- ---- embedded statements
 

@@ -1,7 +1,9 @@
 //! What holds of the phases, as the contracts of functions that do nothing.
 
+ghost use Rattle.ec_phases_defs.specs.First.{HasOneFirst, HasFirst, AcceptedIsRead, ReadIsAccepted};
 ghost use Rattle.ec_phases_defs.specs.Laws.{HavePlaces, StandInOrder, HasOneTree, HasTree, HasOneCheck, HasOneReading, IsRead};
 
+use crate::written::written_is_read;
 use ec_grammar::exact::readings_are_single;
 
 /// Each embedded statement has the place of one token, and they stand in the order of the text.
@@ -22,4 +24,17 @@ pub fn sources_are_read()
     ensures read { IsRead }
 {
     readings_are_single();
+}
+
+/// Each text has one first fault or limit, or none, as a source and as written C; and a source has none exactly where it is
+/// read as a program.
+#[tactic(none)]
+pub fn first_refusals_are_single()
+    ensures one { HasOneFirst }
+    ensures there { HasFirst }
+    ensures accepted { AcceptedIsRead }
+    ensures read { ReadIsAccepted }
+{
+    sources_are_read();
+    written_is_read();
 }

@@ -6,4 +6,4 @@ mod laws;
 pub mod translation;
 pub mod written;
 
-pub use laws::{sources_are_read, statements_have_places};
+pub use laws::{first_refusals_are_single, sources_are_read, statements_have_places};

@@ -1,12 +1,11 @@
 //! Widths and precisions.
 
-ghost use Rattle.std.specs.Prelude.{◌≡◌, ◌≤◌, ◌+◌, ◌*◌, ◌-◌, IfOk, drop, length, option_map};
+ghost use Rattle.std.specs.Prelude.{◌≡◌, ◌≤◌, drop, length, option_map};
 ghost use Rattle.ec_meaning_defs.specs.functions.Formats as of;
 ghost use Rattle.ec_printf.specs.formats.Known.{amount_view};
 ghost use Rattle.ec_printf.specs.Readings.{behind_dot, measured_view, plain_amount};
 
 use crate::formats::Amount;
-use ec_base::OutOfMemory;
 
 /// A width or a precision, and what stands behind it.
 #[derive(Clone, Copy)]
@@ -36,38 +35,33 @@ fn digits(text: &[u8]) -> usize
     count
 }
 
-/// A number with one digit more behind it. There is no memory for one of more than 64 bits.
-fn with_digit(number: u64, digit: u8) -> Result<u64, OutOfMemory>
-    ensures { IfOk result (λ n. n ≡ number * 10 + (digit - 48)) }
+/// A number with one digit more behind it, or `u64::MAX` where it is more.
+fn with_digit(number: u64, digit: u8) -> u64
+    ensures { result ≡ of.with_digit number digit }
 {
-    match number.checked_mul(10) {
-        Some(tens) => match tens.checked_add(u64::from(digit.saturating_sub(48))) {
-            Some(more) => Ok(more),
-            None => Err(OutOfMemory),
-        },
-        None => Err(OutOfMemory),
-    }
+    let tens = number.saturating_mul(10);
+    tens.saturating_add(u64::from(digit.saturating_sub(48)))
 }
 
-/// The number that digits make.
-fn number(digits: &[u8]) -> Result<u64, OutOfMemory>
-    ensures { IfOk result (λ n. n ≡ of.decimal_behind 0 digits.now) }
+/// The number that digits make, or `u64::MAX` where it is more.
+fn number(digits: &[u8]) -> u64
+    ensures { result ≡ of.decimal_behind 0 digits.now }
 {
     let mut number: u64 = 0;
     for digit in digits {
-        number = with_digit(number, *digit)?;
+        number = with_digit(number, *digit);
     }
-    Ok(number)
+    number
 }
 
 /// The amount that digits say, if there are any.
-fn digits_amount(digits: &[u8]) -> Result<Amount, OutOfMemory>
-    ensures { IfOk result (λ a. amount_view a ≡ of.digits_amount digits.now) }
+fn digits_amount(digits: &[u8]) -> Amount
+    ensures { amount_view result ≡ of.digits_amount digits.now }
 {
     if digits.is_empty() {
-        Ok(Amount::Absent)
+        Amount::Absent
     } else {
-        Ok(Amount::Given(number(digits)?))
+        Amount::Given(number(digits))
     }
 }
 
@@ -86,31 +80,30 @@ fn behind_digits(text: &[u8]) -> &[u8]
 }
 
 /// The digits at the front of a text, as an amount.
-fn plain_amount(text: &[u8]) -> Result<Measured<'_>, OutOfMemory>
-    ensures { IfOk result (λ m. measured_view m ≡ plain_amount text.now) }
+fn plain_amount(text: &[u8]) -> Measured<'_>
+    ensures { measured_view result ≡ plain_amount text.now }
 {
-    let amount = digits_amount(front_digits(text))?;
-    Ok(Measured {
-        amount,
+    Measured {
+        amount: digits_amount(front_digits(text)),
         rest: behind_digits(text),
-    })
+    }
 }
 
 /// A width or a precision at the front of a text.
-pub(crate) fn amount_at(text: &[u8]) -> Result<Measured<'_>, OutOfMemory>
-    ensures { IfOk result (λ m. measured_view m ≡ of.amount_at text.now) }
+pub(crate) fn amount_at(text: &[u8]) -> Measured<'_>
+    ensures { measured_view result ≡ of.amount_at text.now }
 {
     match text {
-        [] => Ok(Measured {
+        [] => Measured {
             amount: Amount::Absent,
             rest: text,
-        }),
+        },
         [first, rest @ ..] => {
             if *first == b'*' {
-                Ok(Measured {
+                Measured {
                     amount: Amount::FromArgument,
                     rest,
-                })
+                }
             } else {
                 plain_amount(text)
             }
@@ -137,23 +130,22 @@ pub(crate) fn is_absent(amount: Amount) -> bool
 }
 
 /// A precision at the front of a text, which is a dot and then digits or `*`; `None` where nothing stands behind the dot.
-pub(crate) fn precision_at(text: &[u8]) -> Result<Option<Measured<'_>>, OutOfMemory>
-    ensures { IfOk result (λ m. option_map measured_view m ≡ of.precision_at text.now) }
+pub(crate) fn precision_at(text: &[u8]) -> Option<Measured<'_>>
+    ensures { option_map measured_view result ≡ of.precision_at text.now }
 {
     match text {
-        [] => Ok(Some(Measured {
+        [] => Some(Measured {
             amount: Amount::Absent,
             rest: text,
-        })),
+        }),
         [first, rest @ ..] => {
             if *first == b'.' {
-                let found = amount_at(rest)?;
-                Ok(behind_dot(found))
+                behind_dot(amount_at(rest))
             } else {
-                Ok(Some(Measured {
+                Some(Measured {
                     amount: Amount::Absent,
                     rest: text,
-                }))
+                })
             }
         }
     }

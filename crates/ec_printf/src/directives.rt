@@ -1,6 +1,6 @@
 //! Directives.
 
-ghost use Rattle.std.specs.Prelude.{◌≡◌, ◌≤◌, IfOk, drop, length, option_map};
+ghost use Rattle.std.specs.Prelude.{◌≡◌, ◌≤◌, drop, length, option_map};
 ghost use Rattle.ec_meaning_defs.specs.functions.Formats as of;
 ghost use Rattle.ec_printf.specs.formats.Known.{amount_view, field_view};
 ghost use Rattle.ec_printf.specs.Readings.{directive_view, full_directive, measured_view, wide_view};
@@ -8,7 +8,6 @@ ghost use Rattle.ec_printf.specs.Readings.{directive_view, full_directive, measu
 use crate::amounts::{Measured, amount_at, is_width, precision_at};
 use crate::formats::{Amount, Field};
 use crate::letters::{Meaning, Wide, lettered, wide_at};
-use ec_base::OutOfMemory;
 
 /// A directive, and what stands behind it.
 #[derive(Clone, Copy)]
@@ -76,20 +75,20 @@ fn with_letter<'a>(field: Field, precision: Amount, wide: Wide<'a>) -> Option<Di
 }
 
 /// A directive from its width on.
-fn with_width<'a>(flags: &[u8], width: Measured<'a>) -> Result<Option<Directive<'a>>, OutOfMemory>
-    ensures { IfOk result (λ d. option_map directive_view d
-        ≡ of.with_width flags.now (measured_view width.entry)) }
+fn with_width<'a>(flags: &[u8], width: Measured<'a>) -> Option<Directive<'a>>
+    ensures { option_map directive_view result
+        ≡ of.with_width flags.now (measured_view width.entry) }
 {
     if !is_width(width.amount) {
-        return Ok(None);
+        return None;
     }
-    match precision_at(width.rest)? {
-        Some(precision) => Ok(with_letter(
+    match precision_at(width.rest) {
+        Some(precision) => with_letter(
             field_of(flags, width.amount),
             precision.amount,
             wide_at(precision.rest),
-        )),
-        None => Ok(None),
+        ),
+        None => None,
     }
 }
 
@@ -108,23 +107,23 @@ fn behind_flags(text: &[u8]) -> &[u8]
 }
 
 /// A directive with its flags, but for `%%`.
-fn full_directive(text: &[u8]) -> Result<Option<Directive<'_>>, OutOfMemory>
-    ensures { IfOk result (λ d. option_map directive_view d ≡ full_directive text.now) }
+fn full_directive(text: &[u8]) -> Option<Directive<'_>>
+    ensures { option_map directive_view result ≡ full_directive text.now }
 {
-    let width = amount_at(behind_flags(text))?;
+    let width = amount_at(behind_flags(text));
     with_width(front_flags(text), width)
 }
 
 /// The directive behind a `%`.
-pub(crate) fn directive_at(text: &[u8]) -> Result<Option<Directive<'_>>, OutOfMemory>
-    ensures { IfOk result (λ d. option_map directive_view d ≡ of.directive_at text.now) }
+pub(crate) fn directive_at(text: &[u8]) -> Option<Directive<'_>>
+    ensures { option_map directive_view result ≡ of.directive_at text.now }
 {
     match text {
-        [] => Ok(None),
-        [b'%', rest @ ..] => Ok(Some(Directive {
+        [] => None,
+        [b'%', rest @ ..] => Some(Directive {
             meaning: Meaning::Percent,
             rest,
-        })),
+        }),
         _ => full_directive(text),
     }
 }

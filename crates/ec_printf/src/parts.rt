@@ -27,7 +27,7 @@ fn convert<'a>(all: &mut Gathered, text: &'a [u8]) -> Result<Step<'a>, OutOfMemo
     ensures { IfOk result (λ step. (n : ℕ)
         → directed (gathered all.old) n text.now ≡ stepped (gathered all.new) n step) }
 {
-    match directive_at(text)? {
+    match directive_at(text) {
         Some(found) => {
             all.directive(found.meaning)?;
             Ok(Step::Next(found.rest))
@@ -61,7 +61,7 @@ fn finished(all: Gathered) -> Result<Option<List<Part>>, OutOfMemory>
 }
 
 /// The parts of a format, which ends at its first zero byte; or `None` where it is none. Bytes that stand together for
-/// themselves are one part. There is no memory for an amount of more than 64 bits.
+/// themselves are one part. An amount of more than 64 bits is `u64::MAX`: no text is that long.
 pub fn format_parts(alloc: Global, format: &[u8]) -> Result<Option<List<Part>>, OutOfMemory>
     ensures { IfOk result (λ parts. option_map (map part_view) parts ≡ of.format_parts format.now) }
 {

@@ -80,10 +80,12 @@ fn sum(count: u32, more: usize) -> Result<u32, OutOfMemory>
     ensures { IfOk result (λ n. n ≡ count + more) }
 {
     if more > u32::MAX as usize {
+        // Out of reach, which isn't proved: a source has at most 2^22 tokens, so it has fewer globals.
         return Err(OutOfMemory);
     }
     match count.checked_add(more as u32) {
         Some(sum) => Ok(sum),
+        // Out of reach, as above.
         None => Err(OutOfMemory),
     }
 }

@@ -116,6 +116,7 @@ fn count_of_params(f: &Func) -> Result<u32, OutOfMemory>
 {
     let count = f.params.as_slice().len();
     if count > u32::MAX as usize {
+        // Out of reach, which isn't proved: a source has at most 2^22 tokens, so it has fewer parameters.
         return Err(OutOfMemory);
     }
     Ok(count as u32)

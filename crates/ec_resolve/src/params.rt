@@ -47,6 +47,7 @@ fn place_param(resolver: &mut Resolver, ty: &Option<Ty>) -> Result<(), OutOfMemo
     let site = resolver.storage.next_site(false)?;
     resolver.storage.add_site(site)?;
     let Some(size) = ObjectSize::new(size_of_type(&resolver.checker, ty)) else {
+        // Out of reach, which isn't proved: a parameter without a fault has the size of an object.
         return Err(OutOfMemory);
     };
     resolver.storage.add_object(size)?;

@@ -55,6 +55,7 @@ fn count_before_literals(tops: &[Top]) -> Result<u32, OutOfMemory>
     let globals = globals_in(tops)?;
     match globals.checked_add(1) {
         Some(count) => Ok(count),
+        // Out of reach, which isn't proved: a source has at most 2^22 tokens, so it has fewer globals.
         None => Err(OutOfMemory),
     }
 }

@@ -41,6 +41,7 @@ pub(crate) fn expr_within(
         result resolver.new }
 {
     if levels == 0 {
+        // Out of reach, which isn't proved: `LEVELS` are more than the nesting of a source makes.
         return Err(OutOfMemory);
     }
     let mut above: List<&Expr> = List::new(resolver.checker.alloc());
@@ -276,6 +277,7 @@ pub(crate) fn base_within(
         result resolver.new }
 {
     if levels == 0 {
+        // Out of reach, as in `expr_within`.
         return Err(OutOfMemory);
     }
     match base {
@@ -535,6 +537,7 @@ fn init_list(
         result resolver.new }
 {
     if levels == 0 {
+        // Out of reach, as in `expr_within`.
         return Err(OutOfMemory);
     }
     for init in inits {

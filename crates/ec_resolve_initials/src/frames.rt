@@ -55,6 +55,7 @@ fn any_element(alloc: Global, ty: Ty, begun: u64) -> Result<Option<Taken>, OutOf
         (λ taken. taken_view taken ≡ frame_taken (rule.any_elements (ty_view ty) begun)) }
 {
     if begun == u64::MAX {
+        // Out of reach, which isn't proved: each element has an initializer in a list.
         return Err(OutOfMemory);
     }
     let part = copy_ty(alloc, &ty)?;
@@ -73,6 +74,7 @@ fn next_member(
     ensures { IfOk result (λ taken. taken_view taken ≡ frame_taken (shared_members members at)) }
 {
     if at == usize::MAX {
+        // Out of reach, which isn't proved: the members are in a list.
         return Err(OutOfMemory);
     }
     let part = match members.get().value_at(at) {

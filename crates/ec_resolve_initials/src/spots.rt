@@ -48,6 +48,7 @@ impl Spot {
         let within = start(self.done.size, part.align)?;
         match self.base.checked_add(within) {
             Some(offset) => Ok(offset),
+            // Out of reach, which isn't proved: an object is within L1.
             None => Err(OutOfMemory),
         }
     }
@@ -69,6 +70,7 @@ fn start(used: u64, align: u64) -> Result<u64, OutOfMemory>
     ensures { IfOk result (λ offset. offset ≡ next_multiple_of used align) }
 {
     if used > LIMIT || align == 0 || align > 8 {
+        // Out of reach, which isn't proved: shapes are within L1, and aligned to at most 8.
         return Err(OutOfMemory);
     }
     Ok(used.next_multiple_of(align))
@@ -84,6 +86,7 @@ fn joined(before: Shape, part: Shape) -> Result<Shape, OutOfMemory>
             size,
             align: before.align.max(part.align),
         }),
+        // Out of reach, which isn't proved: both are within L1.
         None => Err(OutOfMemory),
     }
 }

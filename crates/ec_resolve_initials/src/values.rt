@@ -26,6 +26,7 @@ fn constant_word(value: i128) -> Result<Word, OutOfMemory>
     ensures { IfOk result (λ word. word_view word ≡ number value) }
 {
     if value < i64::MIN as i128 || value > u64::MAX as i128 {
+        // Out of reach, which isn't proved: a constant lies in the range of its type.
         return Err(OutOfMemory);
     }
     Ok(Word::of_number(value))

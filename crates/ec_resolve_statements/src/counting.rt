@@ -15,6 +15,7 @@ fn sum(a: u32, b: u32) -> Result<u32, OutOfMemory>
 {
     match a.checked_add(b) {
         Some(n) => Ok(n),
+        // Out of reach, which isn't proved: a source has at most 2^22 tokens, so it has fewer objects.
         None => Err(OutOfMemory),
     }
 }
@@ -26,6 +27,7 @@ fn declarators_in(items: &[Declarator]) -> Result<u32, OutOfMemory>
 {
     let count = items.len();
     if count > u32::MAX as usize {
+        // Out of reach, which isn't proved: a source has at most 2^22 tokens, so it has fewer declarators.
         return Err(OutOfMemory);
     }
     Ok(count as u32)

@@ -143,6 +143,7 @@ fn sized(size: u64) -> Result<ObjectSize, OutOfMemory>
 {
     match ObjectSize::new(size) {
         Some(object) => Ok(object),
+        // Out of reach, which isn't proved: an object without a fault has the size of one.
         None => Err(OutOfMemory),
     }
 }

@@ -39,6 +39,7 @@ fn statement_within(
         result resolver.new }
 {
     if levels == 0 {
+        // Out of reach, which isn't proved: `LEVELS` are more than the nesting of a source makes.
         return Err(OutOfMemory);
     }
     let at = resolver.checker.place(s.line)?;

@@ -25,7 +25,7 @@ pub struct Operand {
     /// Whether it is the name of an object at file level.
     pub is_global: bool,
     /// Whether it may initialize an object at file level though it is no integer constant: a literal, `NULL`, the address
-    /// of a global, the name of a global array.
+    /// of a global, the name of a global array. Of the result of `*`, whether its address may.
     pub is_fixed: bool,
     /// The number of bytes of a string literal.
     pub literal: Option<u64>,

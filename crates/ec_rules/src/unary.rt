@@ -26,6 +26,7 @@ pub fn address_rule(checker: &mut Checker, at: Place, o: Operand) -> Result<Oper
         is_place,
         is_target,
         is_global,
+        is_fixed,
         ..
     } = o;
     match ty {
@@ -37,7 +38,7 @@ pub fn address_rule(checker: &mut Checker, at: Place, o: Operand) -> Result<Oper
             is_target: false,
             constant: Constant::Variable,
             is_global: false,
-            is_fixed: is_global,
+            is_fixed: is_global || (is_target && is_fixed),
             literal: None,
         }),
     }
@@ -48,16 +49,17 @@ fn target_rule(checker: &mut Checker, at: Place, o: Operand) -> Operand
     ensures { IsDone (rule.target_rule (place_view at) (operand_view o) (world_of checker.old))
         checker.old checker.new (operand_view result) }
 {
-    match o.ty {
+    let Operand { ty, is_fixed, .. } = o;
+    match ty {
         None => Operand::unknown(),
-        Some(Ty::Ptr(to)) => target(to.into_inner()),
+        Some(Ty::Ptr(to)) => target(is_fixed, to.into_inner()),
         Some(_) => fault(checker, at, FaultKind::F14),
     }
 }
 
-/// What a pointer points to.
-fn target(ty: Ty) -> Operand
-    ensures { operand_view result ≡ rule.target (ty_view ty) }
+/// What a pointer points to, by whether the pointer may initialize an object at file level.
+fn target(is_fixed: bool, ty: Ty) -> Operand
+    ensures { operand_view result ≡ rule.target is_fixed (ty_view ty) }
 {
     let is_place = !is_void(&ty);
     Operand {
@@ -66,7 +68,7 @@ fn target(ty: Ty) -> Operand
         is_target: true,
         constant: Constant::Variable,
         is_global: false,
-        is_fixed: false,
+        is_fixed,
         literal: None,
     }
 }

@@ -20,6 +20,7 @@ pub fn value_rule(checker: &mut Checker, at: Place, o: Operand) -> Operand
 {
     let Operand {
         ty,
+        is_target,
         constant,
         is_global,
         is_fixed,
@@ -32,7 +33,7 @@ pub fn value_rule(checker: &mut Checker, at: Place, o: Operand) -> Operand
             if is_structure(&ty) && !checker.is_complete(&ty) {
                 return fault(checker, at, FaultKind::F14);
             }
-            let is_fixed = is_fixed || (is_global && is_array(&ty));
+            let is_fixed = (is_fixed && !is_target) || (is_global && is_array(&ty));
             Operand {
                 ty: Some(decayed(ty)),
                 is_place: false,

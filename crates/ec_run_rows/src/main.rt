@@ -1,54 +1,51 @@
-//! Runs the tool over rows: a text on standard input says what each call is given, and standard output gets what it
-//! leaves. `docs/ROWS.md` has the form of both.
+//! Rows of whole runs of the tool, and of calls of the library. Each subject has its section (`ec_rows`).
 #![tactic(auto)]
 
-mod call;
-mod line;
-mod place;
-mod setup;
-mod show;
+mod calls;
+mod runs;
 
-use crate::setup::{Setup, Stop};
-use ec_base::{InputStop, List, StdSink, StdSource, put_all, read_all};
+use ec_base::Bytes;
+use ec_rows::{Failure, Sections, show_input, text_of};
 use std::process::ExitCode;
 
-/// The most bytes of a text of rows.
-const MOST: usize = 1 << 24;
-
-impl From<InputStop> for Stop {
-    fn from(stop: InputStop) -> Stop {
-        match stop {
-            InputStop::OutOfMemory => Stop::OutOfMemory,
-            InputStop::Fault | InputStop::TooLong => Stop::Input,
-        }
-    }
+// What the rows of a section are about.
+#[derive(Clone, Copy)]
+enum Subject {
+    Runs,
+    Calls,
 }
 
-// Goes through the rows, and counts the lines that it took.
-fn run(rt: &HostRuntime, number: &mut u32) -> Result<(), Stop> {
-    let alloc = rt.alloc();
-    let text = read_all(alloc, &mut StdSource::new(rt.stdin()), MOST)?;
-    let mut out = StdSink::new(rt.stdout());
-    let mut setup = Setup::new(alloc)?;
-    for line in text.as_slice().split(|b| *b == b'\n') {
-        *number = number.saturating_add(1);
-        let mut shown = List::new(alloc);
-        setup.take(alloc, line, &mut shown)?;
-        put_all(&mut out, shown.as_slice())?;
+/// The name of each section.
+const SUBJECTS: [(&str, Subject); 2] = [("runs", Subject::Runs), ("calls", Subject::Calls)];
+
+// The subject of this name.
+fn subject_named(name: &[u8]) -> Option<Subject> {
+    for (known, subject) in SUBJECTS {
+        if known.as_bytes() == name {
+            return Some(subject);
+        }
     }
-    Ok(())
+    None
+}
+
+// The sections of this program.
+struct Rows;
+
+impl Sections for Rows {
+    fn show(
+        &self,
+        rt: &HostRuntime,
+        name: &[u8],
+        rows: &[u8],
+        out: &mut Bytes,
+    ) -> Result<(), Failure> {
+        match subject_named(name).ok_or(Failure::Usage)? {
+            Subject::Runs => runs::show_rows(rt.alloc(), rows, out),
+            Subject::Calls => Ok(calls::show_rows(rt.alloc(), text_of(rows)?, out)?),
+        }
+    }
 }
 
 fn main(rt: HostRuntime) -> ExitCode {
-    let mut number = 0;
-    match run(&rt, &mut number) {
-        Ok(()) => ExitCode::from(0),
-        Err(Stop::Form) => {
-            let _ = eprintln!(rt; "ec_run_rows: line {number} has no form of a row");
-            ExitCode::from(65)
-        }
-        Err(Stop::Input) => ExitCode::from(66),
-        Err(Stop::OutOfMemory) => ExitCode::from(69),
-        Err(Stop::Output) => ExitCode::from(70),
-    }
+    show_input(&rt, &Rows)
 }

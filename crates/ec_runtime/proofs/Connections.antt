@@ -45,8 +45,8 @@ by_connect P go Close c = absurd c
 unconnected : (reply : Reply) → reply ≢ Connected → is_connected reply ≡ false
 unconnected Connected n = absurd (n refl)
 unconnected NoTarget n = refl
-unconnected (Rows _ _) n = refl
-unconnected (Done _ _) n = refl
+unconnected (Rows _ _ _) n = refl
+unconnected (Done _ _ _) n = refl
 unconnected (Refused _ _ _) n = refl
 unconnected Broken n = refl
 

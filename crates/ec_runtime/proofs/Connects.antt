@@ -25,7 +25,8 @@ use Rattle.ec_transfer_defs.specs.Codes.{code_of, state_of, text_of_finding}
 use Rattle.ec_meaning_defs.specs.evaluation.State.{Answer, Connection, State}
 use Rattle.ec_call_defs.specs.Connecting.{connecting, opened_by, own_name, set_connection_call, unless_named}
 use Rattle.ec_call_defs.specs.Connections.{connection_named, exchange, found_connection, same_name}
-use Rattle.ec_call_defs.specs.Growth.{IsFront, Grows, state_of as reached_state}
+use Rattle.ec_meaning_defs.specs.observed.Run.{IsFront}
+use Rattle.ec_call_defs.specs.Growth.{Grows, state_of as reached_state}
 use Rattle.ec_call_defs.specs.Inputs.{given_read, text_read}
 use Rattle.ec_call_defs.specs.Library.{call_done}
 use Rattle.ec_call_defs.specs.Outcomes.{Text, Outcome, gives, finished, next, with_memory, fresh_area, told_area, raised}
@@ -137,8 +138,8 @@ opened_says : (line : ℕ) (name : Text) (answer : Answer) (s : State) → (reac
 opened_says line name (None, reply) s = refl
 opened_says line name (Some slot, Connected) s = refl
 opened_says line name (Some slot, NoTarget) s = refl
-opened_says line name (Some slot, Rows _ _) s = refl
-opened_says line name (Some slot, Done _ _) s = refl
+opened_says line name (Some slot, Rows _ _ _) s = refl
+opened_says line name (Some slot, Done _ _ _) s = refl
 opened_says line name (Some slot, Refused _ _ _) s = refl
 opened_says line name (Some slot, Broken) s = refl
 
@@ -148,8 +149,8 @@ asking_grows line name asks s = go s.answers
     go : (answers : List Answer) → IsFront s.conversation (reached_state (connecting line name asks answers s)).conversation
     go [] = same_front s.conversation
     go (answer ∷ more) = record {
-      more = exchange answer.0 asks answer.1 ∷ [];
-      is = opened_says line name answer (record s { conversation = s.conversation ++ exchange answer.0 asks answer.1 ∷ []; answers = more });
+      rest = exchange answer.0 asks answer.1 ∷ [];
+      same = opened_says line name answer (record s { conversation = s.conversation ++ exchange answer.0 asks answer.1 ∷ []; answers = more });
     }
 
 connected_grows : (line : ℕ) (it : Text × Request) → Grows (connected line it)
@@ -178,8 +179,8 @@ module _ (line : ℕ) (name : Text) (asks : Request) (m : Memory) (cs : List Con
       go (Some slot) Connected (inl e) s rest = absurd (cc (e))
       go (Some slot) Connected (inr n) s rest = absurd (n refl)
       go (Some slot) NoTarget n s rest = refl
-      go (Some slot) (Rows _ _) n s rest = refl
-      go (Some slot) (Done _ _) n s rest = refl
+      go (Some slot) (Rows _ _ _) n s rest = refl
+      go (Some slot) (Done _ _ _) n s rest = refl
       go (Some slot) (Refused _ _ _) n s rest = refl
       go (Some slot) Broken n s rest = refl
 

@@ -14,8 +14,9 @@ use Rattle.ec_transfer_defs.specs.declared.finding.Finding.TheVariants as found
 use Rattle.ec_transfer_defs.specs.Conversion.{trapped, refused as refused_there, Stored, parameter}
 use Rattle.ec_transfer_defs.specs.Hosts.{HostData}
 use Rattle.ec_meaning_defs.specs.evaluation.State.{Answer, Connection, State}
-use Rattle.ec_call_defs.specs.Growth.{state_of, IsFront, Grows}
-use Rattle.ec_call_defs.specs.Outcomes.{Text, Field, Outcome, gives, finished, over, next, trying, present, with_memory, counted_area, refused, raised, begun_area}
+use Rattle.ec_meaning_defs.specs.observed.Run.{IsFront}
+use Rattle.ec_call_defs.specs.Growth.{state_of, Grows}
+use Rattle.ec_call_defs.specs.Outcomes.{Text, Field, Outcome, gives, finished, over, next, trying, present, with_memory, counted_area, noticed, heard, refused, raised, begun_area}
 use Rattle.ec_call_defs.specs.Connections.{wanted_name, found_connection, connection_of, connection_for, connection_named, answered, asked, controlled, control_sent, begins, begin_text, begun}
 use Rattle.ec_call_defs.specs.Inputs.{host_data, text_read, value_read, member_read}
 use Rattle.ec_call_defs.specs.Storing.{stored_by, field_kept, in_column, column_kept, targets_kept, any_fewer, measured, counted_rows}
@@ -27,10 +28,10 @@ nil_right [] = refl
 nil_right (x ∷ xs) = λ j. x ∷ nil_right xs j
 
 pub same_front : (xs : List Logged) → IsFront xs xs
-same_front xs = record { more = []; is = nil_right xs }
+same_front xs = record { rest = []; same = nil_right xs }
 
 longer : (xs ys zs : List Logged) → IsFront xs ys → IsFront ys zs → IsFront xs zs
-longer xs ys zs p q = record { more = p.more ++ q.more; is = q.is ∙ (λ j. p.is j ++ q.more) ∙ append_assoc xs p.more q.more }
+longer xs ys zs p q = record { rest = p.rest ++ q.rest; same = q.same ∙ (λ j. p.same j ++ q.rest) ∙ append_assoc xs p.rest q.rest }
 
 -- what follows adds to what was said
 pub front_next : {A B : Type 0} (xs : List Logged) (o : Outcome A) (go : A → State → Outcome B) → IsFront xs (state_of o).conversation → ((a : A) → Grows (go a)) → IsFront xs (state_of (next o go)).conversation
@@ -63,11 +64,11 @@ asked_grows slot request s = go s.answers
   where
     go : (answers : List Answer) → IsFront s.conversation (state_of (answered slot request answers s)).conversation
     go [] = same_front s.conversation
-    go (a ∷ more) = record { more = record { slot = Some slot; request = request; reply = a.1 } ∷ []; is = refl }
+    go (a ∷ more) = record { rest = record { slot = Some slot; request = request; reply = a.1 } ∷ []; same = refl }
 
 pub controlled_grows : (line : ℕ) (r : Reply) → Grows (controlled line r)
-controlled_grows line (Rows table tx) s = same_front s.conversation
-controlled_grows line (Done count tx) s = same_front s.conversation
+controlled_grows line (Rows table tx notice) s = same_front s.conversation
+controlled_grows line (Done count tx notice) s = same_front s.conversation
 controlled_grows line (Refused state message tx) s = same_front s.conversation
 controlled_grows line Connected s = same_front s.conversation
 controlled_grows line NoTarget s = same_front s.conversation
@@ -147,16 +148,17 @@ done_grows line false (Some (suc n)) s = same_front s.conversation
 done_grows line false None s = same_front s.conversation
 
 pub replied_grows : (line : ℕ) (wanted : Bool) (store : Sheet → State → Outcome (Unit {0})) → ((table : Sheet) → Grows (store table)) → (r : Reply) → Grows (replied line wanted store r)
-replied_grows line wanted store h (Rows table tx) s = h table s
-replied_grows line wanted store h (Done count tx) s = done_grows line wanted count (with_memory (counted_area (count_of count) s.memory) s)
+replied_grows line wanted store h (Rows table tx notice) s = h table (heard notice s)
+replied_grows line wanted store h (Done count tx notice) s =
+    done_grows line wanted count (with_memory (counted_area (count_of count) (noticed notice s.memory)) s)
 replied_grows line wanted store h (Refused state message tx) s = same_front s.conversation
 replied_grows line wanted store h Connected s = same_front s.conversation
 replied_grows line wanted store h NoTarget s = same_front s.conversation
 replied_grows line wanted store h Broken s = same_front s.conversation
 
 pub taken_grows : (line : ℕ) (r : Reply) → Grows (taken line r)
-taken_grows line (Rows table tx) s = same_front s.conversation
-taken_grows line (Done count tx) s = same_front s.conversation
+taken_grows line (Rows table tx notice) s = same_front s.conversation
+taken_grows line (Done count tx notice) s = same_front s.conversation
 taken_grows line (Refused state message tx) s = same_front s.conversation
 taken_grows line Connected s = same_front s.conversation
 taken_grows line NoTarget s = same_front s.conversation

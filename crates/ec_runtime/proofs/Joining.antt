@@ -16,7 +16,8 @@ use Rattle.ec_link.proofs.Runs.{Asks-nil, Asks-append}
 use Rattle.ec_memory_defs.specs.Memory.{Memory}
 use Rattle.ec_meaning_defs.specs.observed.Observed.{answers_in}
 use Rattle.ec_meaning_defs.specs.evaluation.State.{Answer, Connection, State}
-use Rattle.ec_call_defs.specs.Growth.{state_of, IsFront, Grows}
+use Rattle.ec_meaning_defs.specs.observed.Run.{IsFront}
+use Rattle.ec_call_defs.specs.Growth.{state_of, Grows}
 use Rattle.ec_call_defs.specs.Outcomes.{Text, Outcome, gives, next}
 use Rattle.ec_call_defs.specs.Connections.{told_by, with_told, changed_at, exchange, asked, controlled, control_sent, begins, begin_text, begun}
 use Rattle.ec_runtime.specs.declared.open.Open.{Open}

@@ -11,7 +11,8 @@ use Rattle.ec_memory_defs.specs.Memory.{Memory}
 use Rattle.ec_meaning_defs.specs.evaluation.State.{Connection, State}
 use Rattle.ec_call_defs.specs.Autocommit.{with_autocommit, switched, commits_first, autocommit_set}
 use Rattle.ec_call_defs.specs.Connections.{changed_at, control_sent}
-use Rattle.ec_call_defs.specs.Growth.{state_of, IsFront, Grows}
+use Rattle.ec_meaning_defs.specs.observed.Run.{IsFront}
+use Rattle.ec_call_defs.specs.Growth.{state_of, Grows}
 use Rattle.ec_call_defs.specs.Outcomes.{Text, Outcome, gives, next}
 use Rattle.ec_runtime.specs.declared.open.Open.{Open}
 use Rattle.ec_runtime.specs.declared.stop.Stop.{Stop}

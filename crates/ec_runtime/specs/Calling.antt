@@ -18,7 +18,8 @@ use Rattle.ec_meaning_defs.specs.evaluation.State.{Answer, Connection, State}
 use Rattle.ec_meaning_defs.specs.evaluation.Results.{on, over}
 use Rattle.ec_meaning_defs.specs.evaluation.Whole.{ready_connections, ready_name}
 use Rattle.ec_call_defs.specs.Connections.{same_name}
-use Rattle.ec_call_defs.specs.Growth.{state_of, IsFront}
+use Rattle.ec_meaning_defs.specs.observed.Run.{IsFront}
+use Rattle.ec_call_defs.specs.Growth.{state_of}
 use Rattle.ec_call_defs.specs.Outcomes.{Text, Outcome}
 use Rattle.ec_call_defs.specs.Steps.{settled}
 use Rattle.ec_runtime.specs.declared.library.Library.{Library}

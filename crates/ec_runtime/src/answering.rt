@@ -10,7 +10,7 @@ ghost use Rattle.ec_call_defs.specs.Running.{is_wanted, rows_stored, table_kept}
 ghost use Rattle.ec_runtime.specs.Says.{Quiet};
 ghost use Rattle.ec_runtime.specs.Views.{outputs_of};
 
-use crate::area::{refuse, tell, tell_count};
+use crate::area::{refuse, tell, tell_count, tell_notice};
 use crate::host::Host;
 use crate::stop::Stop;
 use crate::storing::keep_rows;
@@ -42,15 +42,21 @@ pub(crate) fn refused(store: &mut Store, line: Line, state: &SqlState, message: 
     tell(store, line, server_code(state), *state, message)
 }
 
-/// A reply to transaction control.
+/// A reply to transaction control. A notice is told first.
 pub(crate) fn controlled(store: &mut Store, line: Line, reply: &Reply) -> Result<(), Stop>
     requires { IsArea store.old }
     ensures quiet { Quiet result (controlled line.0 reply.now) store.old store.new }
     ensures kept { IsArea store.new }
 {
     match reply {
-        Reply::Rows { .. } => Ok(()),
-        Reply::Done { .. } => Ok(()),
+        Reply::Rows { notice, .. } => {
+            tell_notice(store, *notice);
+            Ok(())
+        }
+        Reply::Done { notice, .. } => {
+            tell_notice(store, *notice);
+            Ok(())
+        }
         Reply::Refused { .. } => Err(refuse(store, line, Finding::ControlRefused)),
         Reply::Connected => Err(refuse(store, line, Finding::ControlRefused)),
         Reply::NoTarget => Err(refuse(store, line, Finding::ControlRefused)),
@@ -139,7 +145,7 @@ fn is_wanted(hosts: &[Host]) -> bool
     }
 }
 
-/// What a reply makes of a statement with these hosts.
+/// What a reply makes of a statement with these hosts. A notice is told first.
 pub(crate) fn answered(
     store: &mut Store,
     line: Line,
@@ -152,8 +158,12 @@ pub(crate) fn answered(
     ensures kept { IsArea store.new }
 {
     match reply {
-        Reply::Rows { table, .. } => keep_table(store, line, hosts, table),
-        Reply::Done { count, .. } => {
+        Reply::Rows { table, notice, .. } => {
+            tell_notice(store, *notice);
+            keep_table(store, line, hosts, table)
+        }
+        Reply::Done { count, notice, .. } => {
+            tell_notice(store, *notice);
             tell_count(store, count_of(*count));
             done(store, line, is_wanted(hosts), *count)
         }

@@ -3,14 +3,14 @@
 ghost use Rattle.std.specs.Prelude.{◌≡◌};
 ghost use Rattle.ec_transfer_defs.specs.Area.{IsArea};
 ghost use Rattle.ec_transfer_defs.specs.Codes.{code_of, state_of, text_of_finding};
-ghost use Rattle.ec_call_defs.specs.Outcomes.{fresh_area, told_area, warned_area, counted_area};
+ghost use Rattle.ec_call_defs.specs.Outcomes.{fresh_area, told_area, warned_area, noticed_area, noticed, counted_area};
 ghost use Rattle.ec_runtime.specs.declared.stop.Stop.TheVariants as stops;
 
 use crate::stop::Stop;
 use ec_base::Line;
 use ec_link::SqlState;
 use ec_memory::Store;
-use ec_sqlca::{raise, reset, rows, warn};
+use ec_sqlca::{notice, raise, reset, rows, warn};
 use ec_transfer_defs::Finding;
 
 /// The area as it is when a statement begins.
@@ -41,6 +41,18 @@ pub(crate) fn tell_cut(store: &mut Store)
     ensures kept { IsArea store.new }
 {
     warn(store);
+}
+
+/// A notice of the server is told, if there is one.
+#[tactic(auto, unfolding(ec_call_defs::specs::Outcomes::noticed_area))]
+pub(crate) fn tell_notice(store: &mut Store, is_given: bool)
+    requires { IsArea store.old }
+    ensures area { store.new ≡ noticed is_given store.old }
+    ensures kept { IsArea store.new }
+{
+    if is_given {
+        notice(store);
+    }
 }
 
 /// A code with its state and its message ends the call.

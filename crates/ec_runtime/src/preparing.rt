@@ -19,7 +19,7 @@ ghost use Rattle.ec_runtime.specs.Statements.{changed_behind, deallocate_sent, d
 ghost use Rattle.std.specs.declared.option.Option.{Option};
 
 use crate::answering::refused;
-use crate::area::{begin_area, refuse};
+use crate::area::{begin_area, refuse, tell_notice};
 use crate::inputs::{GivenText, given_text};
 use crate::open::{Open, ask};
 use crate::order::kept_name;
@@ -32,15 +32,21 @@ use ec_memory::Store;
 use ec_transfer_defs::Finding;
 use std::alloc::Global;
 
-/// A reply to PREPARE or DEALLOCATE, which have no rows and no count.
+/// A reply to PREPARE or DEALLOCATE, which have no rows and no count. A notice is told first.
 fn taken(store: &mut Store, line: Line, reply: &Reply) -> Result<(), Stop>
     requires { IsArea store.old }
     ensures quiet { Quiet result (taken line.0 reply.now) store.old store.new }
     ensures kept { IsArea store.new }
 {
     match reply {
-        Reply::Rows { .. } => Ok(()),
-        Reply::Done { .. } => Ok(()),
+        Reply::Rows { notice, .. } => {
+            tell_notice(store, *notice);
+            Ok(())
+        }
+        Reply::Done { notice, .. } => {
+            tell_notice(store, *notice);
+            Ok(())
+        }
         Reply::Refused { state, message, .. } => {
             Err(refused(store, line, state, message.as_slice()))
         }

@@ -2,7 +2,7 @@
 use Rattle.std.specs.Prelude.{Bool, List, [], ◌∷◌, Some, codes, take}
 use Rattle.ec_ctypes.specs.trees.Types.{arithmetic, array, structure}
 use Rattle.ec_ctypes.specs.declared.types.arith.Arith.TheVariants.{Char, Int, Long}
-use Rattle.ec_ctypes.specs.LayoutExamples.{sqlca_structs}
+use Rattle.ec_ctypes.specs.SqlcaStructs.{sqlca_structs}
 use Rattle.ec_typing_defs.specs.Tables.{Named}
 use Rattle.ec_typing_defs.specs.Worlds.{World, StructInfo, no_names}
 use Rattle.ec_typing_defs.specs.Expressions.{Members}

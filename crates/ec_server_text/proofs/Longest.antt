@@ -1,13 +1,13 @@
 -- References of a statement for the server are read by the readers of suffixes and tokens.
 use Rattle.std.proofs.Common.{◌≡◌, ℕ, zero, suc, ◌≤◌, Bool, true, false, [], ◌∷◌, length, refl, ap, sym, ◌∙◌, codes, Option, Some, None, ◌⊎◌, inl, inr, arith}
-use Rattle.std.specs.Prelude.{◌&&◌, ◌||◌, if◌then◌else◌}
+use Rattle.std.specs.Prelude.{not, ◌&&◌, ◌||◌, if◌then◌else◌}
 use Rattle.ec_ctypes.specs.trees.Exprs.{ExprData, identifier, member, arrow, index}
-use Rattle.ec_embedded.specs.shapes.ReadShapes.{done, over_limit, and_then, counting, taking, read_one}
+use Rattle.ec_embedded.specs.shapes.ReadShapes.{done, stuck, over_limit, and_then, counting, taking, read_one}
 use Rattle.ec_language.specs.SqlTokens.{SqlToken}
 use Rattle.ec_embedded.proofs.Sound.{sound}
 use Rattle.ec_embedded.specs.References.{decimal_constant}
-use Rattle.ec_embedded.specs.ServerText.{Tokens, Reading, is_member, is_arrow, is_index, place_at, counted_suffix, suffixes}
-use Rattle.ec_embedded.specs.Terminals.{alphabet, Counts, Terminal, step_by, suffix, is, glued_word, glued_number, suffix_sign, glued_sign}
+use Rattle.ec_embedded.specs.ServerText.{Tokens, Reading, is_member, is_arrow, is_index, is_place, place_at, counted_suffix, suffixes}
+use Rattle.ec_embedded.specs.Terminals.{alphabet, Counts, Terminal, step_by, suffix, is, glued_word, glued_number, whole_number, suffix_sign, glued_sign}
 use Rattle.ec_references.specs.Readers.{Reader, returns, ◌>>=◌, taken, if_next, next_is, turns_from, suffix_behind, member_behind, arrow_behind, index_behind, place}
 use Rattle.ec_server_text.specs.Readers as r
 
@@ -85,22 +85,43 @@ place_is m b w h = go (is glued_word b) refl
     go true e = first_way glued_word (taken glued_word >>= (λ t. returns (identifier t.bytes))) (taken glued_number >>= (λ t. returns (decimal_constant t.bytes))) m b w e ∙ behind_sign glued_word m b w (λ t m r. done (identifier t.bytes) m r) e ∙ ap (λ c. done (if c then identifier b.bytes else decimal_constant b.bytes) m w) (sym e)
     go false e = other_way glued_word (taken glued_word >>= (λ t. returns (identifier t.bytes))) (taken glued_number >>= (λ t. returns (decimal_constant t.bytes))) m b w e ∙ behind_sign glued_number m b w (λ t m r. done (decimal_constant t.bytes) m r) (ap (λ c. c || is glued_number b) (sym e) ∙ h) ∙ ap (λ c. done (if c then identifier b.bytes else decimal_constant b.bytes) m w) (sym e)
 
-index_is : (e : ExprData) (n : Counts) (a b c : SqlToken) (w : Tokens) → is_index a b c ≡ true → suffix_behind e n (a ∷ b ∷ c ∷ w) ≡ counted n (a ∷ b ∷ c ∷ w) (index e (place_at b)) w
+neither_true : (x y : Bool) → (x || y) ≡ false → (x ≡ false) × (y ≡ false)
+neither_true true y h = absurd (cc)
+neither_true false y h = (refl, h)
+
+place_stuck : (m : Counts) (b : SqlToken) (w : Tokens) → is_place b ≡ false → place m (b ∷ w) ≡ stuck (b ∷ w)
+place_stuck m b w h =
+    let p = neither_true (is glued_word b) (is glued_number b) h in
+    other_way glued_word (taken glued_word >>= (λ t. returns (identifier t.bytes))) (taken glued_number >>= (λ t. returns (decimal_constant t.bytes))) m b w p.0
+    ∙ ap (λ c. and_then (taking alphabet glued_number m b w c) (λ t m r. done (decimal_constant t.bytes) m r)) p.1
+
+index_parts : (a b c : SqlToken) → is_index a b c ≡ true → (is (suffix_sign (codes "[")) a ≡ true) × (is (glued_sign (codes "]")) c ≡ true)
+index_parts a b c h =
+    let q = both_true (is (suffix_sign (codes "[")) a && (is glued_word b || (is whole_number b && not b.gap))) (is (glued_sign (codes "]")) c) h in
+    ((both_true (is (suffix_sign (codes "[")) a) (is glued_word b || (is whole_number b && not b.gap)) q.0).0, q.1)
+
+behind_bracket : (e : ExprData) (n : Counts) (a : SqlToken) (w : Tokens) → is (suffix_sign (codes "[")) a ≡ true
+    → suffix_behind e n (a ∷ w) ≡ and_then (counting alphabet (suffix_sign (codes "[")) a w (step_by suffix n)) (λ v m r. and_then (place m r) (λ i m r. and_then (read_one alphabet (glued_sign (codes "]")) m r) (λ t m r. done (index e i) m r)))
 unfolding suffix_behind
-index_is e n a b c w h =
-    other_way (suffix_sign (codes ".")) (member_behind e) (if_next (suffix_sign (codes "->")) (arrow_behind e) (index_behind e)) n a (b ∷ c ∷ w) (not_both (suffix_sign (codes "[")) (suffix_sign (codes ".")) a refl p.0)
-    ∙ other_way (suffix_sign (codes "->")) (arrow_behind e) (index_behind e) n a (b ∷ c ∷ w) (not_both (suffix_sign (codes "[")) (suffix_sign (codes "->")) a refl p.0)
-    ∙ behind_sign (suffix_sign (codes "[")) n a (b ∷ c ∷ w) _ p.0 ∙ go (step_by suffix n)
+behind_bracket e n a w h =
+    other_way (suffix_sign (codes ".")) (member_behind e) (if_next (suffix_sign (codes "->")) (arrow_behind e) (index_behind e)) n a w (not_both (suffix_sign (codes "[")) (suffix_sign (codes ".")) a refl h)
+    ∙ other_way (suffix_sign (codes "->")) (arrow_behind e) (index_behind e) n a w (not_both (suffix_sign (codes "[")) (suffix_sign (codes "->")) a refl h)
+    ∙ behind_sign (suffix_sign (codes "[")) n a w _ h
+
+index_is : (e : ExprData) (n : Counts) (a b c : SqlToken) (w : Tokens) → is_index a b c ≡ true → is_place b ≡ true → suffix_behind e n (a ∷ b ∷ c ∷ w) ≡ counted n (a ∷ b ∷ c ∷ w) (index e (place_at b)) w
+index_is e n a b c w h k = behind_bracket e n a (b ∷ c ∷ w) (index_parts a b c h).0 ∙ go (step_by suffix n)
   where
-    q : ((is (suffix_sign (codes "[")) a && (is glued_word b || is glued_number b)) ≡ true) × (is (glued_sign (codes "]")) c ≡ true)
-    q = both_true (is (suffix_sign (codes "[")) a && (is glued_word b || is glued_number b)) (is (glued_sign (codes "]")) c) h
-
-    p : (is (suffix_sign (codes "[")) a ≡ true) × ((is glued_word b || is glued_number b) ≡ true)
-    p = both_true (is (suffix_sign (codes "[")) a) (is glued_word b || is glued_number b) q.0
-
     go : (o : Option Counts) → and_then (counting alphabet (suffix_sign (codes "[")) a (b ∷ c ∷ w) o) (λ v m r. and_then (place m r) (λ i m r. and_then (read_one alphabet (glued_sign (codes "]")) m r) (λ t m r. done (index e i) m r))) ≡ elim o as (λ _. Reading ExprData) [ None ↦ over_limit (a ∷ b ∷ c ∷ w) | Some m ↦ done (index e (place_at b)) m w ]
     go None = refl
-    go (Some m) = ap (λ o. and_then o (λ i m r. and_then (read_one alphabet (glued_sign (codes "]")) m r) (λ t m r. done (index e i) m r))) (place_is m b (c ∷ w) p.1) ∙ behind_sign (glued_sign (codes "]")) m c w (λ t m r. done (index e (place_at b)) m r) q.1
+    go (Some m) = ap (λ o. and_then o (λ i m r. and_then (read_one alphabet (glued_sign (codes "]")) m r) (λ t m r. done (index e i) m r))) (place_is m b (c ∷ w) k) ∙ behind_sign (glued_sign (codes "]")) m c w (λ t m r. done (index e (place_at b)) m r) (index_parts a b c h).1
+
+-- a number that is no index
+index_stuck : (e : ExprData) (n : Counts) (a b c : SqlToken) (w : Tokens) → is_index a b c ≡ true → is_place b ≡ false → suffix_behind e n (a ∷ b ∷ c ∷ w) ≡ counted_suffix n (a ∷ b ∷ c ∷ w) (λ m. stuck (b ∷ c ∷ w))
+index_stuck e n a b c w h k = behind_bracket e n a (b ∷ c ∷ w) (index_parts a b c h).0 ∙ go (step_by suffix n)
+  where
+    go : (o : Option Counts) → and_then (counting alphabet (suffix_sign (codes "[")) a (b ∷ c ∷ w) o) (λ v m r. and_then (place m r) (λ i m r. and_then (read_one alphabet (glued_sign (codes "]")) m r) (λ t m r. done (index e i) m r))) ≡ elim o as (λ _. Reading ExprData) [ None ↦ over_limit (a ∷ b ∷ c ∷ w) | Some m ↦ stuck (b ∷ c ∷ w) ]
+    go None = refl
+    go (Some m) = ap (λ o. and_then o (λ i m r. and_then (read_one alphabet (glued_sign (codes "]")) m r) (λ t m r. done (index e i) m r))) (place_stuck m b (c ∷ w) k)
 
 -- all of them
 
@@ -153,19 +174,28 @@ within_is (suc k) e n (a ∷ b ∷ c ∷ w) h = go (λ f m. within_is k f m (c �
     more x q f None = refl
     more x q f (Some m) = f m
 
+    stays : (o : Option Counts) → elim o as (λ _. Reading ExprData) [ None ↦ over_limit (a ∷ b ∷ c ∷ w) | Some m ↦ stuck (b ∷ c ∷ w) ] ≡ and_then (elim o as (λ _. Reading ExprData) [ None ↦ over_limit (a ∷ b ∷ c ∷ w) | Some m ↦ stuck (b ∷ c ∷ w) ]) on
+    stays None = refl
+    stays (Some m) = refl
+
+    by_place : ((m : Counts) → suffixes m (index e (place_at b)) w ≡ on (index e (place_at b)) m w) → is_index a b c ≡ true → (s : Bool) → is_place b ≡ s
+        → counted_suffix n (a ∷ b ∷ c ∷ w) (λ m. elim s as (λ _. Reading ExprData) [ true ↦ suffixes m (index e (place_at b)) w | false ↦ stuck (b ∷ c ∷ w) ]) ≡ turn
+    by_place f p true q = more (index e (place_at b)) w f (step_by suffix n) ∙ step _ (index_is e n a b c w p q)
+    by_place f p false q = stays (step_by suffix n) ∙ step _ (index_stuck e n a b c w p q)
+
     by_index : ((m : Counts) → suffixes m (index e (place_at b)) w ≡ on (index e (place_at b)) m w) → (s : Bool) → is_index a b c ≡ s
-        → elim s as (λ _. Reading ExprData) [ true ↦ counted_suffix n (a ∷ b ∷ c ∷ w) (λ m. suffixes m (index e (place_at b)) w) | false ↦ done e n (a ∷ b ∷ c ∷ w) ] ≡ elim s as (λ _. Reading ExprData) [ true ↦ turn | false ↦ done e n (a ∷ b ∷ c ∷ w) ]
-    by_index f true p = more (index e (place_at b)) w f (step_by suffix n) ∙ step _ (index_is e n a b c w p)
+        → elim s as (λ _. Reading ExprData) [ true ↦ counted_suffix n (a ∷ b ∷ c ∷ w) (λ m. elim (is_place b) as (λ _. Reading ExprData) [ true ↦ suffixes m (index e (place_at b)) w | false ↦ stuck (b ∷ c ∷ w) ]) | false ↦ done e n (a ∷ b ∷ c ∷ w) ] ≡ elim s as (λ _. Reading ExprData) [ true ↦ turn | false ↦ done e n (a ∷ b ∷ c ∷ w) ]
+    by_index f true p = by_place f p (is_place b) refl
     by_index f false p = refl
 
     by_arrow : ((x : ExprData) (m : Counts) → suffixes m x (c ∷ w) ≡ on x m (c ∷ w)) → ((x : ExprData) (m : Counts) → suffixes m x w ≡ on x m w) → (s : Bool) → is_arrow a b ≡ s
-        → elim s as (λ _. Reading ExprData) [ true ↦ counted_suffix n (a ∷ b ∷ c ∷ w) (λ m. suffixes m (arrow e b.bytes) (c ∷ w)) | false ↦ elim (is_index a b c) as (λ _. Reading ExprData) [ true ↦ counted_suffix n (a ∷ b ∷ c ∷ w) (λ m. suffixes m (index e (place_at b)) w) | false ↦ done e n (a ∷ b ∷ c ∷ w) ] ]
+        → elim s as (λ _. Reading ExprData) [ true ↦ counted_suffix n (a ∷ b ∷ c ∷ w) (λ m. suffixes m (arrow e b.bytes) (c ∷ w)) | false ↦ elim (is_index a b c) as (λ _. Reading ExprData) [ true ↦ counted_suffix n (a ∷ b ∷ c ∷ w) (λ m. elim (is_place b) as (λ _. Reading ExprData) [ true ↦ suffixes m (index e (place_at b)) w | false ↦ stuck (b ∷ c ∷ w) ]) | false ↦ done e n (a ∷ b ∷ c ∷ w) ] ]
         ≡ elim (elim s as (λ _. Bool) [ true ↦ true | false ↦ is_index a b c ]) as (λ _. Reading ExprData) [ true ↦ turn | false ↦ done e n (a ∷ b ∷ c ∷ w) ]
     by_arrow f g true p = more (arrow e b.bytes) (c ∷ w) (f (arrow e b.bytes)) (step_by suffix n) ∙ step _ (arrow_is e n a b (c ∷ w) p)
     by_arrow f g false p = by_index (g (index e (place_at b))) (is_index a b c) refl
 
     by_member : ((x : ExprData) (m : Counts) → suffixes m x (c ∷ w) ≡ on x m (c ∷ w)) → ((x : ExprData) (m : Counts) → suffixes m x w ≡ on x m w) → (s : Bool) → is_member a b ≡ s
-        → elim s as (λ _. Reading ExprData) [ true ↦ counted_suffix n (a ∷ b ∷ c ∷ w) (λ m. suffixes m (member e b.bytes) (c ∷ w)) | false ↦ elim (is_arrow a b) as (λ _. Reading ExprData) [ true ↦ counted_suffix n (a ∷ b ∷ c ∷ w) (λ m. suffixes m (arrow e b.bytes) (c ∷ w)) | false ↦ elim (is_index a b c) as (λ _. Reading ExprData) [ true ↦ counted_suffix n (a ∷ b ∷ c ∷ w) (λ m. suffixes m (index e (place_at b)) w) | false ↦ done e n (a ∷ b ∷ c ∷ w) ] ] ]
+        → elim s as (λ _. Reading ExprData) [ true ↦ counted_suffix n (a ∷ b ∷ c ∷ w) (λ m. suffixes m (member e b.bytes) (c ∷ w)) | false ↦ elim (is_arrow a b) as (λ _. Reading ExprData) [ true ↦ counted_suffix n (a ∷ b ∷ c ∷ w) (λ m. suffixes m (arrow e b.bytes) (c ∷ w)) | false ↦ elim (is_index a b c) as (λ _. Reading ExprData) [ true ↦ counted_suffix n (a ∷ b ∷ c ∷ w) (λ m. elim (is_place b) as (λ _. Reading ExprData) [ true ↦ suffixes m (index e (place_at b)) w | false ↦ stuck (b ∷ c ∷ w) ]) | false ↦ done e n (a ∷ b ∷ c ∷ w) ] ] ]
         ≡ elim (elim s as (λ _. Bool) [ true ↦ true | false ↦ elim (is_arrow a b) as (λ _. Bool) [ true ↦ true | false ↦ is_index a b c ] ]) as (λ _. Reading ExprData) [ true ↦ turn | false ↦ done e n (a ∷ b ∷ c ∷ w) ]
     by_member f g true p = more (member e b.bytes) (c ∷ w) (f (member e b.bytes)) (step_by suffix n) ∙ step _ (member_is e n a b (c ∷ w) p)
     by_member f g false p = by_arrow f g (is_arrow a b) refl

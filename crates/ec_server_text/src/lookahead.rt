@@ -1,8 +1,9 @@
 //! What begins with the next tokens.
 
-ghost use Rattle.std.specs.Prelude.{◌≡◌};
+ghost use Rattle.std.specs.Prelude.{◌≡◌, ◌&&◌, not};
 ghost use Rattle.ec_clex.specs.Sql.{sql_view, sql_views};
 ghost use Rattle.ec_embedded.specs.ServerText as text;
+ghost use Rattle.ec_embedded.specs.Terminals.{is, whole_number};
 ghost use Rattle.ec_server_text.specs.Readers as spec;
 
 use ec_clex::SqlToken;
@@ -80,14 +81,22 @@ fn is_arrow(first: &SqlToken<'_>, second: &SqlToken<'_>) -> bool
     is_glued_mark(first, b"->") && is_class(second, Class::GluedWord)
 }
 
-/// A `[`, a word or a number, and a `]`.
+/// A number of any value, with no gap before it.
+#[inline(always)]
+fn is_glued_whole(token: &SqlToken<'_>) -> bool
+    ensures { result ≡ (is whole_number (sql_view token.now) && not token.now.gap) }
+{
+    is_class(token, Class::WholeNumber) && !token.gap
+}
+
+/// A `[`, a word or a number of any value, and a `]`.
 #[inline(always)]
 fn is_index(first: &SqlToken<'_>, second: &SqlToken<'_>, third: &SqlToken<'_>) -> bool
     ensures { result ≡ text.is_index (sql_view first.now) (sql_view second.now)
         (sql_view third.now) }
 {
     is_glued_mark(first, b"[")
-        && (is_class(second, Class::GluedWord) || is_class(second, Class::GluedNumber))
+        && (is_class(second, Class::GluedWord) || is_glued_whole(second))
         && is_glued_mark(third, b"]")
 }
 

@@ -79,8 +79,16 @@ fn reply(answer: Answer, tx: Tx) -> Reply
 {
     match answer {
         Answer::Connected => Reply::Connected,
-        Answer::Rows(table) => Reply::Rows { table, tx },
-        Answer::Done(count) => Reply::Done { count, tx },
+        Answer::Rows(table) => Reply::Rows {
+            table,
+            tx,
+            notice: false,
+        },
+        Answer::Done(count) => Reply::Done {
+            count,
+            tx,
+            notice: false,
+        },
     }
 }
 

@@ -1,6 +1,6 @@
 //! What is printed, in memory.
 
-use ec_base::{Line, OutOfMemory};
+use ec_base::{FaultKind, LimitKind, Line, OutOfMemory, Stop};
 use itoa::Buffer;
 use std::alloc::Global;
 
@@ -111,6 +111,30 @@ impl Printer {
             self.plain(b"  ")?;
         }
         Ok(())
+    }
+
+    /// Prints a line with a fault and where it is.
+    pub fn fault(&mut self, kind: FaultKind, line: Line) -> Result<(), OutOfMemory> {
+        self.atom(kind.text())?;
+        self.atom("at line")?;
+        self.line(line)?;
+        self.end_line()
+    }
+
+    /// Prints a line with a limit.
+    pub fn limit(&mut self, kind: LimitKind) -> Result<(), OutOfMemory> {
+        self.atom("limit")?;
+        self.atom(kind.text())?;
+        self.end_line()
+    }
+
+    /// Prints a line that says why something is refused. Want of memory is no answer, and is given back.
+    pub fn stop(&mut self, stop: Stop) -> Result<(), OutOfMemory> {
+        match stop {
+            Stop::Refused(kind, line) => self.fault(kind, line),
+            Stop::Limit(kind) => self.limit(kind),
+            Stop::OutOfMemory => Err(OutOfMemory),
+        }
     }
 
     /// Goes back by what `go_in` went in.

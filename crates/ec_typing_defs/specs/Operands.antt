@@ -30,7 +30,7 @@ pub record OperandData : Type 0 where
   pub constant : ConstData
   -- whether it is the name of an object at file level
   pub is_global : Bool
-  -- whether it may initialize an object at file level though it is no integer constant: a literal, NULL, the address of a global, the name of a global array
+  -- whether it may initialize an object at file level though it is no integer constant: a literal, NULL, the address of a global, the name of a global array; of the result of `*`, whether its address may
   pub is_fixed : Bool
   -- the number of bytes of a string literal
   pub literal : Option ℕ
@@ -118,7 +118,7 @@ valued o t = record o {
   is_place = false;
   is_target = false;
   is_global = false;
-  is_fixed = o.is_fixed || (o.is_global && is_array t);
+  is_fixed = (o.is_fixed && not o.is_target) || (o.is_global && is_array t);
 }
 
 -- An expression as a value: an array is a pointer to its first element, and a struct has to be complete.
@@ -132,8 +132,10 @@ value_rule at o = given o.type (λ t. do
 
 -- ---- unary operators
 
+-- The address of the result of `*` is its operand: it is known where that is.
 abbrev pub address : OperandData → TyData → OperandData
-address o t = record (computed (Some (pointer t))) { is_fixed = o.is_global }
+address o t = record
+    (computed (Some (pointer t))) { is_fixed = o.is_global || (o.is_target && o.is_fixed) }
 
 -- `&` (6.5.3.2): F15 where the operand is no place. `&*p` is p, also where p points to void
 unfoldable pub address_rule : Place → OperandData → Rule OperandData
@@ -143,8 +145,13 @@ address_rule at o =
       | false ↦ note at F15 >> pure unknown
     ])
 
-abbrev pub target : TyData → OperandData
-target t = record (computed (Some t)) { is_place = not (is_void t); is_target = true }
+-- what a pointer points to, by whether the pointer may initialize an object at file level
+abbrev pub target : Bool → TyData → OperandData
+target fixed t = record (computed (Some t)) {
+  is_place = not (is_void t);
+  is_target = true;
+  is_fixed = fixed;
+}
 
 abbrev pub found_or_types : Place → Option OperandData → Rule OperandData
 found_or_types at (Some o) = pure o
@@ -152,7 +159,8 @@ found_or_types at None = note at F14 >> pure unknown
 
 -- `*` of a pointer (6.5.3.2, 2)
 unfoldable pub target_rule : Place → OperandData → Rule OperandData
-target_rule at o = given o.type (λ t. found_or_types at (option_map target (pointed_to t)))
+target_rule at o =
+    given o.type (λ t. found_or_types at (option_map (target o.is_fixed) (pointed_to t)))
 
 abbrev pub with_constant : ConstData → OperandData → OperandData
 with_constant c o = record o { constant = c }

@@ -7,7 +7,7 @@ use Rattle.ec_ctypes.specs.trees.Stmts.{StmtList}
 use Rattle.ec_ctypes.specs.trees.Embedded.{EmbData}
 use Rattle.ec_ctypes.specs.trees.Units.{ParamData, FuncData, TopData, include_top, directive_top, decl_top, func_top, mark_top, UnitData}
 use Rattle.ec_ctypes.specs.Layout.{struct_shape}
-use Rattle.ec_ctypes.specs.LayoutExamples.{sqlca_structs}
+use Rattle.ec_ctypes.specs.SqlcaStructs.{sqlca_structs}
 use Rattle.ec_language.specs.Letters.{Text, same_text}
 use Rattle.ec_typing_defs.specs.Tables.{Named, find, put}
 use Rattle.ec_typing_defs.specs.Types.{int_type, words_type, is_void, is_structure, same_type}

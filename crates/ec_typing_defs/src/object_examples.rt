@@ -58,6 +58,13 @@ pub fn constant_examples()
     ensures globals { with_main
         "int a = 1 + 2 * 3; char *b = \"x\", c[] = \"x\", *d = c, *e = NULL, *f = 0; int *g = &a; int **h = &g; void *i = &sqlca; long j = sizeof c; int k[2] = {1, -1}; char *l[] = {\"x\", c, 0};"
         ≡ fine }
+    ensures address_of_a_target { with_main
+        "int a; int *b = &*&a, c[2], *d = &*c, *e = &*&*&a; char *f = &*\"x\"; void *g = &*NULL;"
+        ≡ fine }
+    ensures global_by_target { with_main "int a; int b = *&a;" ≡ refused F19 1 }
+    ensures global_by_array_target { with_main "int a[2]; int *b = *&a;" ≡ refused F19 1 }
+    ensures global_by_pointer_target { with_main "int *a; int *b = &*a;" ≡ refused F19 1 }
+    ensures address_of_a_target_of_a_target { with_main "int *a; int *b = &**&a;" ≡ refused F19 1 }
     ensures global_by_name { with_main "int a; int b = a;" ≡ refused F19 1 }
     ensures global_by_call { with_main "int f(void) { return 1; }\nint a = f();" ≡ refused F19 2 }
     ensures global_by_element { with_main "int a[2]; int *b = &a[1];" ≡ refused F19 1 }

@@ -6,7 +6,8 @@ ghost use Rattle.ec_base.specs.declared.fault.FaultKind.TheVariants.{F10, F11, F
 ghost use Rattle.ec_base.specs.declared.fault.LimitKind.TheVariants.{L1};
 ghost use Rattle.ec_ctypes.specs.declared.types.arith.Arith.TheVariants.{Char, Long};
 ghost use Rattle.ec_ctypes.specs.trees.Types.{void, arithmetic, pointer, array, structure};
-ghost use Rattle.ec_ctypes.specs.LayoutExamples.{struct, sqlca_structs};
+ghost use Rattle.ec_ctypes.specs.LayoutExamples.{struct};
+ghost use Rattle.ec_ctypes.specs.SqlcaStructs.{sqlca_structs};
 ghost use Rattle.ec_typing_defs.specs.Types.{int_type};
 ghost use Rattle.ec_typing_defs.specs.Examples.{verdict, violations_in, typed_in, tagged_struct, refused, limited, fault_at, limit_at};
 

@@ -23,7 +23,7 @@ use Rattle.ec_transfer_defs.specs.Hosts.{HostData}
 use Rattle.ec_meaning_defs.specs.evaluation.State as state
 use Rattle.ec_meaning_defs.specs.evaluation.State.{Answer, Connection, Item, State, waits}
 use Rattle.ec_meaning_defs.specs.evaluation.Agree.{richer, Beside, beside, Endings, Kept}
-use Rattle.ec_call_defs.specs.Answers.{server_code, taken, count_of, done, replied}
+use Rattle.ec_call_defs.specs.Answers.{server_code, taken, count_of, done, count_told, replied}
 use Rattle.ec_call_defs.specs.Areas.{Areas, area_named, with_area, without_area, items_of, contents, resized, raised_to, number_as, within, item_at, item_text, set_item}
 use Rattle.ec_call_defs.specs.Autocommit.{with_autocommit, switched, commits_first, autocommit_set, autocommit_call}
 use Rattle.ec_call_defs.specs.Connecting.{opened_by, connecting, unless_named, own_name, connect_call, set_connection_call}
@@ -35,7 +35,7 @@ use Rattle.ec_call_defs.specs.Growth.{state_of}
 use Rattle.ec_call_defs.specs.Inputs.{host_data, text_read, given_read, value_read, Inputs, no_inputs, with_param, with_area as with_area_input, inputs_read, member_read}
 use Rattle.ec_call_defs.specs.Library.{call_done, cut_done, if_cut, leads, library_call}
 use Rattle.ec_call_defs.specs.Marks.{with_marks}
-use Rattle.ec_call_defs.specs.Outcomes.{Text, Field, Halt, trapped, waiting, stuck, Outcome, gives, finished, over, next, trying, present, with_memory, fresh_area, told_area, counted_area, refused, raised, begun_area}
+use Rattle.ec_call_defs.specs.Outcomes.{Text, Field, Halt, trapped, waiting, stuck, Outcome, gives, finished, over, next, trying, present, with_memory, fresh_area, told_area, counted_area, noticed, heard, refused, raised, begun_area}
 use Rattle.ec_call_defs.specs.Preparing.{with_text, without_text, prepared_anew, prepare_call, deallocate_call}
 use Rattle.ec_call_defs.specs.Running.{Outputs, nowhere, hosts, area, places_of, into_places, outputs_read, is_wanted, row_into, rows_stored, table_kept, Wanted, text, execution, cursor, statement_read, prepared_text, found_text, request_of, found_area, area_found, params_behind, params_of, outputs_found, carried_out, run_call}
 use Rattle.ec_call_defs.specs.Steps.{ending_of}
@@ -192,6 +192,10 @@ module _ (P : State → Type 0) (E : Endings) (G : State → State → Type 0) (
   pub begun_area_does : Does (λ s. begun_area s)
   begun_area_does = memory_does (λ m. fresh_area m) (gives_does tt)
 
+  -- a notice is told, if there is one
+  heard_does : {A : Type 0} (notice : Bool) {go : State → Outcome A} → Does go → Does (λ s. go (heard notice s))
+  heard_does notice h = memory_does (λ m. noticed notice m) h
+
   -- ---- requests
 
   answered_later : (slot : ℕ) (request : Request) (xs : List Answer) (u : State) → G u (state_of (answered slot request xs u))
@@ -267,8 +271,8 @@ module _ (P : State → Type 0) (E : Endings) (G : State → State → Type 0) (
   -- ---- transaction control
 
   controlled_does : (n : ℕ) (r : Reply) → Does (λ s. controlled n r s)
-  controlled_does n (Rows table tx) = gives_does tt
-  controlled_does n (Done count tx) = gives_does tt
+  controlled_does n (Rows table tx notice) = heard_does notice (gives_does tt)
+  controlled_does n (Done count tx notice) = heard_does notice (gives_does tt)
   controlled_does n (Refused sqlstate message tx) = raised_does n found.ControlRefused
   controlled_does n Connected = raised_does n found.ControlRefused
   controlled_does n NoTarget = raised_does n found.ControlRefused
@@ -318,8 +322,8 @@ module _ (P : State → Type 0) (E : Endings) (G : State → State → Type 0) (
   -- ---- replies
 
   taken_does : (n : ℕ) (r : Reply) → Does (λ s. taken n r s)
-  taken_does n (Rows table tx) = gives_does tt
-  taken_does n (Done count tx) = gives_does tt
+  taken_does n (Rows table tx notice) = heard_does notice (gives_does tt)
+  taken_does n (Done count tx notice) = heard_does notice (gives_does tt)
   taken_does n (Refused sqlstate message tx) = refused_does (Unit {0}) n (server_code sqlstate.0) sqlstate.0 message
   taken_does n Connected = raised_does n found.ReplyOutOfPlace
   taken_does n NoTarget = raised_does n found.ReplyOutOfPlace
@@ -333,9 +337,12 @@ module _ (P : State → Type 0) (E : Endings) (G : State → State → Type 0) (
   done_does n false (Some (suc k)) = gives_does tt
   done_does n false None = gives_does tt
 
+  count_does : (n : ℕ) (wanted : Bool) (count : Option ℕ) → Does (λ s. count_told n wanted count s)
+  count_does n wanted count = memory_does (λ m. counted_area (count_of count) m) (done_does n wanted count)
+
   replied_does : (n : ℕ) (wanted : Bool) (store : Sheet → State → Outcome (Unit {0})) → ((table : Sheet) → Does (store table)) → (r : Reply) → Does (λ s. replied n wanted store r s)
-  replied_does n wanted store h (Rows table tx) = h table
-  replied_does n wanted store h (Done count tx) = memory_does (λ m. counted_area (count_of count) m) (done_does n wanted count)
+  replied_does n wanted store h (Rows table tx notice) = heard_does notice (h table)
+  replied_does n wanted store h (Done count tx notice) = heard_does notice (count_does n wanted count)
   replied_does n wanted store h (Refused sqlstate message tx) = refused_does (Unit {0}) n (server_code sqlstate.0) sqlstate.0 message
   replied_does n wanted store h Connected = raised_does n found.ReplyOutOfPlace
   replied_does n wanted store h NoTarget = raised_does n found.ReplyOutOfPlace
@@ -424,8 +431,8 @@ module _ (P : State → Type 0) (E : Endings) (G : State → State → Type 0) (
   opened_does : (n : ℕ) (name : Text) (a : Answer) → Does (λ s. opened_by n name a s)
   opened_does n name (Some slot, Connected) =
       session_does tt (λ cs. cs ++ record { name = name; slot = slot; autocommit = false; told = Idle; prepared = [] } ∷ []) (λ old c. Some name) (λ ds. ds)
-  opened_does n name (Some slot, Rows table tx) = raised_does n found.NotConnected
-  opened_does n name (Some slot, Done count tx) = raised_does n found.NotConnected
+  opened_does n name (Some slot, Rows table tx notice) = raised_does n found.NotConnected
+  opened_does n name (Some slot, Done count tx notice) = raised_does n found.NotConnected
   opened_does n name (Some slot, Refused sqlstate message tx) = raised_does n found.NotConnected
   opened_does n name (Some slot, NoTarget) = raised_does n found.NotConnected
   opened_does n name (Some slot, Broken) = raised_does n found.NotConnected

@@ -2,7 +2,8 @@ ghost use Rattle.std.specs.Prelude.{◌≡◌, ◌+◌, ◌^◌, [], Some, None,
 ghost use Rattle.ec_ctypes.specs.declared.types.arith.Arith.TheVariants.{Bool, Char, Int, Long, Short};
 ghost use Rattle.ec_ctypes.specs.trees.Types.{void, arithmetic, pointer, array, structure};
 ghost use Rattle.ec_ctypes.specs.Layout.{shape_of, member_of};
-ghost use Rattle.ec_ctypes.specs.LayoutExamples.{row, sized, examples, sqlca_structs};
+ghost use Rattle.ec_ctypes.specs.LayoutExamples.{row, sized, examples};
+ghost use Rattle.ec_ctypes.specs.SqlcaStructs.{sqlca_structs};
 
 /// Worked examples of sizes, alignments and offsets (ISO/IEC 9899:1999, 6.5.3.4 and 6.7.2.1): a struct is aligned as
 /// its widest member, each member stands at the next multiple of its alignment, and the size is rounded up.

@@ -4,7 +4,7 @@ use Prim.Native.String.{String}
 use Rattle.ec_base.specs.declared.stop.Stop.{Stop}
 use Rattle.ec_ctypes.specs.trees.Checked.{TypedData}
 use Rattle.ec_link.specs.declared.reply.Reply.{Reply}
-use Rattle.ec_host_defs.specs.Examples.{checked_text}
+use Rattle.ec_host_defs.specs.ReadSource.{checked_text}
 use Rattle.ec_meaning_defs.specs.evaluation.State.{Answer}
 use Rattle.ec_meaning_defs.specs.evaluation.Whole.{Observed}
 use Rattle.ec_direct_defs.specs.Examples.{ready, answers, nothing_seen, means_over}

@@ -10,7 +10,7 @@ use Rattle.ec_ctypes.specs.trees.Tokens.{TokData, emb_token, TokenData}
 use Rattle.ec_ctypes.specs.views.Embedded.{emb_view}
 use Rattle.ec_language.specs.Tokens.{HaveSqlTokens}
 use Rattle.ec_embedded.specs.Answers.{StatementOrStop}
-use Rattle.ec_host_defs.specs.Examples.{is_statement, place_of, with_statement}
+use Rattle.ec_host_defs.specs.Statements.{is_statement, place_of, with_statement}
 use Rattle.ec_phases_defs.specs.Laws.{statement_count}
 use Rattle.ec_phases_defs.specs.Sources.{ReadsStatements, end, other, stops, statement}
 use Rattle.ec_read_statement.specs.Answers.{IsRead}

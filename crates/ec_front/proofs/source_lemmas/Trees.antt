@@ -16,7 +16,7 @@ use Rattle.ec_language.specs.Line.{newlines}
 use Rattle.ec_language.specs.Pieces.{Pieces, PiecesUpTo}
 use Rattle.ec_language.specs.Syntax.{TreeOrStop}
 use Rattle.ec_language.specs.Tokens.{Tokens}
-use Rattle.ec_host_defs.specs.Examples.{statement_places, with_statements}
+use Rattle.ec_host_defs.specs.Statements.{statement_places, with_statements}
 use Rattle.ec_phases_defs.specs.Sources.{ReadsStatements, ReadsTree}
 use Rattle.ec_split.specs.Answers as split
 use Rattle.ec_clex.specs.Answers as lexer

@@ -17,7 +17,7 @@ use Rattle.ec_language.specs.Letters.{Text}
 use Rattle.ec_language.specs.Syntax.{TreeOrStop}
 use Rattle.ec_language.specs.Tokens.{Tokens, TokensOrStop}
 use Rattle.ec_embedded.specs.Answers.{StatementOrStop}
-use Rattle.ec_host_defs.specs.Examples.{statement_places, with_statements}
+use Rattle.ec_host_defs.specs.Statements.{statement_places, with_statements}
 use Rattle.ec_phases_defs.specs.Sources.{ReadsStatements, ReadsTree, ReadsChecked}
 
 -- the answer has P, with its value by its view, unless there was no memory left

@@ -2,7 +2,7 @@
 
 ghost use Rattle.std.specs.Prelude.{◌≡◌, ◌+◌, ◌<◌, ◌^◌, ◌++◌, [], length, IfOk, OnOk};
 ghost use Rattle.ec_ctypes.specs.views.Tokens.{token_view, tokens_view};
-ghost use Rattle.ec_host_defs.specs.Examples as spec;
+ghost use Rattle.ec_host_defs.specs.Statements as spec;
 ghost use Rattle.ec_language.specs.Tokens.{HasSqlTokens, HaveSqlTokens};
 ghost use Rattle.ec_phases_defs.specs.Laws.{statement_count};
 ghost use Rattle.ec_front.specs.source.Answers.{HaveLines, AddsStatement, TellsStatements};

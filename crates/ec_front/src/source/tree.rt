@@ -4,7 +4,7 @@ ghost use Rattle.std.specs.Prelude.{◌≡◌, ◌≤◌, ◌^◌, length, false
 ghost use Rattle.ec_ctypes.specs.views.Embedded.{emb_view};
 ghost use Rattle.ec_ctypes.specs.views.Tokens.{tokens_view};
 ghost use Rattle.ec_ctypes.specs.views.Units.{unit_view};
-ghost use Rattle.ec_host_defs.specs.Examples as spec;
+ghost use Rattle.ec_host_defs.specs.Statements as spec;
 ghost use Rattle.ec_language.specs.Pieces.{Pieces};
 ghost use Rattle.ec_language.specs.Syntax.{EndsOnce};
 ghost use Rattle.ec_language.specs.Tokens.{Tokens};

@@ -22,6 +22,7 @@ fn add_bound(
     ensures { AddsBound (typed_view binder.now) number bounds.old bounds.new result }
 {
     let Ok(place) = u32::try_from(number) else {
+        // Out of reach, which isn't proved: a source has at most 2^22 tokens, so it has fewer statements.
         return Err(Stop::OutOfMemory);
     };
     match binder.bind(alloc, place) {

@@ -58,16 +58,3 @@ pub fn read_unit(alloc: Global, text: &[u8], written: bool) -> Result<Unit, Stop
     }
     unit_of_text(alloc, text, written)
 }
-
-/// The program that written C is read as.
-///
-/// # Errors
-///
-/// As of `read_unit`.
-pub fn read_written(alloc: Global, text: &[u8]) -> Result<Unit, Stop>
-    ensures answer { TellsReading true text.now result }
-    ensures only { (answer : Result UnitData TheStop)
-        → Reads true text.now answer → IsOnly result answer }
-{
-    read_unit(alloc, text, true)
-}

@@ -23,22 +23,27 @@ faults_of section uses = fault_unless (not uses.left_out && (section || not uses
 -- Whether a mark that opens a section has its partner in what follows, where so many sections were opened in between. Marks pair like brackets.
 abbrev pub is_closed : ℕ → Places → Bool
 is_closed depth [] = false
-is_closed depth (holds line uses ∷ ps) = is_closed depth ps
+is_closed depth (holds last line uses ∷ ps) = is_closed depth ps
 is_closed depth (mark true line ∷ ps) = is_closed (suc depth) ps
 is_closed zero (mark false line ∷ ps) = true
 is_closed (suc depth) (mark false line ∷ ps) = is_closed depth ps
 
 -- the sections that are open behind a place
 abbrev pub depth_behind : ℕ → PlaceData → ℕ
-depth_behind depth (holds line uses) = depth
+depth_behind depth (holds last line uses) = depth
 depth_behind depth (mark true line) = suc depth
 depth_behind zero (mark false line) = zero
 depth_behind (suc depth) (mark false line) = depth
 
 -- whether the last mark so far opens a section
 abbrev pub section_behind : Bool → PlaceData → Bool
-section_behind section (holds line uses) = section
+section_behind section (holds last line uses) = section
 section_behind section (mark opens line) = opens
+
+-- whether uses stand in a section, by the last mark between their place and them, or else by the last one before the place
+abbrev pub section_at : Option Bool → Bool → Bool
+section_at None section = section
+section_at (Some opens) section = opens
 
 abbrev pub is_none_open : ℕ → Bool
 is_none_open zero = true
@@ -46,12 +51,12 @@ is_none_open (suc depth) = false
 
 -- what is wrong at a place, where so many sections are open, and before these places. A mark has its partner, and opens no section in a section (F9).
 abbrev pub faults_at : ℕ → Bool → PlaceData → Places → List FaultKind
-faults_at depth section (holds line uses) ps = faults_of section uses
+faults_at depth section (holds last line uses) ps = faults_of (section_at last section) uses
 faults_at depth section (mark true line) ps = fault_unless (is_none_open depth && is_closed 0 ps) F9
 faults_at depth section (mark false line) ps = fault_unless (not (is_none_open depth)) F9
 
 abbrev pub line_of : PlaceData → Line
-line_of (holds line uses) = line
+line_of (holds last line uses) = line
 line_of (mark opens line) = line
 
 abbrev pub violations_at : ℕ → PlaceData → List FaultKind → List Violation

@@ -7,7 +7,8 @@ use Rattle.ec_ctypes.specs.trees.Units.{ParamData, FuncData, TopData, include_to
 use Rattle.ec_host_defs.specs.sections.Uses.{UsesData, ◌&◌, in_base, in_declarators, in_kind, in_function}
 
 pub data PlaceData : Type 0 where
-  holds : Line → UsesData → PlaceData
+  -- The uses that a place holds. The condition of a `do` stands behind its body: whether the last mark in the body opens a section, if there is one
+  holds : Option Bool → Line → UsesData → PlaceData
   -- a mark of a section: whether it opens one
   mark : Bool → Line → PlaceData
 
@@ -50,7 +51,7 @@ abbrev mutual
 
   pub of_decl : DeclData → Places
   of_decl (decl b items section line) =
-      holds line (in_base b & in_declarators b items) ∷ (of_base b ++ of_declarators items)
+      holds None line (in_base b & in_declarators b items) ∷ (of_base b ++ of_declarators items)
 
   pub of_declarators : DeclaratorList → Places
   of_declarators no_declarators = []
@@ -83,27 +84,67 @@ abbrev pub of_option : Option ExprData → Places
 of_option None = []
 of_option (Some e) = of_expr e
 
+-- ---- the last mark of a statement
+
+-- the second of two, if it is there
+abbrev pub later : Option Bool → Option Bool → Option Bool
+later a None = a
+later a (Some opens) = Some opens
+
+-- whether the last mark in a statement opens a section, if there is one
+abbrev mutual
+  pub last_mark : StmtData → Option Bool
+  last_mark (stmt line kind) = last_mark_of kind
+
+  pub last_mark_of : StmtKindData → Option Bool
+  last_mark_of empty_stmt = None
+  last_mark_of (expr_stmt e) = None
+  last_mark_of (block_stmt ss) = last_mark_among ss
+  last_mark_of (if_stmt e s other) = later (last_mark s) (last_mark_option other)
+  last_mark_of (while_stmt e s) = last_mark s
+  last_mark_of (do_stmt s e) = last_mark s
+  last_mark_of (for_stmt x y z s) = last_mark s
+  last_mark_of break_stmt = None
+  last_mark_of continue_stmt = None
+  last_mark_of (return_stmt e) = None
+  last_mark_of (goto_stmt l) = None
+  last_mark_of (label_stmt l s) = last_mark s
+  last_mark_of (decl_stmt d) = None
+  last_mark_of (emb_stmt n) = None
+  last_mark_of (mark_stmt opens) = Some opens
+
+  pub last_mark_among : StmtList → Option Bool
+  last_mark_among no_stmts = None
+  last_mark_among (stmts s ss) = later (last_mark s) (last_mark_among ss)
+
+  pub last_mark_option : StmtOption → Option Bool
+  last_mark_option no_stmt = None
+  last_mark_option (some_stmt s) = last_mark s
+
+-- ---- the places of a statement
+
 abbrev mutual
   pub of_stmt : StmtData → Places
   of_stmt (stmt line kind) = of_kind line kind
 
   pub of_kind : Line → StmtKindData → Places
-  of_kind line empty_stmt = holds line (in_kind empty_stmt) ∷ []
-  of_kind line (expr_stmt e) = holds line (in_kind (expr_stmt e)) ∷ of_expr e
-  of_kind line (block_stmt ss) = holds line (in_kind (block_stmt ss)) ∷ of_stmts ss
+  of_kind line empty_stmt = holds None line (in_kind empty_stmt) ∷ []
+  of_kind line (expr_stmt e) = holds None line (in_kind (expr_stmt e)) ∷ of_expr e
+  of_kind line (block_stmt ss) = holds None line (in_kind (block_stmt ss)) ∷ of_stmts ss
   of_kind line (if_stmt e s other) =
-      holds line (in_kind (if_stmt e s other)) ∷ (of_expr e ++ (of_stmt s ++ of_stmt_option other))
-  of_kind line (while_stmt e s) = holds line (in_kind (while_stmt e s)) ∷ (of_expr e ++ of_stmt s)
-  of_kind line (do_stmt s e) = holds line (in_kind (do_stmt s e)) ∷ (of_stmt s ++ of_expr e)
-  of_kind line (for_stmt x y z s) = holds line (in_kind (for_stmt x y z s))
+      holds None line (in_kind (if_stmt e s other)) ∷ (of_expr e ++ (of_stmt s ++ of_stmt_option other))
+  of_kind line (while_stmt e s) = holds None line (in_kind (while_stmt e s)) ∷ (of_expr e ++ of_stmt s)
+  of_kind line (do_stmt s e) =
+      holds (last_mark s) line (in_kind (do_stmt s e)) ∷ (of_stmt s ++ of_expr e)
+  of_kind line (for_stmt x y z s) = holds None line (in_kind (for_stmt x y z s))
       ∷ (of_option x ++ (of_option y ++ (of_option z ++ of_stmt s)))
-  of_kind line break_stmt = holds line (in_kind break_stmt) ∷ []
-  of_kind line continue_stmt = holds line (in_kind continue_stmt) ∷ []
-  of_kind line (return_stmt e) = holds line (in_kind (return_stmt e)) ∷ of_option e
-  of_kind line (goto_stmt l) = holds line (in_kind (goto_stmt l)) ∷ []
-  of_kind line (label_stmt l s) = holds line (in_kind (label_stmt l s)) ∷ of_stmt s
+  of_kind line break_stmt = holds None line (in_kind break_stmt) ∷ []
+  of_kind line continue_stmt = holds None line (in_kind continue_stmt) ∷ []
+  of_kind line (return_stmt e) = holds None line (in_kind (return_stmt e)) ∷ of_option e
+  of_kind line (goto_stmt l) = holds None line (in_kind (goto_stmt l)) ∷ []
+  of_kind line (label_stmt l s) = holds None line (in_kind (label_stmt l s)) ∷ of_stmt s
   of_kind line (decl_stmt d) = of_decl d
-  of_kind line (emb_stmt n) = holds line (in_kind (emb_stmt n)) ∷ []
+  of_kind line (emb_stmt n) = holds None line (in_kind (emb_stmt n)) ∷ []
   of_kind line (mark_stmt opens) = mark opens line ∷ []
 
   pub of_stmts : StmtList → Places
@@ -124,7 +165,7 @@ of_body (Some ss) = of_stmts ss
 
 abbrev pub of_function : FuncData → Places
 of_function f =
-    holds f.line (in_function f) ∷ (of_base f.base ++ (of_params f.params ++ of_body f.body))
+    holds None f.line (in_function f) ∷ (of_base f.base ++ (of_params f.params ++ of_body f.body))
 
 abbrev pub of_top : TopData → Places
 of_top (include_top bytes) = []

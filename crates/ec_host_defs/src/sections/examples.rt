@@ -127,6 +127,15 @@ pub fn order_examples()
     ensures struct_before_its_members { hosts_in
         "EXEC SQL struct {\nVARCHAR v; } x[sizeof(VARCHAR)];"
         ≡ refused F13 1 }
+    ensures condition_of_do_behind_a_mark { hosts_in
+        "int main(void) {\ndo { EXEC SQL BEGIN DECLARE SECTION;\n} while (sizeof(VARCHAR)); EXEC SQL END DECLARE SECTION; }"
+        ≡ refused F13 2 }
+    ensures condition_of_do_behind_the_section { hosts_in
+        "int main(void) { EXEC SQL BEGIN DECLARE SECTION;\ndo if (1) ; else { EXEC SQL END DECLARE SECTION; ;\n} while (sizeof(VARCHAR)); }"
+        ≡ refused F9 2 }
+    ensures condition_of_do_behind_a_whole_section { hosts_in
+        "int main(void) {\ndo { EXEC SQL BEGIN DECLARE SECTION; { EXEC SQL END DECLARE SECTION; }\n} while (sizeof(VARCHAR)); }"
+        ≡ refused F9 2 }
     ensures body_of_do_behind_its_condition { hosts_in
         "int main(void) {\ndo {\nsizeof(VARCHAR);\n} while (sizeof(VARCHAR)); }"
         ≡ refused F9 2 }

@@ -37,7 +37,7 @@ use Rattle.ec_interp.specs.declared.running.halt.Halt.TheVariants as halt
 use Rattle.ec_interp.specs.running.Halts.{halt_of}
 use Rattle.ec_interp.specs.running.LibraryRuns.{BeginsWith, ComesWith, EndsWith, HaltsWith, LeadsWith, grown}
 use Rattle.ec_interp.specs.running.Printing.{Prints, PrintsPart, on_errors, on_output}
-use Rattle.ec_interp.specs.running.Runs.{Halts, Run, added, answer_with}
+use Rattle.ec_interp.specs.running.Runs.{Run, added, answer_with}
 use Rattle.ec_interp.specs.running.Sessions.{Adds, Answers, Called, Said, Session, holding, placed, saying}
 use Rattle.ec_interp.proofs.running_lemmas.Growing.{calls_grow, grows_on, mains_grow, resumes_grows, stands_grows, unanswered_grows}
 
@@ -52,10 +52,6 @@ grown_twice p c g q d h s = λ i. record s { output = append_assoc s.output p q 
 -- nothing was printed
 saying_grown : (g : List Logged) (s : State) → grown [] [] g s ≡ saying g s
 saying_grown g s = λ i. record s { output = append-nil s.output i; errors = append-nil s.errors i; conversation = s.conversation ++ g }
-
--- a call that nothing knows
-pub stuck_alone : (m : Memory) (turns : ℕ) (s : State) → over stuck (holding m turns s) ≡ over stuck (holding m turns (saying [] s))
-stuck_alone m turns s = λ i. over stuck (holding m turns (record s { conversation = sym (append-nil s.conversation) i }))
 
 -- nothing was said
 pub added_grown : (p c : List ℕ) (s : State) → grown p c [] s ≡ added p c s
@@ -400,27 +396,6 @@ module _ {O E : Type 0} (held : O → Option (List ℕ)) (faults : O → ℕ) (h
       prints = record { output = Puts-then a.prints.output b.prints.output; errors = Puts-then a.prints.errors b.prints.errors };
       begins = begins_on knowing fs turns run x y z a.printed a.complained a.growth b.printed b.complained b.growth mid f a.fewer a.leads b.begins;
     }
-
-  -- where nothing is known of a state, nothing was said
-  pub halts_alone : (turns : ℕ) (run : Run) (out' : O) (err' : E) (new : Machine) (h : Halt) → HaltsWith held faults held' faults' turns run None None out out' err err' new h → Halts held faults held' faults' turns run out out' err err' new h
-  halts_alone turns run out' err' new (halt.Over e) a = record {
-    printed = a.printed;
-    complained = a.complained;
-    prints = a.prints;
-    ends = λ k s l. a.ends k s [] l ∙ ap (λ t. over (ending_view e) (at t new)) (ap (λ g. grown a.printed a.complained g s) a.said ∙ added_grown a.printed a.complained s);
-  }
-  halts_alone turns run out' err' new halt.WriteFault a = record {
-    printed = a.printed;
-    complained = a.complained;
-    prints = a.prints;
-    begins = λ k s l. subst (λ t. Grows t (state_of (run k s))) (ap (λ g. grown a.printed a.complained g s) a.said ∙ added_grown a.printed a.complained s) (a.begins k s [] l);
-  }
-  halts_alone turns run out' err' new halt.OutOfMemory a = record {
-    printed = a.printed;
-    complained = a.complained;
-    prints = a.prints;
-    begins = λ k s l. subst (λ t. Grows t (state_of (run k s))) (ap (λ g. grown a.printed a.complained g s) a.said ∙ added_grown a.printed a.complained s) (a.begins k s [] l);
-  }
 
 -- what isn't outside of the machine is stepped
 pub not_outside : (f : Focus) → ((x : Channel) (v : Option Word) → f ≡ focus.Puts x v → ⊥) → ((n count : ℕ) → f ≡ focus.Calls n count → ⊥) → IsOutside f → ⊥

@@ -4,16 +4,16 @@ ghost use Rattle.std.specs.Prelude.{◌≡◌, ◌≤◌, ◌<◌, ◌+◌, List
 ghost use Rattle.ec_code.specs.declared.program.Function.{Function as FunctionData};
 ghost use Rattle.ec_code.specs.Views.{function_view};
 ghost use Rattle.ec_meaning_defs.specs.evaluation.Evaluate.{Step as Knowing};
-ghost use Rattle.ec_meaning_defs.specs.evaluation.Whole.{main_run, without_atoms};
+ghost use Rattle.ec_meaning_defs.specs.evaluation.Whole.{main_run};
 ghost use Rattle.ec_machine.specs.Goes.{at, tasks, world};
 ghost use Rattle.ec_machine.specs.declared.frame.Focus.TheVariants as focuses;
 ghost use Rattle.ec_machine.specs.Weights.{frames_weight, remaining, weight};
 ghost use Rattle.ec_interp.specs.running.LibraryRuns.{ComesWith, HaltsWith};
-ghost use Rattle.ec_interp.specs.running.Runs.{Halts, answer, answer_with};
+ghost use Rattle.ec_interp.specs.running.Runs.{answer_with};
 ghost use Rattle.ec_interp.specs.running.Sessions.{Session, Suits};
 
 use crate::running::halt::{Halt, halt_for};
-use crate::running::library::{Library, NoLibrary};
+use crate::running::library::Library;
 use crate::running::printing::{put_text, value_of};
 use ec_base::Sink;
 use ec_code::Function;
@@ -21,51 +21,12 @@ use ec_machine::{Focus, Machine, last};
 use ec_printf::formats::Channel;
 use ec_values::Word;
 
-/// Runs a machine from a focus to the end of the run, where no call of a library is made.
-///
-/// Where the run is over, the outputs took all that it printed, and the machine's memory is that of its end. An output that
-/// failed, and one where there was no memory left, took the front of what is printed. The run takes no more than the
-/// machine's turns.
-pub fn run_on<'p, O: Sink, E: Sink>(
-    machine: &mut Machine<'p>,
-    functions: &'p [Function],
-    focus: Focus<'p>,
-    out: &mut O,
-    err: &mut E,
-) -> Halt
-    ensures { Halts O.held O.faults E.held E.faults machine.old.turns
-        (λ k s. answer functions.now k machine.old focus.entry s) out.old out.new err.old err.new
-        machine.new result }
-{
-    let mut library = NoLibrary;
-    run_on_with(machine, functions, focus, &mut library, out, err)
-}
-
-/// Runs the first `main` of a program, over the objects that are there, to the end of the run, where no call of a library
-/// is made.
-///
-/// The answers are those of `run_on`.
-pub fn run_main<'p, O: Sink, E: Sink>(
-    machine: &mut Machine<'p>,
-    functions: &'p [Function],
-    main: &'p Function,
-    out: &mut O,
-    err: &mut E,
-) -> Halt
-    requires no_frames { machine.old.frames ≡ [] }
-    requires no_objects { machine.old.scope.count ≡ 0 }
-    ensures { Halts O.held O.faults E.held E.faults machine.old.turns
-        (λ k s. main_run without_atoms (world functions.now k) (Some (function_view main.now))
-        (at s machine.old)) out.old out.new err.old err.new machine.new result }
-{
-    let mut library = NoLibrary;
-    run_main_with(machine, functions, main, &mut library, out, err)
-}
-
 /// Runs a machine from a focus to the end of the run. The library makes the calls.
 ///
-/// The answers are those of `run_on`. Where the run is over, all that the calls say was said; else a front of it was.
-pub fn run_on_with<'p, L: Library, O: Sink, E: Sink>(
+/// Where the run is over, the outputs took all that it printed, the machine's memory is that of its end, and all that the
+/// calls say was said. An output that failed, and one where there was no memory left, took the front of what is printed, and
+/// a front of what the calls say was said. The run takes no more than the machine's turns.
+pub fn run_on<'p, L: Library, O: Sink, E: Sink>(
     machine: &mut Machine<'p>,
     functions: &'p [Function],
     focus: Focus<'p>,
@@ -91,8 +52,8 @@ pub fn run_on_with<'p, L: Library, O: Sink, E: Sink>(
 
 /// Runs the first `main` of a program, over the objects that are there, to the end of the run. The library makes the calls.
 ///
-/// The answers are those of `run_on_with`.
-pub fn run_main_with<'p, L: Library, O: Sink, E: Sink>(
+/// The answers are those of `run_on`.
+pub fn run_main<'p, L: Library, O: Sink, E: Sink>(
     machine: &mut Machine<'p>,
     functions: &'p [Function],
     main: &'p Function,
@@ -111,7 +72,7 @@ pub fn run_main_with<'p, L: Library, O: Sink, E: Sink>(
     ensures led { L.leads library.old library.new }
 {
     match machine.enter_main(main) {
-        Ok(focus) => run_on_with(machine, functions, focus, library, out, err),
+        Ok(focus) => run_on(machine, functions, focus, library, out, err),
         Err(stop) => halt_for(stop),
     }
 }

@@ -6,7 +6,7 @@ ghost use Rattle.ec_values.specs.Words.{word_view};
 
 use ec_base::Line;
 use ec_bytes::Ptr;
-use ec_machine::{End, Stop};
+use ec_machine::Stop;
 use ec_memory::Store;
 use ec_values::Word;
 
@@ -52,38 +52,4 @@ pub trait Library {
 
     /// Some calls and then some more are calls too.
     ghost goes_on: { (x y z : Self) → leads x y → leads y z → leads x z };
-}
-
-/// The library of programs that make no call of one.
-#[derive(Clone, Copy)]
-pub struct NoLibrary;
-
-impl Library for NoLibrary {
-    ghost use Rattle.std.specs.Prelude.{None};
-    ghost use Rattle.ec_meaning_defs.specs.evaluation.Whole.{without_atoms};
-    ghost use Rattle.ec_interp.specs.running.Without.{without_suits};
-
-    ghost knowing = { λ _. without_atoms };
-
-    ghost session = { λ _. None };
-
-    ghost leads = { λ _ _. Unit {0} };
-
-    ghost suits = { λ _. without_suits };
-
-    ghost stays = { λ _. tt };
-
-    ghost goes_on = { λ _ _ _ _ _. tt };
-
-    fn call(
-        &mut self,
-        _store: &mut Store,
-        _turns: &mut u64,
-        _line: Line,
-        _scope: &[Ptr],
-        _number: u32,
-        _given: &[Word],
-    ) -> Result<(), Stop> {
-        Err(Stop::Over(End::Stuck))
-    }
 }

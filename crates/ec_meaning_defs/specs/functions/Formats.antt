@@ -1,5 +1,5 @@
--- The formats of printf, taken apart (ISO/IEC 9899:1999, 7.19.6.1). Of the standard's directives these are known: `%d %i %u %x %X %o`, each with `l` or `ll` or without, `%c`, `%s` and `%%`; the flags `-` and `0`; a width of up to three digits or `*`; for `%s` a precision, which is digits or `*`.
-use Rattle.std.specs.Prelude.{ℕ, zero, suc, ◌+◌, ◌-◌, ◌*◌, Bool, true, false, ◌||◌, ◌&&◌, ◌==◌, nat_le, List, [], ◌∷◌, ◌++◌, drop, length, Option, Some, None, option_map}
+-- The formats of printf, taken apart (ISO/IEC 9899:1999, 7.19.6.1). Of the standard's directives these are known: `%d %i %u %x %X %o`, each with `l` or `ll` or without, `%c`, `%s` and `%%`; the flags `-` and `0`; a width of up to three digits or `*`; for `%s` a precision, which is digits or `*`. An amount is at most 2^64 - 1, and more digits say that one.
+use Rattle.std.specs.Prelude.{ℕ, zero, suc, ◌+◌, ◌-◌, ◌*◌, Bool, true, false, ◌||◌, ◌&&◌, ◌==◌, nat_le, min, List, [], ◌∷◌, ◌++◌, drop, length, Option, Some, None, option_map}
 use Rattle.std.specs.Option.{option_and_then}
 
 -- a width or a precision: there is none, or it is this number, or an argument says it
@@ -44,10 +44,18 @@ abbrev pub has : ℕ → List ℕ → Bool
 has b [] = false
 has b (c ∷ cs) = b == c || has b cs
 
--- the number that these digits make, behind one that is there
+-- the largest amount, for which each larger one stands: no text is that long, and no width
+abbrev pub most : ℕ
+most = 18446744073709551615
+
+-- a number with one digit more behind it, or the largest amount
+abbrev pub with_digit : ℕ → ℕ → ℕ
+with_digit n d = min (n * 10 + (d - 48)) most
+
+-- the number that these digits make, behind one that is there, or the largest amount
 abbrev pub decimal_behind : ℕ → List ℕ → ℕ
 decimal_behind n [] = n
-decimal_behind n (d ∷ ds) = decimal_behind (n * 10 + (d - 48)) ds
+decimal_behind n (d ∷ ds) = decimal_behind (with_digit n d) ds
 
 abbrev pub digits_amount : List ℕ → Amount
 digits_amount [] = absent

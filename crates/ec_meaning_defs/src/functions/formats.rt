@@ -36,6 +36,9 @@ pub fn format_examples()
         }) from_argument ∷ plain (codes ">") ∷ []) }
     ensures precision { format_parts (codes "%.00012s")
         ≡ Some (text (record { minus = false; zeros = false; width = absent }) (given 12) ∷ []) }
+    ensures largest_amount { format_parts (codes "%.18446744073709551616s")
+        ≡ Some (text (record { minus = false; zeros = false; width = absent })
+        (given 18446744073709551615) ∷ []) }
 {}
 
 /// What is no format.

@@ -1,10 +1,10 @@
 //! Statements that are left out.
 
-ghost use Rattle.std.specs.Prelude.{◌≡◌, ◌∷◌, [], codes};
+ghost use Rattle.std.specs.Prelude.{◌≡◌};
 ghost use Rattle.ec_clex.specs.Sql.{sql_view, sql_views};
 ghost use Rattle.ec_embedded.specs.LeftOut as spec;
 ghost use Rattle.ec_read_statement.specs.left_out.Words as words;
-ghost use Rattle.ec_embedded.specs.Terminals.{is, word_but, sort_of, is_word_among};
+ghost use Rattle.ec_embedded.specs.Terminals.{sort_of, is_word_among};
 
 use crate::left_out::areas::names_area;
 use ec_clex::{SqlClass, SqlToken};
@@ -46,13 +46,6 @@ fn begins_left_out(tokens: &[SqlToken<'_>]) -> bool
     }
 }
 
-/// Whether the token is a word that isn't sqlca.
-fn is_other_file(token: &SqlToken<'_>) -> bool
-    ensures { result ≡ is (word_but (codes "sqlca")) (sql_view token.now) }
-{
-    token.class == SqlClass::Word && !same_word(b"sqlca", token.bytes)
-}
-
 /// Whether the token is a text in `"`.
 #[tactic(auto, using(crate::proofs::left_out_lemmas::NameSorts::name_is, crate::proofs::left_out_lemmas::NameSorts::number_is))]
 fn is_name(token: &SqlToken<'_>) -> bool
@@ -66,12 +59,35 @@ fn is_name(token: &SqlToken<'_>) -> bool
     }
 }
 
+/// Whether the name of a file may begin with the token.
+fn begins_name(token: &SqlToken<'_>) -> bool
+    ensures { result ≡ spec.begins_name (sql_view token.now) }
+{
+    is_any_word(token)
+        || is_class(token, Class::Quote)
+        || is_name(token)
+        || is_mark(token, b"<")
+        || is_mark(token, b".")
+        || is_mark(token, b"/")
+}
+
+/// Whether the tokens are `sqlca` alone.
+fn is_sqlca(tokens: &[SqlToken<'_>]) -> bool
+    ensures { result ≡ spec.is_sqlca (sql_views tokens.now) }
+{
+    match tokens {
+        [_, _, ..] => false,
+        [name] => is_keyword(name, b"sqlca"),
+        [] => false,
+    }
+}
+
 /// Whether a file is named that isn't sqlca.
 fn names_file(tokens: &[SqlToken<'_>]) -> bool
     ensures { result ≡ spec.names_file (sql_views tokens.now) }
 {
     match tokens {
-        [first, ..] => is_other_file(first) || is_name(first) || is_mark(first, b"<"),
+        [first, ..] => begins_name(first) && !is_sqlca(tokens),
         [] => false,
     }
 }

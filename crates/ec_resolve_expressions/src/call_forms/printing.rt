@@ -117,6 +117,7 @@ pub(crate) fn formatted_call(
         (drop (before + 1) (founds_view fs))) }
 {
     let Some(count) = before.checked_add(1) else {
+        // Out of reach, which isn't proved: the format is the first or the second argument.
         return Err(OutOfMemory);
     };
     let channel = channel_of(before, forms);

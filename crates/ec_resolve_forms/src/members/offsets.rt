@@ -35,6 +35,7 @@ fn shape_of(checker: &Checker, ty: &Ty) -> Result<Option<Shape>, OutOfMemory>
     match checker.shape(ty) {
         Measure::Unknown => Ok(None),
         Measure::Within(shape) => Ok(Some(shape)),
+        // Out of reach, which isn't proved: an object of such a type is beyond L1.
         Measure::TooLarge => Err(OutOfMemory),
     }
 }
@@ -44,6 +45,7 @@ fn start(used: u64, align: u64) -> Result<u64, OutOfMemory>
     ensures { IfOk result (λ offset. offset ≡ next_multiple_of used align) }
 {
     if used > LIMIT || align == 0 || align > 8 {
+        // Out of reach, which isn't proved: shapes are within L1, and aligned to at most 8.
         return Err(OutOfMemory);
     }
     Ok(used.next_multiple_of(align))
@@ -59,6 +61,7 @@ fn joined(before: Shape, member: Shape) -> Result<Shape, OutOfMemory>
             size,
             align: before.align.max(member.align),
         }),
+        // Out of reach, which isn't proved: both are within L1.
         None => Err(OutOfMemory),
     }
 }

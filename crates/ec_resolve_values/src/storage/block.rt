@@ -23,10 +23,12 @@ impl BlockObjects {
     {
         let declared = self.sizes.len();
         if declared > u32::MAX as usize {
+            // Out of reach, which isn't proved: a source has at most 2^22 tokens, so it has fewer objects.
             return Err(OutOfMemory);
         }
         match self.below.checked_add(declared as u32) {
             Some(slot) => Ok(slot),
+            // Out of reach, as above.
             None => Err(OutOfMemory),
         }
     }
@@ -37,6 +39,7 @@ impl BlockObjects {
     {
         match self.below.checked_add(self.count) {
             Some(above) => Ok(above),
+            // Out of reach, which isn't proved: a source has at most 2^22 tokens, so it has fewer objects.
             None => Err(OutOfMemory),
         }
     }

@@ -45,6 +45,7 @@ impl Names {
         }
         let place = self.places.len();
         if place > u32::MAX as usize {
+            // Out of reach, which isn't proved: a source has at most 2^22 tokens, so it has fewer names.
             return Err(OutOfMemory);
         }
         match self.places.put(alloc, name, place as u32) {
@@ -65,6 +66,7 @@ impl Names {
             None => {
                 let count = self.places.len();
                 if count > u32::MAX as usize {
+                    // Out of reach, which isn't proved: a source has at most 2^22 tokens, so it has fewer names.
                     return Err(OutOfMemory);
                 }
                 Ok(count as u32)

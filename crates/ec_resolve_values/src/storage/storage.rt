@@ -46,10 +46,12 @@ fn number_behind(first: u32, count: usize) -> Result<u32, OutOfMemory>
     ensures { IfOk result (λ n. n ≡ count + first) }
 {
     if count > u32::MAX as usize {
+        // Out of reach, which isn't proved: a source has at most 2^22 tokens, so it has fewer of each.
         return Err(OutOfMemory);
     }
     match first.checked_add(count as u32) {
         Some(number) => Ok(number),
+        // Out of reach, as above.
         None => Err(OutOfMemory),
     }
 }
@@ -148,6 +150,7 @@ impl Storage {
         let behind = number_behind(1, self.literals.len())?;
         match behind.checked_add(self.before_literals) {
             Some(number) => Ok(Leaf::Object(number)),
+            // Out of reach, which isn't proved: a source has at most 2^22 tokens, so it has fewer objects.
             None => Err(OutOfMemory),
         }
     }
@@ -162,6 +165,7 @@ impl Storage {
                 self.literals.push(literal)?;
                 Ok(())
             }
+            // Out of reach, which isn't proved: a literal is shorter than its source, which has at most 2^24 bytes.
             None => Err(OutOfMemory),
         }
     }

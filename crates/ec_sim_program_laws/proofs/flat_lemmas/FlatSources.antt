@@ -3,7 +3,7 @@ use Rattle.std.proofs.Common.{◌≡◌, List, Result, Ok, Err, sym, ap, subst}
 use Rattle.ec_base.specs.declared.stop.Stop.{Stop}
 use Rattle.ec_ctypes.specs.trees.Embedded.{EmbData}
 use Rattle.ec_ctypes.specs.trees.Units.{UnitData}
-use Rattle.ec_host_defs.specs.Examples.{with_statements}
+use Rattle.ec_host_defs.specs.Statements.{with_statements}
 use Rattle.ec_language.specs.Letters.{Text}
 use Rattle.ec_phases_defs.specs.Sources.{ReadsTree, statements}
 use Rattle.ec_sim_program_laws.specs.types.Flat.{TopsAreFlat}

@@ -7,7 +7,7 @@ use Rattle.ec_embedded.specs.shapes.ReadShapes.{done, stopped, over_limit, and_t
 use Rattle.ec_language.specs.Letters.{Text}
 use Rattle.ec_language.specs.SqlTokens.{SqlToken}
 use Rattle.ec_embedded.specs.References.{decimal_constant}
-use Rattle.ec_embedded.specs.ServerText.{Tokens, Reading, begins_host, is_member, is_arrow, is_index, place_at, counted_suffix, suffixes, reference_at, begins_indicator, with_indicator, host_at, begins_area, begins_into, begins_more, more_hosts, no_host, text_at, into_list, Cut, token, host, into, depth_behind, cons_cut, cuts, blank, put, parts, outs_in, server_at, plain_cuts, bytes_in, transaction_at}
+use Rattle.ec_embedded.specs.ServerText.{Tokens, Reading, begins_host, is_member, is_arrow, is_index, is_place, place_at, counted_suffix, suffixes, reference_at, begins_indicator, with_indicator, host_at, begins_area, begins_into, begins_more, more_hosts, no_host, text_at, into_list, Cut, token, host, into, depth_behind, cons_cut, cuts, blank, put, parts, outs_in, server_at, plain_cuts, bytes_in, transaction_at}
 use Rattle.ec_embedded.specs.Statements.{prepared_in, declared_for}
 use Rattle.ec_embedded.specs.Terminals as term
 use Rattle.ec_embedded.specs.Terminals.{Counts, step_by, Begins, input, reference, suffix, is, any_word, glued_word, plain_quote}
@@ -54,7 +54,7 @@ suffixes_are n e (a ∷ b ∷ []) s =
 suffixes_are n e (a ∷ b ∷ c ∷ w) s =
     reads_by (is_member a b) IsReference _ _ (counted_is n (a ∷ b ∷ c ∷ w) _ (λ m. suffixes_are m (member e b.bytes) (c ∷ w) s))
     (reads_by (is_arrow a b) IsReference _ _ (counted_is n (a ∷ b ∷ c ∷ w) _ (λ m. suffixes_are m (arrow e b.bytes) (c ∷ w) s))
-    (reads_by (is_index a b c) IsReference _ _ (counted_is n (a ∷ b ∷ c ∷ w) _ (λ m. suffixes_are m (index e (place_at b)) w (s, place_is b))) s))
+    (reads_by (is_index a b c) IsReference _ _ (counted_is n (a ∷ b ∷ c ∷ w) _ (λ m. reads_by (is_place b) IsReference _ _ (suffixes_are m (index e (place_at b)) w (s, place_is b)) tt)) s))
 
 reference_is : (b : Begins) (n : Counts) (w : Tokens) → Reads IsReference (reference_at b n w)
 unfolding reference_at

@@ -21,7 +21,7 @@ use Rattle.ec_embedded.specs.References.{Of}
 use Rattle.ec_embedded.specs.ServerText.{Tokens, Reading, server_at, transaction_at}
 use Rattle.ec_embedded.specs.Statements.{Made, Entry, entries, chosen, declared_for, at_form, at_of}
 use Rattle.ec_embedded.specs.Terminals.{Counts}
-use Rattle.ec_host_defs.specs.Examples.{with_statement, with_statements}
+use Rattle.ec_host_defs.specs.Statements.{with_statement, with_statements}
 use Rattle.ec_phases_defs.specs.Sources as source
 use Rattle.ec_phases_defs.specs.Sources.{ReadsStatements, ReadsTree}
 use Rattle.ec_typing_defs.specs.statement_parts.Handlers.{with_mark, marks_in, last_of, holds_at}

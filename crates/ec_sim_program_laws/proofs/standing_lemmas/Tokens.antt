@@ -25,7 +25,7 @@ use Rattle.ec_language.specs.Pieces.{behind_start, Declared, PiecesUpTo, Pieces}
 use Rattle.ec_language.specs.SqlTokens.{StatementUnits, is_executable}
 use Rattle.ec_language.specs.Tokens.{Part, Item, blank, match, include, directive, last_directive, Step, CParts, end, item, bad, line_behind, part_at, is_left_out_word, integer_tok, character_tok, string_tok, token_of, PieceParts, c_text, statement, opening, closing, declaration, embedded, fault_at, lines_before, statements_behind, AllParts, join_two, join_first, join_strings, without_head, token, with_token, max_tokens, is_full, part_within, numbered_within, Tokens}
 use Rattle.ec_language.proofs.ReadLaws.{newlines-append}
-use Rattle.ec_host_defs.specs.Examples.{is_statement, statement_places, with_statement, with_statements}
+use Rattle.ec_host_defs.specs.Statements.{is_statement, statement_places, with_statement, with_statements}
 use Rattle.ec_phases_defs.specs.Sources as source
 use Rattle.ec_phases_defs.specs.Sources.{ReadsStatements, ReadsTree}
 use Rattle.ec_sim_program_laws.specs.standing.There.{TopsAreThere}

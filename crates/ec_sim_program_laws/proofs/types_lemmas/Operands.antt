@@ -77,13 +77,13 @@ pub address_has : (at : Place) (o : OperandData) → Typing (λ w. IsTyped o.typ
 unfolding address_rule
 address_has at o = given_types o.type (λ w r. r) (λ t. chosen (o.is_place || o.is_target) (pure_types _ (λ w r. tt)) (stopped at F15))
 
-target_by : {R : World → Type 0} (at : Place) (t : Option TyData) → Typing R HasType (found_or_types at (option_map target t))
-target_by at (Some t) = pure_types _ (λ w r. tt)
-target_by at None = stopped at F14
+target_by : {R : World → Type 0} (at : Place) (fixed : Bool) (t : Option TyData) → Typing R HasType (found_or_types at (option_map (target fixed) t))
+target_by at fixed (Some t) = pure_types _ (λ w r. tt)
+target_by at fixed None = stopped at F14
 
 target_has : (at : Place) (o : OperandData) → Typing (λ w. IsTyped o.type) HasType (target_rule at o)
 unfolding target_rule
-target_has at o = given_types o.type (λ w r. r) (λ t. target_by at (pointed_to t))
+target_has at o = given_types o.type (λ w r. r) (λ t. target_by at o.is_fixed (pointed_to t))
 
 sign_has : (at : Place) (op : UnOp) (o : OperandData) → Typing (λ w. IsTyped o.type) HasType (sign_rule at op o)
 unfolding sign_rule

@@ -12,7 +12,7 @@ use Rattle.ec_language.specs.Pieces.{Pieces}
 use Rattle.ec_language.specs.Syntax.{TreeOrStop}
 use Rattle.ec_language.specs.Tokens.{Tokens}
 use Rattle.ec_written_laws.specs.bound.Numbers.{tops_numbers, numbers_from}
-use Rattle.ec_host_defs.specs.Examples.{statement_places, with_statements}
+use Rattle.ec_host_defs.specs.Statements.{statement_places, with_statements}
 use Rattle.ec_phases_defs.specs.Sources.{ReadsStatements, ReadsTree, statements, checked_with, checked_tree, bound_from, BoundProgram, program_with, bound_program, ReadsSource}
 use Rattle.ec_host_defs.specs.sections.Answers.{hosts_answer}
 use Rattle.ec_written_laws.specs.source.SourceShape.{are_source_tokens, is_source_shape}

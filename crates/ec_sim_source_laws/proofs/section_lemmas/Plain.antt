@@ -8,7 +8,7 @@ use Rattle.ec_ctypes.specs.trees.Stmts.{StmtData, stmt, StmtKindData, empty_stmt
 use Rattle.ec_ctypes.specs.trees.Units.{ParamData, FuncData, TopData, include_top, directive_top, decl_top, func_top, mark_top, UnitData}
 use Rattle.ec_language.specs.First.{Violation, first_of, stop_at}
 use Rattle.ec_language.specs.Productions.{line_of}
-use Rattle.ec_host_defs.specs.sections.Answers.{faults_of, violations_at, violations_from, faults_at, violations, answer_by, hosts_answer}
+use Rattle.ec_host_defs.specs.sections.Answers.{faults_of, section_at, violations_at, violations_from, faults_at, violations, answer_by, hosts_answer}
 use Rattle.ec_host_defs.specs.sections.Declared.{hosts_of}
 use Rattle.ec_host_defs.specs.sections.Places.{Places, holds, mark, of_expr, of_exprs, of_base, of_decls, of_decl, of_declarators, of_declarator, of_dims, of_dim, of_init_option, of_init, of_inits, of_option, of_stmt, of_kind, of_stmts, of_stmt_option, of_params, of_body, of_function, of_top, of_tops}
 use Rattle.ec_host_defs.specs.sections.Uses.{UsesData, nowhere, ◌&◌, in_type, in_declared, in_param_base, in_expr, in_exprs, in_dim, in_dims, in_init, in_inits, in_init_option, in_declarator, in_declarators, in_base, in_expr_option, in_kind, in_param, in_params, in_function}
@@ -28,12 +28,12 @@ either false b h = inr h
 
 abbrev AllHold : Places → Type 0
 AllHold [] = Unit {0}
-AllHold (holds line uses ∷ ps) = (uses ≡ nowhere) × AllHold ps
+AllHold (holds last line uses ∷ ps) = (uses ≡ nowhere) × AllHold ps
 AllHold (mark opens line ∷ ps) = ⊥
 
 all_hold : (ps qs : Places) → AllHold ps → AllHold qs → AllHold (ps ++ qs)
 all_hold [] qs h k = k
-all_hold (holds line uses ∷ ps) qs h k = (h.0, all_hold ps qs h.1 k)
+all_hold (holds last line uses ∷ ps) qs h k = (h.0, all_hold ps qs h.1 k)
 all_hold (mark opens line ∷ ps) qs h k = h
 
 -- the uses of a part, and the places in it
@@ -305,9 +305,9 @@ none_there false = refl
 
 without_faults : (n depth : ℕ) (section : Bool) (ps : Places) → AllHold ps → violations_from n depth section ps ≡ []
 without_faults n depth section [] h = refl
-without_faults n depth section (holds line uses ∷ ps) h =
-    (λ i. violations_at n (holds line uses) (faults_at depth section (holds line (h.0 i)) ps) ++ violations_from (n + 1) depth section ps)
-    ∙ ap (λ kinds. violations_at n (holds line uses) kinds ++ violations_from (n + 1) depth section ps) (none_there section) ∙ without_faults (n + 1) depth section ps h.1
+without_faults n depth section (holds last line uses ∷ ps) h =
+    (λ i. violations_at n (holds last line uses) (faults_at depth section (holds last line (h.0 i)) ps) ++ violations_from (n + 1) depth section ps)
+    ∙ ap (λ kinds. violations_at n (holds last line uses) kinds ++ violations_from (n + 1) depth section ps) (none_there (section_at last section)) ∙ without_faults (n + 1) depth section ps h.1
 without_faults n depth section (mark opens line ∷ ps) h = absurd h
 
 pub no_sections : (u : UnitData) → is_written_shape u ≡ true → hosts_answer u ≡ Ok (hosts_of u)

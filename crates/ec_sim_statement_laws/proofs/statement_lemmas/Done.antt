@@ -7,17 +7,19 @@ use Rattle.ec_arguments.specs.Arguments.{TextArg, Place, Member, host}
 use Rattle.ec_ctypes.specs.declared.embedded.emb.Item.{Item as Kind}
 use Rattle.ec_ctypes.specs.trees.Types.{StructData}
 use Rattle.ec_host_defs.specs.Leaves.{LeafData}
+use Rattle.ec_link.specs.declared.reply.Reply.{Reply}
+use Rattle.ec_link.specs.declared.reply.Reply.TheVariants.{Connected, NoTarget, Rows, Done, Refused, Broken}
 use Rattle.ec_link.specs.Table.{Sheet}
 use Rattle.ec_transfer_defs.specs.declared.finding.Finding.TheVariants as found
 use Rattle.ec_transfer_defs.specs.Conversion.{parameter}
 use Rattle.ec_transfer_defs.specs.Hosts.{HostData}
 use Rattle.ec_meaning_defs.specs.evaluation.State.{Item, State}
-use Rattle.ec_call_defs.specs.Outcomes.{Text, Field, Outcome, gives, finished, over, next, trying, present, begun_area, raised}
+use Rattle.ec_call_defs.specs.Outcomes.{Text, Field, Outcome, gives, finished, over, next, trying, present, heard, begun_area, raised}
 use Rattle.ec_call_defs.specs.Connections.{connection_for, asked, begun}
 use Rattle.ec_call_defs.specs.Inputs as call
 use Rattle.ec_call_defs.specs.Inputs.{Inputs, no_inputs, with_param, with_area, text_read, given_read, inputs_read, member_read}
 use Rattle.ec_call_defs.specs.Storing.{field_kept, in_column, with_rows, column_kept, targets_kept, any_fewer, measured, rows_into}
-use Rattle.ec_call_defs.specs.Answers.{replied}
+use Rattle.ec_call_defs.specs.Answers.{count_told, replied}
 use Rattle.ec_call_defs.specs.Areas.{resized, item_at, item_text}
 use Rattle.ec_call_defs.specs.Running as call_running
 use Rattle.ec_call_defs.specs.Running.{Wanted, request_of, params_behind, area_found, places_of, into_places, outputs_read, statement_read}
@@ -31,7 +33,7 @@ use Rattle.ec_direct_defs.specs.Inputs.{leaf_read, input_read, values_read, item
 use Rattle.ec_direct_defs.specs.Storing as direct_storing
 use Rattle.ec_direct_defs.specs.Storing.{Targets, no_targets, leaf_targets, area_target, are_wanted, rows_kept, any_smaller, counted, leaves_kept, into_targets, table_kept}
 use Rattle.ec_direct_defs.specs.Executing as direct_executing
-use Rattle.ec_direct_defs.specs.Executing.{asked_read, targets_read, targets_found, asks_indicator, has_indicator, carried_out, run_over, kept_in, item_kept, items_kept, statement_done}
+use Rattle.ec_direct_defs.specs.Executing.{asked_read, targets_read, targets_found, with_notice, answer_kept, asks_indicator, has_indicator, carried_out, run_over, kept_in, item_kept, items_kept, statement_done}
 use Rattle.ec_sim_statement_laws.specs.statement.Calls.{indicator_of, place_of, host_of, input_of, area_of, ins_of, outs_of, asked_of, got_of, given_of, call_of, HasLeaves, HasTargets}
 use Rattle.ec_sim_statement_laws.proofs.statement_lemmas.ByType.{data_same}
 
@@ -172,12 +174,51 @@ module _ (structs : List StructData) where
         next (counts_same (length table.cols) (length table.rows) ls s j) (λ _ t.
         kept_same 0 ls table.rows t j)
 
+    -- a notice that is told before anything else is made of its answer
+    heard_same : (notice : Bool) (s : State) → heard notice s ≡ with_notice notice s
+    heard_same true s = refl
+    heard_same false s = refl
+
+    -- what is made of an answer, where its rows are kept alike
+    answer_same : (to : Targets) (store : Sheet → State → Outcome (Unit {0})) → ((table : Sheet) (s : State) → store table s ≡ table_kept structs line to table s)
+        → (reply : Reply) (s : State) → replied line (are_wanted to) store reply s ≡ answer_kept structs line to reply s
+    answer_same to store same (Rows table tx notice) s = same table (heard notice s) ∙ (λ j. table_kept structs line to table (heard_same notice s j))
+    answer_same to store same (Done count tx notice) s = λ j. count_told line (are_wanted to) count (heard_same notice s j)
+    answer_same to store same (Refused state message tx) s = refl
+    answer_same to store same Connected s = refl
+    answer_same to store same NoTarget s = refl
+    answer_same to store same Broken s = refl
+
+    rows_kept_same : (to : Targets) (table : Sheet) (s : State) → call_running.table_kept line (targets_in to) table s ≡ table_kept structs line to table s
+    rows_kept_same no_targets table s = refl
+    rows_kept_same (area_target bytes) table s = refl
+    rows_kept_same (leaf_targets ls) table s = λ j. with_rows line table.rows (λ u. into_same ls table u j) s
+
+    kept_answer : (to : Targets) (reply : Reply) (s : State)
+        → replied line (are_wanted to) (λ table t. call_running.table_kept line (targets_in to) table t) reply s ≡ answer_kept structs line to reply s
+    kept_answer to reply s = answer_same to (λ table t. call_running.table_kept line (targets_in to) table t) (rows_kept_same to) reply s
+
     -- from the reset of the communication area on
     carried_same : (name : Option Text) (wanted : Wanted) (values : List Field) (area : Option Text) (to : Targets) (s : State)
         → call_running.carried_out line name wanted (record { params = values; area = area }) (targets_in to) s
         ≡ carried_out structs line name wanted values area to s
-    carried_same name wanted values area no_targets s = refl
-    carried_same name wanted values area (area_target bytes) s = refl
+    carried_same name wanted values area no_targets s = λ j.
+        next (begun_area s) (λ _ s.
+        next (connection_for line name s) (λ c s.
+        next (request_of line wanted c s) (λ request s.
+        next (params_behind line values area s) (λ params s.
+        next (begun line c s) (λ _ s.
+        next (asked c.slot (request params) s) (λ reply s.
+        kept_answer no_targets reply s j))))))
+    carried_same name wanted values area (area_target bytes) s = λ j.
+        next (begun_area s) (λ _ s.
+        next (connection_for line name s) (λ c s.
+        next (request_of line wanted c s) (λ request s.
+        next (params_behind line values area s) (λ params s.
+        next (targets_found line (area_target bytes) s) (λ _ s.
+        next (begun line c s) (λ _ s.
+        next (asked c.slot (request params) s) (λ reply s.
+        kept_answer (area_target bytes) reply s j)))))))
     carried_same name wanted values area (leaf_targets ls) s = λ j.
         next (begun_area s) (λ _ s.
         next (connection_for line name s) (λ c s.
@@ -185,7 +226,7 @@ module _ (structs : List StructData) where
         next (params_behind line values area s) (λ params s.
         next (begun line c s) (λ _ s.
         next (asked c.slot (request params) s) (λ reply s.
-        replied line true (λ table t. with_rows line table.rows (λ u. into_same ls table u j) t) reply s))))))
+        kept_answer (leaf_targets ls) reply s j))))))
 
     -- ---- a statement over a connection
 

@@ -13,16 +13,16 @@ use Rattle.ec_link.specs.declared.request.Request.{Request}
 use Rattle.ec_link.specs.declared.request.Request.TheVariants as request
 use Rattle.ec_link.specs.Table.{Sheet}
 use Rattle.ec_memory_defs.specs.Memory.{Memory, alive, ended, and_then, integer_type, number, moved, put, store, text_at}
-use Rattle.ec_transfer_defs.specs.Area.{Member, with_member, with_members, opening, sqlcode, sqlerrml, sqlerrmc, sqlstate, sqlwarn, sqlerrd_2, text_length, in_sqlerrmc, message_on}
+use Rattle.ec_transfer_defs.specs.Area.{Member, at as member_at, with_member, with_members, opening, sqlcode, sqlerrml, sqlerrmc, sqlstate, sqlwarn, sqlerrd_2, text_length, in_sqlerrmc, message_on}
 use Rattle.ec_transfer_defs.specs.Conversion.{parameter, bytes_place, with_bytes, with_indicator, trapped as trapped_there, refused as refused_there, Stored, or_before, null_stored, told, value_told, bytes_stored, field_stored, told_length, is_cut, field_bytes}
 use Rattle.ec_transfer_defs.specs.Hosts.{IndicatorData, HostData}
 use Rattle.ec_transfer_defs.specs.declared.finding.Finding.{Finding}
 use Rattle.ec_meaning_defs.specs.evaluation.State.{Answer, Connection, Item, State}
-use Rattle.ec_call_defs.specs.Outcomes.{Text, Field, Outcome, gives, finished, over, next, trying, present, with_memory, fresh_area, told_area, warned_area, counted_area, refused, raised, begun_area}
+use Rattle.ec_call_defs.specs.Outcomes.{Text, Field, Outcome, gives, finished, over, next, trying, present, with_memory, fresh_area, told_area, warned_area, noticed_area, counted_area, noticed, refused, raised, begun_area}
 use Rattle.ec_call_defs.specs.Connections.{exchange, connection_named, wanted_name, found_connection, connection_of, connection_for, answered, asked, controlled, control_sent, begins, begin_text, begun, same_name}
 use Rattle.ec_call_defs.specs.Inputs.{text_read, given_read}
 use Rattle.ec_call_defs.specs.Storing.{warned, found_by, stored_by, field_kept, in_column, counted_rows, with_rows}
-use Rattle.ec_call_defs.specs.Answers.{taken, count_of, done, replied}
+use Rattle.ec_call_defs.specs.Answers.{taken, count_of, done, count_told}
 use Rattle.ec_call_defs.specs.Areas.{without_area, resized, number_as, within, item_at, item_text, set_item}
 use Rattle.ec_call_defs.specs.Running.{Wanted, text, execution, cursor, row_into, prepared_text, found_text, request_of, found_area, area_found, params_behind}
 use Rattle.ec_call_defs.specs.Connecting.{opened_by, connecting, unless_named, own_name, connect_call, set_connection_call}
@@ -38,7 +38,7 @@ use Rattle.ec_direct_defs.specs.Statements.{Input, stored, Sent, Outputs, nowher
 use Rattle.ec_direct_defs.specs.Inputs.{leaf_read, input_read, values_read, items_read, area_read}
 use Rattle.ec_direct_defs.specs.Storing as kept
 use Rattle.ec_direct_defs.specs.Storing.{Targets, no_targets, leaf_targets, area_target, are_wanted, rows_kept, any_smaller, counted, leaves_kept, into_targets, table_kept}
-use Rattle.ec_direct_defs.specs.Executing.{asked_read, targets_read, targets_found, has_indicator, asks_indicator, carried_out, run_over, kept_in, count_got, count_set, item_kept, items_kept, items_got, items_given, statement_done}
+use Rattle.ec_direct_defs.specs.Executing.{asked_read, targets_read, targets_found, with_notice, has_indicator, asks_indicator, answer_kept, carried_out, run_over, kept_in, count_got, count_set, item_kept, items_kept, items_got, items_given, statement_done}
 use Rattle.ec_call_defs.specs.Steps.{settled}
 use Rattle.ec_sim_statement_laws.specs.statement.Lives.{Tidy, LeavesTidy}
 use Rattle.ec_sim_statement_laws.proofs.statement_lemmas.Memories.{tidy_same, tidy_then, OkIs, ok_then, with_cells_tidy, store_tidy}
@@ -94,6 +94,11 @@ warned_tidy : (cut : Bool) (m : Memory) → Tidy m (warned cut m)
 unfolding warned_area
 warned_tidy true m = members_tidy m (sqlwarn (codes "WW") ∷ [])
 warned_tidy false m = tidy_same m
+
+noticed_tidy : (notice : Bool) (m : Memory) → Tidy m (noticed notice m)
+unfolding noticed_area
+noticed_tidy true m = members_tidy m (member_at 240 (codes "W") ∷ member_at 242 (codes "W") ∷ [])
+noticed_tidy false m = tidy_same m
 
 counted_tidy : (n : ℕ) (m : Memory) → Tidy m (counted_area n m)
 unfolding counted_area
@@ -171,8 +176,8 @@ module _ (line : ℕ) where
   reply_keeps slot r s = answered_keeps slot r s.answers s
 
   controlled_keeps : (reply : Reply) (s : State) → Keeps s.memory (controlled line reply s)
-  controlled_keeps (Rows table tx) s = tidy_same s.memory
-  controlled_keeps (Done count tx) s = tidy_same s.memory
+  controlled_keeps (Rows table tx notice) s = noticed_tidy notice s.memory
+  controlled_keeps (Done count tx notice) s = noticed_tidy notice s.memory
   controlled_keeps (Refused state message tx) s = told_tidy _ _ _ line s.memory
   controlled_keeps Connected s = told_tidy _ _ _ line s.memory
   controlled_keeps NoTarget s = told_tidy _ _ _ line s.memory
@@ -185,8 +190,8 @@ module _ (line : ℕ) where
   begin_keeps c s = test_keeps s.memory (begins c) (control_sent line c begin_text s) (gives tt s) (control_keeps c begin_text s) (tidy_same s.memory)
 
   taken_keeps : (reply : Reply) (s : State) → Keeps s.memory (taken line reply s)
-  taken_keeps (Rows table tx) s = tidy_same s.memory
-  taken_keeps (Done count tx) s = tidy_same s.memory
+  taken_keeps (Rows table tx notice) s = noticed_tidy notice s.memory
+  taken_keeps (Done count tx notice) s = noticed_tidy notice s.memory
   taken_keeps (Refused state message tx) s = told_tidy _ _ _ line s.memory
   taken_keeps Connected s = told_tidy _ _ _ line s.memory
   taken_keeps NoTarget s = told_tidy _ _ _ line s.memory
@@ -202,16 +207,16 @@ module _ (line : ℕ) where
   done_keeps false (Some (suc n)) s = tidy_same s.memory
   done_keeps false None s = tidy_same s.memory
 
-  replied_keeps : (wanted : Bool) (store : Sheet → State → Outcome (Unit {0})) → ((table : Sheet) (s : State) → Keeps s.memory (store table s))
-      → (reply : Reply) (s : State) → Keeps s.memory (replied line wanted store reply s)
-  replied_keeps wanted store f (Rows table tx) s = f table s
-  replied_keeps wanted store f (Done count tx) s =
-      keeps_then s.memory (counted_area (count_of count) s.memory) (done line wanted count (with_memory (counted_area (count_of count) s.memory) s)) (counted_tidy (count_of count) s.memory)
+  count_keeps : (wanted : Bool) (count : Option ℕ) (s : State) → Keeps s.memory (count_told line wanted count s)
+  count_keeps wanted count s =
+      keeps_then s.memory (counted_area (count_of count) s.memory) (count_told line wanted count s) (counted_tidy (count_of count) s.memory)
       (done_keeps wanted count (with_memory (counted_area (count_of count) s.memory) s))
-  replied_keeps wanted store f (Refused state message tx) s = told_tidy _ _ _ line s.memory
-  replied_keeps wanted store f Connected s = told_tidy _ _ _ line s.memory
-  replied_keeps wanted store f NoTarget s = told_tidy _ _ _ line s.memory
-  replied_keeps wanted store f Broken s = told_tidy _ _ _ line s.memory
+
+  -- behind a notice, if there is one
+  behind_notice : {A : Type 0} (notice : Bool) (go : State → Outcome A) → ((s : State) → Keeps s.memory (go s)) → (s : State) → Keeps s.memory (go (with_notice notice s))
+  behind_notice true go f s =
+      keeps_then s.memory (noticed_area s.memory) (go (with_notice true s)) (noticed_tidy true s.memory) (f (with_notice true s))
+  behind_notice false go f s = f s
 
   rows_counted : (rows : List (List Field)) (store : State → Outcome (Unit {0})) → ((s : State) → Keeps s.memory (store s)) → (s : State) → Keeps s.memory (counted_rows line rows store s)
   rows_counted [] store f s = told_tidy _ _ _ line s.memory
@@ -338,8 +343,8 @@ module _ (line : ℕ) where
   opened_keeps : (name : Text) (slot : Option ℕ) (reply : Reply) (s : State) → Keeps s.memory (opened_by line name (slot, reply) s)
   opened_keeps name (Some slot) Connected s = tidy_same s.memory
   opened_keeps name (Some slot) NoTarget s = told_tidy _ _ _ line s.memory
-  opened_keeps name (Some slot) (Rows table tx) s = told_tidy _ _ _ line s.memory
-  opened_keeps name (Some slot) (Done count tx) s = told_tidy _ _ _ line s.memory
+  opened_keeps name (Some slot) (Rows table tx notice) s = told_tidy _ _ _ line s.memory
+  opened_keeps name (Some slot) (Done count tx notice) s = told_tidy _ _ _ line s.memory
   opened_keeps name (Some slot) (Refused state message tx) s = told_tidy _ _ _ line s.memory
   opened_keeps name (Some slot) Broken s = told_tidy _ _ _ line s.memory
   opened_keeps name None reply s = told_tidy _ _ _ line s.memory
@@ -393,6 +398,14 @@ module _ (line : ℕ) where
     table_keeps : (to : Targets) (table : Sheet) (s : State) → Keeps s.memory (table_kept structs line to table s)
     table_keeps to table s = with_rows_keeps table.rows (λ t. into_targets structs line to table t) (λ t. into_keeps to table t) s
 
+    answer_keeps : (to : Targets) (reply : Reply) (s : State) → Keeps s.memory (answer_kept structs line to reply s)
+    answer_keeps to (Rows table tx notice) s = behind_notice notice (λ t. table_kept structs line to table t) (λ t. table_keeps to table t) s
+    answer_keeps to (Done count tx notice) s = behind_notice notice (λ t. count_told line (are_wanted to) count t) (λ t. count_keeps (are_wanted to) count t) s
+    answer_keeps to (Refused state message tx) s = told_tidy _ _ _ line s.memory
+    answer_keeps to Connected s = told_tidy _ _ _ line s.memory
+    answer_keeps to NoTarget s = told_tidy _ _ _ line s.memory
+    answer_keeps to Broken s = told_tidy _ _ _ line s.memory
+
     carried_keeps : (name : Option Text) (wanted : Wanted) (values : List Field) (area : Option Text) (to : Targets) (s : State)
         → Keeps s.memory (carried_out structs line name wanted values area to s)
     carried_keeps name wanted values area to s =
@@ -403,7 +416,7 @@ module _ (line : ℕ) where
         next_keeps s.memory (targets_found line to s) _ (targets_found_keep to s) (λ x s.
         next_keeps s.memory (begun line c s) _ (begin_keeps c s) (λ x s.
         next_keeps s.memory (asked c.slot (r params) s) _ (reply_keeps c.slot (r params) s) (λ reply s.
-        replied_keeps (are_wanted to) (table_kept structs line to) (λ table t. table_keeps to table t) reply s)))))))
+        answer_keeps to reply s)))))))
 
     kept_in_keeps : (l : Leaf ℕ) (field : Field) (s : State) → Keeps s.memory (kept_in structs line l field s)
     kept_in_keeps l field s =

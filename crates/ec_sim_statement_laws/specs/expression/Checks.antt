@@ -70,7 +70,7 @@ module _ (at there : Place) where
 
   target_alike : (o : OperandData) → CheckAlike (target_rule at o) (target_rule there o)
   unfolding target_rule
-  target_alike o = given_alike o.type _ _ (λ t. found_alike (option_map target (pointed_to t)))
+  target_alike o = given_alike o.type _ _ (λ t. found_alike (option_map (target o.is_fixed) (pointed_to t)))
 
   sign_alike : (op : UnOp) (o : OperandData) → CheckAlike (sign_rule at op o) (sign_rule there op o)
   unfolding sign_rule

@@ -2,7 +2,7 @@
 use Rattle.std.proofs.Common.{◌≡◌, ◌∙◌, ℕ, true, false, List, [], ◌∷◌, map, refl, ap, Option, Some, None}
 use Rattle.std.specs.Prelude.{codes, pos, option_map, option_and_then, slice_get}
 use Rattle.ec_ctypes.specs.Layout.{no_members, member_behind}
-use Rattle.ec_ctypes.specs.LayoutExamples.{sqlca_structs}
+use Rattle.ec_ctypes.specs.SqlcaStructs.{sqlca_structs}
 use Rattle.ec_ctypes.specs.declared.embedded.emb.Cond.{Cond}
 use Rattle.ec_ctypes.specs.declared.embedded.emb.Cond.TheVariants.{NotFound, Warning, Error}
 use Rattle.ec_ctypes.specs.declared.tree.expr.BinOp.{BinOp}

@@ -18,7 +18,7 @@ use Rattle.ec_language.specs.Syntax.{TreeOrStop}
 use Rattle.ec_language.specs.Tokens.{Tokens}
 use Rattle.ec_language.proofs.Ends.{both}
 use Rattle.ec_host_defs.specs.Bound.{program_of, cursor_parts, statement_bound, faults_of, violation_at, violations_at, answer_by, bound_answer}
-use Rattle.ec_host_defs.specs.Examples.{statement_places, with_statements}
+use Rattle.ec_host_defs.specs.Statements.{statement_places, with_statements}
 use Rattle.ec_host_defs.specs.Faults.{row_at, uses_faults}
 use Rattle.ec_host_defs.specs.Programs.{ProgramData}
 use Rattle.ec_host_defs.specs.Uses.{uses_of}

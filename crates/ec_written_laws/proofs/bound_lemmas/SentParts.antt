@@ -1,5 +1,5 @@
 -- Statements that pass to the server, and the DECLARE of a cursor: their references are simple, and their texts are bytes.
-use Rattle.std.proofs.Common.{◌≡◌, ℕ, zero, suc, Bool, true, false, not, ◌&&◌, ◌||◌, ◌-◌, List, [], ◌∷◌, ◌++◌, length, drop, refl, sym, ap, ◌∙◌, subst, Option, Some, None, if◌then◌else◌}
+use Rattle.std.proofs.Common.{◌≡◌, ℕ, zero, suc, Bool, true, false, not, ◌||◌, ◌-◌, List, [], ◌∷◌, ◌++◌, length, drop, refl, sym, ap, ◌∙◌, subst, Option, Some, None, if◌then◌else◌}
 use Rattle.std.specs.Prelude.{codes, ◌==◌}
 use Rattle.ec_ctypes.specs.trees.Exprs.{ExprData, identifier, member, arrow, index}
 use Rattle.ec_ctypes.specs.trees.Embedded.{HostData, TextArgData, word_arg, OutsData, listed_outs, area_outs, PartData, bytes_part, host_part, EmbKindData, declare_cursor}
@@ -7,12 +7,11 @@ use Rattle.ec_embedded.specs.shapes.ReadShapes.{done, stopped, over_limit, and_t
 use Rattle.ec_embedded.specs.declared.shapes.failure.Failure.TheVariants as failure
 use Rattle.ec_language.specs.Letters.{Text}
 use Rattle.ec_language.specs.SqlTokens.{SqlToken}
-use Rattle.ec_embedded.specs.ServerText.{Tokens, Reading, begins_host, is_member, is_arrow, is_index, place_at, counted_suffix, suffixes, reference_at, begins_indicator, with_indicator, host_at, begins_area, begins_into, begins_more, more_hosts, no_host, text_at, into_list, Cut, token, host, into, depth_behind, cons_cut, cuts, blank, put, parts, outs_in, server_at, plain_cuts, bytes_in, transaction_at}
+use Rattle.ec_embedded.specs.ServerText.{Tokens, Reading, begins_host, is_member, is_arrow, is_index, is_place, place_at, counted_suffix, suffixes, reference_at, begins_indicator, with_indicator, host_at, begins_area, begins_into, begins_more, more_hosts, no_host, text_at, into_list, Cut, token, host, into, depth_behind, cons_cut, cuts, blank, put, parts, outs_in, server_at, plain_cuts, bytes_in, transaction_at}
 use Rattle.ec_embedded.specs.Statements.{prepared_in, declared_for}
 use Rattle.ec_embedded.specs.References.{unquoted, text_of_host, decimal_constant}
 use Rattle.ec_embedded.specs.Terminals as term
-use Rattle.ec_embedded.specs.Terminals.{Counts, step_by, Begins, input, reference, suffix, is, any_word, glued_word, glued_number, glued_sign, suffix_sign, plain_quote}
-use Rattle.ec_language.proofs.Ends.{both as both_true}
+use Rattle.ec_embedded.specs.Terminals.{Counts, step_by, Begins, input, reference, suffix, is, any_word, glued_word, glued_number, plain_quote}
 use Rattle.ec_written_laws.specs.bound.Names.{is_simple_index, is_simple}
 use Rattle.ec_written_laws.proofs.bound_lemmas.Rules.{join}
 use Rattle.ec_written_laws.proofs.bound_lemmas.Each.{OfList, list_both, OfHost, OfText, OfOuts, OfPart}
@@ -45,10 +44,8 @@ counted_is n w f h = go (step_by suffix n)
     go None = tt
     go (Some m) = h m
 
-place_simple : (a b c : SqlToken) → is_index a b c ≡ true → is_simple_index (place_at b) ≡ true
-place_simple a b c h =
-    let p = both_true (is (suffix_sign (codes "[")) a && (is glued_word b || is glued_number b)) (is (glued_sign (codes "]")) c) h in
-    go (is glued_word b) (is glued_number b) refl refl (both_true (is (suffix_sign (codes "[")) a) (is glued_word b || is glued_number b) p.0).1
+place_simple : (b : SqlToken) → is_place b ≡ true → is_simple_index (place_at b) ≡ true
+place_simple b h = go (is glued_word b) (is glued_number b) refl refl h
   where
     go : (x y : Bool) → is glued_word b ≡ x → is glued_number b ≡ y → (x || y) ≡ true → is_simple_index (if x then identifier b.bytes else decimal_constant b.bytes) ≡ true
     go true y e f g = refl
@@ -64,7 +61,7 @@ suffixes_simple n e (a ∷ b ∷ []) s h =
 suffixes_simple n e (a ∷ b ∷ c ∷ w) s h =
     is_true (is_member a b) Simple _ _ (λ i. counted_is n (a ∷ b ∷ c ∷ w) _ (λ m. suffixes_simple m (member e b.bytes) (c ∷ w) s h.1.1))
     (λ i. is_true (is_arrow a b) Simple _ _ (λ j. counted_is n (a ∷ b ∷ c ∷ w) _ (λ m. suffixes_simple m (arrow e b.bytes) (c ∷ w) s h.1.1))
-    (λ j. is_true (is_index a b c) Simple _ _ (λ x. counted_is n (a ∷ b ∷ c ∷ w) _ (λ m. suffixes_simple m (index e (place_at b)) w (join s (place_simple a b c x)) h.1.1.1)) (λ x. (s, h))))
+    (λ j. is_true (is_index a b c) Simple _ _ (λ x. counted_is n (a ∷ b ∷ c ∷ w) _ (λ m. is_true (is_place b) Simple _ _ (λ y. suffixes_simple m (index e (place_at b)) w (join s (place_simple b y)) h.1.1.1) (λ y. tt))) (λ x. (s, h))))
 
 reference_simple : (b : Begins) (n : Counts) (w : Tokens) → HaveBytes w → Reads Simple (reference_at b n w)
 unfolding reference_at

@@ -26,7 +26,7 @@ use Rattle.ec_language.specs.Productions.{Placed, placed_from, section_behind, p
 use Rattle.ec_language.specs.Productions as g
 use Rattle.ec_language.specs.Syntax.{limits, TreeOrStop, tree}
 use Rattle.ec_language.specs.Tokens.{Part, Item, blank, match, include, directive, last_directive, Step, CParts, end, item, bad, part_at, is_left_out_word, integer_tok, character_tok, string_tok, token_of, PieceParts, c_text, statement, opening, closing, declaration, embedded, fault_at, statements_behind, AllParts, join_two, join_first, join_strings, without_head, token, with_token, max_tokens, is_full, part_within, numbered_within, Tokens}
-use Rattle.ec_host_defs.specs.Examples.{is_statement, statement_places, with_statement}
+use Rattle.ec_host_defs.specs.Statements.{is_statement, statement_places, with_statement}
 use Rattle.ec_phases_defs.specs.Laws.{statement_count}
 use Rattle.ec_phases_defs.specs.Sources as source
 use Rattle.ec_phases_defs.specs.Sources.{ReadsStatements}

@@ -11,7 +11,7 @@ use Rattle.ec_language.specs.First.{Violation, comes_before, earlier, first_of, 
 use Rattle.ec_language.specs.Letters.{Text}
 use Rattle.ec_language.proofs.Classes.{neither, turn_not}
 use Rattle.ec_language.proofs.Ends.{both}
-use Rattle.ec_host_defs.specs.sections.Answers.{fault_unless, faults_of, faults_at, depth_behind, section_behind, violations_at, violations_from, violations, stop_of_unit, answer_by, hosts_answer}
+use Rattle.ec_host_defs.specs.sections.Answers.{fault_unless, faults_of, faults_at, depth_behind, section_behind, section_at, violations_at, violations_from, violations, stop_of_unit, answer_by, hosts_answer}
 use Rattle.ec_host_defs.specs.sections.Declared.{hosts_of}
 use Rattle.ec_host_defs.specs.sections.Places.{PlaceData, holds, mark, Places, of_expr, of_exprs, of_base, of_decls, of_decl, of_declarators, of_declarator, of_dims, of_dim, of_init_option, of_init, of_inits, of_option, of_stmt, of_stmts, of_stmt_option, of_params, of_body, of_function, of_top, of_tops}
 use Rattle.ec_host_defs.specs.sections.Uses.{UsesData, ◌&◌, in_type, in_declared, in_base, in_param_base, in_expr, in_exprs, in_dim, in_dims, in_init, in_inits, in_init_option, in_declarator, in_declarators, in_expr_option, in_param, in_params}
@@ -46,12 +46,12 @@ fine_second a b f = record { allowed = (neither a.left_out b.left_out f.allowed)
 
 abbrev AllFine : Places → Type 0
 AllFine [] = Unit {0}
-AllFine (holds line uses ∷ ps) = Fine uses × AllFine ps
+AllFine (holds last line uses ∷ ps) = Fine uses × AllFine ps
 AllFine (mark opens line ∷ ps) = AllFine ps
 
 fine_parts : (ps qs : Places) → AllFine (ps ++ qs) → AllFine ps × AllFine qs
 fine_parts [] qs h = (tt, h)
-fine_parts (holds line uses ∷ ps) qs h = let p = fine_parts ps qs h.1 in ((h.0, p.0), p.1)
+fine_parts (holds last line uses ∷ ps) qs h = let p = fine_parts ps qs h.1 in ((h.0, p.0), p.1)
 fine_parts (mark opens line ∷ ps) qs h = fine_parts ps qs h
 
 -- ---- faults
@@ -81,9 +81,9 @@ none_at n p (k ∷ kinds) rest e = absurd (cc)
 
 places_fine : (n depth : ℕ) (section : Bool) (ps : Places) → violations_from n depth section ps ≡ [] → AllFine ps
 places_fine n depth section [] e = tt
-places_fine n depth section (holds line uses ∷ ps) e =
-    let p = none_at n (holds line uses) (faults_of section uses) (violations_from (n + 1) depth section ps) e in
-    (uses_fine section uses p.0, places_fine (n + 1) depth section ps p.1)
+places_fine n depth section (holds last line uses ∷ ps) e =
+    let p = none_at n (holds last line uses) (faults_of (section_at last section) uses) (violations_from (n + 1) depth section ps) e in
+    (uses_fine (section_at last section) uses p.0, places_fine (n + 1) depth section ps p.1)
 places_fine n depth section (mark opens line ∷ ps) e =
     let p = none_at n (mark opens line) (faults_at depth section (mark opens line) ps) (violations_from (n + 1) (depth_behind depth (mark opens line)) (section_behind section (mark opens line)) ps) e in
     places_fine (n + 1) (depth_behind depth (mark opens line)) (section_behind section (mark opens line)) ps p.1

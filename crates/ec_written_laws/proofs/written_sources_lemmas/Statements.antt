@@ -13,7 +13,7 @@ use Rattle.ec_language.specs.Pieces.{PiecesUpTo}
 use Rattle.ec_language.proofs.ReadLaws.{newlines-append}
 use Rattle.ec_embedded.specs.Answers.{placed, end_line, StatementOrStop}
 use Rattle.ec_embedded.specs.Findings.{Answer, StatementData}
-use Rattle.ec_host_defs.specs.Examples.{with_statement, with_statements}
+use Rattle.ec_host_defs.specs.Statements.{with_statement, with_statements}
 use Rattle.ec_phases_defs.specs.Sources.{ReadsStatements, end, other, stops, statement, ReadsTree, statements}
 use Rattle.ec_writing_defs.specs.Shapes.{is_byte, is_line}
 use Rattle.ec_written_laws.specs.written.Bounds.{is_written_statement, are_written_statements}

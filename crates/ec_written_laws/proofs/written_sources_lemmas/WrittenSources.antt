@@ -19,7 +19,7 @@ use Rattle.ec_typing_defs.specs.Worlds.{World}
 use Rattle.ec_typing_defs.specs.Answers.{checked, stop_of_unit, answer_by, check_answer}
 use Rattle.ec_typing_defs.specs.statement_parts.Handlers.{marks_in, action_among}
 use Rattle.ec_whenever.specs.Tables.{table_of}
-use Rattle.ec_host_defs.specs.Examples.{with_statements}
+use Rattle.ec_host_defs.specs.Statements.{with_statements}
 use Rattle.ec_phases_defs.specs.Sources.{ReadsTree, statements, checked_with, checked_tree, bound_from, BoundProgram, program_with, bound_program, ReadsSource}
 use Rattle.ec_writing_defs.specs.Shapes.{is_byte, is_line, is_written_shape}
 use Rattle.ec_written_laws.specs.source.SourceShape.{are_source_tokens, are_source_tops, is_source_shape}

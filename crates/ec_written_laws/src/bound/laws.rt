@@ -8,7 +8,7 @@ ghost use Rattle.ec_ctypes.specs.trees.Units.{UnitData};
 ghost use Rattle.ec_written_laws.specs.bound.Counts.{are_counted};
 ghost use Rattle.ec_written_laws.specs.bound.Numbers.{tops_numbers, numbers_from};
 ghost use Rattle.ec_written_laws.specs.bound.Written.{are_hosts_written};
-ghost use Rattle.ec_host_defs.specs.Examples.{statement_places};
+ghost use Rattle.ec_host_defs.specs.Statements.{statement_places};
 ghost use Rattle.ec_language.specs.Letters.{Text, each};
 ghost use Rattle.ec_language.specs.Syntax.{TreeOrStop};
 ghost use Rattle.ec_language.specs.Tokens.{Tokens};

@@ -1,7 +1,9 @@
--- A cell that is unset ends the run.
-use Rattle.ec_bytes.proofs.Runs.{ends_unset, whole_run}
+-- The run ends before a zero byte, where all before it are set.
+use Rattle.std.proofs.Common.{arith}
+use Rattle.ec_bytes.proofs.Kept.{run_found}
 use Rattle.ec_bytes.proofs.parts.run_length.Goals as goal
 
-pub returns-else-marks-n-eq-SET-clause-run : goal.returns-else-marks-n-eq-SET-clause-run
-returns-else-marks-n-eq-SET-clause-run c =
-    whole_run _ _ _ c.loop-n.invariant.whole (ends_unset c.args.bytes.now c.args.marks.now c.loop-n.n 0 _ c.loop-n-test.true c.requires c.if-marks-n-eq-SET.false)
+pub returns-then-all_set-clause-run : goal.returns-then-all_set-clause-run
+returns-then-all_set-clause-run c =
+    run_found c.args.room c.args.memory.now c.args.at c.args.n c.requires (omega (arith, c.requires.0, c.requires.1)) c.before_zero-count.result c.before_zero-count.ensures.within
+    c.if-all_set.ensures c.before_zero-count.ensures.none c.before_zero-count.ensures.end

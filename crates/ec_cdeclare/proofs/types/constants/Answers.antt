@@ -1,8 +1,8 @@
 use Rattle.std.proofs.Common.{rules, arith}
 use Rattle.std.proofs.lemmas.Grind.{common_steps}
 use Rattle.ec_grammar.specs.ReadDeclarations.{constants, constants_from}
-use Rattle.ec_cdeclare.specs.States.{seen}
-use Rattle.ec_cdeclare.proofs.Turns.{one_more, no_more}
+use Rattle.ec_cursor.specs.States.{seen}
+use Rattle.ec_cursor.proofs.Turns.{one_more, no_more}
 use Rattle.ec_cdeclare.proofs.types.constants.Goals as goal
 
 pub loop-turn-init : goal.loop-turn-init

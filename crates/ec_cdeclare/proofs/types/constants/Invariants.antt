@@ -1,6 +1,6 @@
 use Rattle.std.proofs.Common.{◌≡◌, ◌-◌}
 use Rattle.ec_grammar.specs.ReadDeclarations.{constants, constants_from}
-use Rattle.ec_cdeclare.specs.States.{seen}
+use Rattle.ec_cursor.specs.States.{seen}
 use Rattle.ec_cdeclare.proofs.types.constants.Given as goal
 
 abbrev pub invariant-loop-turn : goal.invariant-loop-turn

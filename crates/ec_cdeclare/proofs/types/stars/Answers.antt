@@ -2,8 +2,8 @@ use Rattle.std.proofs.Common.{ap, rules, arith}
 use Rattle.std.proofs.lemmas.Grind.{common_steps}
 use Rattle.ec_grammar.specs.ReadDeclarations.{stars, stars_from}
 use Rattle.ec_language.specs.Syntax.{limits}
-use Rattle.ec_cdeclare.specs.States.{seen}
-use Rattle.ec_cdeclare.proofs.Turns.{one_more, no_more}
+use Rattle.ec_cursor.specs.States.{seen}
+use Rattle.ec_cursor.proofs.Turns.{one_more, no_more}
 use Rattle.ec_cdeclare.proofs.StarCounts.{same_counts, star_counted}
 use Rattle.ec_cdeclare.proofs.types.stars.Goals as goal
 

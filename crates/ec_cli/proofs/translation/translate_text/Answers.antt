@@ -1,6 +1,6 @@
 use Rattle.std.proofs.Common.{◌≡◌, subst, sym, Ok, Err}
 use Rattle.ec_base.specs.Putting.{Puts, PutsPart}
-use Rattle.ec_run.specs.Meanings.{KeepsMeaning}
+use Rattle.ec_execute.specs.source.Meanings.{KeepsMeaning}
 use Rattle.ec_front.specs.translation.Answers.{TellsTranslation}
 use Rattle.ec_phases_defs.specs.translation.Translations.{IsTranslation}
 use Rattle.ec_cli.specs.Translating.{TranslatesText}

@@ -1,5 +1,5 @@
 use Rattle.std.proofs.Common.{arith, refl}
-use Rattle.ec_cdeclare.specs.States.{seen}
+use Rattle.ec_cursor.specs.States.{seen}
 use Rattle.ec_csyntax.proofs.Levels.{one_statement, one_block, statement_fails, block_fails}
 use Rattle.ec_csyntax.proofs.nested.+nested.Goals as goal
 

@@ -2,7 +2,7 @@ use Rattle.std.proofs.Common.{sym, ap, ◌∙◌, arith}
 use Rattle.ec_ctypes.specs.views.Tokens.{tokens_view}
 use Rattle.ec_language.specs.Productions.{placed}
 use Rattle.ec_grammar.specs.ReadUnit.{line_at}
-use Rattle.ec_cdeclare.proofs.SeenTokens.{placed_length}
+use Rattle.ec_cursor.proofs.SeenTokens.{placed_length}
 use Rattle.ec_csyntax.proofs.Lines.{line_at_none, line_at_many, line_at_some}
 use Rattle.ec_csyntax.proofs.programs.line_at.Goals as goal
 use Rattle.ec_csyntax.proofs.programs.line_at.Goals.{then-left-eq0-via-then-left-eq0, then-left-eq0-via-else-left-eq0+then-left-tokens}

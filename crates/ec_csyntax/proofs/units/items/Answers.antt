@@ -3,9 +3,9 @@ use Rattle.std.proofs.lemmas.Grind.{common_steps}
 use Rattle.ec_language.specs.Syntax.{limits}
 use Rattle.ec_csyntax.specs.Tops.{top_inner, top_deeper}
 use Rattle.ec_grammar.specs.ReadStatements.{items, items_from}
-use Rattle.ec_cdeclare.specs.States.{seen}
+use Rattle.ec_cursor.specs.States.{seen}
 use Rattle.ec_csyntax.specs.Views.{each_top}
-use Rattle.ec_cdeclare.proofs.Turns.{one_more, no_more}
+use Rattle.ec_cursor.proofs.Turns.{one_more, no_more}
 use Rattle.ec_csyntax.proofs.units.items.Goals as goal
 
 pub loop-turn-init : goal.loop-turn-init

@@ -2,7 +2,7 @@ use Rattle.std.proofs.Common.{◌≡◌, ◌-◌}
 use Rattle.ec_language.specs.Syntax.{limits}
 use Rattle.ec_csyntax.specs.Tops.{top_inner, top_deeper}
 use Rattle.ec_grammar.specs.ReadStatements.{items, items_from}
-use Rattle.ec_cdeclare.specs.States.{seen}
+use Rattle.ec_cursor.specs.States.{seen}
 use Rattle.ec_csyntax.specs.Views.{each_top}
 use Rattle.ec_csyntax.proofs.units.items.Given as goal
 

@@ -1,4 +1,4 @@
-use Rattle.std.proofs.Common.{◌≡◌, ◌∙◌, ap, rules, subst, sym}
+use Rattle.std.proofs.Common.{◌≡◌, ◌∙◌, ap, rules, subst, sym, None}
 use Rattle.ec_ctypes.specs.declared.tree.decl.Decl.{out-Decl, the_lemmas as decl_lemmas}
 use Rattle.ec_ctypes.specs.declared.tree.decl.Declarator.{out-Declarator, the_lemmas}
 use Rattle.ec_ctypes.specs.trees.Exprs.{DeclData, decl, DeclaratorData, declarator}
@@ -15,7 +15,7 @@ decl-returns t c =
     let d = c.args.tree.now in
     let e : decl_view d ≡ decl (base_view (out-Decl d).base) (declarators_view (out-Decl d).items) (out-Decl d).section (out-Decl d).line = search (rules, decl_lemmas) in
     subst (λ (x : DeclData). scan_view c.declarators.new.scan ≡ walk_decl x (scan_view c.args.scan.now)) (sym e)
-    (c.declarators.ensures ∙ (λ i. walk_declarators (declarators_view (c.as_slice-items.ensures i)) ((c.base.ensures ∙ ap (walk_base (base_view (out-Decl d).base)) (c.place.ensures ∙ (λ j. step (holds (out-Decl d).line ((c.held.ensures ∙ (λ k. in_base (base_view (out-Decl d).base) & in_declarators (base_view (out-Decl d).base) (declarators_view (c.as_slice-items.ensures k)))) j)) (scan_view c.args.scan.now)))) i)))
+    (c.declarators.ensures ∙ (λ i. walk_declarators (declarators_view (c.as_slice-items.ensures i)) ((c.base.ensures ∙ ap (walk_base (base_view (out-Decl d).base)) (c.place.ensures ∙ (λ j. step (holds None (out-Decl d).line ((c.held.ensures ∙ (λ k. in_base (base_view (out-Decl d).base) & in_declarators (base_view (out-Decl d).base) (declarators_view (c.as_slice-items.ensures k)))) j)) (scan_view c.args.scan.now)))) i)))
 
 pub declarator-returns-in-Some : goal.declarator-returns-in-Some
 declarator-returns-in-Some t c =

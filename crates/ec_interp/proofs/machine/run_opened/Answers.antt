@@ -16,16 +16,16 @@ returns-in-Some-clause-halts g c =
     let first = c.in-Some.main.now in
     let knowing = g.L.Library.knowing c.args.library.now in
     let x = g.L.Library.session c.args.library.now in
-    let y = g.L.Library.session c.run_main_with.new.library in
+    let y = g.L.Library.session c.run_main.new.library in
     let there : slice_get (program_view p).functions p.main ≡ Some (function_view first) =
     sym (c.in-Some.ensures ∙ (λ i. slice_get (map function_view (c.as_slice-functions.ensures i)) p.main)) in
     let run : Run = λ k s. main_run knowing (tasks knowing p.functions k) (slice_get (program_view p).functions p.main) (at s m) in
     let main : Run = λ k s. main_run knowing (tasks knowing p.functions k) (Some (function_view first)) (at s m) in
-    subst (λ h. HaltsWith g.O.Sink.held g.O.Sink.faults g.E.Sink.held g.E.Sink.faults m.turns run x y c.args.out.now c.run_main_with.new.out c.args.err.now c.run_main_with.new.err c.run_main_with.new.machine h) (sym c.end_of.ensures)
-    (halts_same g.O.Sink.held g.O.Sink.faults g.E.Sink.held g.E.Sink.faults m.turns run main x y c.args.out.now c.run_main_with.new.out c.args.err.now c.run_main_with.new.err c.run_main_with.new.machine
-    (λ k s. ap (λ f. main_run knowing (tasks knowing p.functions k) f (at s m)) there) c.run_main_with.result
-    (subst (λ (fs : List Function). HaltsWith g.O.Sink.held g.O.Sink.faults g.E.Sink.held g.E.Sink.faults m.turns (λ k s. main_run knowing (tasks knowing fs k) (Some (function_view first)) (at s m)) x y c.args.out.now c.run_main_with.new.out c.args.err.now c.run_main_with.new.err c.run_main_with.new.machine c.run_main_with.result)
-    c.as_slice-functions.ensures c.run_main_with.ensures.halts))
+    subst (λ h. HaltsWith g.O.Sink.held g.O.Sink.faults g.E.Sink.held g.E.Sink.faults m.turns run x y c.args.out.now c.run_main.new.out c.args.err.now c.run_main.new.err c.run_main.new.machine h) (sym c.end_of.ensures)
+    (halts_same g.O.Sink.held g.O.Sink.faults g.E.Sink.held g.E.Sink.faults m.turns run main x y c.args.out.now c.run_main.new.out c.args.err.now c.run_main.new.err c.run_main.new.machine
+    (λ k s. ap (λ f. main_run knowing (tasks knowing p.functions k) f (at s m)) there) c.run_main.result
+    (subst (λ (fs : List Function). HaltsWith g.O.Sink.held g.O.Sink.faults g.E.Sink.held g.E.Sink.faults m.turns (λ k s. main_run knowing (tasks knowing fs k) (Some (function_view first)) (at s m)) x y c.args.out.now c.run_main.new.out c.args.err.now c.run_main.new.err c.run_main.new.machine c.run_main.result)
+    c.as_slice-functions.ensures c.run_main.ensures.halts))
 
 pub returns-in-None-clause-halts : goal.returns-in-None-clause-halts
 returns-in-None-clause-halts g c =

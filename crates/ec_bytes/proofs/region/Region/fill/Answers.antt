@@ -1,19 +1,38 @@
 -- The cells after the call.
-use Rattle.std.proofs.Common.{◌∙◌, ap, replicate, rules}
-use Rattle.std.proofs.lemmas.List.{length-replicate}
+use Rattle.std.proofs.Common.{◌≡◌, ◌∙◌, ◌≤◌, ◌+◌, ap, sym, length, take, drop, replicate, refl, arith}
+use Rattle.std.proofs.lemmas.List.{length-replicate, length-take-le}
+use Rattle.std.proofs.lemmas.List.{length-drop}
 use Rattle.ec_memory_defs.specs.Cells.{written}
-use Rattle.ec_bytes.proofs.Cells.{filled_as_set, placed, same_length}
-use Rattle.ec_bytes.proofs.Held.{held_kept, held_put}
+use Rattle.ec_bytes.specs.Bits.{marks_of}
+use Rattle.ec_bytes.proofs.Cells.{filled_as_set}
+use Rattle.ec_bytes.proofs.Kept.{cleared, copied, kept, lies, marked, put_set}
+use Rattle.ec_bytes.proofs.Places.{length_written}
 use Rattle.ec_bytes.proofs.region.Region.fill.Goals as goal
+
+pub spread-requires : goal.spread-requires
+spread-requires c =
+    rw c.bytes_mut-memory.ensures.value (lies c.args.self.now c.self.inside.len c.self.inside.room c.self.inside.block c.self.view_is c.self.invariant c.args.at c.args.n c.requires)
+
+pub mark-requires : goal.mark-requires
+mark-requires c =
+    let in_cells : c.args.at + (c.args.n) ≤ length c.args.self.now = c.requires in
+    let whole : length (replicate c.args.n c.args.byte) ≡ c.args.n = length-replicate c.args.n c.args.byte in
+    let first = c.spread.ensures ∙ ap (λ l. written l c.args.at (replicate c.args.n c.args.byte)) c.bytes_mut-memory.ensures.value in
+    marked c.args.self.now c.self.inside.len c.self.inside.room c.self.inside.block c.self.view_is c.self.invariant c.args.at (c.args.n) in_cells c.spread.new.bytes
+    (ap length first ∙ length_written c.self.inside.block c.args.at (replicate c.args.n c.args.byte) (omega (arith, whole, lies c.args.self.now c.self.inside.len c.self.inside.room c.self.inside.block c.self.view_is c.self.invariant c.args.at (c.args.n) in_cells)))
 
 pub returns-clause-cells : goal.returns-clause-cells
 returns-clause-cells c =
-    held_put c.args.self.now c.self.inside.len c.self.inside.bytes.items c.self.inside.set.items c.self.view_is c.self.invariant c.args.at (replicate c.args.n c.args.byte) c.args.n _ _ c.requires (length-replicate c.args.n c.args.byte)
-    (placed c.self.inside.bytes c.spread.new.bytes c.deref_mut.result.now c.args.at (replicate c.args.n c.args.byte) (search rules) c.spread.ensures c.deref_mut.ensures.value)
-    (placed c.self.inside.set c.spread-2.new.bytes c.deref_mut-2.result.now c.args.at (replicate c.args.n 1) (search rules) c.spread-2.ensures c.deref_mut-2.ensures.value)
-    ∙ ap (written c.args.self.now c.args.at) (filled_as_set c.args.n c.args.byte)
+    let in_cells : c.args.at + (c.args.n) ≤ length c.args.self.now = c.requires in
+    let whole : length (replicate c.args.n c.args.byte) ≡ c.args.n = length-replicate c.args.n c.args.byte in
+    let first = c.spread.ensures ∙ ap (λ l. written l c.args.at (replicate c.args.n c.args.byte)) c.bytes_mut-memory.ensures.value in
+    let same = c.mark.ensures.length ∙ ap length first ∙ length_written c.self.inside.block c.args.at (replicate c.args.n c.args.byte) (omega (arith, whole, lies c.args.self.now c.self.inside.len c.self.inside.room c.self.inside.block c.self.view_is c.self.invariant c.args.at (c.args.n) in_cells)) in
+    put_set c.args.self.now c.self.inside.len c.self.inside.room c.self.inside.block c.self.view_is c.self.invariant c.mark.new.memory same c.args.at (replicate c.args.n c.args.byte) (c.args.n) c.spread.new.bytes in_cells whole first c.mark.ensures.bytes c.mark.ensures.marks ∙ ap (written c.args.self.now c.args.at) (filled_as_set c.args.n c.args.byte)
 
 pub returns-clause-length : goal.returns-clause-length
 returns-clause-length c =
-    held_kept c.args.self.now c.self.inside.len c.self.inside.bytes.items c.self.inside.set.items c.self.view_is c.self.invariant _ _ (same_length c.self.inside.bytes c.spread.new.bytes (search rules) (search rules))
-    (same_length c.self.inside.set c.spread-2.new.bytes (search rules) (search rules))
+    let in_cells : c.args.at + (c.args.n) ≤ length c.args.self.now = c.requires in
+    let whole : length (replicate c.args.n c.args.byte) ≡ c.args.n = length-replicate c.args.n c.args.byte in
+    let first = c.spread.ensures ∙ ap (λ l. written l c.args.at (replicate c.args.n c.args.byte)) c.bytes_mut-memory.ensures.value in
+    let same = c.mark.ensures.length ∙ ap length first ∙ length_written c.self.inside.block c.args.at (replicate c.args.n c.args.byte) (omega (arith, whole, lies c.args.self.now c.self.inside.len c.self.inside.room c.self.inside.block c.self.view_is c.self.invariant c.args.at (c.args.n) in_cells)) in
+    kept c.args.self.now c.self.inside.len c.self.inside.room c.self.inside.block c.self.view_is c.self.invariant c.mark.new.memory same

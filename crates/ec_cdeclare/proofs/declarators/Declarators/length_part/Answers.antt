@@ -1,6 +1,6 @@
 use Rattle.std.proofs.Common.{◌≡◌, rules, arith}
 use Rattle.ec_grammar.specs.ReadDeclarations.{nested}
-use Rattle.ec_cdeclare.proofs.Levels.{length_deeper}
+use Rattle.ec_cursor.proofs.Levels.{length_deeper}
 use Rattle.ec_cdeclare.proofs.declarators.Declarators.length_part.Goals as goal
 
 pub returns-then-self-eq0 : goal.returns-then-self-eq0

@@ -1,8 +1,8 @@
 use Rattle.std.proofs.Common.{◌≡◌, ◌-◌}
 use Rattle.ec_grammar.specs.ReadDeclarations.{lengths, lengths_from, nested}
 use Rattle.ec_language.specs.Syntax.{limits}
-use Rattle.ec_cdeclare.specs.Parts.{each_length}
-use Rattle.ec_cdeclare.specs.States.{seen}
+use Rattle.ec_cursor.specs.Parts.{each_length}
+use Rattle.ec_cursor.specs.States.{seen}
 use Rattle.ec_cdeclare.proofs.declarators.Declarators.lengths.Given as goal
 
 abbrev pub invariant-loop-turn : goal.invariant-loop-turn

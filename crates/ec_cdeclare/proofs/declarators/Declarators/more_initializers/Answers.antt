@@ -2,9 +2,9 @@ use Rattle.std.proofs.Common.{rules, arith}
 use Rattle.std.proofs.lemmas.Grind.{common_steps}
 use Rattle.ec_grammar.specs.ReadDeclarations.{more_initializers, more_initializers_from, nested}
 use Rattle.ec_language.specs.Syntax.{limits}
-use Rattle.ec_cdeclare.specs.Parts.{each_init}
-use Rattle.ec_cdeclare.specs.States.{seen}
-use Rattle.ec_cdeclare.proofs.Turns.{one_more, no_more}
+use Rattle.ec_cursor.specs.Parts.{each_init}
+use Rattle.ec_cursor.specs.States.{seen}
+use Rattle.ec_cursor.proofs.Turns.{one_more, no_more}
 use Rattle.ec_cdeclare.proofs.declarators.Declarators.more_initializers.Goals as goal
 
 pub loop-turn-init : goal.loop-turn-init

@@ -1,8 +1,8 @@
 use Rattle.std.proofs.Common.{◌≡◌, ◌-◌}
 use Rattle.ec_grammar.specs.ReadDeclarations.{more_initializers, more_initializers_from, nested}
 use Rattle.ec_language.specs.Syntax.{limits}
-use Rattle.ec_cdeclare.specs.Parts.{each_init}
-use Rattle.ec_cdeclare.specs.States.{seen}
+use Rattle.ec_cursor.specs.Parts.{each_init}
+use Rattle.ec_cursor.specs.States.{seen}
 use Rattle.ec_cdeclare.proofs.declarators.Declarators.more_initializers.Given as goal
 
 abbrev pub invariant-loop-turn : goal.invariant-loop-turn

@@ -3,9 +3,9 @@ use Rattle.std.proofs.lemmas.Grind.{common_steps}
 use Rattle.ec_language.specs.Syntax.{limits}
 use Rattle.ec_grammar.specs.ReadDeclarations.{nested}
 use Rattle.ec_grammar.specs.ReadStatements.{block_items, block_items_from, nested_statements}
-use Rattle.ec_cdeclare.specs.States.{seen}
+use Rattle.ec_cursor.specs.States.{seen}
 use Rattle.ec_csyntax.specs.Views.{each_stmt}
-use Rattle.ec_cdeclare.proofs.Turns.{one_more, no_more}
+use Rattle.ec_cursor.proofs.Turns.{one_more, no_more}
 use Rattle.ec_csyntax.proofs.statements.Statements.block_items.Goals as goal
 
 pub loop-turn-init : goal.loop-turn-init

@@ -2,7 +2,7 @@ use Rattle.std.proofs.Common.{◌≡◌, ◌-◌}
 use Rattle.ec_language.specs.Syntax.{limits}
 use Rattle.ec_grammar.specs.ReadDeclarations.{nested}
 use Rattle.ec_grammar.specs.ReadStatements.{block_items, block_items_from, nested_statements}
-use Rattle.ec_cdeclare.specs.States.{seen}
+use Rattle.ec_cursor.specs.States.{seen}
 use Rattle.ec_csyntax.specs.Views.{each_stmt}
 use Rattle.ec_csyntax.proofs.statements.Statements.block_items.Given as goal
 

@@ -1,6 +1,6 @@
 use Rattle.std.proofs.Common.{◌≡◌, ◌++◌, drop, map}
 use Rattle.ec_ctypes.specs.views.Tokens.{token_view}
-use Rattle.ec_host_defs.specs.Examples.{statement_places}
+use Rattle.ec_host_defs.specs.Statements.{statement_places}
 use Rattle.ec_front.proofs.source.statements.statement_places.Given as goal
 
 abbrev pub invariant-loop-token : goal.invariant-loop-token

@@ -2,7 +2,7 @@ use Rattle.std.proofs.Common.{map, subst}
 use Rattle.ec_ctypes.specs.views.Embedded.{emb_view}
 use Rattle.ec_ctypes.specs.views.Tokens.{tokens_view}
 use Rattle.ec_ctypes.specs.views.Units.{unit_view}
-use Rattle.ec_host_defs.specs.Examples.{statement_places}
+use Rattle.ec_host_defs.specs.Statements.{statement_places}
 use Rattle.ec_front.specs.source.Answers.{TellsStatements}
 use Rattle.ec_front.proofs.source_lemmas.Trees.{tree_told, no_tree_told}
 use Rattle.ec_front.proofs.source.tree.tree_of_tokens.Goals as goal

@@ -1,11 +1,33 @@
-use Rattle.std.proofs.Common.{Some}
+use Rattle.std.proofs.Common.{subst, sym, Some}
 use Rattle.ec_code.specs.Views.{function_view}
-use Rattle.ec_meaning_defs.specs.evaluation.Whole.{main_run, without_atoms}
-use Rattle.ec_machine.specs.Goes.{at, world}
-use Rattle.ec_interp.proofs.running_lemmas.Leading.{halts_alone}
+use Rattle.ec_meaning_defs.specs.evaluation.Whole.{main_run}
+use Rattle.ec_machine.specs.Goes.{at, tasks}
+use Rattle.ec_interp.specs.running.LibraryRuns.{HaltsWith}
+use Rattle.ec_interp.specs.running.Runs.{Run}
+use Rattle.ec_interp.proofs.running_lemmas.Leading.{comes_step, halts_on, halts_step, main_begins}
 use Rattle.ec_interp.proofs.running.driving.run_main.Goals as goal
 
-pub returns : goal.returns
-returns g c =
-    halts_alone g.O.Sink.held g.O.Sink.faults g.E.Sink.held g.E.Sink.faults c.args.out.now c.args.err.now c.args.machine.now.turns (λ k s. main_run without_atoms (world c.args.functions.now k) (Some (function_view c.args.main.now)) (at s c.args.machine.now))
-    c.run_main_with.new.out c.run_main_with.new.err c.run_main_with.new.machine c.run_main_with.result c.run_main_with.ensures.halts
+pub returns-in-Ok-clause-halts : goal.returns-in-Ok-clause-halts
+returns-in-Ok-clause-halts g c =
+    let fs = c.args.functions.now in
+    let m = c.args.machine.now in
+    let knowing = g.L.Library.knowing c.args.library.now in
+    let x = g.L.Library.session c.args.library.now in
+    let suits = g.met.L.Library.suits c.args.library.now in
+    let run : Run = λ k s. main_run knowing (tasks knowing fs k) (Some (function_view c.args.main.now)) (at s m) in
+    halts_on g.O.Sink.held g.O.Sink.faults g.E.Sink.held g.E.Sink.faults c.args.out.now c.args.err.now knowing fs m.turns run
+    x x (g.L.Library.session c.run_on.new.library)
+    c.args.out.now c.run_on.new.out c.args.err.now c.run_on.new.err c.enter_main.new.self c.run_on.new.machine c.in-Ok.focus c.run_on.result
+    (comes_step g.O.Sink.held g.O.Sink.faults g.E.Sink.held g.E.Sink.faults c.args.out.now c.args.err.now knowing fs m.turns run x c.enter_main.result c.enter_main.new.self c.in-Ok.focus c.in-Ok.is c.enter_main.ensures.turns (c.enter_main.ensures.stands fs knowing suits.fits))
+    c.run_on.ensures.halts
+
+pub returns-in-Err-clause-halts : goal.returns-in-Err-clause-halts
+returns-in-Err-clause-halts g c =
+    let fs = c.args.functions.now in
+    let m = c.args.machine.now in
+    let knowing = g.L.Library.knowing c.args.library.now in
+    let x = g.L.Library.session c.args.library.now in
+    let suits = g.met.L.Library.suits c.args.library.now in
+    let run : Run = λ k s. main_run knowing (tasks knowing fs k) (Some (function_view c.args.main.now)) (at s m) in
+    subst (λ h. HaltsWith g.O.Sink.held g.O.Sink.faults g.E.Sink.held g.E.Sink.faults m.turns run x x c.args.out.now c.args.out.now c.args.err.now c.args.err.now c.enter_main.new.self h) (sym c.halt_for.ensures)
+    (halts_step g.O.Sink.held g.O.Sink.faults g.E.Sink.held g.E.Sink.faults c.args.out.now c.args.err.now knowing fs m.turns run x c.enter_main.result c.enter_main.new.self c.in-Err.stop c.in-Err.is (main_begins knowing suits.adds fs x x m c.args.main.now) (c.enter_main.ensures.stands fs knowing suits.fits))

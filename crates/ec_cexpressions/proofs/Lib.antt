@@ -1,0 +1,2 @@
+pub mod RankOperators
+pub mod RankSteps

@@ -1,0 +1,13 @@
+use Rattle.std.proofs.Common.{◌≡◌, rules, arith}
+use Rattle.ec_grammar.specs.ReadDeclarations.{nested}
+use Rattle.ec_cursor.proofs.Levels.{for_deeper}
+use Rattle.ec_cparts.proofs.reading.for_head.Goals as goal
+
+pub returns-then-levels-eq0 : goal.returns-then-levels-eq0
+unfolding nested
+returns-then-levels-eq0 c =
+    let none : c.args.levels ≡ 0 = omega arith in
+    rw none (search rules)
+
+pub returns : goal.returns
+returns c = rw (for_deeper c.args.levels (omega arith)) c.for_head.ensures

@@ -1,0 +1,7 @@
+pub mod Counting
+pub mod Keywords
+pub mod Levels
+pub mod ListTurns
+pub mod SeenTokens
+pub mod Sees
+pub mod Turns

@@ -1,0 +1,5 @@
+pub mod Branches
+pub mod Nests
+pub mod Parts
+pub mod Sees
+pub mod States

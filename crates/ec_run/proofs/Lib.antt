@@ -1,6 +1,0 @@
-mod Keeping
-mod Lines
-mod WordLines
-mod Telling
-mod UnmadeCalls
-mod Words
