@@ -1,5 +1,5 @@
 -- What is left of words behind the first one.
-use Rattle.std.proofs.Common.{◌≡◌, ◌∙◌, ℕ, zero, suc, ◌==◌, eqb, Bool, true, false, ◌&&◌, List, [], ◌∷◌, ◌++◌, Option, Some, None, if◌then◌else◌, drop, refl, ap, sym}
+use Rattle.std.proofs.Common.{◌≡◌, ◌∙◌, ℕ, zero, suc, ◌==◌, eqb, Bool, true, false, ◌&&◌, List, [], ◌∷◌, ◌++◌, Option, Some, None, if◌then◌else◌, take, drop, length, ◌<◌, ◌≤◌, ◌-◌, refl, ap, sym, arith}
 use Rattle.std.specs.Prelude.{IsTrue, ◌↔◌, nat_eq, slice_index}
 use Rattle.std.specs.Cmp.Lexicographic.{pointwise}
 use Rattle.std.proofs.lemmas.Bool.{false≢true, eq-eqb, eqb-true}
@@ -55,6 +55,38 @@ first_none text e = sym (ap first (no_word text e))
 
 pub others_none : (text : List ℕ) → behind_gap Free text ≡ [] → [] ≡ others (words_of text)
 others_none text e = sym (ap others (no_word text e))
+
+-- a text of no byte
+pub nothing : (text : List ℕ) → length text < 1 → text ≡ []
+nothing [] h = refl
+nothing (b ∷ more) h = absurd (omega (arith, h))
+
+take_all : (n : ℕ) (text : List ℕ) → length text ≤ n → take n text ≡ text
+take_all zero [] h = refl
+take_all zero (b ∷ more) h = absurd (omega (arith, h))
+take_all (suc n) [] h = refl
+take_all (suc n) (b ∷ more) h = ap (λ l. b ∷ l) (take_all n more (omega (arith, h)))
+
+dropped_length : (k : ℕ) (text : List ℕ) → length (drop k text) ≤ length text - k
+dropped_length zero text = omega arith
+dropped_length (suc k) [] = omega arith
+dropped_length (suc k) (b ∷ more) = omega (arith, dropped_length k more)
+
+-- behind the first byte
+abbrev pub tail_of : List ℕ → List ℕ
+tail_of text = take (length text - 1) (drop 1 text)
+
+begins : (text : List ℕ) → 1 ≤ length text → text ≡ slice_index text 0 ∷ tail_of text
+begins [] h = absurd (omega (arith, h))
+begins (b ∷ more) h = ap (λ l. b ∷ l) (sym (take_all (length (b ∷ more) - 1) more (omega arith)))
+
+-- the words behind the first one, where it begins this text
+pub words_left : (text there : List ℕ) (k : ℕ) → there ≡ behind_gap Free text → 1 ≤ length there → k ≡ passed (slice_index there 0) (tail_of there)
+    → words_of (take (length (tail_of there) - k) (drop k (tail_of there))) ≡ others (words_of text)
+words_left text there k e h is =
+    ap words_of (take_all (length (tail_of there) - k) (drop k (tail_of there)) (dropped_length k (tail_of there)))
+    ∙ ap (λ n. words_of (drop n (tail_of there))) is
+    ∙ others_some text (slice_index there 0) (tail_of there) (sym e ∙ begins there h)
 
 -- ---- texts that are the same
 

@@ -136,12 +136,16 @@ rolled_back words =
     if takes (codes "TO") words then option_map rollback_to (point_at (others words))
     else option_map rollback (chain_at words)
 
+-- the rest of a START
+abbrev pub started : List Word → Option Control
+started words = if takes (codes "TRANSACTION") words then begun (others words) else None
+
 -- what the words ask for, if they are one of the forms
 abbrev pub control_of : List Word → Option Control
 control_of words =
     if takes (codes "BEGIN") words then begun (behind_work (others words))
     else (if takes (codes "START") words
-    then (if takes (codes "TRANSACTION") (others words) then begun (others (others words)) else None)
+    then started (others words)
     else (if takes (codes "COMMIT") words || takes (codes "END") words
     then option_map commit (chain_at (behind_work (others words)))
     else (if takes (codes "ABORT") words

@@ -1,6 +1,6 @@
 //! Transaction control in the words of PostgreSQL: which text asks for it, exactly by `specs/Control.antt`.
 ghost use Rattle.std.specs.Prelude.{◌≡◌, codes, true, false, Some, None, option_map};
-ghost use Rattle.ec_sqlitelink.specs.Control.{is_end, behind_work, mode_begun, isolation_begun, then_due, step, may_end, are_modes, begun, begin, commit, rollback, rollback_to, chain_word, chain_choice, chain_at, name_of, name_at, point_at, rolled_back, control_in};
+ghost use Rattle.ec_sqlitelink.specs.Control.{is_end, behind_work, mode_begun, isolation_begun, then_due, step, may_end, are_modes, begun, begin, commit, rollback, rollback_to, chain_word, chain_choice, chain_at, name_of, name_at, point_at, rolled_back, started, control_in};
 ghost use Rattle.ec_sqlitelink.specs.Control as spec;
 ghost use Rattle.ec_sqlitelink.specs.declared.control.Due.TheVariants.{ModeOrEnd};
 ghost use Rattle.ec_sqlitelink.specs.Reading.{word_of, left, control_of};
@@ -240,6 +240,18 @@ fn point_at(words: Words<'_>) -> Option<&[u8]>
     name_at(words)
 }
 
+// The rest of a START.
+fn started<'a>(words: Words<'_>) -> Option<Control<'a>>
+    ensures { option_map control_of result ≡ started (left words.entry) }
+{
+    let mut behind = words;
+    if behind.take(b"TRANSACTION") {
+        begun(behind)
+    } else {
+        None
+    }
+}
+
 // The rest of a COMMIT.
 fn committed<'a>(words: Words<'_>) -> Option<Control<'a>>
     ensures { option_map control_of result ≡ option_map commit (chain_at (left words.entry)) }
@@ -303,11 +315,7 @@ pub fn read_control(text: &[u8]) -> Option<Control<'_>>
     if words.take(b"BEGIN") {
         begun(behind_work(words))
     } else if words.take(b"START") {
-        if words.take(b"TRANSACTION") {
-            begun(words)
-        } else {
-            None
-        }
+        started(words)
     } else if words.take(b"COMMIT") || words.take(b"END") {
         committed(behind_work(words))
     } else if words.take(b"ABORT") {
