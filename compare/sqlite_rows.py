@@ -2,8 +2,10 @@
 """Compares the rows `sqlite` of crates/ec_base_rows with what SQLite itself answers, by Python's module sqlite3.
 
 Where the library refuses a statement its state is compared and not its message. A prepared statement that is executed is
-compared by its text. Rows about cursors, files and places that are no file are answered by the link and not by SQLite:
-they are passed over. It prints the rows that differ, and ends with 1 where one does.
+compared by its text. Transaction control is written as SQLite has it, by PostgreSQL's rules; compare/run_controls asks
+PostgreSQL itself. Rows about cursors, files and places that are no file are answered by the link and not by SQLite: they
+are passed over, and so are statements that the crate refuses for a mismatch of types, where SQLite converts a value. It
+prints the rows that differ, and ends with 1 where one does.
 """
 import re
 import sqlite3
@@ -15,6 +17,18 @@ LINK_ONLY = re.compile(r"(?i)^(prepare|deallocate|connect|close)\b|^text (declar
 SKIPPED = re.compile(r"('[^']*'|\"[^\"]*\"|/\*.*?\*/|--[^\n]*)|\$(\d)")
 FIRST_WORD = re.compile(r"(?is)(\s|/\*.*?\*/|--[^\n]*\n?)*(\w*)")
 COUNTED = ("INSERT", "UPDATE", "DELETE", "REPLACE")
+GAPS = re.compile(r"(\s|/\*.*?\*/|--[^\n]*|;\s*$)+")
+WORK, CHAIN = r"( (?:WORK|TRANSACTION))?", r"( AND(?: NO)? CHAIN)?"
+MODE = (r"(?:ISOLATION LEVEL (?:SERIALIZABLE|REPEATABLE READ|READ COMMITTED|READ UNCOMMITTED)|READ (?:ONLY|WRITE)"
+        r"|(?:NOT )?DEFERRABLE)")
+MODES = rf"( {MODE}(?: ?,? {MODE})*)?"
+NAME = r' ("[^"]*"|[A-Z_][A-Z_0-9]*)'
+# The forms of transaction control, each with what is said to SQLite. What is said of a savepoint needs a transaction.
+CONTROLS = [(re.compile(form + "$", re.I), said) for form, said in (
+    ("BEGIN" + WORK + MODES, "BEGIN"), ("START TRANSACTION" + MODES, "BEGIN"),
+    ("(?:COMMIT|END)" + WORK + CHAIN, "COMMIT"), ("(?:ROLLBACK|ABORT)" + WORK + CHAIN, "ROLLBACK"),
+    ("SAVEPOINT" + NAME, "SAVEPOINT {}"), ("ROLLBACK" + WORK + " TO(?: SAVEPOINT)?" + NAME, "ROLLBACK TO {}"),
+    ("RELEASE(?: SAVEPOINT)?" + NAME, "RELEASE {}"))]
 
 
 def new_connection():
@@ -41,6 +55,21 @@ def state(connection):
     return "A" if connection.in_transaction else "I"
 
 
+def controls(connection, text):
+    """What is said to SQLite for transaction control, or none where the text asks for something else."""
+    words = GAPS.sub(" ", text).strip()
+    for form, said in CONTROLS:
+        found = form.match(words)
+        if found and connection.in_transaction == (said != "BEGIN"):
+            is_chained = (found.groups()[-1] or "").upper() == " AND CHAIN"
+            return [said.format(found.groups()[-1])] + ["BEGIN"] * is_chained
+        if found and "{" not in said and (found.groups()[-1] or "").upper() != " AND CHAIN":
+            return []
+        if found:
+            return ["not in a transaction"]
+    return None
+
+
 def printed_rows(connection, names, rows):
     columns = "".join(f" {name}:{code([row[at] for row in rows])}" for at, name in enumerate(names))
     lines = "".join("\n |" + "".join(f" {field(value)} |" for value in row) for row in rows)
@@ -50,6 +79,11 @@ def printed_rows(connection, names, rows):
 def answer(connection, text, params):
     """What SQLite answers, as the rows have it. Of a refusal that is its state, without a message."""
     try:
+        said = controls(connection, text)
+        if said is not None and not params:
+            for statement in said:
+                connection.execute(statement)
+            return f" done {state(connection)}"
         cursor = connection.execute(with_marks(text), params)
         rows = cursor.fetchall()
     except sqlite3.IntegrityError as error:
@@ -126,7 +160,7 @@ class Compared:
         name, _, rest = line.partition(" ")
         if rest == "= memory":
             self.links[name] = new_connection()
-        elif name != "m" or LINK_ONLY.match(rest) or self.is_unknown(rest):
+        elif name != "m" or LINK_ONLY.match(rest) or self.is_unknown(rest) or got.endswith(" datatype mismatch"):
             self.pass_over(name, rest, got)
         else:
             self.compare(line, name, rest, got)

@@ -2,6 +2,7 @@
 #![tactic(auto)]
 
 mod bound;
+mod control;
 mod cursor;
 mod database;
 mod marks;

@@ -35,6 +35,10 @@ pub enum Refusal {
     NoCursor,
     /// No prepared statement has that name.
     NotPrepared,
+    /// A savepoint or a chain outside of a transaction.
+    NoTransaction,
+    /// Transaction control has parameters.
+    Parameters,
 }
 
 impl Refusal {
@@ -48,6 +52,14 @@ impl Refusal {
             ) => REPEATED_KEY,
             _ => REFUSED,
         }
+    }
+
+    /// Whether a value has a type that SQLite would convert, and the crate doesn't.
+    pub fn is_mismatch(&self) -> bool {
+        matches!(
+            self,
+            Refusal::Sqlite(Error::SqliteFailure(ErrorCode::TypeMismatch))
+        )
     }
 
     /// The message that is told.
@@ -69,6 +81,8 @@ impl fmt::Display for Refusal {
             Refusal::CursorExists => "the cursor exists already",
             Refusal::NoCursor => "no such cursor",
             Refusal::NotPrepared => "no such prepared statement",
+            Refusal::NoTransaction => "it can only be used in a transaction",
+            Refusal::Parameters => "transaction control takes no parameters",
         })
     }
 }

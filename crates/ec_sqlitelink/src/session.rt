@@ -1,13 +1,14 @@
 //! A session with a database: what it has prepared, its cursors, and the answers to requests.
 
-use crate::bound::bound;
+use crate::bound::{bound, bound_whole, has_whole};
+use crate::control::Control;
 use crate::cursor::Cursor;
 use crate::database::{Database, Outcome};
 use crate::marks::with_marks;
 use crate::refusal::{Refusal, Stop};
 use crate::sheet::Sheet;
 use crate::statement::{Amount, Statement, read_statement};
-use ec_base::Bytes;
+use ec_base::{Bytes, OutOfMemory};
 use ec_link::{Request, Table, Tx};
 use std::alloc::Global;
 
@@ -152,11 +153,72 @@ impl Session {
             Statement::Fetch { name, amount } => self.fetch(name, amount),
             Statement::Close { name } => self.forget(name),
             Statement::LeftOut => Err(Stop::Refused(Refusal::LeftOut)),
+            Statement::Control(_) if !params.is_empty() => {
+                Err(Stop::Refused(Refusal::Parameters))
+            }
+            Statement::Control(control) => self.control(database, control),
             Statement::Plain { is_counted } => self.run_plain(database, text, is_counted, params),
         }
     }
 
-    // Runs a statement of SQLite. Cursors end with their transaction.
+    // Does what is asked of transactions, as PostgreSQL does: where one is open none begins, and where none is open none
+    // ends, which is no error; a chain and savepoints need one.
+    fn control(&mut self, database: &mut Database, control: Control<'_>) -> Result<Answer, Stop> {
+        match (control, database.is_idle()) {
+            (Control::Begin, true) => self.step(database, b"BEGIN")?,
+            (Control::Commit { chain }, false) => self.end(database, b"COMMIT", chain)?,
+            (Control::Rollback { chain }, false) => self.end(database, b"ROLLBACK", chain)?,
+            (Control::Savepoint(name), false) => self.point(database, b"SAVEPOINT ", name)?,
+            (Control::RollbackTo(name), false) => self.point(database, b"ROLLBACK TO ", name)?,
+            (Control::Release(name), false) => self.point(database, b"RELEASE ", name)?,
+            (
+                Control::Begin
+                | Control::Commit { chain: false }
+                | Control::Rollback { chain: false },
+                _,
+            ) => {}
+            _ => return Err(Stop::Refused(Refusal::NoTransaction)),
+        }
+        Ok(Answer::Done(None))
+    }
+
+    // Ends the transaction, and begins the next one where they are chained.
+    fn end(&mut self, database: &mut Database, text: &[u8], chain: bool) -> Result<(), Stop> {
+        self.step(database, text)?;
+        if chain {
+            self.step(database, b"BEGIN")?;
+        }
+        Ok(())
+    }
+
+    // Runs a statement on the savepoint with that name.
+    fn point(&mut self, database: &mut Database, text: &[u8], name: &[u8]) -> Result<(), Stop> {
+        let text = with_name(self.alloc, text, name)?;
+        self.step(database, text.as_slice())
+    }
+
+    // Runs a statement of SQLite that shows nothing.
+    fn step(&mut self, database: &mut Database, text: &[u8]) -> Result<(), Stop> {
+        let _ = self.outcome(database, text, &[])?;
+        Ok(())
+    }
+
+    // What a statement of SQLite comes to. Cursors end with their transaction.
+    fn outcome(
+        &mut self,
+        database: &mut Database,
+        text: &[u8],
+        params: &[Option<Bytes>],
+    ) -> Result<Outcome, Stop> {
+        let was_idle = database.is_idle();
+        let outcome = run_twice(self.alloc, database, as_text(text)?, params);
+        if !was_idle && database.is_idle() {
+            self.end_cursors();
+        }
+        outcome
+    }
+
+    // Runs a statement of SQLite.
     fn run_plain(
         &mut self,
         database: &mut Database,
@@ -164,13 +226,7 @@ impl Session {
         is_counted: bool,
         params: &[Option<Bytes>],
     ) -> Result<Answer, Stop> {
-        let was_idle = database.is_idle();
-        let params = bound(self.alloc, params)?;
-        let outcome = database.run(self.alloc, as_text(text)?, params.as_slice());
-        if !was_idle && database.is_idle() {
-            self.end_cursors();
-        }
-        match outcome? {
+        match self.outcome(database, text, params)? {
             Outcome::Shown(sheet) => Ok(Answer::Rows(sheet.into_table()?)),
             Outcome::Changed(count) if is_counted => Ok(Answer::Done(Some(count as u64))),
             Outcome::Changed(_) => Ok(Answer::Done(None)),
@@ -216,12 +272,10 @@ impl Session {
         query: &[u8],
         params: &[Option<Bytes>],
     ) -> Result<Sheet, Stop> {
-        let text = as_text(query)?;
-        if database.columns(text)? == 0 {
+        if database.columns(as_text(query)?)? == 0 {
             return Err(Stop::Refused(Refusal::NoQuery));
         }
-        let params = bound(self.alloc, params)?;
-        match database.run(self.alloc, text, params.as_slice())? {
+        match self.outcome(database, query, params)? {
             Outcome::Shown(sheet) => Ok(sheet),
             Outcome::Changed(_) => Err(Stop::Refused(Refusal::NoQuery)),
         }
@@ -281,6 +335,33 @@ impl Session {
         }
         Ok(Answer::Done(None))
     }
+}
+
+// Runs a statement, with its parameters as texts. Where it is refused for a mismatch of types, which leaves the database as
+// it was, it is run once more, with those that are whole numbers as numbers.
+fn run_twice(
+    alloc: Global,
+    database: &mut Database,
+    text: &str,
+    params: &[Option<Bytes>],
+) -> Result<Outcome, Stop> {
+    let texts = bound(alloc, params)?;
+    match database.run(alloc, text, texts.as_slice()) {
+        Err(Stop::Refused(refusal)) if refusal.is_mismatch() && has_whole(params) => {
+            let numbers = bound_whole(alloc, params)?;
+            database.run(alloc, text, numbers.as_slice())
+        }
+        outcome => outcome,
+    }
+}
+
+// A statement on a name, which is written in quotes, since any word may be one.
+fn with_name(alloc: Global, text: &[u8], name: &[u8]) -> Result<Bytes, OutOfMemory> {
+    let mut written = Bytes::from_slice(alloc, text)?;
+    written.push(b'"')?;
+    written.extend_from_slice(name)?;
+    written.push(b'"')?;
+    Ok(written)
 }
 
 // The text as SQLite takes it.

@@ -1,6 +1,7 @@
 //! What a text for the server asks for, as far as the link has to know it.
 
-use crate::words::Words;
+use crate::control::{Control, is_end, read_control};
+use crate::words::{Word, Words};
 
 /// How many rows a FETCH takes.
 #[derive(Clone, Copy, Debug, PartialEq, Eq)]
@@ -29,6 +30,8 @@ pub enum Statement<'a> {
     },
     /// A statement of a cursor in a form that is left out.
     LeftOut,
+    /// Transaction control.
+    Control(Control<'a>),
     /// A statement for SQLite. The rows that it changes are counted or not.
     Plain {
         is_counted: bool,
@@ -47,17 +50,37 @@ pub fn read_statement(text: &[u8]) -> Statement<'_> {
         fetch(words).unwrap_or(Statement::LeftOut)
     } else if words.take(b"CLOSE") {
         close(words).unwrap_or(Statement::LeftOut)
+    } else if let Some(control) = read_control(text) {
+        Statement::Control(control)
     } else {
-        let first = words.next();
         Statement::Plain {
-            is_counted: COUNTED.iter().any(|word| first.eq_ignore_ascii_case(word)),
+            is_counted: is_counted(words.next()),
         }
     }
 }
 
+// Whether a statement tells how many rows it changed, by its first word.
+fn is_counted(first: Option<Word<'_>>) -> bool {
+    let Some(first) = first else {
+        return false;
+    };
+    for word in COUNTED.iter() {
+        if first.is(word) {
+            return true;
+        }
+    }
+    false
+}
+
+// A name, if one is left.
+fn take_name<'a>(words: &mut Words<'a>) -> Option<&'a [u8]> {
+    let name = words.next()?.text();
+    if name.is_empty() { None } else { Some(name) }
+}
+
 // `name [BINARY] [INSENSITIVE | ASENSITIVE] [[NO] SCROLL] CURSOR [{WITH | WITHOUT} HOLD] FOR query`.
 fn declaration(mut words: Words<'_>) -> Option<Statement<'_>> {
-    let name = words.next();
+    let name = take_name(&mut words)?;
     let _ = words.take(b"BINARY");
     let _ = words.take(b"INSENSITIVE") || words.take(b"ASENSITIVE");
     let _ = words.take(b"NO");
@@ -66,7 +89,7 @@ fn declaration(mut words: Words<'_>) -> Option<Statement<'_>> {
     let is_held = words.take(b"WITH");
     let has_hold = is_held || words.take(b"WITHOUT");
     let is_whole = is_cursor && (!has_hold || words.take(b"HOLD")) && words.take(b"FOR");
-    if name.is_empty() || !is_whole {
+    if !is_whole {
         return None;
     }
     Some(Statement::Declare {
@@ -79,19 +102,19 @@ fn declaration(mut words: Words<'_>) -> Option<Statement<'_>> {
 // `[NEXT | ALL | count] [FROM | IN] name`. A word alone is the name.
 fn fetch(mut words: Words<'_>) -> Option<Statement<'_>> {
     let mut names = words;
-    let name = names.next();
-    if names.is_empty() {
+    let name = take_name(&mut names)?;
+    if is_end(names) {
         return fetched(name, Amount::Rows(1), names);
     }
     let amount = read_amount(&mut words)?;
     let _ = words.take(b"FROM") || words.take(b"IN");
-    let name = words.next();
+    let name = take_name(&mut words)?;
     fetched(name, amount, words)
 }
 
 // A FETCH with nothing behind its name.
 fn fetched<'a>(name: &'a [u8], amount: Amount, rest: Words<'a>) -> Option<Statement<'a>> {
-    if name.is_empty() || !rest.is_empty() {
+    if !is_end(rest) {
         return None;
     }
     Some(Statement::Fetch { name, amount })
@@ -103,7 +126,7 @@ fn read_amount(words: &mut Words<'_>) -> Option<Amount> {
         return Some(Amount::All);
     }
     let mut behind = *words;
-    let count = behind.next();
+    let count = behind.next()?.text();
     if !count.first()?.is_ascii_digit() {
         let _ = words.take(b"NEXT");
         return Some(Amount::Rows(1));
@@ -117,8 +140,8 @@ fn read_amount(words: &mut Words<'_>) -> Option<Amount> {
 
 // `name`.
 fn close(mut words: Words<'_>) -> Option<Statement<'_>> {
-    let name = words.next();
-    if name.is_empty() || !words.is_empty() {
+    let name = take_name(&mut words)?;
+    if !is_end(words) {
         return None;
     }
     Some(Statement::Close { name })
