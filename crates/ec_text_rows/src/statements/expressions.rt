@@ -24,7 +24,7 @@ impl Printer {
     }
 
     /// Prints an expression.
-    #[cycle(expressions)]
+    #[cycle(references)]
     pub fn reference(&mut self, expression: &Expr) -> Result<(), OutOfMemory> {
         match expression {
             Expr::Name(name) => self.quoted(name.as_slice()),
@@ -49,14 +49,14 @@ impl Printer {
     }
 
     // Prints the last part of a form.
-    #[cycle(expressions)]
+    #[cycle(references)]
     fn last_reference(&mut self, of: &Expr) -> Result<(), OutOfMemory> {
         self.reference(of)?;
         self.close()
     }
 
     // Prints an operand and a name, the last two parts of a form.
-    #[cycle(expressions)]
+    #[cycle(references)]
     fn with_name(&mut self, of: &Expr, name: &Name) -> Result<(), OutOfMemory> {
         self.reference(of)?;
         self.quoted(name.as_slice())?;
