@@ -121,6 +121,9 @@ limited form text L5 h = (λ e. cc (e), h)
 limited form text L6 h = (λ e. cc (e), h)
 limited form text L7 h = tt
 limited form text L8 h = (λ e. cc (e), h)
+limited form text L9 h = (λ e. cc (e), h)
+limited form text L10 h = (λ e. cc (e), h)
+limited form text L11 h = (λ e. cc (e), h)
 
 pub refuses : (form : Form) (text : List ℕ) (stop : Stop) → TellsRun form text (Err stop) → RefusesText form text (text_refusal stop)
 refuses form text (stops.Refused kind line) h = h
