@@ -5,7 +5,7 @@ ghost use Rattle.std.specs.Prelude.{◌≡◌, ◌==◌, ℕ, ◌+◌, ◌-◌, 
 ghost use Rattle.std.specs.List.{list_all};
 ghost use Rattle.std.specs.Int.{w64, to_le_bytes};
 ghost use Rattle.ec_memory_defs.specs.Cells.{part_of, written};
-ghost use Rattle.ec_bytes.specs.Bits.{low_bits, bits_of, marks_of, mark_of, byte_of, with_bits, all_bits, Inside};
+ghost use Rattle.ec_bytes.specs.Bits.{low_bits, bits_of, marks_of, mark_of, are_set, byte_of, with_word, with_bits, all_bits, Inside};
 
 use crate::parts::{part, put, spread};
 
@@ -23,7 +23,8 @@ fn ones(n: usize) -> u32
 #[inline(always)]
 fn word_at(memory: &[u8], place: usize) -> u32
     requires { place + 1 < length memory.now }
-    ensures word { result ≡ slice_index memory.now (place + 1) * 256 + slice_index memory.now place }
+    ensures word { result
+        ≡ slice_index memory.now (place + 1) * 256 + slice_index memory.now place }
     ensures low { slice_index memory.now place < 256 }
     ensures fits { result < 65536 }
 {
@@ -37,7 +38,7 @@ fn word_at(memory: &[u8], place: usize) -> u32
 fn put_word(memory: &mut [u8], place: usize, word: u32)
     requires room { place + 1 < length memory.old }
     requires fits { word < 65536 }
-    ensures { memory.new ≡ slice_set (slice_set memory.old place (word % 256)) (place + 1) (word / 256) }
+    ensures { memory.new ≡ with_word memory.old place word }
 {
     memory[place] = (word % 256) as u8;
     memory[place + 1] = (word / 256) as u8;
@@ -96,7 +97,8 @@ fn put_bits(memory: &mut [u8], room: usize, at: usize, n: usize, bits: u32)
     requires few { (1 ≤ n) × (n ≤ 8) }
     requires fits { bits < 2 ^ n }
     requires inside { Inside room memory.old at n }
-    ensures marks { marks_of room memory.new ≡ written (marks_of room memory.old) at (low_bits n bits) }
+    ensures marks { marks_of room memory.new
+        ≡ written (marks_of room memory.old) at (low_bits n bits) }
     ensures bytes { take room memory.new ≡ take room memory.old }
     ensures length { length memory.new ≡ length memory.old }
 {
@@ -125,7 +127,7 @@ fn mark_few(memory: &mut [u8], room: usize, at: usize, n: usize, set: bool)
 pub(crate) fn few_set(memory: &[u8], room: usize, at: usize, n: usize) -> bool
     requires few { (1 ≤ n) × (n ≤ 8) }
     requires inside { Inside room memory.now at n }
-    ensures { result ≡ list_all (λ mark. mark == 1) (take n (drop at (marks_of room memory.now))) }
+    ensures { result ≡ are_set room memory.now at n }
 {
     bits_at(memory, room, at, n) == ones(n)
 }
@@ -191,7 +193,7 @@ fn mark_wide(memory: &mut [u8], room: usize, at: usize, n: usize, set: bool)
 fn wide_set(memory: &[u8], room: usize, at: usize, n: usize) -> bool
     requires few { (1 ≤ n) × (n ≤ 56) }
     requires inside { Inside room memory.now at n }
-    ensures { result ≡ list_all (λ mark. mark == 1) (take n (drop at (marks_of room memory.now))) }
+    ensures { result ≡ are_set room memory.now at n }
 {
     let ones = wide_ones(n);
     (wide_at(memory, room + at / 8) >> (at % 8)) & ones == ones
@@ -281,7 +283,7 @@ pub(crate) fn mark(memory: &mut [u8], room: usize, at: usize, n: usize, set: boo
 fn many_set(memory: &[u8], room: usize, at: usize, n: usize) -> bool
     requires many { 8 < n }
     requires inside { Inside room memory.now at n }
-    ensures { result ≡ list_all (λ mark. mark == 1) (take n (drop at (marks_of room memory.now))) }
+    ensures { result ≡ are_set room memory.now at n }
 {
     let mut done = 0;
     while n - done > 56 {
@@ -297,7 +299,7 @@ fn many_set(memory: &[u8], room: usize, at: usize, n: usize) -> bool
 #[inline(always)]
 pub(crate) fn all_set(memory: &[u8], room: usize, at: usize, n: usize) -> bool
     requires { Inside room memory.now at n }
-    ensures { result ≡ list_all (λ mark. mark == 1) (take n (drop at (marks_of room memory.now))) }
+    ensures { result ≡ are_set room memory.now at n }
 {
     if n == 0 {
         true

@@ -16,7 +16,7 @@ const MOST: usize = 1 << 61;
 
 /// Twice the room, if that is enough, or what is needed.
 fn more_room(room: usize, needed: usize) -> Option<usize>
-    ensures { IfSome result (λ more. (room ≤ more) × (needed ≤ more) × (more ≤ 2305843009213693952)) }
+    ensures { IfSome result (λ more. (room ≤ more) × (needed ≤ more) × (more ≤ 2 ^ 61)) }
 {
     if room > MOST || needed > MOST {
         return None;

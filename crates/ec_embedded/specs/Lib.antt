@@ -7,8 +7,8 @@ pub mod Examples
 pub mod Findings
 pub mod Laws
 pub mod LeftOut
+pub mod Parameters
 pub mod References
-pub mod SentText
 pub mod ServerText
 pub mod Statements
 pub mod Terminals

@@ -12,7 +12,7 @@ ghost use Rattle.ec_ctypes.specs.trees.Embedded.{word_arg, host_arg, host_with_i
 ghost use Rattle.ec_ctypes.specs.trees.Exprs.{identifier, integer, character, member, arrow, index, no_exprs, exprs};
 ghost use Rattle.ec_ctypes.specs.trees.Types.{arithmetic};
 ghost use Rattle.ec_embedded.specs.Examples.{answer_to, plain, with_indicator, b, p, gives, at, dead_on, left_out_on};
-ghost use Rattle.ec_embedded.specs.SentText.{sent_text};
+ghost use Rattle.ec_embedded.specs.Parameters.{parameters};
 ghost use Rattle.ec_embedded.specs.Terminals.{step_by, input, reference, suffix};
 
 /// Statements that pass to the server, and transaction control.
@@ -254,12 +254,10 @@ pub fn limit_examples()
     ensures no_suffix { step_by suffix (record { inputs = 0; suffixes = 64 }) ≡ None }
 {}
 
-/// The text that is sent: a host stands for as many parameters as it has leaves.
+/// The parameters that a host of as many leaves stands for.
 #[tactic(none)]
-pub fn sent_examples()
-    ensures one { sent_text (λ h. 1) (b "a=" ∷ p "x" ∷ b "::int" ∷ [])
-        ≡ codes "a=$1::int" }
-    ensures many { sent_text (λ h. 2) (p "x" ∷ b " " ∷ p "y" ∷ [])
-        ≡ codes "$1, $2 $3, $4" }
-    ensures none { sent_text (λ h. 0) (b "a" ∷ p "x" ∷ []) ≡ codes "a" }
+pub fn parameter_examples()
+    ensures none { parameters 1 0 ≡ codes "" }
+    ensures one { parameters 1 1 ≡ codes "$1" }
+    ensures more { parameters 9 3 ≡ codes "$9, $10, $11" }
 {}

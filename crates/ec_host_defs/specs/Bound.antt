@@ -9,7 +9,7 @@ use Rattle.ec_ctypes.specs.trees.Checked.{PlaceData, BoundData, TypedData}
 use Rattle.ec_ctypes.specs.trees.Embedded.{HostData, TextArgData, word_arg, host_arg, host_with_indicator, InputData, host_input, const_input, InsData, listed_ins, area_ins, OutsData, no_outs, listed_outs, area_outs, PartData, bytes_part, host_part, EmbData, connect, set_connection, disconnect, autocommit, trans, server_text, declare_cursor, open_cursor, execute_immediate, prepare, execute, deallocate, allocate_area, free_area, get_count, get_items, set_count, set_items, whenever, include_sqlca}
 use Rattle.ec_language.specs.Letters.{Text}
 use Rattle.ec_language.specs.First.{Violation, first_of, stop_at}
-use Rattle.ec_embedded.specs.SentText.{parameters}
+use Rattle.ec_embedded.specs.Parameters.{parameters}
 use Rattle.ec_host_defs.specs.sections.Declared.{functions_of}
 use Rattle.ec_typing_defs.specs.statement_parts.Cursors.{declare_opened}
 use Rattle.ec_host_defs.specs.Leaves.{Pair, hosted}

@@ -16,7 +16,7 @@ use Rattle.ec_link.specs.declared.reply.Reply.TheVariants.{Broken}
 use Rattle.ec_link.specs.declared.request.Request.{Request}
 use Rattle.ec_link.specs.declared.slot.Slot.{Slot}
 use Rattle.ec_link.specs.declared.slot.Slot.TheVariants.{Free, Ready, Taken}
-use Rattle.ec_link.specs.Calls.{TakesReady, GivesBack, AsksOnce, Asks, Ran}
+use Rattle.ec_link.specs.Calls.{TakesReady, GivesBack, AsksOnce, Asks}
 use Rattle.ec_link.specs.Conn.{slot_of, link_of}
 use Rattle.ec_link.specs.Link.{told_more, talk_after}
 use Rattle.ec_link.specs.Logged.{Talk, IsAsk, is_slot, talk_of, growth_of, last_reply_of, replies_of}
@@ -25,8 +25,8 @@ use Rattle.ec_link.specs.Slot.{state_of, states, link_in, talk_at}
 use Rattle.ec_link.specs.SlotState.{SlotState, Slots, TakenAt, free, ready, taken}
 use Rattle.ec_link.specs.Told.{told_at, KeepsTalks, SparesDropped}
 use Rattle.ec_link.proofs.Places.{slice_get-last, slice_get-slice_set, slice_get-slice_set_other}
-use Rattle.ec_link.proofs.Steps.{Slots-asks, SparesDropped-Slots, SparesDropped-append, SparesDropped-slice_set, is_slot-other}
-use Rattle.ec_link.proofs.Talks.{talk_of-append, talk_of-cons, talk_of-none, told_more-nil, told_more-append, KeepsTalks-append, KeepsTalks-told, KeepsTalks-same}
+use Rattle.ec_link.proofs.Steps.{Slots-asks, SparesDropped-slice_set, is_slot-other}
+use Rattle.ec_link.proofs.Talks.{talk_of-append, talk_of-cons, talk_of-none, told_more-nil, told_more-append, KeepsTalks-told, KeepsTalks-same}
 
 -- what a log grew by
 pub growth_of-append : (log growth : List Logged) → growth_of log (log ++ growth) ≡ growth
@@ -186,66 +186,3 @@ module _ {X : Type 0} {F : X → Type 0} where
     SparesDropped-GivesBack old new conn t =
         subst (λ (slots : List SlotState). SparesDropped (states old) slots []) (sym (ap states t.now ∙ states-slice_set old (slot_of conn) (Free t.name (link_of conn))))
         (SparesDropped-slice_set (states old) (slot_of conn) (taken t.name) (free t.name) (slice_get-states old (slot_of conn) (Taken t.name) t.was) (λ name e. cc))
-
-    -- A whole run: the first ready slot is taken, its link is asked any number of times, and is given back.
-    module _ (first second third last : Rack X F) (was now : Conn X F) (growth : List Logged)
-        (takes : TakesReady (slots_of first) (slots_of second) was) (asks : Asks talk faults second was third now growth) (gives : GivesBack (slots_of third) (slots_of last) now) where
-      -- each link that tells its talk at the end told it at the start, and it grew by the exchanges of its slot
-      pub KeepsTalks-run : KeepsTalks (talk_at talk (slots_of first)) (talk_at talk (slots_of last)) growth
-      KeepsTalks-run =
-          let begun = KeepsTalks-append (told_at talk (slots_of first) []) (told_at talk (slots_of second) (was ∷ [])) (told_at talk (slots_of third) (now ∷ [])) [] growth
-          (KeepsTalks-TakesReady (slots_of first) (slots_of second) was takes) (KeepsTalks-Asks second was third now growth [] asks) in
-          subst (λ (log : List Logged). KeepsTalks (talk_at talk (slots_of first)) (talk_at talk (slots_of last)) log) (append-nil growth)
-          (KeepsTalks-append (told_at talk (slots_of first) []) (told_at talk (slots_of third) (now ∷ [])) (told_at talk (slots_of last) []) growth []
-          begun (KeepsTalks-GivesBack (slots_of third) (slots_of last) now gives))
-
-      -- the slots while the connection is open
-      open_slots : List SlotState
-      open_slots = slice_set (states (slots_of first)) (slot_of was) (taken takes.name)
-
-      begun : states (slots_of second) ≡ open_slots
-      unfolding open_slots
-      begun = ap states takes.now ∙ states-slice_set (slots_of first) (slot_of was) (Taken takes.name)
-
-      ended : states (slots_of third) ≡ open_slots
-      ended = ap states asks.slots ∙ begun
-
-      taken_there : slice_get open_slots (slot_of was) ≡ Some (taken takes.name)
-      unfolding open_slots
-      taken_there = slice_get-slice_set (states (slots_of first)) (slot_of was) (ready takes.name) (taken takes.name) (slice_get-states (slots_of first) (slot_of was) (Ready takes.name (link_of was)) takes.was)
-
-      same_name : gives.name ≡ takes.name
-      same_name =
-          let there : slice_get open_slots (slot_of was) ≡ Some (taken gives.name) = ap (λ slots. slice_get slots (slot_of was)) (sym ended) ∙ subst (λ (n : ℕ). slice_get (states (slots_of third)) n ≡ Some (taken gives.name)) asks.slot (slice_get-states (slots_of third) (slot_of now) (Taken gives.name) gives.was) in
-          let here = taken_there in
-          cc
-
-      -- the first ready slot is taken while the log grows, and free at the end
-      pub Ran-run : Ran (slots_of first) growth (slots_of last)
-      unfolding open_slots
-      Ran-run = record {
-        slot = slot_of was;
-        name = takes.name;
-        first = takes.first;
-        ended = open_slots;
-        exchanged = Slots-asks open_slots (slot_of was) growth (takes.name, taken_there) asks.asked;
-        still_taken = taken_there;
-        freed = ap states gives.now ∙ states-slice_set (slots_of third) (slot_of now) (Free gives.name (link_of now))
-            ∙ ap (λ slots. slice_set slots (slot_of now) (free gives.name)) ended
-            ∙ ap (λ i. slice_set open_slots i (free gives.name)) asks.slot
-            ∙ ap (λ name. slice_set open_slots (slot_of was) (free name)) same_name;
-        others = λ i other.
-            ap (λ (slots : List (Slot X F)). slice_get slots i) gives.now
-            ∙ slice_get-slice_set_other (slots_of third) (slot_of now) i (Free gives.name (link_of now)) (λ same. other (same ∙ asks.slot))
-            ∙ ap (λ (slots : List (Slot X F)). slice_get slots i) (asks.slots ∙ takes.now)
-            ∙ slice_get-slice_set_other (slots_of first) (slot_of was) i (Taken takes.name) other;
-      }
-
-      -- no dropped slot gets an exchange
-      pub SparesDropped-run : SparesDropped (states (slots_of first)) (states (slots_of last)) growth
-      SparesDropped-run =
-          let taken_then : TakenAt (states (slots_of second)) (slot_of was) = (takes.name, ap (λ (slots : List SlotState). slice_get slots (slot_of was)) begun ∙ taken_there) in
-          let over = SparesDropped-Slots (states (slots_of second)) growth (states (slots_of third)) (Slots-Asks second was third now growth taken_then asks) in
-          let first_part = SparesDropped-append (states (slots_of first)) (states (slots_of second)) (states (slots_of third)) [] growth (SparesDropped-TakesReady (slots_of first) (slots_of second) was takes) over in
-          subst (λ (log : List Logged). SparesDropped (states (slots_of first)) (states (slots_of last)) log) (append-nil growth)
-          (SparesDropped-append (states (slots_of first)) (states (slots_of third)) (states (slots_of last)) growth [] first_part (SparesDropped-GivesBack (slots_of third) (slots_of last) now gives))

@@ -17,7 +17,7 @@ use Rattle.ec_link.specs.Link.{told_more, talk_after}
 use Rattle.ec_link.specs.Logged.{Talk, IsAsk, target_of, talk_of, replies_of}
 use Rattle.ec_link.specs.Rack.{slots_of, log_of}
 use Rattle.ec_link.specs.Slot.{states, link_at, talk_at}
-use Rattle.ec_link.specs.SlotState.{SlotState, Slots, free_slot, ready_slot, free, taken}
+use Rattle.ec_link.specs.SlotState.{free_slot, ready_slot}
 
 module _ {X : Type 0} {F : X → Type 0} where
   -- the first ready slot becomes taken, and its link is that of the connection
@@ -129,16 +129,3 @@ module _ {X : Type 0} {F : X → Type 0} where
       pub answered : Answers (slot_of conn) Close reply
           (log_of old) (link_of conn) (log_of new) link
       pub dropped : DropsSlot (slot_of conn) (slots_of old) (slots_of new)
-
--- What a program's run over its first connection does to the slots: the first ready one is taken, the log grows as the
--- slots allow, and at the end the slot, which is still taken, is free again. Every other slot is as it was, with its link.
-pub record Ran {X : Type 0} {F : X → Type 0} (before : List (Slot X F))
-    (growth : List Logged) (after : List (Slot X F)) : Type 0 where
-  pub slot : ℕ
-  pub name : List ℕ
-  pub first : ready_slot (states before) ≡ Some (slot, name)
-  pub ended : List SlotState
-  pub exchanged : Slots (slice_set (states before) slot (taken name)) growth ended
-  pub still_taken : slice_get ended slot ≡ Some (taken name)
-  pub freed : states after ≡ slice_set ended slot (free name)
-  pub others : (i : ℕ) → i ≢ slot → slice_get after i ≡ slice_get before i

@@ -279,6 +279,7 @@ impl<'p> Machine<'p> {
         ensures line { self.new.line ≡ self.old.line }
     {
         let Some(more) = count.checked_add(1) else {
+            // Out of reach, which isn't proved: so many values wait in a list, which has fewer than 2^63.
             return Err(Stop::OutOfMemory);
         };
         match evaluate_argument(&mut self.store, self.scope.objects(), argument).get() {
@@ -312,6 +313,7 @@ impl<'p> Machine<'p> {
             steps.now }
     {
         let Some(more) = count.checked_add(1) else {
+            // Out of reach, which isn't proved: so many values wait in a list, which has fewer than 2^63.
             return Err(Stop::OutOfMemory);
         };
         self.values.push(value)?;

@@ -44,6 +44,7 @@ impl Scope {
         ensures err { OnErr result (self.new ≡ self.old) }
     {
         let Some(count) = self.count.checked_add(1) else {
+            // Out of reach, which isn't proved: the count is at most the length of the list, which is below 2^63.
             return Err(OutOfMemory);
         };
         self.pointers.push(ptr)?;

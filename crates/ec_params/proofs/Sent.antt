@@ -4,7 +4,7 @@ use Rattle.std.proofs.lemmas.List.{append-nil, drop-drop}
 use Rattle.std.specs.Prelude.{codes}
 use Rattle.std.specs.Fmt.{decimal}
 use Rattle.ec_ctypes.specs.trees.Embedded.{HostData, PartData, bytes_part, host_part}
-use Rattle.ec_embedded.specs.SentText.{parameters}
+use Rattle.ec_embedded.specs.Parameters.{parameters}
 use Rattle.ec_language.specs.Letters.{Text, dollar}
 use Rattle.ec_host_defs.specs.Bound.{sent_from, pairs_of}
 use Rattle.ec_host_defs.specs.Faults.{host_count}

@@ -4,7 +4,7 @@ ghost use Rattle.std.specs.Prelude.{◌≡◌, ◌++◌, ◌+◌, ◌∷◌, [],
 ghost use Rattle.std.specs.Fmt.{decimal};
 ghost use Rattle.ec_ctypes.specs.trees.Embedded.{bytes_part, host_part};
 ghost use Rattle.ec_ctypes.specs.views.Embedded.{host_view, part_view};
-ghost use Rattle.ec_embedded.specs.SentText.{parameters};
+ghost use Rattle.ec_embedded.specs.Parameters.{parameters};
 ghost use Rattle.ec_language.specs.Letters.{dollar};
 ghost use Rattle.ec_host_defs.specs.Bound as spec;
 ghost use Rattle.ec_params.specs.Scenes.{program_of, denoted_of};

@@ -7,13 +7,13 @@ use Prim.Native.Nat.{ℕ, zero, suc, ◌+◌, ◌*◌, ◌<◌, ◌≤◌}
 use native.Mathlib.Omega.{arith}
 use native.Mathlib.Nat.{zero-mul, suc-mul}
 use mathlib.Core.List.{List, [], ◌∷◌, ◌++◌, map}
-use lib.ListN.{length, take, drop, set, get_or, replicate, take-append-drop, length-take, length-drop}
-use lib.Seq.{drop-cons, drop-drop, set_split}
+use lib.ListN.{length, take, drop, set, get_or, replicate, take-append-drop, length-take}
+use lib.Seq.{drop-cons, set_split}
 use seplogic.Ra.Ura.{Ura}
 use base.Fraction.{full_share}
 use mir.Syntax.{Ty, ty_array}
 use mir.Val.{Val, vstruct, vcons, vnil, of_list}
-use base.Logic.{SProp, ent, sep, emp, ex, guard, via, snd∗, id⊢, mono_r}
+use base.Logic.{SProp, ent, sep, emp, ex, guard, via, id⊢, mono_r}
 use base.Fml.{Fml, Lft, ftrue, fsep, fat, froom}
 use types.Logic.{Logic, sem}
 use types.SemTy.{cells}

@@ -155,7 +155,8 @@ pub fn length_rule(
     }
 }
 
-/// The value of a constant of 1 or more. No constant expression has one above 2^64.
+/// The value of a constant of 1 or more. That no constant expression has one above 2^64, since each lies in its type,
+/// isn't proved.
 fn positive(constant: Constant) -> Result<Option<u64>, OutOfMemory>
     ensures { IfOk result (λ length. length ≡ rule.positive (constant_view constant)) }
 {

@@ -99,6 +99,7 @@ impl Operand {
                 is_fixed: true,
                 literal: Some(length),
             }),
+            // Out of reach, which isn't proved: a literal has fewer bytes than its source, which has at most 2^24.
             None => Err(OutOfMemory),
         }
     }

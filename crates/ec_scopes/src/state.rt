@@ -104,6 +104,7 @@ impl Checker {
     {
         let number = self.places;
         if number == u64::MAX {
+            // Out of reach, which isn't proved: each place is one of a part of the tree, which has fewer parts.
             return Err(OutOfMemory);
         }
         self.places = number + 1;
@@ -197,6 +198,7 @@ impl Checker {
     {
         let k = self.types.len();
         if k > u32::MAX as usize {
+            // Out of reach, which isn't proved: each declaration takes a token, of which a source has at most 2^22.
             return Err(OutOfMemory);
         }
         Ok(k as u32)

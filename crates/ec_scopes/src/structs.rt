@@ -146,6 +146,7 @@ impl StructTable {
     {
         let k = self.rows.len();
         if k > u32::MAX as usize {
+            // Out of reach, which isn't proved: each struct takes a token, of which a source has at most 2^22.
             return Err(OutOfMemory);
         }
         let row = open_row(self.rows.allocator(), tag, is_begun);
@@ -210,6 +211,7 @@ impl StructTable {
             ≡ measured (shape_by (infos self.old.0 self.old.1) (named_view type_view members))) }
     {
         if !self.is_begun(k) {
+            // Out of reach, which isn't proved: only a struct that was begun here closes, and it closes once.
             return Err(OutOfMemory);
         }
         let measure = self.struct_measure(&members);

@@ -1,7 +1,8 @@
 -- The words of a text for the server.
 --
--- Blanks and comments part words. A name in double quotes is one word, up to the next quote; letters, digits, `_` and bytes
--- of 128 or more that stand beside one another are one; and every other byte is one by itself.
+-- Blanks and comments part words. A name in double quotes is one word, up to the next quote; where none follows, all that
+-- is left is one word, which is no name. Letters, digits, `_` and bytes of 128 or more that stand beside one another are
+-- one; and every other byte is one by itself.
 use Rattle.std.specs.Prelude.{ℕ, zero, suc, ◌+◌, ◌==◌, nat_eq, Bool, true, false, ◌||◌, not, if◌then◌else◌, List, [], ◌∷◌, ◌++◌, length, map, take, Option, Some, None, unwrap_or, position, slice_index}
 use Rattle.std.specs.Char.{is_ascii_whitespace, to_ascii_lowercase}
 use Rattle.std.specs.Cmp.Lexicographic.{pointwise}
@@ -28,18 +29,20 @@ is_comment CommentClosing = true
 abbrev pub is_gap : Place → ℕ → ℕ → Bool
 is_gap place b next = is_comment place || is_comment (behind place b next) || is_ascii_whitespace b
 
--- how many bytes of the text belong to a name that it goes on with, or to a word
-abbrev pub name_length : List ℕ → ℕ
-name_length text = unwrap_or (position (λ b. b == 34) text) (length text)
-
+-- how many bytes of the text belong to a word that it goes on with
 abbrev pub word_length : List ℕ → ℕ
 word_length text = unwrap_or (position (λ b. not (is_word_byte b)) text) (length text)
+
+-- the word that begins with a quote, before `more`, whose first quote stands there
+abbrev pub quoted_at : Option ℕ → List ℕ → Word
+quoted_at None more = plain (34 ∷ more)
+quoted_at (Some n) more = quoted (take n more)
 
 -- the word at the front of a text
 abbrev pub word_at : List ℕ → Word
 word_at [] = plain []
 word_at (b ∷ more) =
-    if b == 34 then quoted (take (name_length more) more)
+    if b == 34 then quoted_at (position (λ b. b == 34) more) more
     else (if is_word_byte b then plain (take (1 + word_length more) (b ∷ more)) else plain (b ∷ []))
 
 -- how many bytes there are up to a quote and with it, by what stands before it

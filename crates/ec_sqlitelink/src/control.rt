@@ -289,7 +289,8 @@ fn rolled_back(words: Words<'_>) -> Option<Control<'_>>
 
 // The rest of a SAVEPOINT.
 fn savepoint(words: Words<'_>) -> Option<Control<'_>>
-    ensures { option_map control_of result ≡ option_map spec.savepoint (name_at (left words.entry)) }
+    ensures { option_map control_of result
+        ≡ option_map spec.savepoint (name_at (left words.entry)) }
 {
     match name_at(words) {
         Some(name) => Some(Control::Savepoint(name)),
@@ -299,7 +300,8 @@ fn savepoint(words: Words<'_>) -> Option<Control<'_>>
 
 // The rest of a RELEASE.
 fn release(words: Words<'_>) -> Option<Control<'_>>
-    ensures { option_map control_of result ≡ option_map spec.release (point_at (left words.entry)) }
+    ensures { option_map control_of result
+        ≡ option_map spec.release (point_at (left words.entry)) }
 {
     match point_at(words) {
         Some(name) => Some(Control::Release(name)),
@@ -336,11 +338,18 @@ pub fn control_examples()
     ensures plain { control_in (codes "BEGIN") ≡ Some begin }
     ensures work { control_in (codes "commit work;") ≡ Some (commit false) }
     ensures chained { control_in (codes "/* c */ END and chain -- on") ≡ Some (commit true) }
-    ensures unchained { control_in (codes "Abort Transaction And No Chain ; ;") ≡ Some (rollback false) }
-    ensures modes { control_in (codes "START TRANSACTION ISOLATION LEVEL REPEATABLE READ, READ ONLY NOT DEFERRABLE") ≡ Some begin }
-    ensures quoted { control_in (codes "SAVEPOINT \"a b\"") ≡ Some (spec.savepoint (codes "a b")) }
-    ensures back { control_in (codes "ROLLBACK WORK TO SAVEPOINT s") ≡ Some (rollback_to (codes "s")) }
-    ensures alone { control_in (codes "ROLLBACK TO savepoint") ≡ Some (rollback_to (codes "savepoint")) }
+    ensures unchained { control_in (codes "Abort Transaction And No Chain ; ;")
+        ≡ Some (rollback false) }
+    ensures modes { control_in (codes
+        "START TRANSACTION ISOLATION LEVEL REPEATABLE READ, READ ONLY NOT DEFERRABLE")
+        ≡ Some begin }
+    ensures quoted { control_in (codes "SAVEPOINT \"a b\"")
+        ≡ Some (spec.savepoint (codes "a b")) }
+    ensures open { control_in (codes "SAVEPOINT \"a b") ≡ None }
+    ensures back { control_in (codes "ROLLBACK WORK TO SAVEPOINT s")
+        ≡ Some (rollback_to (codes "s")) }
+    ensures alone { control_in (codes "ROLLBACK TO savepoint")
+        ≡ Some (rollback_to (codes "savepoint")) }
     ensures released { control_in (codes "RELEASE s_1") ≡ Some (spec.release (codes "s_1")) }
     ensures half { control_in (codes "COMMIT AND") ≡ None }
     ensures comma { control_in (codes "BEGIN READ ONLY,") ≡ None }

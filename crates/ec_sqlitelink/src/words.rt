@@ -1,8 +1,8 @@
 //! The words of a text for the server, one after the other.
-ghost use Rattle.std.specs.Prelude.{◌≡◌, ◌≤◌, ◌==◌, length, not, position, option_map};
+ghost use Rattle.std.specs.Prelude.{◌≡◌, ◌≤◌, ◌==◌, ◌∷◌, length, not, position, option_map};
 ghost use Rattle.ec_sqlitelink.specs.declared.marks.Place.TheVariants.{Free};
 ghost use Rattle.ec_sqlitelink.specs.Marks.{is_word_byte};
-ghost use Rattle.ec_sqlitelink.specs.Words.{is_comment, behind_gap, name_length, word_length, word_at, quote_passed, passed, words_of, is, takes, first, others, behind_word};
+ghost use Rattle.ec_sqlitelink.specs.Words.{is_comment, behind_gap, word_length, quoted_at, word_at, quote_passed, passed, words_of, is, takes, first, others, behind_word};
 ghost use Rattle.ec_sqlitelink.specs.Reading.{word_of, left};
 
 use crate::marks::{Place, behind, byte_at, is_word_byte};
@@ -34,7 +34,7 @@ fn behind_blanks(text: &[u8]) -> &[u8]
 /// A word of a text.
 #[derive(Clone, Copy, Debug)]
 pub enum Word<'a> {
-    /// As it stands.
+    /// As it stands, also where it begins with a quote that isn't closed.
     Plain(&'a [u8]),
     /// A name in quotes, without them.
     Quoted(&'a [u8]),
@@ -74,17 +74,6 @@ fn gap_in(text: &[u8]) -> Option<usize>
     text.iter().position(|byte| !is_word_byte(*byte))
 }
 
-// How many bytes of the text belong to a name that it goes on with.
-fn name_length(text: &[u8]) -> usize
-    ensures counted { result ≡ name_length text.now }
-    ensures within { result ≤ length text.now }
-{
-    match quote_in(text) {
-        Some(at) => at,
-        None => text.len(),
-    }
-}
-
 // How many bytes of the text belong to a word that it goes on with.
 fn word_length(text: &[u8]) -> usize
     ensures counted { result ≡ word_length text.now }
@@ -96,13 +85,24 @@ fn word_length(text: &[u8]) -> usize
     }
 }
 
+// The word at the front of a text that begins with a quote, and goes on with `more`.
+fn quoted_at<'a>(text: &'a [u8], more: &'a [u8]) -> Word<'a>
+    requires { text.now ≡ 34 ∷ more.now }
+    ensures { word_of result ≡ quoted_at (position (λ b. b == 34) more.now) more.now }
+{
+    match quote_in(more) {
+        Some(at) => Word::Quoted(&more[..at]),
+        None => Word::Plain(text),
+    }
+}
+
 // The word at the front of a text.
 fn word_at(text: &[u8]) -> Word<'_>
     ensures { word_of result ≡ word_at text.now }
 {
     match text {
         [] => Word::Plain(text),
-        [b'"', more @ ..] => Word::Quoted(&more[..name_length(more)]),
+        [b'"', more @ ..] => quoted_at(text, more),
         [byte, more @ ..] if is_word_byte(*byte) => Word::Plain(&text[..1 + word_length(more)]),
         [_, ..] => Word::Plain(&text[..1]),
     }

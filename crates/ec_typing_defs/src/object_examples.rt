@@ -64,7 +64,7 @@ pub fn constant_examples()
     ensures global_by_target { with_main "int a; int b = *&a;" ≡ refused F19 1 }
     ensures global_by_array_target { with_main "int a[2]; int *b = *&a;" ≡ refused F19 1 }
     ensures global_by_pointer_target { with_main "int *a; int *b = &*a;" ≡ refused F19 1 }
-    ensures address_of_a_target_of_a_target { with_main "int *a; int *b = &**&a;" ≡ refused F19 1 }
+    ensures address_of_two_targets { with_main "int *a; int *b = &**&a;" ≡ refused F19 1 }
     ensures global_by_name { with_main "int a; int b = a;" ≡ refused F19 1 }
     ensures global_by_call { with_main "int f(void) { return 1; }\nint a = f();" ≡ refused F19 2 }
     ensures global_by_element { with_main "int a[2]; int *b = &a[1];" ≡ refused F19 1 }

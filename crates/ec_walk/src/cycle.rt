@@ -36,6 +36,7 @@ pub(crate) fn expr_within(
         (world_of checker.old)) checker.old result checker.new }
 {
     if levels == 0 {
+        // Out of reach, which isn't proved: LEVELS is more than a tree may nest.
         return Err(OutOfMemory);
     }
     let mut above: List<&Expr> = List::new(checker.alloc());
@@ -80,6 +81,7 @@ fn leaf(checker: &mut Checker, at: Place, e: &Expr, levels: u32) -> Result<Opera
         }
         Expr::CallOther(f, es) => {
             if !is_identifier(f.get()) {
+                // Out of reach, which isn't proved: what isn't called by its name is a fault of the grammar.
                 return Err(OutOfMemory);
             }
             let _os = args(
@@ -103,6 +105,7 @@ fn leaf(checker: &mut Checker, at: Place, e: &Expr, levels: u32) -> Result<Opera
             let ty = declared_type(checker.alloc(), b, *stars, &[])?;
             Ok(size_rule(checker, at, ty))
         }
+        // Out of reach, which isn't proved: the loop has gone down through all of these.
         Expr::Unary(_, _)
         | Expr::Binary(_, _, _)
         | Expr::Bump { .. }
@@ -243,6 +246,7 @@ pub(crate) fn base_within(
         (world_of checker.old)) checker.old result checker.new }
 {
     if levels == 0 {
+        // Out of reach, which isn't proved: LEVELS is more than a tree may nest.
         return Err(OutOfMemory);
     }
     match base {
@@ -474,6 +478,7 @@ fn init_list(
         (inits_view inits.now) (world_of checker.old)) checker.old result checker.new }
 {
     if levels == 0 {
+        // Out of reach, which isn't proved: LEVELS is more than a tree may nest.
         return Err(OutOfMemory);
     }
     for init in inits {

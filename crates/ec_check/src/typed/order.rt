@@ -52,6 +52,7 @@ impl Order {
     {
         let place = self.numbers.len();
         if place >= u32::MAX as usize {
+            // Out of reach, which isn't proved: there are as many as structs, of which a source has fewer than tokens.
             return Err(OutOfMemory);
         }
         self.numbers.push(k)?;
@@ -105,6 +106,7 @@ pub fn order_of(alloc: Global, closed: &[u32], count: usize) -> Result<Order, Ou
     ensures placed { IfOk result (λ order. IsOrder order.numbers order.places) }
 {
     if count > u32::MAX as usize {
+        // Out of reach, which isn't proved: a source has fewer structs than tokens, of which it has at most 2^22.
         return Err(OutOfMemory);
     }
     let mut order = no_numbers(alloc, count)?;

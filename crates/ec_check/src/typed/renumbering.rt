@@ -132,6 +132,7 @@ fn names(alloc: Global, order: &Order, types: &[Ty]) -> Result<List<(u32, Ty)>, 
         ≡ spec.numbered_from 0 order.now.numbers (map ty_view types.now)) }
 {
     if types.len() > u32::MAX as usize {
+        // Out of reach, which isn't proved: a source has fewer declarations than tokens, so at most 2^22.
         return Err(OutOfMemory);
     }
     let mut names = List::with_capacity(alloc, types.len())?;

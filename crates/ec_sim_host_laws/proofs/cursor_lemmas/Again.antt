@@ -17,7 +17,8 @@ use Rattle.ec_resolving_defs.specs.Embedded.{reference_rule, reference_of, refer
 use Rattle.ec_resolving_defs.specs.Expressions.{expr}
 use Rattle.ec_resolving_defs.specs.Operands.{found, no_expression, value_rule, index_rule, member_rule, arrow_rule}
 use Rattle.ec_resolving_defs.specs.Storage.{Storage, reached, chain, pure}
-use Rattle.ec_sim_world_laws.specs.growth.Growth.{Begins, Grows}
+use Rattle.ec_meaning_defs.specs.observed.Run.{IsFront}
+use Rattle.ec_sim_world_laws.specs.growth.Growth.{Grows}
 use Rattle.ec_sim_world_laws.specs.place.References.{IsIndex, IsReference}
 use Rattle.ec_sim_world_laws.specs.place.Structs.{IsListed, EachStructIn, ClosedAreListed}
 use Rattle.ec_sim_world_laws.specs.known.Known.{IsKnown}
@@ -32,7 +33,7 @@ use Rattle.ec_sim_host_laws.proofs.cursor_lemmas.Growing.{info_stays, members_st
 use Rattle.ec_sim_host_laws.proofs.cursor_lemmas.Names.{name_both, name_alone, NamesStay, front_stay, back_stay, names_stay}
 
 module _ (u : UnitData) (before at : Place) (s t : Storage) (w v : World) (known : IsKnown u s w) (known_there : IsKnown u t v) (here : ClosedAreListed w)
-    (there : ClosedAreListed v) (g : Grows w v) (sites : Begins s.sites t.sites) where
+    (there : ClosedAreListed v) (g : Grows w v) (sites : IsFront s.sites t.sites) where
   same : StructsSame w v
   same = record {
     members = struct_stays w v g here there;

@@ -15,7 +15,8 @@ use Rattle.ec_typing_defs.specs.Types.{int_type, is_void}
 use Rattle.ec_typing_defs.specs.Worlds.{Place, EntryData, object, function, World, Out, out, Rule, look_up, note, followed as check_followed, chain as check_chain, pure as check_pure, ask as check_ask}
 use Rattle.ec_resolving_defs.specs.Operands.{Found, found, named_exp, name_rule}
 use Rattle.ec_resolving_defs.specs.Storage.{Storage, Reached, reached, chain, pure, checks, ask, stored, site_exp}
-use Rattle.ec_sim_world_laws.specs.growth.Growth.{Begins, Grows}
+use Rattle.ec_meaning_defs.specs.observed.Run.{IsFront}
+use Rattle.ec_sim_world_laws.specs.growth.Growth.{Grows}
 use Rattle.ec_sim_world_laws.specs.place.References.{IsNoVoid, IsDeclared}
 use Rattle.ec_sim_world_laws.specs.place.Structs.{IsListed, EachStructIn}
 use Rattle.ec_sim_world_laws.proofs.place_lemmas.Lists.{Given, none_not, false_not, some_is, get_front}
@@ -82,7 +83,7 @@ none_checked : (at : Place) (z : World) (x : Text) → with_entry at z x None �
 unfolding check_named
 none_checked at z x = refl
 
-module _ (u : UnitData) (s t : Storage) (w v : World) (known : IsKnown u s w) (known_there : IsKnown u t v) (g : Grows w v) (sites : Begins s.sites t.sites)
+module _ (u : UnitData) (s t : Storage) (w v : World) (known : IsKnown u s w) (known_there : IsKnown u t v) (g : Grows w v) (sites : IsFront s.sites t.sites)
     (before at : Place) where
   -- ---- predefined names
 
@@ -131,13 +132,13 @@ module _ (u : UnitData) (s t : Storage) (w v : World) (known : IsKnown u s w) (k
 
   types_same : (k : ℕ) (a b : Option TyData) → IsDeclared w k a → IsDeclared v k b → a ≡ b
   types_same k a b d e = same_type a b d.no_void e.no_void
-      (some_is (sym ((λ j. slice_get (g.types.is j) k) ∙ get_front w.types g.types.rest k d.in_table) ∙ e.in_table))
+      (some_is (sym ((λ j. slice_get (g.types.same j) k) ∙ get_front w.types g.types.rest k d.in_table) ∙ e.in_table))
 
   site_stays : (k : ℕ) (a : Option TyData) → IsDeclared w k a → slice_get t.sites k ≡ slice_get s.sites k
   site_stays k a d = of_given (as_long w.types s.sites known.sites k d.in_table)
     where
       of_given : Given (slice_get s.sites k) → slice_get t.sites k ≡ slice_get s.sites k
-      of_given x = (λ j. slice_get (sites.is j) k) ∙ get_front s.sites sites.rest k x.is ∙ sym x.is
+      of_given x = (λ j. slice_get (sites.same j) k) ∙ get_front s.sites sites.rest k x.is ∙ sym x.is
 
   -- ---- names
 

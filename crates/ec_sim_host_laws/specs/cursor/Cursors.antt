@@ -9,7 +9,8 @@ use Rattle.ec_typing_defs.specs.Embedded.{denoted_in}
 use Rattle.ec_typing_defs.specs.Worlds.{Place, World}
 use Rattle.ec_resolving_defs.specs.Embedded.{references_rule}
 use Rattle.ec_resolving_defs.specs.Storage.{Storage}
-use Rattle.ec_sim_world_laws.specs.growth.Growth.{Begins, Grows}
+use Rattle.ec_meaning_defs.specs.observed.Run.{IsFront}
+use Rattle.ec_sim_world_laws.specs.growth.Growth.{Grows}
 use Rattle.ec_sim_world_laws.specs.place.Structs.{ClosedAreListed}
 use Rattle.ec_sim_world_laws.specs.known.Known.{IsKnown}
 use Rattle.ec_sim_host_laws.specs.reference.Found.{AreReferences}
@@ -33,7 +34,7 @@ pub record FoundAgain (at before : Place) (s t : Storage) (w v : World) (rs : Re
 abbrev pub ReferencesAreFoundAgain : Type 0
 ReferencesAreFoundAgain = (u : UnitData) (before at : Place) (s t : Storage) (w v : World)
     → IsKnown u s w → IsKnown u t v → ClosedAreListed w → ClosedAreListed v → Grows w v
-    → Begins s.sites t.sites → (rs : References) → AreReferences rs
+    → IsFront s.sites t.sites → (rs : References) → AreReferences rs
     → (checked.references_rule before rs w).found ≡ []
     → denoted_in v (all_names rs) ≡ denoted_in w (all_names rs)
     → are_no_functions (functions_of u) (denoted_in w (all_names rs)) ≡ true

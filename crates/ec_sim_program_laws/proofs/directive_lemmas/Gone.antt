@@ -117,7 +117,7 @@ module _ (g : Whole) (n : ℕ) (e : EmbData) (is : slice_get g.source.embs n ≡
     worlds = alike_still names w v alike;
     storages = same_still (form_of n forms) s t same;
     to_come = to_come_behind h clean known grows;
-    forms_grow = record { rest = form_of n forms ∷ []; is = refl };
+    forms_grow = record { rest = form_of n forms ∷ []; same = refl };
     functions = refl;
     checked_world = sym checked_so;
   }

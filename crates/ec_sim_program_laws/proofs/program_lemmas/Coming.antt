@@ -6,14 +6,15 @@ use Rattle.ec_host_defs.specs.Programs.{Denoted}
 use Rattle.ec_host_defs.specs.sections.Declared.{declared_in_tops}
 use Rattle.ec_typing_defs.specs.Worlds.{World, Rule, ask as check_ask}
 use Rattle.ec_resolving_defs.specs.Storage.{StatementForm, Storage, ask}
-use Rattle.ec_sim_world_laws.specs.growth.Growth.{Begins, Grows}
+use Rattle.ec_meaning_defs.specs.observed.Run.{IsFront}
+use Rattle.ec_sim_world_laws.specs.growth.Growth.{Grows}
 use Rattle.ec_sim_world_laws.proofs.growth_lemmas.Rules.{begins_itself, begins_further, grows_itself, grows_further}
 use Rattle.ec_sim_world_laws.specs.known.Known.{IsKnown, AreFound, Keeps}
 use Rattle.ec_sim_program_laws.specs.program.Copied.{Whole, Ahead, AreToCome, IsAt}
 
 -- ---- what is found
 
-pub found_further : (u : UnitData) (s t : Storage) (w v : World) → Grows w v → Begins s.sites t.sites → (fs : List StatementForm) (rows : List Denoted)
+pub found_further : (u : UnitData) (s t : Storage) (w v : World) → Grows w v → IsFront s.sites t.sites → (fs : List StatementForm) (rows : List Denoted)
     → AreFound u s w fs rows → AreFound u t v fs rows
 found_further u s t w v grows sites [] [] h = tt
 found_further u s t w v grows sites [] (row ∷ rows) h = absurd h
@@ -63,7 +64,7 @@ ask_keeps u f = record {
 -- ---- what is to come
 
 pub come_behind : (g : Whole) (a b : Ahead) (s t : Storage) (w v : World) → AreToCome g a s w → b.numbers ≡ a.numbers → t.statements ≡ s.statements → v.denoted ≡ w.denoted
-    → IsKnown g.source t v → Grows w v → Begins s.sites t.sites → IsAt g.source b.tops v → AreToCome g b t v
+    → IsKnown g.source t v → Grows w v → IsFront s.sites t.sites → IsAt g.source b.tops v → AreToCome g b t v
 come_behind g a b s t w v h numbers statements denoted known grows sites position = record {
   in_order = (λ i. map (λ f. f.number) (statements i) ++ numbers i) ∙ h.in_order;
   denoted = (λ i. length (denoted i)) ∙ h.denoted ∙ (λ i. length (sym statements i));
@@ -95,4 +96,4 @@ come_stored g a s t w h statements sites = come_behind g a a s t w w h refl stat
       outer = h.known.outer;
       sites = (λ i. length (sites i)) ∙ h.known.sites;
     })
-    (grows_itself w) (subst (λ xs. Begins s.sites xs) (sym sites) (begins_itself s.sites)) h.position
+    (grows_itself w) (subst (λ xs. IsFront s.sites xs) (sym sites) (begins_itself s.sites)) h.position

@@ -5,7 +5,8 @@ use Rattle.ec_base.specs.declared.line.Line.{Line}
 use Rattle.ec_typing_defs.specs.Worlds.{Place, World, Rule, chain as check_chain, pure as check_pure, change, place, enter, leave, entered, left}
 use Rattle.ec_resolving_defs.specs.Storage.{Reached, Resolving, chain, pure, checks, stored, arrange, in_block, inside_block, back_in_block}
 use Rattle.ec_resolving_defs.specs.Statements.{scoped}
-use Rattle.ec_sim_world_laws.specs.growth.Growth.{Begins, Grows, GrowsBy}
+use Rattle.ec_meaning_defs.specs.observed.Run.{IsFront}
+use Rattle.ec_sim_world_laws.specs.growth.Growth.{Grows, GrowsBy}
 use Rattle.ec_sim_statement_laws.specs.statement.Copies.{AreFunctionCopies}
 use Rattle.ec_sim_statement_laws.specs.expression.Alike.{FindAlike, IsAlike}
 use Rattle.ec_sim_statement_laws.specs.expression.Known.{entered_alike}
@@ -19,17 +20,17 @@ use Rattle.ec_sim_program_laws.proofs.program_lemmas.Around.{with_places_here, w
 
 -- ---- what grows
 
-pub begins_itself : {A : Type 0} (xs : List A) → Begins xs xs
-begins_itself xs = record { rest = []; is = sym (append-nil xs) }
+pub begins_itself : {A : Type 0} (xs : List A) → IsFront xs xs
+begins_itself xs = record { rest = []; same = sym (append-nil xs) }
 
-pub begins_further : {A : Type 0} (xs ys zs : List A) → Begins xs ys → Begins ys zs → Begins xs zs
+pub begins_further : {A : Type 0} (xs ys zs : List A) → IsFront xs ys → IsFront ys zs → IsFront xs zs
 begins_further xs ys zs p q = record {
   rest = p.rest ++ q.rest;
-  is = q.is ∙ ap (λ front. front ++ q.rest) p.is ∙ append_assoc xs p.rest q.rest;
+  same = q.same ∙ ap (λ front. front ++ q.rest) p.same ∙ append_assoc xs p.rest q.rest;
 }
 
-pub begins_same : {A : Type 0} (xs ys : List A) → ys ≡ xs → Begins xs ys
-begins_same xs ys e = record { rest = []; is = e ∙ sym (append-nil xs) }
+pub begins_same : {A : Type 0} (xs ys : List A) → ys ≡ xs → IsFront xs ys
+begins_same xs ys e = record { rest = []; same = e ∙ sym (append-nil xs) }
 
 pub grows_further : (w x z : World) → Grows w x → Grows x z → Grows w z
 grows_further w x z p q = record {

@@ -8,7 +8,8 @@ use Rattle.ec_host_defs.specs.Programs.{Denoted, names_count}
 use Rattle.ec_typing_defs.specs.statement_parts.References.{References, references}
 use Rattle.ec_typing_defs.specs.Types.{is_void}
 use Rattle.ec_typing_defs.specs.Worlds.{World, Rule, chain, pure, ask, scoped}
-use Rattle.ec_sim_world_laws.specs.growth.Growth.{Grows, Begins}
+use Rattle.ec_meaning_defs.specs.observed.Run.{IsFront}
+use Rattle.ec_sim_world_laws.specs.growth.Growth.{Grows}
 use Rattle.ec_sim_world_laws.proofs.growth_lemmas.Rules as growth
 use Rattle.ec_sim_world_laws.proofs.closing_lemmas.Lists.{get_front}
 use Rattle.ec_sim_world_laws.proofs.known_lemmas.EntriesKept.{HasEntries}
@@ -47,15 +48,15 @@ pub record StillToCome (es : List EmbData) (ns : List ℕ) (w : World) : Type 0 
   pub are : ns ≡ numbers_from (length w.denoted) count
   pub all : length w.denoted + count ≡ length es
 
-typed_grows : (w z : World) → Begins w.types z.types → (d : Option ℕ) → IsTypedAt w d → IsTypedAt z d
+typed_grows : (w z : World) → IsFront w.types z.types → (d : Option ℕ) → IsTypedAt w d → IsTypedAt z d
 typed_grows w z b None h = tt
-typed_grows w z b (Some k) h = record { type = h.type; is = ap (λ ts. slice_get ts k) b.is ∙ get_front w.types b.rest k h.is; no_void = h.no_void }
+typed_grows w z b (Some k) h = record { type = h.type; is = ap (λ ts. slice_get ts k) b.same ∙ get_front w.types b.rest k h.is; no_void = h.no_void }
 
-all_typed_grow : (w z : World) → Begins w.types z.types → (ds : Denoted) → AreTypedAt w ds → AreTypedAt z ds
+all_typed_grow : (w z : World) → IsFront w.types z.types → (ds : Denoted) → AreTypedAt w ds → AreTypedAt z ds
 all_typed_grow w z b [] h = tt
 all_typed_grow w z b (d ∷ ds) h = (typed_grows w z b d h.0, all_typed_grow w z b ds h.1)
 
-pub row_grows : (w z : World) → Begins w.types z.types → (rs : References) (ds : Denoted) → RowIsTyped w rs ds → RowIsTyped z rs ds
+pub row_grows : (w z : World) → IsFront w.types z.types → (rs : References) (ds : Denoted) → RowIsTyped w rs ds → RowIsTyped z rs ds
 row_grows w z b [] ds h = tt
 row_grows w z b (r ∷ rs) ds h = (all_typed_grow w z b (drop 1 (take (names_count r.value) ds)) h.0, row_grows w z b rs (drop (names_count r.value) ds) h.1)
 

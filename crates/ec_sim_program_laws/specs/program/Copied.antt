@@ -4,7 +4,8 @@ use Rattle.ec_ctypes.specs.trees.Units.{TopData, UnitData}
 use Rattle.ec_meaning_defs.specs.resolved.Resolved.{Stm}
 use Rattle.ec_typing_defs.specs.Worlds.{World, Out, Rule}
 use Rattle.ec_resolving_defs.specs.Storage.{LibraryCall, StatementForm, Storage, Reached, Resolving}
-use Rattle.ec_sim_world_laws.specs.growth.Growth.{Begins, Grows}
+use Rattle.ec_meaning_defs.specs.observed.Run.{IsFront}
+use Rattle.ec_sim_world_laws.specs.growth.Growth.{Grows}
 use Rattle.ec_sim_statement_laws.specs.statement.Copies.{AreFunctionCopies}
 use Rattle.ec_sim_statement_laws.specs.expression.Worlds.{AreAlike}
 use Rattle.ec_sim_world_laws.specs.known.Known.{IsKnown, AreFound}
@@ -54,11 +55,11 @@ pub record FindCopies (g : Whole) {A B : Type 0} (IsLike : A → B → Type 0) (
   pub storages : SameStorage r.storage q.storage
   pub to_come : AreToCome g ahead r.storage r.world
   -- statements and calls are only appended
-  pub forms_grow : Begins s.statements r.storage.statements
-  pub calls_grow : Begins t.calls q.storage.calls
-  pub like : Begins r.storage.statements g.forms → Begins q.storage.calls g.calls
+  pub forms_grow : IsFront s.statements r.storage.statements
+  pub calls_grow : IsFront t.calls q.storage.calls
+  pub like : IsFront r.storage.statements g.forms → IsFront q.storage.calls g.calls
       → IsLike r.answer q.answer
-  pub functions : Begins r.storage.statements g.forms → Begins q.storage.calls g.calls
+  pub functions : IsFront r.storage.statements g.forms → IsFront q.storage.calls g.calls
       → AreFunctionCopies g.Stands s.functions t.functions
       → AreFunctionCopies g.Stands r.storage.functions q.storage.functions
   -- the walk finds what the checks find
@@ -79,7 +80,7 @@ pub record FindNothing (g : Whole) (ahead : Ahead) (s t : Storage) (v : World)
   pub worlds : AreAlike r.world v
   pub storages : SameStorage r.storage t
   pub to_come : AreToCome g ahead r.storage r.world
-  pub forms_grow : Begins s.statements r.storage.statements
+  pub forms_grow : IsFront s.statements r.storage.statements
   pub functions : r.storage.functions ≡ s.functions
   pub checked_world : r.world ≡ o.world
 

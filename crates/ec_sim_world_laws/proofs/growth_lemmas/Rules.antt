@@ -8,20 +8,21 @@ use Rattle.ec_base.specs.declared.line.Line.{Line}
 use Rattle.ec_ctypes.specs.trees.Types.{TyData}
 use Rattle.ec_language.specs.Letters.{Text}
 use Rattle.ec_typing_defs.specs.Worlds.{Place, EntryData, StructInfo, ScopeData, World, Rule, chain, pure, ask, change, note, demand, keep_within, instead, place, left_to, enter, leave, scoped, declare, know_better, declare_label, free_name, free_tag, number_as, new_struct}
-use Rattle.ec_sim_world_laws.specs.growth.Growth.{Begins, is_unlisted, Grows}
+use Rattle.ec_meaning_defs.specs.observed.Run.{IsFront}
+use Rattle.ec_sim_world_laws.specs.growth.Growth.{is_unlisted, Grows}
 
 -- ---- lists
 
-pub begins_itself : {A : Type 0} (xs : List A) → Begins xs xs
-begins_itself xs = record { rest = []; is = sym (append-nil xs) }
+pub begins_itself : {A : Type 0} (xs : List A) → IsFront xs xs
+begins_itself xs = record { rest = []; same = sym (append-nil xs) }
 
-pub begins_joined : {A : Type 0} (xs more : List A) → Begins xs (xs ++ more)
-begins_joined xs more = record { rest = more; is = refl }
+pub begins_joined : {A : Type 0} (xs more : List A) → IsFront xs (xs ++ more)
+begins_joined xs more = record { rest = more; same = refl }
 
-pub begins_further : {A : Type 0} (xs ys zs : List A) → Begins xs ys → Begins ys zs → Begins xs zs
+pub begins_further : {A : Type 0} (xs ys zs : List A) → IsFront xs ys → IsFront ys zs → IsFront xs zs
 begins_further xs ys zs p q = record {
   rest = p.rest ++ q.rest;
-  is = q.is ∙ ap (λ front. front ++ q.rest) p.is ∙ append_assoc xs p.rest q.rest;
+  same = q.same ∙ ap (λ front. front ++ q.rest) p.same ∙ append_assoc xs p.rest q.rest;
 }
 
 pub stays_in_front : {A : Type 0} (xs more : List A) (k : ℕ) (x : A) → slice_get xs k ≡ Some x → slice_get (xs ++ more) k ≡ Some x
@@ -228,9 +229,9 @@ IsFree w k = (info : StructInfo) → slice_get w.structs k ≡ Some info → is_
 pub record GrowsBut (k : ℕ) (w z : World) : Type 0 where
   pub written : z.written ≡ w.written
   pub defined : z.defined ≡ w.defined
-  pub types : Begins w.types z.types
-  pub denoted : Begins w.denoted z.denoted
-  pub closed : Begins w.closed z.closed
+  pub types : IsFront w.types z.types
+  pub denoted : IsFront w.denoted z.denoted
+  pub closed : IsFront w.closed z.closed
   pub structs : (j : ℕ) → (slice_get z.structs j ≡ slice_get w.structs j) ⊎ (j ≡ k)
 
 -- that struct is none that stays

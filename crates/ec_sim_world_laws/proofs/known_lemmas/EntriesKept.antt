@@ -52,7 +52,7 @@ object_grown w z g t h = (each_struct_in (IsListed w) (IsListed z) (listed_grows
 
 entry_grows : (u : UnitData) (w z : World) → Grows w z → (e : EntryData) → IsEntry u w e → IsEntry u z e
 entry_grows u w z g (object k global t) h = record {
-  in_table = ap (λ ts. slice_get ts k) g.types.is ∙ stays_in_front w.types g.types.rest k (type_or_void t) h.in_table;
+  in_table = ap (λ ts. slice_get ts k) g.types.same ∙ stays_in_front w.types g.types.rest k (type_or_void t) h.in_table;
   are_listed = each_struct_in (IsListed w) (IsListed z) (listed_grows w z g) t h.are_listed;
   no_void = h.no_void;
 }

@@ -4,7 +4,7 @@ use Rattle.std.specs.Prelude.{length}
 use Rattle.ec_ctypes.specs.trees.Types.{TyData}
 use Rattle.ec_typing_defs.specs.Worlds.{World, Rule, change, number_as}
 use Rattle.ec_resolving_defs.specs.Storage.{Storage, Site, with_site, Resolving, chain, pure, checks, ask, stored, arrange}
-use Rattle.ec_sim_world_laws.specs.growth.Growth.{Begins}
+use Rattle.ec_meaning_defs.specs.observed.Run.{IsFront}
 use Rattle.ec_sim_world_laws.proofs.growth_lemmas.Rules.{begins_itself, begins_joined, begins_further}
 use Rattle.ec_sim_world_laws.proofs.known_lemmas.SitesChecks.{Still}
 
@@ -52,7 +52,7 @@ chosen false h k = k
 
 -- one site more than there are is as many as the declarations and so many more: where this is one, each declaration has its site
 pub record Leads (a b : ℕ) {A : Type 0} (m : Resolving A) : Type 0 where
-  pub begins : (s : Storage) (w : World) → Begins s.sites (m s w).storage.sites
+  pub begins : (s : Storage) (w : World) → IsFront s.sites (m s w).storage.sites
   pub counts : (s : Storage) (w : World) → suc (length s.sites) ≡ a + length w.types
       → suc (length (m s w).storage.sites) ≡ b + length (m s w).world.types
 
@@ -65,7 +65,7 @@ then_leads {m = m} {f = f} h k = record {
 
 pub stands_lead : {a : ℕ} {A : Type 0} {m : Resolving A} → Stands m → Leads a a m
 stands_lead {a = a} h = record {
-  begins = λ s w. subst (λ xs. Begins s.sites xs) (sym (h.sites s w)) (begins_itself s.sites);
+  begins = λ s w. subst (λ xs. IsFront s.sites xs) (sym (h.sites s w)) (begins_itself s.sites);
   counts = λ s w e. ap (λ xs. suc (length xs)) (h.sites s w) ∙ e ∙ sym (ap (λ ts. a + length ts) (h.types s w));
 }
 

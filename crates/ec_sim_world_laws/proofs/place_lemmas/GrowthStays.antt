@@ -16,7 +16,7 @@ module _ (w z : World) (g : Grows w z) where
   }
 
   types_stay : (k : ℕ) (t : TyData) → slice_get w.types k ≡ Some t → slice_get z.types k ≡ Some t
-  types_stay k t e = (λ j. slice_get (g.types.is j) k) ∙ get_front w.types g.types.rest k e
+  types_stay k t e = (λ j. slice_get (g.types.same j) k) ∙ get_front w.types g.types.rest k e
 
   pub grown : ClosedAreListed w → ClosedAreListed z → IsWithin w z
   grown here there = record { types = types_stay; stay = listed_stay; here = here; there = there }

@@ -1,11 +1,7 @@
 -- What is known grows as a program is looked at: nothing of it is lost but the names of scopes that are left.
-use Rattle.std.specs.Prelude.{◌≡◌, ℕ, Bool, true, false, List, ◌++◌, Some, slice_get}
+use Rattle.std.specs.Prelude.{◌≡◌, ℕ, Bool, true, false, List, Some, slice_get}
+use Rattle.ec_meaning_defs.specs.observed.Run.{IsFront}
 use Rattle.ec_typing_defs.specs.Worlds.{MembersData, unlisted, begun, listed, StructInfo, World, Rule}
-
--- the first list begins the second
-pub record Begins {A : Type 0} (front whole : List A) : Type 0 where
-  pub rest : List A
-  pub is : whole ≡ front ++ rest
 
 abbrev pub is_unlisted : MembersData → Bool
 is_unlisted unlisted = true
@@ -21,9 +17,9 @@ StructsStay ss ts = (k : ℕ) (info : StructInfo) → slice_get ss k ≡ Some in
 pub record Grows (w z : World) : Type 0 where
   pub written : z.written ≡ w.written
   pub defined : z.defined ≡ w.defined
-  pub types : Begins w.types z.types
-  pub denoted : Begins w.denoted z.denoted
-  pub closed : Begins w.closed z.closed
+  pub types : IsFront w.types z.types
+  pub denoted : IsFront w.denoted z.denoted
+  pub closed : IsFront w.closed z.closed
   pub structs : StructsStay w.structs z.structs
 
 -- it does so by this rule

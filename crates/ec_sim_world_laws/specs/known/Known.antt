@@ -13,7 +13,8 @@ use Rattle.ec_typing_defs.specs.Tables.{Named, find}
 use Rattle.ec_typing_defs.specs.Worlds.{Place, EntryData, object, function, ScopeData, World}
 use Rattle.ec_resolving_defs.specs.Embedded.{references_rule}
 use Rattle.ec_resolving_defs.specs.Storage.{Storage, StatementForm, Resolving}
-use Rattle.ec_sim_world_laws.specs.growth.Growth.{Begins, Grows}
+use Rattle.ec_meaning_defs.specs.observed.Run.{IsFront}
+use Rattle.ec_sim_world_laws.specs.growth.Growth.{Grows}
 use Rattle.ec_sim_world_laws.specs.closing.Closing.{AreInTheirOrder}
 use Rattle.ec_sim_world_laws.specs.place.References.{IsDeclared}
 
@@ -54,7 +55,7 @@ pub record IsFound (u : UnitData) (s : Storage) (w : World) (f : StatementForm) 
   pub before : World
   pub known : IsKnown u storage before
   pub grows : Grows before w
-  pub sites : Begins storage.sites s.sites
+  pub sites : IsFront storage.sites s.sites
   pub clean : (checked.references_rule at (references emb) before).found ≡ []
   pub are : (references_rule at (references emb) storage before).answer ≡ f.references
   pub denoted : row ≡ denoted_in before (variables_of u.embs f.number emb)
@@ -73,4 +74,4 @@ pub record Keeps (u : UnitData) {A : Type 0} (m : Resolving A) : Type 0 where
   pub known : (s : Storage) (w : World) → IsKnown u s w
       → IsKnown u (m s w).storage (m s w).world
   pub grows : (s : Storage) (w : World) → Grows w (m s w).world
-  pub sites : (s : Storage) (w : World) → Begins s.sites (m s w).storage.sites
+  pub sites : (s : Storage) (w : World) → IsFront s.sites (m s w).storage.sites

@@ -103,6 +103,7 @@ fn literal_length(list: &[Init]) -> Result<u64, OutOfMemory>
     match list {
         [Init::One(Expr::Str(bytes)), ..] => match (bytes.len() as u64).checked_add(1) {
             Some(n) => Ok(n),
+            // Out of reach, which isn't proved: a literal has fewer bytes than its source, which has at most 2^24.
             None => Err(OutOfMemory),
         },
         _ => Ok(0),
@@ -198,6 +199,7 @@ fn literal_array(alloc: Global, of: Ty, bytes: Option<u64>) -> Result<Option<Ty>
         None => Ok(None),
         Some(bytes) => match bytes.checked_add(1) {
             Some(count) => Ok(Some(counted(alloc, of, count)?)),
+            // Out of reach, which isn't proved: a literal has fewer bytes than its source, which has at most 2^24.
             None => Err(OutOfMemory),
         },
     }

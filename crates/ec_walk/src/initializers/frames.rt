@@ -53,6 +53,7 @@ fn any_element(alloc: Global, ty: Ty, begun: u64) -> Result<Option<Taken>, OutOf
         (λ taken. taken_view taken ≡ frame_taken (rule.any_elements (ty_view ty) begun)) }
 {
     if begun == u64::MAX {
+        // Out of reach, which isn't proved: each element takes a token, of which a source has at most 2^22.
         return Err(OutOfMemory);
     }
     let part = copy_ty(alloc, &ty)?;
@@ -70,6 +71,7 @@ fn next_member(
     ensures { IfOk result (λ taken. taken_view taken ≡ frame_taken (shared_members members at)) }
 {
     if at == usize::MAX {
+        // Out of reach, which isn't proved: a struct has fewer members than its source has tokens.
         return Err(OutOfMemory);
     }
     let part = match members.get().value_at(at) {

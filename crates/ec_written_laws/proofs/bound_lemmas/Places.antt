@@ -12,7 +12,7 @@ use Rattle.ec_ctypes.specs.trees.Exprs.{ExprData, string}
 use Rattle.ec_ctypes.specs.trees.Embedded.{HostData, TextArgData, word_arg, host_arg, host_with_indicator, InputData, host_input, const_input, InsData, listed_ins, area_ins, OutsData, no_outs, listed_outs, area_outs, PartData, bytes_part, host_part, ActionData, EmbKindData, connect, set_connection, disconnect, autocommit, trans, server_text, declare_cursor, open_cursor, execute_immediate, prepare, execute, deallocate, allocate_area, free_area, get_count, get_items, set_count, set_items, whenever, include_sqlca, EmbData}
 use Rattle.ec_language.specs.Letters.{Text, each}
 use Rattle.ec_language.proofs.Ends.{both as both_true}
-use Rattle.ec_embedded.specs.SentText.{parameters}
+use Rattle.ec_embedded.specs.Parameters.{parameters}
 use Rattle.ec_host_defs.specs.Bound.{Made, made, then, each_of, cursor_parts, pairs_of, host_places, input_places, part_places, text_expr, text_option_expr, area_place, ins_places, outs_places, get_places, set_places, sent_from, connect_bound, open_bound, kind_bound, statement_bound}
 use Rattle.ec_host_defs.specs.Elements.{is_element, plain_struct}
 use Rattle.ec_host_defs.specs.Faults.{cursor_part, host_count}

@@ -1,7 +1,7 @@
 use Rattle.std.proofs.Common.{◌≡◌, ◌∙◌, ◌++◌, ◌-◌, ◌∷◌, suc, ap, subst, List, ℕ, arith, append_assoc}
 use Rattle.std.specs.Prelude.{OnOk}
 use Rattle.std.specs.Fmt.{decimal}
-use Rattle.ec_embedded.specs.SentText.{parameters}
+use Rattle.ec_embedded.specs.Parameters.{parameters}
 use Rattle.ec_language.specs.Letters.{dollar}
 use Rattle.ec_params.specs.Sending.{more_parameters}
 use Rattle.ec_params.proofs.Sent.{parameters_are}
