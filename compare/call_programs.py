@@ -40,6 +40,8 @@ CONNECTIONS = ['"db"', '"db"', '"one"', '"one"', '"two"', '"x y"', '"o\\156e"', 
 SERVERS = ['"db"', '"db"', '"one"', '"one"', '"two"', '"x y"', '"d\\142"', '"on" "e"', '"no"', '""', "connection"]
 TARGETS = [b"db", b"db", b"db", b"one", b"one", b"one", b"two", b"two", b"x y", b"DEFAULT", b"no", b""]
 SWITCHES = ['"off"', '"off"', '"off"', '"on"', '"o\\156"']
+DESCRIPTORS = ['"d"'] * 9 + ['"e"', '"e"', '"D"', '"\\144"', '""', "connection", "(unsigned char *)connection"]
+INDEXES = ['"1"'] * 9 + ['"2"', '"2"', '"2"', '"3"', '"+1"', '"007"', '"0"', '"-1"', '"1000"', '"1001"', '"x"', '"9223372036854775808"']
 MOST_PRINTED = 48  # cells of a variable
 STATES = ["23505", "21000", "42P01", "XX000", "00000", "02000", "08006", "2350x"]
 LITERALS = ['"12"', '""', '"it\'s"', '"a\\042b"', '"-5"', '"\\377\\001"', '"x" "y"', '"n\\000ul"']
@@ -119,7 +121,9 @@ class Answers(Link):
 
     def table(self, outputs):
         width = len(outputs) + (self.rng.choice([-1, 1, 1, 2]) if self.rng.random() < 0.08 else 0)
-        width = max(width, 0) if outputs else self.rng.choice([0, 1, 2])
+        if not outputs or outputs[0].symbol == "descriptor":
+            width = self.rng.choice([0, 1, 2])
+        width = max(width, 0)
         most = min((m.count for m in outputs), default=2)
         height = self.rng.choice([1] * 4 + [most] * 5 + [max(most - 1, 1)] * 2 + [0, most + 1])
         columns = [(self.rng.choice([b"a", b"b c", b'"q"', b""]), self.rng.choice([4, 25, 1043, 0, 2 ** 31 - 1])) for _ in range(width)]
@@ -161,6 +165,8 @@ class Programs:
         self.name_held = self.pick(["db", "db", "one", "no"])
         # whether connections are opened and closed
         self.is_linked = self.chance(0.5)
+        # whether there are descriptors
+        self.is_described = self.chance(0.4)
         # how often something in a list leads nowhere, or is an odd one
         self.wild = self.pick([0, 0, 0, 0.02, 0.05, 0.12])
         # how often a pointer is what a function gives
@@ -447,6 +453,40 @@ class Programs:
         """A user or a password."""
         return self.pick(["NULL"] * 6 + ['"me"', '"it\'s"', '""', '"a\\000b"', "connection", "room", self.text_pointer()])
 
+    def described(self):
+        """A descriptor as a member of a list."""
+        return f"ECPGt_descriptor, {self.pick(DESCRIPTORS)}, 1L, 1L, 1L, ECPGt_NO_INDICATOR, NULL, 0L, 0L, 0L"
+
+    def number_given(self):
+        """An index or a count."""
+        if self.chance(0.25):
+            return self.member(True, 1)
+        return f"ECPGt_const, {self.pick(INDEXES)}, 0L, 1L, 0L, ECPGt_NO_INDICATOR, NULL, 0L, 0L, 0L"
+
+    def item_set(self):
+        kind = self.pick(["data", "data", "indicator", "type"])
+        if kind == "data":
+            value = self.constant() if self.chance(0.5) else self.member(True, 1)
+        else:
+            value = self.number_given()
+        return f"ECPGd_{kind}, {value}"
+
+    def item_got(self):
+        kind = self.pick(["data", "data", "data", "indicator", "name", "type", "ret_octet"])
+        return f"ECPGd_{kind}, {self.member(False, 1)}"
+
+    def on_descriptors(self):
+        """A call on a descriptor."""
+        front = f"{self.line_told()}, {self.given(self.pick(DESCRIPTORS), 'named') if self.chance(0.1) else self.pick(DESCRIPTORS)}"
+        name = self.pick(["allocate_desc"] * 3 + ["deallocate_desc"] + ["get_desc_header", "set_desc_header"] * 2 + ["get_desc", "set_desc"] * 4)
+        if name.endswith("allocate_desc"):
+            return f"ECPG{name}({front})"
+        if name.endswith("header"):
+            return f"ECPG{name}({front}, {self.number_given() if name[0] == 's' else self.member(False, 1)})"
+        one = self.item_set if name[0] == "s" else self.item_got
+        items = [one() for _ in range(self.pick([0, 1, 1, 1, 2, 2, 3, 5]))]
+        return f"ECPG{name}({', '.join([front, self.number_given(), *items, 'ECPGd_EODT'])})"
+
     def line_told(self):
         return self.number if self.is_lined and self.chance(0.8) else self.pick([1, 7, 42, 1000, 2147483647, "0x1f", 0])
 
@@ -454,6 +494,8 @@ class Programs:
         """The text of a call."""
         if self.is_linked and self.chance(0.3):
             return self.on_connections()
+        if self.is_described and self.chance(0.5):
+            return self.on_descriptors()
         if self.chance(0.15):
             return f"ECPGtrans({self.line_told()}, {self.connection()}, {self.pick(CONTROLS)})"
         if self.chance(0.18):
@@ -463,6 +505,10 @@ class Programs:
         inputs = [self.constant() if self.chance(0.12) else self.member(True, 1) for _ in range(self.pick([0, 0, 0, 1, 1, 2, 3, 6]))]
         most = self.pick([1, 1, 2, 3, 4])
         outputs = [self.member(False, most) for _ in range(self.pick([0, 1, 1, 1, 2, 2, 3, 4, 6]))]
+        if self.is_described and self.chance(0.3):
+            inputs.append(self.described())
+        if self.is_described and self.chance(0.4):
+            outputs = [self.described()]
         parts = [str(self.line_told()), self.connection(), *self.text_sent(), *inputs, "ECPGt_EOIT", *outputs, "ECPGt_EORT"]
         gap = ",\n" if self.chance(0.1) else ", "
         return f"ECPGdo({gap.join(parts)})"
@@ -582,6 +628,10 @@ class Programs:
             self.say(self.on_connections() + ";")
         for _ in range(self.pick([0, 0, 1, 2])):
             self.say(self.preparing() + ";")
+        for name in self.rng.sample(['"d"', '"e"', "connection"], self.pick([1, 1, 2, 3])) * self.is_described:
+            self.say(f"ECPGallocate_desc({self.line_told()}, {name});")
+        for _ in range(self.pick([0, 1, 2, 3]) * self.is_described):
+            self.say(self.on_descriptors() + ";")
         for _ in range(self.rng.randrange(2, 7)):
             self.statement()
         self.say("done: ;")
@@ -720,7 +770,7 @@ def places(rng, there, made):
 
 
 def tampered(rng, text):
-    """Now and then a call that isn't taken, or one that the library doesn't make yet."""
+    """Now and then a call that isn't taken, or one more."""
     calls = [found.start() for found in re.finditer(r"ECPGdo\(", text)]
     if not calls or rng.random() > 0.07:
         return text

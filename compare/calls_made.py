@@ -21,7 +21,8 @@ FINDINGS = {
     -203: ("21000", "too many rows"), -204: ("42804", "not a number of type int"),
     -205: ("42804", "not a number of an unsigned type"), -211: ("42804", "not a bool"),
     -213: ("22002", "null value without indicator"), -220: ("08003", "no such connection"),
-    -230: ("26000", "no such statement"), -401: ("08007", "transaction control refused"), -402: ("08001", "could not connect"),
+    -230: ("26000", "no such statement"), -240: ("33000", "no such descriptor"), -241: ("07009", "descriptor index out of range"),
+    -401: ("08007", "transaction control refused"), -402: ("08001", "could not connect"),
 }
 BROKEN, OUT_OF_PLACE = (-400, b"08006", b"connection broken"), (-400, b"08P01", b"reply out of place")
 SERVER_CODES = {b"23505": -403, b"21000": -404}
@@ -98,6 +99,15 @@ class Member:
                 "indicator": told if self.has_indicator else None}
 
 
+def items(arguments):
+    """Pairs of an item and its member, up to the end."""
+    found = []
+    while arguments[0].word != "ECPGd_EODT":
+        found.append((arguments[0].word[6:], Member(arguments[1:11])))
+        arguments = arguments[11:]
+    return found
+
+
 def members(arguments, end):
     """The members before this symbol, and the arguments behind it."""
     found = []
@@ -142,14 +152,17 @@ def marked(text):
 
 
 class Call:
-    """A call that is made: the text or the name that it sends, and what it is given and gives. ECPGsetcommit has none of
-    these, and a call on connections has texts alone."""
+    """A call: the text or the name that it sends, and what it is given and gives. ECPGsetcommit has none of these, a call on
+    connections has texts alone, and a call on descriptors the name of one. ECPGdo may have those of its last input and of its
+    only output."""
 
     def __init__(self, name, arguments):
         self.name, self.arguments, self.line = name, arguments, arguments[0].constant()
-        self.text, self.own, self.head, self.inputs, self.outputs = None, None, b"", [], []
+        self.text, self.own, self.head, self.inputs, self.outputs, self.source, self.into = None, None, b"", [], [], None, None
         if name in ON_CONNECTIONS:
             self.texts = arguments[1:]
+        elif name in ON_DESCRIPTORS:
+            self.on_descriptor(arguments[1], arguments[2:])
         elif name == "ECPGsetcommit":
             self.is_on, self.connection = arguments[1].literal == b"on", arguments[2]
         elif name == "ECPGtrans":
@@ -168,15 +181,24 @@ class Call:
                 self.text = rest[0]
             self.inputs, rest = members(rest[1:], "ECPGt_EOIT")
             self.outputs, _ = members(rest, "ECPGt_EORT")
+            if self.inputs and self.inputs[-1].symbol == "descriptor":
+                self.source = self.inputs.pop().at
+            if self.outputs and self.outputs[0].symbol == "descriptor":
+                self.into = self.outputs[0].at
+
+    def on_descriptor(self, descriptor, rest):
+        """The name, what is read of the program behind it, and the items, or the host of a count as one."""
+        self.descriptor, self.given, self.items = descriptor, [], []
+        if self.name.endswith("_header"):
+            self.items = [("count", Member(rest))]
+        elif rest:
+            self.given, self.items = [Member(rest[:10])], items(rest[10:])
+        if "set" in self.name:
+            self.given += [member for _, member in self.items]
 
 
 ON_CONNECTIONS = ("ECPGconnect", "ECPGdisconnect", "ECPGsetconn")
-MADE = ("ECPGdo", "ECPGtrans", "ECPGsetcommit", "ECPGprepare", "ECPGdeallocate", *ON_CONNECTIONS)
-
-
-def is_made(name, arguments):
-    """Whether the library makes this call already."""
-    return name in MADE and not any(a.word == "ECPGt_descriptor" for a in arguments)
+ON_DESCRIPTORS = {name for name in library.CALLS if "_desc" in name}
 
 
 def lines_told(text):
@@ -190,10 +212,10 @@ def lines_told(text):
 
 
 class WrittenParser(evaluator.Parser):
-    """Reads written C, and finds the lines of the calls that aren't taken, and of those that aren't made yet."""
+    """Reads written C, and finds the lines of the calls that aren't taken."""
 
     def __init__(self, text):
-        self.not_taken, self.not_made, self.started = [], [], 1
+        self.not_taken, self.started = [], 1
         super().__init__(text)
 
     def leave(self):
@@ -203,8 +225,7 @@ class WrittenParser(evaluator.Parser):
 
     def refusal(self):
         """The line of the first call for which the program is refused."""
-        found = self.not_taken or self.not_made
-        return found[0] if found else None
+        return self.not_taken[0] if self.not_taken else None
 
     def cut(self, text):
         lines = lines_told(text)
@@ -244,11 +265,8 @@ class WrittenParser(evaluator.Parser):
                 self.take(",")
         if not library.takes(name, [a.pair() for a in arguments]):
             self.not_taken.append(started)
-        elif not is_made(name, arguments):
-            self.not_made.append(started)
-        else:
-            return Node("library", VOID, Call(name, arguments))
-        return Node("library", VOID, None)
+            return Node("library", VOID, None)
+        return Node("library", VOID, Call(name, arguments))
 
     def argument(self):
         """A literal by itself makes no object here."""
@@ -303,6 +321,45 @@ def given_back(connections):
         c.slot.state = "free"
 
 
+# ---- descriptors
+
+class Item:
+    """An item of a descriptor: what it holds, its name, and its type."""
+
+    def __init__(self, content=None, label=b"", code=12):
+        self.content, self.label, self.code = content, label, code
+
+    def text(self, kind):
+        """What it gives as a field."""
+        if kind in ("data", "name"):
+            return self.content if kind == "data" else self.label
+        number = {"indicator": -(self.content is None), "type": self.code, "ret_octet": len(self.content or b"")}[kind]
+        return str(number).encode()
+
+    def set(self, kind, value):
+        if kind == "data":
+            self.content = value
+        elif kind == "type":
+            self.code = value
+        elif value < 0:
+            self.content = None
+
+
+def whole(field, bits):
+    """A field as a number of a signed type of so many bits."""
+    if field is None or not storing.is_number(field) or not -2 ** (bits - 1) <= int(field) < 2 ** (bits - 1):
+        raise finding(-204)
+    return int(field)
+
+
+def place(field, least, most):
+    """A field as a count or an index."""
+    number = whole(field, 64)
+    if not least <= number <= most:
+        raise finding(-241)
+    return number
+
+
 # ---- runs
 
 class Told(Exception):
@@ -320,7 +377,7 @@ class CallingMachine(evaluator.Machine):
     def __init__(self, program, turns, slots):
         super().__init__(program, turns)
         self.exchanges, self.slots = [], slots
-        self.connections, self.current = [], None
+        self.connections, self.current, self.areas = [], None, {}
 
     def main(self):
         self.connections = connected(self.slots)
@@ -353,11 +410,15 @@ class CallingMachine(evaluator.Machine):
         if call.name in ON_CONNECTIONS:
             texts = [self.text_of(one) for one in call.texts]
             carry = lambda: self.on_connections(call.name, *texts)
+        elif call.name in ON_DESCRIPTORS:
+            descriptor, given = self.text_of(call.descriptor), [self.parameter(m) for m in call.given]
+            carry = lambda: self.on_descriptors(call, descriptor, *given)
         else:
             name = self.text_of(call.connection)
             text = None if call.text is None else self.text_of(call.text)
             parameters = [self.parameter(m) for m in call.inputs]
-            carry = lambda: self.carry(self.found(name), call, text, parameters)
+            descriptors = [None if one is None else self.text_of(one) for one in (call.source, call.into)]
+            carry = lambda: self.carry(self.found(name), call, text, parameters, *descriptors)
         storing.reset(self.objects[1])
         try:
             carry()
@@ -410,7 +471,49 @@ class CallingMachine(evaluator.Machine):
         if self.current == connection.name:
             self.current = self.connections[-1].name if self.connections else None
 
-    def carry(self, c, call, text, parameters):
+    def area(self, name):
+        """The items of a descriptor."""
+        if name not in self.areas:
+            raise finding(-240)
+        return self.areas[name]
+
+    def on_descriptors(self, call, name, *given):
+        if call.name == "ECPGallocate_desc":
+            self.areas[name] = []
+            return
+        there = self.area(name)
+        if call.name == "ECPGdeallocate_desc":
+            del self.areas[name]
+        elif call.name == "ECPGget_desc_header":
+            self.stored(call.items[0][1], 0, str(len(there)).encode())
+        elif call.name == "ECPGset_desc_header":
+            count = place(*given, 0, 1000)
+            there[count:] = [Item() for _ in range(count - len(there))]
+        elif call.name == "ECPGget_desc":
+            self.items_got(there[place(*given, 1, len(there)) - 1], call.items)
+        else:
+            self.items_set(there, place(given[0], 1, 1000), [(kind, field) for (kind, _), field in zip(call.items, given[1:])])
+
+    def items_got(self, item, wanted):
+        """A NULL leaves a host without an indicator of its own, where the indicator is asked for too."""
+        asked = any(kind == "indicator" for kind, _ in wanted)
+        for kind, member in wanted:
+            field = item.text(kind)
+            if field is not None or member.has_indicator or not asked:
+                self.stored(member, 0, field)
+
+    def items_set(self, there, index, values):
+        """The count is raised by the first item that can be set."""
+        for kind, field in values:
+            value = field if kind == "data" else whole(field, 32)
+            there += [Item() for _ in range(index - len(there))]
+            there[index - 1].set(kind, value)
+
+    def stored(self, member, row, field):
+        if storing.from_text(self.objects, member.host(), row, field):
+            storing.warn(self.objects[1])
+
+    def carry(self, c, call, text, parameters, source, into):
         """What a call does over a connection."""
         if call.name == "ECPGtrans":
             self.control(c, text)
@@ -423,10 +526,14 @@ class CallingMachine(evaluator.Machine):
         elif call.name == "ECPGdeallocate":
             self.deallocate(c, call.own)
         else:
-            request = self.request(c, call, text, parameters)
+            kind, what = self.request(c, call, text)
+            if source is not None:
+                parameters += [item.content for item in self.area(source)]
+            if into is not None:
+                self.area(into)
             if not c.autocommit and c.told == "I":
                 self.control(c, b"begin transaction")
-            self.settled(call, self.asked(c, request, call.outputs))
+            self.settled(call, self.asked(c, (kind, what, parameters), call.outputs), into)
 
     def control(self, c, text):
         if self.asked(c, ("text", text, []), [])[0] not in ("rows", "done"):
@@ -437,12 +544,12 @@ class CallingMachine(evaluator.Machine):
             raise finding(-230)
         return c.prepared[name]
 
-    def request(self, c, call, text, parameters):
+    def request(self, c, call, text):
         """What ECPGdo asks: of a prepared statement by its name, of a cursor for one by its text."""
         if call.own is None:
-            return "text", text, parameters
+            return "text", text
         prepared = self.prepared_text(c, call.own)
-        return ("exec", call.own, parameters) if call.kind == "ECPGst_execute" else ("text", call.head + prepared, parameters)
+        return ("exec", call.own) if call.kind == "ECPGst_execute" else ("text", call.head + prepared)
 
     def prepare(self, c, name, text):
         self.taken(self.asked(c, ("prepare", name, text), []))
@@ -475,11 +582,11 @@ class CallingMachine(evaluator.Machine):
         self.exchanges.append((c.number, request, reply))
         return reply
 
-    def settled(self, call, reply):
+    def settled(self, call, reply, into):
         """What a reply makes of the call, by the table `Answers of ECPGdo`."""
         kind, *rest = reply
         if kind == "rows":
-            self.rows_settled(call, rest[1], rest[2])
+            self.rows_settled(call, rest[1], rest[2], into)
         elif kind == "done":
             self.done_settled(call, rest[1])
         else:
@@ -498,11 +605,16 @@ class CallingMachine(evaluator.Machine):
         if call.outputs:
             raise finding(-201)
 
-    def rows_settled(self, call, columns, rows):
+    def rows_settled(self, call, columns, rows, into):
         storing.rows(self.objects[1], len(rows))
         if not rows:
             raise finding(100)
         if not call.outputs:
+            return
+        if into is not None:
+            if len(rows) > 1:
+                raise finding(-203)
+            self.areas[into] = [Item(field, *column) for column, field in zip(columns, rows[0])]
             return
         if len(columns) != len(call.outputs):
             raise finding(-201 if len(columns) < len(call.outputs) else -202)
@@ -510,8 +622,7 @@ class CallingMachine(evaluator.Machine):
             raise finding(-203)
         for column, member in enumerate(call.outputs):
             for row, fields in enumerate(rows):
-                if storing.from_text(self.objects, member.host(), row, fields[column]):
-                    storing.warn(self.objects[1])
+                self.stored(member, row, fields[column])
 
 
 class Run:

@@ -32,8 +32,8 @@ use Rattle.ec_interp.specs.running.Sessions.{Answers, Called, Session, holding, 
 use Rattle.ec_runtime.specs.declared.library.Library.{Library}
 use Rattle.ec_runtime.specs.declared.stop.CallStop.{CallStop}
 use Rattle.ec_runtime.specs.declared.stop.CallStop.TheVariants as calls
-use Rattle.ec_runtime.specs.Calling.{Called as Served, seen_by, Answers as Says, Stopped}
-use Rattle.ec_runtime.specs.Does.{placed as placed_there, saying as saying_there}
+use Rattle.ec_runtime.specs.Calling.{Called as Served, placed_by, Answers as Says, Stopped}
+use Rattle.ec_runtime.specs.Does.{saying as saying_there}
 use Rattle.ec_values.specs.declared.word.Stop.{Stop as NoValue}
 use Rattle.ec_calling.specs.declared.call.Call.{Call}
 use Rattle.ec_calling.specs.Giving.{Evaluated, Halted}
@@ -73,14 +73,14 @@ settled_state line (halted halt s) = refl
 
 module _ {X : Type 0} {F : X → Type 0} (talk : DynBox X Global F → Option Talk) (faults : DynBox X Global F → ℕ) (action : State → Outcome (Unit {0})) (line : Line) (m m' : Memory) (old new : Rack X F) (was now : Library X F) (turns : ℕ) where
   answered_so : (growth : List Logged) (result : Result (Unit {0}) CallStop) (s : State) (rest : List Answer)
-      → Says result (action (placed_there (seen_by m was) (answers_in growth ++ rest) (record s { turns = turns }))) (placed_there (seen_by m' now) rest (saying_there growth (record s { turns = turns })))
-      → Stopped action (seen_by m was) growth result
+      → Says result (action (placed_by m was (answers_in growth ++ rest) (record s { turns = turns }))) (placed_by m' now rest (saying_there growth (record s { turns = turns })))
+      → Stopped action (placed_by m was) growth result
       → Answers (answer_of line result) (settled line.0 (action (holding m turns (placed (known_of old was) (answers_in growth ++ rest) s)))) (holding m' turns (placed (known_of new now) rest (saying growth s)))
   answered_so growth (Ok x) s rest says left = says line.0
   answered_so growth (Err (calls.Trapped trap)) s rest says left = says line.0
   answered_so growth (Err calls.OutOfMemory) s rest says left =
       let front = left (record s { turns = turns }) rest in
-      (front.rest, ap (λ t. t.conversation) (sym (settled_state line.0 (action (placed_there (seen_by m was) (answers_in growth ++ rest) (record s { turns = turns }))))) ∙ front.same)
+      (front.rest, ap (λ t. t.conversation) (sym (settled_state line.0 (action (placed_by m was (answers_in growth ++ rest) (record s { turns = turns }))))) ∙ front.same)
 
   pub served_made : (result : Result (Unit {0}) CallStop) → Served talk faults action m old was m' new now result
       → Made (λ w first s. settled line.0 (action s)) (position m turns (known_of old was)) (position m' turns (known_of new now)) (answer_of line result)

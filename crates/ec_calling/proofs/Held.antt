@@ -84,11 +84,11 @@ module _ {X : Type 0} {F : X → Type 0} where
       both_of (is_taken (slice_get slots (slot_of conn))) (is_beside (slot_of conn) conns && are_taken slots conns) (ap is_taken h.0.1)
       (both_of (is_beside (slot_of conn) conns) (are_taken slots conns) (has_beside (slot_of conn) conns h.1) (has_taken slots conns h.2))
 
-  pub holds : (it : Library X F) (rack : Rack X F) → is_held it rack ≡ true → Holds it rack
+  pub holds : (it : Library X F) (rack : Rack X F) → is_held it rack ≡ true → Holds it.connections rack
   holds it rack h = record {
-    taken = all_taken (states (slots_of rack)) (conns_of it) (first_of (are_taken (states (slots_of rack)) (conns_of it)) (are_named (connections_of it)) h);
-    named = named (connections_of it) (second_of (are_taken (states (slots_of rack)) (conns_of it)) (are_named (connections_of it)) h);
+    taken = all_taken (states (slots_of rack)) (conns_of it.connections) (first_of (are_taken (states (slots_of rack)) (conns_of it.connections)) (are_named (connections_of it.connections)) h);
+    named = named (connections_of it.connections) (second_of (are_taken (states (slots_of rack)) (conns_of it.connections)) (are_named (connections_of it.connections)) h);
   }
 
-  pub held : (it : Library X F) (rack : Rack X F) → Holds it rack → is_held it rack ≡ true
-  held it rack h = both_of (are_taken (states (slots_of rack)) (conns_of it)) (are_named (connections_of it)) (has_taken (states (slots_of rack)) (conns_of it) h.taken) (has_names (connections_of it) h.named)
+  pub held : (it : Library X F) (rack : Rack X F) → Holds it.connections rack → is_held it rack ≡ true
+  held it rack h = both_of (are_taken (states (slots_of rack)) (conns_of it.connections)) (are_named (connections_of it.connections)) (has_taken (states (slots_of rack)) (conns_of it.connections) h.taken) (has_names (connections_of it.connections) h.named)

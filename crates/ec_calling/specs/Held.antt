@@ -42,4 +42,5 @@ module _ {X : Type 0} {F : X → Type 0} where
 
   abbrev pub is_held : Library X F → Rack X F → Bool
   is_held it rack =
-      are_taken (states (slots_of rack)) (conns_of it) && are_named (connections_of it)
+      are_taken (states (slots_of rack)) (conns_of it.connections)
+      && are_named (connections_of it.connections)

@@ -29,14 +29,14 @@ module _ {X : Type 0} {F : X → Type 0} (talk : DynBox X Global F → Option Ta
   -- nothing was asked
   pub unmoved : (rack : Rack X F) (it : Library X F) → Moved talk faults rack it rack it
   unmoved rack it =
-      record { growth = []; moves = moves_not talk faults rack rack (conns_of it) refl refl }
+      record { growth = []; moves = moves_not talk faults rack rack (conns_of it.connections) refl refl }
 
   -- no call was made
   pub session_stays : (calls : List Call) (rack : MutBor (Rack X F)) (it : Library X F)
       → Leads talk faults calls rack it calls rack it
   session_stays calls rack it = record {
     growth = [];
-    moves = moves_not talk faults rack.now rack.now (conns_of it) refl refl;
+    moves = moves_not talk faults rack.now rack.now (conns_of it.connections) refl refl;
     same_reference = refl;
     same_calls = refl;
   }
@@ -49,8 +49,9 @@ module _ {X : Type 0} {F : X → Type 0} (talk : DynBox X Global F → Option Ta
   session_goes_on calls calls' calls'' first between last was mid now a b = record {
     growth = a.growth ++ b.growth;
     moves =
-        moves_both talk faults first.now between.now last.now (conns_of was) (conns_of mid)
-        (conns_of now) a.growth b.growth a.moves b.moves;
+        moves_both talk faults first.now between.now last.now (conns_of was.connections)
+        (conns_of mid.connections)
+        (conns_of now.connections) a.growth b.growth a.moves b.moves;
     same_reference = b.same_reference ∙ a.same_reference;
     same_calls = b.same_calls ∙ a.same_calls;
   }

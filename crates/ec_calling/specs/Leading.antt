@@ -18,12 +18,14 @@ module _ {X : Type 0} {F : X → Type 0} (talk : DynBox X Global F → Option Ta
   pub record Moved (old : Rack X F) (was : Library X F)
       (new : Rack X F) (now : Library X F) : Type 0 where
     pub growth : List Logged
-    pub moves : Moves talk faults old (conns_of was) new (conns_of now) growth
+    pub moves : Moves talk faults old (conns_of was.connections) new
+        (conns_of now.connections) growth
 
   -- some calls of a program, made over one rack
   pub record Leads (calls : List Call) (old : MutBor (Rack X F)) (was : Library X F)
       (calls' : List Call) (new : MutBor (Rack X F)) (now : Library X F) : Type 0 where
     pub growth : List Logged
-    pub moves : Moves talk faults old.now (conns_of was) new.now (conns_of now) growth
+    pub moves : Moves talk faults old.now (conns_of was.connections) new.now
+        (conns_of now.connections) growth
     pub same_reference : new.ghost_name ≡ old.ghost_name
     pub same_calls : calls' ≡ calls

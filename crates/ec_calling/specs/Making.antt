@@ -1,5 +1,5 @@
 -- What a library knows of a run, and what a call over it does.
-use Rattle.std.specs.Prelude.{ℕ, Bool, true, false, List, [], ◌++◌, Option, Some, Result}
+use Rattle.std.specs.Prelude.{ℕ, Bool, true, false, List, ◌++◌, Option, Some, Result}
 use Rattle.ec_meaning_defs.specs.evaluation.Evaluate.{World}
 use Rattle.ec_meaning_defs.specs.evaluation.Results.{Res, over}
 use Rattle.ec_meaning_defs.specs.evaluation.State.{Answer, State, turns_spent}
@@ -25,13 +25,13 @@ abbrev pub position : Memory → ℕ → Option Session → Position
 position m turns x = record { memory = m; turns = turns; known = x }
 
 module _ {X : Type 0} {F : X → Type 0} where
-  -- its connections; there is no descriptor; the log is the rack's
+  -- its connections and descriptors; the log is the rack's
   abbrev pub known_of : Rack X F → Library X F → Option Session
   known_of rack it =
       Some (record {
-        connections = connections_of it;
-        current = it.current;
-        descriptors = [];
+        connections = connections_of it.connections;
+        current = it.connections.current;
+        descriptors = it.areas;
         log = log_of rack;
       })
 

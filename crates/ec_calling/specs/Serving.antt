@@ -7,8 +7,10 @@ use Rattle.ec_cut.specs.declared.arguments.Cut.{Cut}
 use Rattle.ec_cut.specs.declared.arguments.Member.{Member}
 use Rattle.ec_cut.specs.declared.arguments.Statement.{Statement}
 use Rattle.ec_cut.specs.declared.arguments.Text.{Text}
+use Rattle.ec_ctypes.specs.declared.embedded.emb.Item.{Item}
 use Rattle.ec_runtime.specs.declared.call.Act.{Act}
-use Rattle.ec_runtime.specs.Statements.{act_view}
+use Rattle.ec_runtime.specs.declared.call.Describe.{Describe}
+use Rattle.ec_runtime.specs.Statements.{act_view, describe_view}
 use Rattle.ec_calling.specs.declared.address.Address.{Address}
 use Rattle.ec_calling.specs.Giving.{bytes_of, number_of}
 
@@ -30,6 +32,9 @@ member_seen x = cut.member_view bytes_of number_of x
 
 abbrev pub members_seen : List GivenMember → List (spec.Member ℕ)
 members_seen xs = cut.members_view bytes_of number_of xs
+
+abbrev pub items_seen : List (Item × GivenMember) → List (spec.ItemMember ℕ)
+items_seen xs = cut.items_view bytes_of number_of xs
 
 abbrev pub statement_seen : GivenStatement → spec.Statement ℕ
 statement_seen x = cut.statement_view bytes_of number_of x
@@ -71,3 +76,22 @@ set_connection_seen line name =
 abbrev pub prepare_seen : ℕ → GivenText → List ℕ → GivenText → spec.Cut ℕ
 prepare_seen line connection name text =
     record { line = line; call = spec.prepare (text_seen connection) name (text_seen text) }
+
+-- a call on the descriptor of a name, on a line
+abbrev pub describe_seen : ℕ → GivenText → Describe → spec.Cut ℕ
+describe_seen line name what =
+    record { line = line; call = describe_view (text_seen name) what }
+
+abbrev pub get_seen : ℕ → GivenText → GivenMember → List (Item × GivenMember) → spec.Cut ℕ
+get_seen line name index items =
+    record {
+      line = line;
+      call = spec.get_items (text_seen name) (member_seen index) (items_seen items);
+    }
+
+abbrev pub set_seen : ℕ → GivenText → GivenMember → List (Item × GivenMember) → spec.Cut ℕ
+set_seen line name index items =
+    record {
+      line = line;
+      call = spec.set_items (text_seen name) (member_seen index) (items_seen items);
+    }

@@ -64,13 +64,13 @@ fn run(
     line: Line,
     call: &Served,
 ) -> Result<(), Stop>
-    requires { Holds library.old rack.old }
+    requires { Holds library.old.connections rack.old }
     ensures made { (turns : ℕ) → Made (λ w first s. settled line.0 (call_action call.now s))
         (position_of store.old turns rack.old library.old)
         (position_of store.new turns rack.new library.new) result }
     ensures moved { Moved (talk_by ⟦<dyn Link as Link>⟧) (faults_by ⟦<dyn Link as Link>⟧)
         rack.old library.old rack.new library.new }
-    ensures still_holds { Holds library.new rack.new }
+    ensures still_holds { Holds library.new.connections rack.new }
 {
     if !has_area(store) {
         // Out of reach, which isn't proved: the first object is the area from the beginning.
@@ -93,21 +93,21 @@ fn carry(
     name: LibName,
     given: &[Given<&[u8], Address>],
 ) -> Result<(), Stop>
-    requires { Holds library.old rack.old }
+    requires { Holds library.old.connections rack.old }
     ensures made { (turns : ℕ) → Made
         (λ w first s. settled line.0 (library_call name (all_seen given.now) s))
         (position_of store.old turns rack.old library.old)
         (position_of store.new turns rack.new library.new) result }
     ensures moved { Moved (talk_by ⟦<dyn Link as Link>⟧) (faults_by ⟦<dyn Link as Link>⟧)
         rack.old library.old rack.new library.new }
-    ensures still_holds { Holds library.new rack.new }
+    ensures still_holds { Holds library.new.connections rack.new }
 {
     match cut(alloc, name, given) {
         Err(_) => Err(Stop::OutOfMemory),
         Ok(None) => Err(Stop::Over(End::Stuck)),
         Ok(Some(found)) => match served(alloc, &found) {
             Some(call) => run(alloc, store, rack, library, line, &call),
-            // A call that isn't made is refused before; that no other comes here isn't proved.
+            // Where there is memory each call is served, which isn't proved.
             None => Err(Stop::OutOfMemory),
         },
     }
@@ -116,8 +116,7 @@ fn carry(
 /// A call whose first pointers have these values: its other arguments are evaluated, it takes its
 /// turn, and it is carried out. Its traps are at this line.
 ///
-/// A call that the library doesn't make is left as if there were no memory for it, and so is one
-/// without a communication area.
+/// A call without a communication area is left as if there were no memory for it.
 pub(crate) fn make(
     alloc: Global,
     store: &mut Store,
@@ -129,7 +128,7 @@ pub(crate) fn make(
     call: &Call,
     values: &[Word],
 ) -> Result<(), Stop>
-    requires { Holds library.old rack.old }
+    requires { Holds library.old.connections rack.old }
     ensures made { Made (λ w first s. called no_step w (context line.0 scope.now first)
         call.now.name (given_first (map word_view values.now)
         (map argument_view call.now.arguments)) s)
@@ -137,7 +136,7 @@ pub(crate) fn make(
         (position_of store.new turns.new rack.new library.new) result }
     ensures moved { Moved (talk_by ⟦<dyn Link as Link>⟧) (faults_by ⟦<dyn Link as Link>⟧)
         rack.old library.old rack.new library.new }
-    ensures still_holds { Holds library.new rack.new }
+    ensures still_holds { Holds library.new.connections rack.new }
     ensures fewer { turns.new ≤ turns.old }
 {
     let arguments = call.arguments.as_slice();

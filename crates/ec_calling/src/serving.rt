@@ -1,24 +1,27 @@
-//! Calls that are cut, as the library is given them: CONNECT, DISCONNECT, SET CONNECTION, transaction control, autocommit,
-//! PREPARE, DEALLOCATE, and ECPGdo over hosts and constants.
+//! Calls that are cut, as the library is given them.
 
-ghost use Rattle.std.specs.Prelude.{◌≡◌, IfSome, map, option_map};
+ghost use Rattle.std.specs.Prelude.{◌≡◌, ◌++◌, ℕ, IfSome, map, option_map};
+ghost use Rattle.ec_arguments.specs.Arguments as spec;
 ghost use Rattle.ec_cut.specs.Views.{indicators_view, place_view};
 ghost use Rattle.ec_runtime.specs.declared.call.Act.TheVariants as acts;
 ghost use Rattle.ec_runtime.specs.declared.call.Wanted.TheVariants as wants;
 ghost use Rattle.ec_runtime.specs.Places as places;
 ghost use Rattle.ec_runtime.specs.Reading.{given_view, input_view, text_view};
-ghost use Rattle.ec_runtime.specs.Statements.{cut_view, target_view, wanted_view};
+ghost use Rattle.ec_runtime.specs.Statements.{area_members, cut_view, describe_view, got_view, set_view, target_view, targets_view, wanted_view};
 ghost use Rattle.ec_runtime.specs.Views.{host_view};
 ghost use Rattle.ec_calling.specs.Giving.{number_of};
-ghost use Rattle.ec_calling.specs.Serving.{act_seen, connect_seen, cut_seen, disconnect_seen, member_seen, members_seen, prepare_seen, run_seen, set_connection_seen, statement_seen, text_seen};
+ghost use Rattle.ec_calling.specs.Serving.{act_seen, connect_seen, cut_seen, describe_seen, disconnect_seen, get_seen, items_seen, member_seen, members_seen, prepare_seen, run_seen, set_connection_seen, set_seen, statement_seen, text_seen};
 
 use crate::address::Address;
 use ec_base::{Bytes, Line, List, Name};
 use ec_bytes::Ptr;
 use ec_convert::HostPlace;
-use ec_ctypes::Sym;
+use ec_ctypes::{Item, Sym};
 use ec_cut::{Call as CutCall, Cut, Indicator, Member, Place, Statement as Asked, Text};
-use ec_runtime::{Act, Call, Connect, GivenText, Host, Input, Kind, Statement, TextArg, Wanted};
+use ec_runtime::{
+    Act, Call, Connect, Describe, Destination, GivenText, Host, Input, Kind, Statement, TextArg,
+    Wanted,
+};
 use std::alloc::Global;
 
 // A text.
@@ -32,6 +35,20 @@ fn text_of(alloc: Global, text: Text<&[u8], Address>) -> Option<TextArg>
             Err(_) => None,
         },
         Text::Held(address) => Some(TextArg::Held(address.0)),
+    }
+}
+
+// A text that is there.
+fn given_of(alloc: Global, text: Text<&[u8], Address>) -> Option<GivenText>
+    ensures { IfSome result (λ made. given_view made ≡ text_seen text.entry) }
+{
+    match text {
+        Text::Absent => None,
+        Text::Word(bytes) => match Bytes::from_slice(alloc, bytes) {
+            Ok(copy) => Some(GivenText::Word(copy)),
+            Err(_) => None,
+        },
+        Text::Held(address) => Some(GivenText::Held(address.0)),
     }
 }
 
@@ -128,6 +145,72 @@ fn outputs_of(alloc: Global, members: &[Member<&[u8], Address>]) -> Option<List<
     Some(made)
 }
 
+// The name of a descriptor.
+fn descriptor_of(alloc: Global, member: &Member<&[u8], Address>) -> Option<GivenText>
+    ensures { IfSome result (λ made. spec.descriptor (given_view made) ≡ member_seen member.now) }
+{
+    match member {
+        Member::Host(_) => None,
+        Member::Constant(_) => None,
+        Member::Descriptor(name) => given_of(alloc, *name),
+    }
+}
+
+// The values that a statement is given before a descriptor.
+fn values_before(
+    alloc: Global,
+    front: &[Member<&[u8], Address>],
+    area: Option<GivenText>,
+) -> Option<(List<Input>, Option<GivenText>)>
+    ensures { IfSome result (λ made. map input_view made.0 ++ area_members made.1
+        ≡ members_seen front.now ++ area_members area) }
+{
+    match inputs_of(alloc, front) {
+        Some(ins) => Some((ins, area)),
+        None => None,
+    }
+}
+
+// The values that a statement is given, and the descriptor behind them.
+fn members_of(
+    alloc: Global,
+    members: &[Member<&[u8], Address>],
+) -> Option<(List<Input>, Option<GivenText>)>
+    ensures { IfSome result (λ made. map input_view made.0 ++ area_members made.1
+        ≡ members_seen members.now) }
+{
+    match members {
+        [] => values_before(alloc, members, None),
+        [front @ .., last] => match descriptor_of(alloc, last) {
+            Some(area) => values_before(alloc, front, Some(area)),
+            None => values_before(alloc, members, None),
+        },
+    }
+}
+
+// Hosts, into which the rows of a statement go.
+fn hosts_of(alloc: Global, members: &[Member<&[u8], Address>]) -> Option<Destination>
+    ensures { IfSome result (λ made. targets_view made ≡ members_seen members.now) }
+{
+    match outputs_of(alloc, members) {
+        Some(hosts) => Some(Destination::Hosts(hosts)),
+        None => None,
+    }
+}
+
+// Where the rows of a statement go.
+fn destination_of(alloc: Global, members: &[Member<&[u8], Address>]) -> Option<Destination>
+    ensures { IfSome result (λ made. targets_view made ≡ members_seen members.now) }
+{
+    match members {
+        [only] => match descriptor_of(alloc, only) {
+            Some(area) => Some(Destination::Area(area)),
+            None => hosts_of(alloc, members),
+        },
+        _ => hosts_of(alloc, members),
+    }
+}
+
 // The line of a call.
 fn line_of(line: u64) -> Option<Line>
     ensures { IfSome result (λ made. made.0 ≡ line) }
@@ -157,28 +240,20 @@ fn made_of(
     let Some(connection) = text_of(alloc, connection) else {
         return None;
     };
-    let Some(ins) = inputs_of(alloc, ins) else {
+    let Some((ins, area)) = members_of(alloc, ins) else {
         return None;
     };
-    let Some(outs) = outputs_of(alloc, outs) else {
+    let Some(outs) = destination_of(alloc, outs) else {
         return None;
     };
-    let kind = Kind::Over(connection, Act::Run(Statement { wanted, ins, outs }));
+    let statement = Statement {
+        wanted,
+        ins,
+        area,
+        outs,
+    };
+    let kind = Kind::Over(connection, Act::Run(statement));
     Some(Call { line, kind })
-}
-
-// A text that is there.
-fn given_of(alloc: Global, text: Text<&[u8], Address>) -> Option<GivenText>
-    ensures { IfSome result (λ made. given_view made ≡ text_seen text.entry) }
-{
-    match text {
-        Text::Absent => None,
-        Text::Word(bytes) => match Bytes::from_slice(alloc, bytes) {
-            Ok(copy) => Some(GivenText::Word(copy)),
-            Err(_) => None,
-        },
-        Text::Held(address) => Some(GivenText::Held(address.0)),
-    }
 }
 
 // A cursor for a prepared statement.
@@ -355,8 +430,119 @@ fn deallocate_of(alloc: Global, name: &[u8]) -> Option<Act>
     }
 }
 
-/// A call as the library is given it. There is none of another kind than those that the library
-/// makes, and none without memory.
+// A call on a descriptor.
+fn describe_of(alloc: Global, line: u64, name: Text<&[u8], Address>, what: Describe) -> Option<Call>
+    ensures { IfSome result (λ made. cut_view made ≡ describe_seen line name.entry what) }
+{
+    let Some(line) = line_of(line) else {
+        return None;
+    };
+    match given_of(alloc, name) {
+        Some(name) => Some(Call {
+            line,
+            kind: Kind::Describe(name, what),
+        }),
+        None => None,
+    }
+}
+
+// Items with the hosts that they are stored into.
+fn got_of(alloc: Global, items: &[(Item, Member<&[u8], Address>)]) -> Option<List<(Item, Host)>>
+    ensures { IfSome result (λ made. map got_view made ≡ items_seen items.now) }
+{
+    let mut made = List::new(alloc);
+    for item in items {
+        let Some(host) = output_of(&item.1) else {
+            return None;
+        };
+        match made.push((item.0, host)) {
+            Ok(()) => {}
+            Err(_) => return None,
+        }
+    }
+    Some(made)
+}
+
+// Items with their values.
+fn set_of(alloc: Global, items: &[(Item, Member<&[u8], Address>)]) -> Option<List<(Item, Input)>>
+    ensures { IfSome result (λ made. map set_view made ≡ items_seen items.now) }
+{
+    let mut made = List::new(alloc);
+    for item in items {
+        let Some(input) = input_of(alloc, &item.1) else {
+            return None;
+        };
+        match made.push((item.0, input)) {
+            Ok(()) => {}
+            Err(_) => return None,
+        }
+    }
+    Some(made)
+}
+
+// GET DESCRIPTOR with items.
+fn get_items_of(
+    alloc: Global,
+    line: u64,
+    name: Text<&[u8], Address>,
+    index: &Member<&[u8], Address>,
+    items: &[(Item, Member<&[u8], Address>)],
+) -> Option<Call>
+    ensures { IfSome result (λ made. cut_view made
+        ≡ get_seen line name.entry index.now items.now) }
+{
+    let Some(index) = input_of(alloc, index) else {
+        return None;
+    };
+    match got_of(alloc, items) {
+        Some(wanted) => describe_of(alloc, line, name, Describe::GetItems(index, wanted)),
+        None => None,
+    }
+}
+
+// SET DESCRIPTOR with items.
+fn set_items_of(
+    alloc: Global,
+    line: u64,
+    name: Text<&[u8], Address>,
+    index: &Member<&[u8], Address>,
+    items: &[(Item, Member<&[u8], Address>)],
+) -> Option<Call>
+    ensures { IfSome result (λ made. cut_view made
+        ≡ set_seen line name.entry index.now items.now) }
+{
+    let Some(index) = input_of(alloc, index) else {
+        return None;
+    };
+    match set_of(alloc, items) {
+        Some(given) => describe_of(alloc, line, name, Describe::SetItems(index, given)),
+        None => None,
+    }
+}
+
+// GET DESCRIPTOR with COUNT.
+fn get_count_of(target: &Member<&[u8], Address>) -> Option<Describe>
+    ensures { IfSome result (λ made. (name : spec.TextArg ℕ) → describe_view name made
+        ≡ spec.get_count name (member_seen target.now)) }
+{
+    match output_of(target) {
+        Some(host) => Some(Describe::GetCount(host)),
+        None => None,
+    }
+}
+
+// SET DESCRIPTOR with COUNT.
+fn set_count_of(alloc: Global, value: &Member<&[u8], Address>) -> Option<Describe>
+    ensures { IfSome result (λ made. (name : spec.TextArg ℕ) → describe_view name made
+        ≡ spec.set_count name (member_seen value.now)) }
+{
+    match input_of(alloc, value) {
+        Some(value) => Some(Describe::SetCount(value)),
+        None => None,
+    }
+}
+
+/// A call as the library is given it. There is none without memory.
 pub(crate) fn served(alloc: Global, cut: &Cut<&[u8], Address>) -> Option<Call>
     ensures { IfSome result (λ made. cut_view made ≡ cut_seen cut.now) }
 {
@@ -388,6 +574,25 @@ pub(crate) fn served(alloc: Global, cut: &Cut<&[u8], Address>) -> Option<Call>
             Some(act) => call_of(alloc, cut.line, *connection, act),
             None => None,
         },
-        _ => None,
+        CutCall::AllocateDescriptor(name) => {
+            describe_of(alloc, cut.line, *name, Describe::Allocate)
+        }
+        CutCall::DeallocateDescriptor(name) => {
+            describe_of(alloc, cut.line, *name, Describe::Deallocate)
+        }
+        CutCall::GetCount(name, target) => match get_count_of(target) {
+            Some(what) => describe_of(alloc, cut.line, *name, what),
+            None => None,
+        },
+        CutCall::SetCount(name, value) => match set_count_of(alloc, value) {
+            Some(what) => describe_of(alloc, cut.line, *name, what),
+            None => None,
+        },
+        CutCall::GetItems(name, index, items) => {
+            get_items_of(alloc, cut.line, *name, index, items.as_slice())
+        }
+        CutCall::SetItems(name, index, items) => {
+            set_items_of(alloc, cut.line, *name, index, items.as_slice())
+        }
     }
 }

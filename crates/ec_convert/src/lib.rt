@@ -14,5 +14,6 @@ mod stop;
 pub use host::{HostPlace, is_typed};
 pub use input::to_text;
 pub use law::numbers_come_back;
+pub use numbers::number_in;
 pub use output::from_text;
 pub use stop::ConvStop;

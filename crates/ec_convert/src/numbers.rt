@@ -47,7 +47,7 @@ pub(crate) fn pointer_at(store: &Store, at: Ptr) -> Result<Ptr, Trap>
 }
 
 /// The number that a field is, if it is one of the type: one optional sign and one or more digits.
-pub(crate) fn number_in(ty: Arith, field: &[u8]) -> Option<i128>
+pub fn number_in(ty: Arith, field: &[u8]) -> Option<i128>
     ensures { result ≡ fitting ty (field_number field.now) }
 {
     match str::from_utf8(field) {

@@ -76,30 +76,30 @@ module _ {X : Type 0} {F : X → Type 0} (talk : DynBox X Global F → Option Ta
   module _ {O E : Type 0} (held : O → Option (List ℕ)) (puts : O → ℕ) (told : E → Option (List ℕ)) (tells : E → ℕ) (x : Executable) (turns : ℕ) where
     -- the run of a machine, and the connection given back
     pub carried : (out out' : O) (err err' : E) (was now : Library X F) (opened closing last : Rack X F) (asked said : List Logged) (memory : Memory) (end : MachineEnd) (result : RunEnd)
-        → Moves talk faults opened (conns_of was) closing (conns_of now) asked → AllTaken (states (slots_of closing)) (conns_of now) → log_of closing ≡ log_of opened ++ said
+        → Moves talk faults opened (conns_of was.connections) closing (conns_of now.connections) asked → AllTaken (states (slots_of closing)) (conns_of now.connections) → log_of closing ≡ log_of opened ++ said
         → ((ready : Option (ℕ × List ℕ)) → ran.Begins (known_of opened was) ready
         → ran.Ran held puts told tells (program_meaning (library_step x.calls) x.program turns ready (answers_in said)) said out out' err err' memory end)
-        → GivesAll (slots_of closing) (reverse (conns_of now)) (slots_of last) → log_of last ≡ log_of closing → result ≡ end_of end
+        → GivesAll (slots_of closing) (reverse (conns_of now.connections)) (slots_of last) → log_of last ≡ log_of closing → result ≡ end_of end
         → CarriedOut talk faults held puts told tells x turns out out' err err' was opened last result
     unfolding meaning
     carried out out' err err' was now opened closing last asked said memory end result a held-there e runs g f is =
-        let same = same_growth opened closing (conns_of was) (conns_of now) asked said a e in
+        let same = same_growth opened closing (conns_of was.connections) (conns_of now.connections) asked said a e in
         record {
           growth = said;
-          given_back = record { closing = closing; now = conns_of now; moves = subst (Moves talk faults opened (conns_of was) closing (conns_of now)) (sym same) a; held = held-there; given = g; logged = f };
-          performs = λ ready there here.
+          given_back = record { closing = closing; now = conns_of now.connections; moves = subst (Moves talk faults opened (conns_of was.connections) closing (conns_of now.connections)) (sym same) a; held = held-there; given = g; logged = f };
+          performs = λ ready there here none.
               subst (λ r. Performs held puts told tells (meaning x turns ready (answers_in said)) said out out' err err' r) (sym is)
               (performed held puts told tells (meaning x turns ready (answers_in said)) said out out' err err' memory end
-              (runs ready (there, here, refl)));
+              (runs ready (there, here, none)));
         }
 
     -- over the first ready slot
-    pub over_first : (out out' : O) (err err' : E) (it : Library X F) (first opened last : Rack X F) (end : RunEnd) → Opens (slots_of first) it (slots_of opened) → log_of opened ≡ log_of first
+    pub over_first : (out out' : O) (err err' : E) (it : Library X F) (first opened last : Rack X F) (end : RunEnd) → Opens (slots_of first) it.connections (slots_of opened) → it.areas ≡ [] → log_of opened ≡ log_of first
         → CarriedOut talk faults held puts told tells x turns out out' err err' it opened last end → Ran talk faults held puts told tells x turns out out' err err' first last end
-    over_first out out' err err' it first opened last end o e c = record {
+    over_first out out' err err' it first opened last end o none e c = record {
       growth = c.growth;
-      connects = record { opened = opened; was = conns_of it; taken = o.taken; logged = e; given_back = c.given_back };
-      performs = c.performs (ready_slot (states (slots_of first))) o.connections o.current;
+      connects = record { opened = opened; was = conns_of it.connections; taken = o.taken; logged = e; given_back = c.given_back };
+      performs = c.performs (ready_slot (states (slots_of first))) o.connections o.current none;
     }
 
     -- it isn't run, and the slot is freed

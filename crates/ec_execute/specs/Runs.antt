@@ -1,6 +1,6 @@
 -- What the run of a program over a rack leaves: the first ready slot is taken, calls are made, and the slots of the connections
 -- that are open at the end are free again.
-use Rattle.std.specs.Prelude.{◌≡◌, ℕ, List, reverse, Option}
+use Rattle.std.specs.Prelude.{◌≡◌, ℕ, List, [], reverse, Option}
 use Rattle.std.specs.declared.alloc.Global.{Global}
 use Rattle.std.specs.declared.dyn_box.DynBox.{DynBox}
 use Rattle.ec_link.specs.declared.connection.Conn.{Conn}
@@ -46,10 +46,10 @@ module _ {X : Type 0} {F : X → Type 0} where
       pub record CarriedOut (library : Library X F) (opened last : Rack X F)
           (end : RunEnd) : Type 0 where
         pub growth : List Logged
-        pub given_back : GivenBack opened (conns_of library) last growth
+        pub given_back : GivenBack opened (conns_of library.connections) last growth
         pub performs : (ready : Option (ℕ × List ℕ))
-            → connections_of library ≡ ready_connections ready
-            → library.current ≡ ready_name ready
+            → connections_of library.connections ≡ ready_connections ready
+            → library.connections.current ≡ ready_name ready → library.areas ≡ []
             → Performs held puts told tells (meaning x turns ready (answers_in growth)) growth
             out out' err err' end
 

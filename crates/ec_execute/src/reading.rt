@@ -12,9 +12,8 @@ ghost use Rattle.ec_execute.specs.Executables.{executable_view};
 
 use crate::calls::calls_of;
 use crate::executable::Executable;
-use ec_base::{FaultKind, Stop};
+use ec_base::Stop;
 use ec_ctypes::Typed;
-use ec_execution_defs::library_calls::first_unmade_call;
 use ec_execution_defs::written_programs_are_single;
 use ec_front::written::read_written;
 use ec_resolve::resolve;
@@ -43,9 +42,6 @@ fn resolve_checked(alloc: Global, typed: &Typed) -> Result<Executable, Stop>
     requires no_violations { violations true (unit_view typed.now.unit) ≡ [] }
     ensures { Is (resolved (Ok (typed_view typed.now))) result }
 {
-    if let Some(line) = first_unmade_call(&typed.unit) {
-        return Err(Stop::Refused(FaultKind::F16, line));
-    }
     match resolve(alloc, true, &typed.unit) {
         Ok(resolved) => match linked(alloc, resolved) {
             Some(executable) => Ok(executable),
@@ -60,8 +56,7 @@ fn resolve_checked(alloc: Global, typed: &Typed) -> Result<Executable, Stop>
 ///
 /// # Errors
 ///
-/// What `read_written` refuses the text for; and F16 where a program without other faults makes a call first that the
-/// library doesn't make yet.
+/// What `read_written` refuses the text for.
 pub fn read_program(alloc: Global, text: &[u8]) -> Result<Executable, Stop>
     ensures answer { TellsProgram text.now result }
     ensures only { IsOnlyProgram text.now result }

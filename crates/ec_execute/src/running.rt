@@ -58,7 +58,7 @@ fn carry_out<O: Sink, E: Sink>(
     out: &mut O,
     err: &mut E,
 ) -> RunEnd
-    requires { Holds library rack.old }
+    requires { Holds library.connections rack.old }
     ensures { CarriedOut (talk_by ⟦<dyn Link as Link>⟧) (faults_by ⟦<dyn Link as Link>⟧)
         O.held O.faults E.held E.faults (executable_view executable.now) turns
         out.old out.new err.old err.new library rack.old rack.new result }

@@ -2,9 +2,7 @@
 #![tactic(auto)]
 
 mod laws;
-mod placing;
 mod reading;
-mod unmade;
 mod writing;
 
 pub use laws::translations_keep_meanings;

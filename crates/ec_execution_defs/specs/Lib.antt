@@ -1,4 +1,3 @@
 pub mod Laws
 pub mod Programs
 pub mod Runs
-pub mod library_calls

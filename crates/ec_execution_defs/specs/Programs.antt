@@ -1,17 +1,13 @@
 -- What written C is run as: the resolved form of its program with its calls of the library, or why
 -- it is refused; and what that means.
-use Rattle.std.specs.Prelude.{◌≡◌, ℕ, true, List, Option, Some, None, Result, Ok, Err}
-use Rattle.ec_base.specs.declared.fault.FaultKind.TheVariants.{F16}
-use Rattle.ec_base.specs.declared.line.Line.{Line}
+use Rattle.std.specs.Prelude.{◌≡◌, ℕ, true, List, Option, Result, Ok, Err}
 use Rattle.ec_base.specs.declared.stop.Stop.{Stop}
-use Rattle.ec_base.specs.declared.stop.Stop.TheVariants.{Refused}
 use Rattle.ec_call_defs.specs.Steps.{library_step}
 use Rattle.ec_ctypes.specs.trees.Checked.{TypedData}
 use Rattle.ec_ctypes.specs.trees.Units.{UnitData}
 use Rattle.ec_meaning_defs.specs.evaluation.State.{Answer}
 use Rattle.ec_meaning_defs.specs.evaluation.Whole.{Observed, program_meaning}
 use Rattle.ec_language.specs.Letters.{Text}
-use Rattle.ec_execution_defs.specs.library_calls.LibraryCalls.{first_unmade_call}
 use Rattle.ec_meaning_defs.specs.resolved.Programs.{Program}
 use Rattle.ec_resolving_defs.specs.Programs.{library_calls_of, resolve}
 use Rattle.ec_resolving_defs.specs.Storage.{LibraryCall}
@@ -25,13 +21,8 @@ pub record Executable : Type 0 where
 abbrev pub executable : UnitData → Executable
 executable u = record { program = resolve true u; calls = library_calls_of true u }
 
--- A program that makes a call which the library doesn't make yet isn't run: F16, where the first is.
-abbrev pub unless_unmade : Option Line → Executable → Result Executable Stop
-unless_unmade None x = Ok x
-unless_unmade (Some line) x = Err (Refused F16 line)
-
 abbrev pub resolved : Result TypedData Stop → Result Executable Stop
-resolved (Ok t) = unless_unmade (first_unmade_call t.unit) (executable t.unit)
+resolved (Ok t) = Ok (executable t.unit)
 resolved (Err stop) = Err stop
 
 -- What a text is run as, or what it is refused for: it is read so, and this is left of it.

@@ -3,6 +3,5 @@
 #![tactic(auto)]
 
 mod laws;
-pub mod library_calls;
 
 pub use laws::written_programs_are_single;

@@ -35,7 +35,7 @@ use Rattle.ec_runtime.specs.declared.call.Kind.TheVariants as kinds
 use Rattle.ec_runtime.specs.declared.disconnecting.Which.{Which}
 use Rattle.ec_runtime.specs.declared.disconnecting.Which.TheVariants.{All, One}
 use Rattle.ec_runtime.specs.declared.inputs.GivenText.{GivenText}
-use Rattle.ec_runtime.specs.declared.library.Library.{Library}
+use Rattle.ec_runtime.specs.declared.sessions.Sessions.{Sessions}
 use Rattle.ec_runtime.specs.declared.open.Open.{Open}
 use Rattle.ec_runtime.specs.declared.stop.Stop.{Stop}
 use Rattle.ec_runtime.specs.declared.stop.Stop.TheVariants as stops
@@ -95,7 +95,7 @@ module _ {X : Type 0} {F : X → Type 0} where
   views_without (x ∷ items) zero = refl
   views_without (x ∷ items) (suc at) = ap (λ cs. open_view x ∷ cs) (views_without items at)
 
-  module _ (talk : DynBox X Global F → Option Talk) (faults : DynBox X Global F → ℕ) (old new : Rack X F) (was : Library X F) (at : ℕ) (o : Open X F) (there : slice_get was.sessions.items at ≡ Some o) (holds : Holds was old) where
+  module _ (talk : DynBox X Global F → Option Talk) (faults : DynBox X Global F → ℕ) (old new : Rack X F) (was : Sessions X F) (at : ℕ) (o : Open X F) (there : slice_get was.sessions.items at ≡ Some o) (holds : Holds was old) where
     same_view : (c : Connection) → slice_get (connections_of was) at ≡ Some c → open_view o ≡ c
     same_view c e = let both : Some (open_view o) ≡ Some c = sym (view_there was.sessions.items at o there) ∙ e in cc
 
@@ -105,7 +105,7 @@ module _ {X : Type 0} {F : X → Type 0} where
         taken_here (states (slots_of old)) (links s.before) (links s.behind) o.conn
         (subst (λ cs. AllTaken (states (slots_of old)) cs) (links_among s.before s.behind o) (subst (λ xs. AllTaken (states (slots_of old)) (links xs)) s.is holds.taken))
 
-    module _ (h : Closes talk faults old o.conn new) (now : Library X F) (left : now.sessions.items ≡ remove was.sessions.items at) where
+    module _ (h : Closes talk faults old o.conn new) (now : Sessions X F) (left : now.sessions.items ≡ remove was.sessions.items at) where
       pub shut : (m : Memory) (c : Connection) (name : Text) (rest : List (Open X F)) (r : Result (Unit {0}) Stop) → slice_get (connections_of was) at ≡ Some c → name ≡ o.name → rest ≡ remove was.sessions.items at
           → OnOk r (now.current ≡ current_without name was.current (views rest)) → IfErr r (λ stop. stop ≡ stops.OutOfMemory) → Changes talk faults (closed c) m old was m new now r
       shut m c name rest r e own is last n =
@@ -134,7 +134,7 @@ module _ {X : Type 0} {F : X → Type 0} where
           subst (λ n. n < length was.sessions.items) (sym (ap length (left ∙ s.left)))
           (subst (λ n. length (s.before ++ s.behind) < n) (sym (ap length s.is)) (shorter s.before s.behind o))
 
-    module _ (o' : Open X F) (now : Library X F) (rest : List (Open X F)) (slots : slots_of new ≡ slots_of old) (slot : slot_of o'.conn ≡ slot_of o.conn) (left : rest ≡ remove was.sessions.items at) (back : now.sessions.items ≡ insert rest at o') where
+    module _ (o' : Open X F) (now : Sessions X F) (rest : List (Open X F)) (slots : slots_of new ≡ slots_of old) (slot : slot_of o'.conn ≡ slot_of o.conn) (left : rest ≡ remove was.sessions.items at) (back : now.sessions.items ≡ insert rest at o') where
       back_there : let s = split_at was.sessions.items at o there in now.sessions.items ≡ s.before ++ o' ∷ s.behind
       back_there =
           let s = split_at was.sessions.items at o there in
@@ -160,7 +160,7 @@ module _ {X : Type 0} {F : X → Type 0} where
 module _ {X : Type 0} {F : X → Type 0} (talk : DynBox X Global F → Option Talk) (faults : DynBox X Global F → ℕ) (line : ℕ) where
   -- ---- what is closed
 
-  module _ (which : Which) (m : Memory) (old new : Rack X F) (was now : Library X F) (r : Result (Unit {0}) Stop) where
+  module _ (which : Which) (m : Memory) (old new : Rack X F) (was now : Sessions X F) (r : Result (Unit {0}) Stop) where
     pub closed_one : (at : ℕ) → which ≡ One (Some at) → IsWithin which (length was.sessions.items) → ((c : Connection) → slice_get (connections_of was) at ≡ Some c → Changes talk faults (closed c) m old was m new now r)
         → Changes talk faults (which_closed line which) m old was m new now r
     closed_one at e within go =
@@ -173,25 +173,25 @@ module _ {X : Type 0} {F : X → Type 0} (talk : DynBox X Global F → Option Ta
     pub closed_every : which ≡ All → Changes talk faults (λ s. all_closed (reverse (connections_of was)) s) m old was m new now r → Changes talk faults (which_closed line which) m old was m new now r
     closed_every e p = record { growth = p.growth; moves = p.moves; does = close_every line which m (connections_of was) was.current (only m (connections_of now) now.current) p.growth r e p.does }
 
-  pub closed_none : (which : Which) (m m' : Memory) (rack : Rack X F) (was : Library X F) (stop : Stop) → which ≡ One None → m' ≡ told_area (code_of found.NoConnection) (state_of found.NoConnection) (text_of_finding found.NoConnection) line m → stop ≡ stops.Finished
+  pub closed_none : (which : Which) (m m' : Memory) (rack : Rack X F) (was : Sessions X F) (stop : Stop) → which ≡ One None → m' ≡ told_area (code_of found.NoConnection) (state_of found.NoConnection) (text_of_finding found.NoConnection) line m → stop ≡ stops.Finished
       → Changes talk faults (which_closed line which) m rack was m' rack was (Err stop)
   closed_none which m m' rack was stop e told is =
       changes_from talk faults (made_still talk faults (which_closed line which) m m' rack was.sessions.items was.current was.current (Err stop) (close_none line which m (connections_of was) was.current m' stop e told is))
 
   -- ---- by a text
 
-  module _ (text : TextData ℕ) (m : Memory) (old : Rack X F) (was : Library X F) where
+  module _ (text : TextData ℕ) (m : Memory) (old : Rack X F) (was : Sessions X F) where
     pub text_traps : (trap : Trap) → ((s : State) → given_read text (with_memory m s) ≡ over (trapped trap) (with_memory m s)) → Changes talk faults (disconnect_call line text) m old was m old was (Err (stops.Trapped trap))
     text_traps trap is =
         changes_from talk faults (made_still talk faults (disconnect_call line text) m m old was.sessions.items was.current was.current (Err (stops.Trapped trap)) (disconnect_trapped line text m m (connections_of was) was.current trap is))
 
-    pub text_names : (m1 m' : Memory) (new : Rack X F) (now : Library X F) (name : Text) (which : Which) (r : Result (Unit {0}) Stop) → ((s : State) → given_read text (with_memory m s) ≡ gives name (with_memory m s)) → which ≡ which_of name was.current (connections_of was) → m1 ≡ fresh_area m
+    pub text_names : (m1 m' : Memory) (new : Rack X F) (now : Sessions X F) (name : Text) (which : Which) (r : Result (Unit {0}) Stop) → ((s : State) → given_read text (with_memory m s) ≡ gives name (with_memory m s)) → which ≡ which_of name was.current (connections_of was) → m1 ≡ fresh_area m
         → Changes talk faults (which_closed line which) m1 old was m' new now r → Changes talk faults (disconnect_call line text) m old was m' new now r
     text_names m1 m' new now name which r is e area p =
         record { growth = p.growth; moves = p.moves; does = disconnect_read line text m m1 (connections_of was) was.current name which (only m' (connections_of now) now.current) p.growth r is e area p.does }
 
 -- SET CONNECTION asks nothing
-pub set_carried : {X : Type 0} {F : X → Type 0} (talk : DynBox X Global F → Option Talk) (faults : DynBox X Global F → ℕ) (it : Call) (text : GivenText) (m m' : Memory) (rack : Rack X F) (was now : Library X F) (r : Result (Unit {0}) Stop)
+pub set_carried : {X : Type 0} {F : X → Type 0} (talk : DynBox X Global F → Option Talk) (faults : DynBox X Global F → ℕ) (it : Call) (text : GivenText) (m m' : Memory) (rack : Rack X F) (was now : Sessions X F) (r : Result (Unit {0}) Stop)
     → it.kind ≡ kinds.SetConnection text → Does (set_connection_call it.line.0 (given_view text)) (seen_by m was) (seen_by m' now) [] r → now.sessions.items ≡ was.sessions.items → Changes talk faults (call_action it) m rack was m' rack now r
 set_carried talk faults it text m m' rack was now r e p same =
     subst (λ k. Changes talk faults (λ s. call_done it.line.0 (kind_view k) s) m rack was m' rack now r) (sym e)
@@ -201,7 +201,7 @@ set_carried talk faults it text m m' rack was now r e p same =
 
 -- ---- the ready connection, where there is none
 
-opens_items : {X : Type 0} {F : X → Type 0} (slots : List (Slot X F)) (it : Library X F) → it.sessions.items ≡ [] → it.current ≡ None → ready_slot (states slots) ≡ None → Opens slots it slots
+opens_items : {X : Type 0} {F : X → Type 0} (slots : List (Slot X F)) (it : Sessions X F) → it.sessions.items ≡ [] → it.current ≡ None → ready_slot (states slots) ≡ None → Opens slots it slots
 opens_items slots it e current none = record {
   connections = ap views e ∙ ap ready_connections (sym none);
   current = current ∙ ap ready_name (sym none);
@@ -216,7 +216,7 @@ no_slot : (ready : Option (ℕ × List ℕ)) → None ≡ option_map (λ (found 
 no_slot None e = refl
 no_slot (Some r) e = absurd (cc (e))
 
-pub opens_not : {X : Type 0} {F : X → Type 0} (slots : List (Slot X F)) (it : Library X F) → conns_of it ≡ [] → it.current ≡ None → None ≡ option_map (λ (found : ℕ × List ℕ). found.1) (ready_slot (states slots)) → Opens slots it slots
+pub opens_not : {X : Type 0} {F : X → Type 0} (slots : List (Slot X F)) (it : Sessions X F) → conns_of it ≡ [] → it.current ≡ None → None ≡ option_map (λ (found : ℕ × List ℕ). found.1) (ready_slot (states slots)) → Opens slots it slots
 opens_not slots it e current none = opens_items slots it (no_links it.sessions.items e) current (no_slot (ready_slot (states slots)) none)
 
 -- ---- connections are given back
@@ -264,16 +264,16 @@ module _ {X : Type 0} {F : X → Type 0} (items : List (Open X F)) (at : ℕ) (o
       ∙ reverse-append (views s.before) (open_view o ∷ [])
       ∙ ap (λ xs. open_view o ∷ reverse (views xs)) (sym (s.left ∙ ap (λ xs. s.before ++ xs) none_behind ∙ append-nil s.before))
 
-module _ {X : Type 0} {F : X → Type 0} (talk : DynBox X Global F → Option Talk) (faults : DynBox X Global F → ℕ) (m : Memory) (was : Library X F) where
+module _ {X : Type 0} {F : X → Type 0} (talk : DynBox X Global F → Option Talk) (faults : DynBox X Global F → ℕ) (m : Memory) (was : Sessions X F) where
   pub shut_none : (rack : Rack X F) → was.sessions.items ≡ [] → Changes talk faults (λ s. all_closed (reverse (connections_of was)) s) m rack was m rack was (Ok tt)
   shut_none rack e = changes_from talk faults (none_closed talk faults m rack was.sessions.items was.current e)
 
   module _ (at : ℕ) (o : Open X F) (there : slice_get was.sessions.items at ≡ Some o) (last : at + 1 ≡ length was.sessions.items) where
-    pub shut_stop : (old new : Rack X F) (now : Library X F) (stop : Stop) → Changes talk faults (closed (open_view o)) m old was m new now (Err stop) → Changes talk faults (λ s. all_closed (reverse (connections_of was)) s) m old was m new now (Err stop)
+    pub shut_stop : (old new : Rack X F) (now : Sessions X F) (stop : Stop) → Changes talk faults (closed (open_view o)) m old was m new now (Err stop) → Changes talk faults (λ s. all_closed (reverse (connections_of was)) s) m old was m new now (Err stop)
     shut_stop old new now stop p =
         changes_from talk faults (all_stop talk faults m old old new was.sessions.items (remove was.sessions.items at) now.sessions.items was.current was.current now.current (open_view o) (reversed_at was.sessions.items at o there last) stop (made_from talk faults p))
 
-    pub shut_on : (old mid new : Rack X F) (between now : Library X F) (r : Result (Unit {0}) Stop) → connections_of between ≡ remove (connections_of was) at → Changes talk faults (closed (open_view o)) m old was m mid between (Ok tt)
+    pub shut_on : (old mid new : Rack X F) (between now : Sessions X F) (r : Result (Unit {0}) Stop) → connections_of between ≡ remove (connections_of was) at → Changes talk faults (closed (open_view o)) m old was m mid between (Ok tt)
         → Changes talk faults (λ s. all_closed (reverse (connections_of between)) s) m mid between m new now r → Changes talk faults (λ s. all_closed (reverse (connections_of was)) s) m old was m new now r
     shut_on old mid new between now r left p q =
         changes_from talk faults (all_go_on talk faults m old mid new was.sessions.items between.sessions.items now.sessions.items was.current between.current now.current (open_view o)

@@ -33,7 +33,7 @@ use Rattle.ec_call_defs.specs.Outcomes.{Text, Outcome, gives, finished, next, wi
 use Rattle.ec_runtime.specs.declared.call.Connect.{Connect}
 use Rattle.ec_runtime.specs.declared.call.Kind.TheVariants as kinds
 use Rattle.ec_runtime.specs.declared.inputs.GivenText.{GivenText}
-use Rattle.ec_runtime.specs.declared.library.Library.{Library}
+use Rattle.ec_runtime.specs.declared.sessions.Sessions.{Sessions}
 use Rattle.ec_runtime.specs.declared.open.Open.{Open}
 use Rattle.ec_runtime.specs.declared.stop.Stop.{Stop}
 use Rattle.ec_runtime.specs.declared.stop.Stop.TheVariants as stops
@@ -346,7 +346,7 @@ module _ (line : ℕ) (text : GivenText) (m : Memory) (cs : List Connection) (cu
 
 -- ---- over the connections of a library
 
-module _ {X : Type 0} {F : X → Type 0} (talk : DynBox X Global F → Option Talk) (faults : DynBox X Global F → ℕ) (line : ℕ) (m m' : Memory) (old new : Rack X F) (was now : Library X F) where
+module _ {X : Type 0} {F : X → Type 0} (talk : DynBox X Global F → Option Talk) (faults : DynBox X Global F → ℕ) (line : ℕ) (m m' : Memory) (old new : Rack X F) (was now : Sessions X F) where
   abbrev Does-it : (State → Outcome (Unit {0})) → Memory → Result (Unit {0}) Stop → Type 0
   Does-it action from r = Changes talk faults action from old was m' new now r
 
@@ -365,7 +365,7 @@ module _ {X : Type 0} {F : X → Type 0} (talk : DynBox X Global F → Option Ta
   }
 
 -- one more connection is held
-pub open_holds : {X : Type 0} {F : X → Type 0} (old new : Rack X F) (was now : Library X F) (o : Open X F) → Holds was old → connection_named o.name (connections_of was) ≡ None → AllTaken (states (slots_of new)) (links (was.sessions.items ++ o ∷ []))
+pub open_holds : {X : Type 0} {F : X → Type 0} (old new : Rack X F) (was now : Sessions X F) (o : Open X F) → Holds was old → connection_named o.name (connections_of was) ≡ None → AllTaken (states (slots_of new)) (links (was.sessions.items ++ o ∷ []))
     → now.sessions.items ≡ was.sessions.items ++ o ∷ [] → Holds now new
 open_holds old new was now o holds e taken is = record {
   taken = subst (λ xs. AllTaken (states (slots_of new)) (links xs)) (sym is) taken;

@@ -17,15 +17,16 @@ use Rattle.ec_memory_defs.specs.Memory.{Memory}
 use Rattle.ec_meaning_defs.specs.observed.Observed.{answers_in}
 use Rattle.ec_meaning_defs.specs.evaluation.State.{Answer, Connection, State}
 use Rattle.ec_meaning_defs.specs.observed.Run.{IsFront}
+use Rattle.ec_call_defs.specs.Areas.{Areas}
 use Rattle.ec_call_defs.specs.Growth.{state_of, Grows}
 use Rattle.ec_call_defs.specs.Outcomes.{Text, Outcome, gives, next}
 use Rattle.ec_call_defs.specs.Connections.{told_by, with_told, changed_at, exchange, asked, controlled, control_sent, begins, begin_text, begun}
 use Rattle.ec_runtime.specs.declared.open.Open.{Open}
 use Rattle.ec_runtime.specs.declared.stop.Stop.{Stop}
 use Rattle.ec_runtime.specs.declared.stop.Stop.TheVariants as stops
-use Rattle.ec_runtime.specs.Does.{Around, Apart, NoneAt, Seen, among, placed, saying, Left, Does, seen, Over}
+use Rattle.ec_runtime.specs.Does.{Around, Apart, NoneAt, Placing, Seen, among, placed, placed_with, saying, Left, LeftFrom, Does, DoesFrom, DoesWith, seen, Over, OverWith}
 use Rattle.ec_runtime.specs.Opening.{open_view, Asked}
-use Rattle.ec_runtime.specs.Says.{Says, Quiet}
+use Rattle.ec_runtime.specs.Says.{Changed, Says, Quiet}
 use Rattle.ec_runtime.proofs.Grows.{same_front, front_next}
 use Rattle.ec_runtime.proofs.Targets.{stopped_next}
 
@@ -47,74 +48,109 @@ said_both g h s = λ j. record s { conversation = append_assoc s.conversation g 
 
 -- ---- a part that asks nothing
 
-left_nothing : {A : Type 0} (action : State → Outcome A) (x : Seen) (r : Result A Stop) → Grows action → Left action x [] r
-left_nothing action x (Ok a) g = tt
-left_nothing action x (Err stops.Finished) g = tt
-left_nothing action x (Err (stops.Trapped trap)) g = tt
-left_nothing action x (Err stops.OutOfMemory) g = λ s rest. subst (λ c. IsFront c (state_of (action (placed x rest s))).conversation) (sym (nil_right s.conversation)) (g (placed x rest s))
+left_nothing : {A : Type 0} (action : State → Outcome A) (from : Placing) (r : Result A Stop)
+    → ((s : State) (rest : List Answer) → (from rest s).conversation ≡ s.conversation) → Grows action → LeftFrom action from [] r
+left_nothing action from (Ok a) still g = tt
+left_nothing action from (Err stops.Finished) still g = tt
+left_nothing action from (Err (stops.Trapped trap)) still g = tt
+left_nothing action from (Err stops.OutOfMemory) still g = λ s rest.
+    subst (λ c. IsFront c (state_of (action (from rest s))).conversation) (still s rest ∙ sym (nil_right s.conversation)) (g (from rest s))
 
 pub quiet : {A : Type 0} (action : State → Outcome A) (x : Seen) (m : Memory) (r : Result A Stop) → Grows action → Quiet r action x.memory m → Does action x (record x { memory = m }) [] r
 quiet action x m r g q = record {
   says = λ s rest. subst (λ t. Says r (action (placed x rest s)) (placed (record x { memory = m }) rest t)) (sym (said_nothing s)) (q (placed x rest s));
-  left = left_nothing action x r g;
+  left = left_nothing action (placed x) r (λ s rest. refl) g;
+}
+
+-- the same with descriptors
+pub changed : {A : Type 0} (action : State → Outcome A) (x : Seen) (a b : Areas) (m : Memory) (r : Result A Stop) → Grows action → Changed r action x.memory a m b
+    → DoesWith action x a (record x { memory = m }) b [] r
+changed action x a b m r g q = record {
+  says = λ s rest. subst (λ t. Says r (action (placed_with x a rest s)) (placed_with (record x { memory = m }) b rest t)) (sym (said_nothing s)) (q (placed x rest s));
+  left = left_nothing action (placed_with x a) r (λ s rest. refl) g;
 }
 
 -- want of memory, before anything was asked
 pub no_memory : {A : Type 0} (action : State → Outcome A) (x y : Seen) → Grows action → Does {A = A} action x y [] (Err stops.OutOfMemory)
-no_memory action x y g = record { says = λ s rest. tt; left = left_nothing action x (Err stops.OutOfMemory) g }
+no_memory action x y g = record { says = λ s rest. tt; left = left_nothing action (placed x) (Err stops.OutOfMemory) (λ s rest. refl) g }
+
+-- a part that leaves the descriptors leaves these
+left_lifted : {A : Type 0} (action : State → Outcome A) (x : Seen) (a : Areas) (g : List Logged) (r : Result A Stop) → Left action x g r → LeftFrom action (placed_with x a) g r
+left_lifted action x a g (Ok b) l = tt
+left_lifted action x a g (Err stops.Finished) l = tt
+left_lifted action x a g (Err (stops.Trapped trap)) l = tt
+left_lifted action x a g (Err stops.OutOfMemory) l = λ s rest. l (record s { descriptors = a }) rest
+
+pub lifted : {A : Type 0} (action : State → Outcome A) (x y : Seen) (a : Areas) (g : List Logged) (r : Result A Stop) → Does action x y g r → DoesWith action x a y a g r
+lifted action x y a g r p = record {
+  says = λ s rest. p.says (record s { descriptors = a }) rest;
+  left = left_lifted action x a g r p.left;
+}
 
 -- ---- one part, and then what follows
 
-module _ {A B : Type 0} (first : State → Outcome A) (go : A → State → Outcome B) (x y z : Seen) (a : A) (g h : List Logged) (r : Result B Stop) where
-  goes_on : Does first x y g (Ok a) → (s : State) (rest : List Answer) → next (first (placed x (answers_in (g ++ h) ++ rest) s)) go ≡ go a (placed y (answers_in h ++ rest) (saying g s))
-  goes_on p s rest = (λ j. next (first (placed x (answers-append g h rest j) s)) go) ∙ (λ j. next (p.says s (answers_in h ++ rest) j) go)
+module _ {A B : Type 0} (first : State → Outcome A) (go : A → State → Outcome B) (from mid to : Placing) (a : A) (g h : List Logged) (r : Result B Stop) where
+  goes_on : DoesFrom first from mid g (Ok a) → (s : State) (rest : List Answer) → next (first (from (answers_in (g ++ h) ++ rest) s)) go ≡ go a (mid (answers_in h ++ rest) (saying g s))
+  goes_on p s rest = (λ j. next (first (from (answers-append g h rest j) s)) go) ∙ (λ j. next (p.says s (answers_in h ++ rest) j) go)
 
-  left_next : (r : Result B Stop) → ((s : State) (rest : List Answer) → next (first (placed x (answers_in (g ++ h) ++ rest) s)) go ≡ go a (placed y (answers_in h ++ rest) (saying g s)))
-      → Left (go a) y h r → Left (λ s. next (first s) go) x (g ++ h) r
+  left_next : (r : Result B Stop) → ((s : State) (rest : List Answer) → next (first (from (answers_in (g ++ h) ++ rest) s)) go ≡ go a (mid (answers_in h ++ rest) (saying g s)))
+      → LeftFrom (go a) mid h r → LeftFrom (λ s. next (first s) go) from (g ++ h) r
   left_next (Ok b) e l = tt
   left_next (Err stops.Finished) e l = tt
   left_next (Err (stops.Trapped trap)) e l = tt
   left_next (Err stops.OutOfMemory) e l = λ s rest.
-      subst (λ c. IsFront c (state_of (next (first (placed x (answers_in (g ++ h) ++ rest) s)) go)).conversation) (append_assoc s.conversation g h)
+      subst (λ c. IsFront c (state_of (next (first (from (answers_in (g ++ h) ++ rest) s)) go)).conversation) (append_assoc s.conversation g h)
       (subst (λ o. IsFront ((s.conversation ++ g) ++ h) (state_of o).conversation) (sym (e s rest)) (l (saying g s) rest))
 
-  pub and_next : Does first x y g (Ok a) → Does (go a) y z h r → Does (λ s. next (first s) go) x z (g ++ h) r
-  and_next p q = record {
+  pub next_from : DoesFrom first from mid g (Ok a) → DoesFrom (go a) mid to h r → DoesFrom (λ s. next (first s) go) from to (g ++ h) r
+  next_from p q = record {
     says = λ s rest.
-        subst (λ o. Says r o (placed z rest (saying (g ++ h) s))) (sym (goes_on p s rest))
-        (subst (λ t. Says r (go a (placed y (answers_in h ++ rest) (saying g s))) (placed z rest t)) (said_both g h s) (q.says (saying g s) rest));
+        subst (λ o. Says r o (to rest (saying (g ++ h) s))) (sym (goes_on p s rest))
+        (subst (λ t. Says r (go a (mid (answers_in h ++ rest) (saying g s))) (to rest t)) (said_both g h s) (q.says (saying g s) rest));
     left = left_next r (goes_on p) q.left;
   }
 
+pub and_next : {A B : Type 0} (first : State → Outcome A) (go : A → State → Outcome B) (x y z : Seen) (a : A) (g h : List Logged) (r : Result B Stop)
+    → Does first x y g (Ok a) → Does (go a) y z h r → Does (λ s. next (first s) go) x z (g ++ h) r
+and_next first go x y z a g h r p q = next_from first go (placed x) (placed y) (placed z) a g h r p q
+
 -- one part that stops
-left_stop : {A B : Type 0} (first : State → Outcome A) (go : A → State → Outcome B) (x : Seen) (g : List Logged) (stop : Stop) → ((a : A) → Grows (go a))
-    → Left {A = A} first x g (Err stop) → Left {A = B} (λ s. next (first s) go) x g (Err stop)
-left_stop first go x g stops.Finished h l = tt
-left_stop first go x g (stops.Trapped trap) h l = tt
-left_stop first go x g stops.OutOfMemory h l = λ s rest. front_next (s.conversation ++ g) (first (placed x (answers_in g ++ rest) s)) go (l s rest) h
+left_stop : {A B : Type 0} (first : State → Outcome A) (go : A → State → Outcome B) (from : Placing) (g : List Logged) (stop : Stop) → ((a : A) → Grows (go a))
+    → LeftFrom {A = A} first from g (Err stop) → LeftFrom {A = B} (λ s. next (first s) go) from g (Err stop)
+left_stop first go from g stops.Finished h l = tt
+left_stop first go from g (stops.Trapped trap) h l = tt
+left_stop first go from g stops.OutOfMemory h l = λ s rest. front_next (s.conversation ++ g) (first (from (answers_in g ++ rest) s)) go (l s rest) h
+
+pub stop_from : {A B : Type 0} (first : State → Outcome A) (go : A → State → Outcome B) (from to : Placing) (g : List Logged) (stop : Stop) → ((a : A) → Grows (go a))
+    → DoesFrom {A = A} first from to g (Err stop) → DoesFrom {A = B} (λ s. next (first s) go) from to g (Err stop)
+stop_from first go from to g stop h p = record {
+  says = λ s rest. stopped_next stop (first (from (answers_in g ++ rest) s)) (to rest (saying g s)) go (p.says s rest);
+  left = left_stop first go from g stop h p.left;
+}
 
 pub and_stop : {A B : Type 0} (first : State → Outcome A) (go : A → State → Outcome B) (x y : Seen) (g : List Logged) (stop : Stop) → ((a : A) → Grows (go a))
     → Does {A = A} first x y g (Err stop) → Does {A = B} (λ s. next (first s) go) x y g (Err stop)
-and_stop first go x y g stop h p = record {
-  says = λ s rest. stopped_next stop (first (placed x (answers_in g ++ rest) s)) (placed y rest (saying g s)) go (p.says s rest);
-  left = left_stop first go x g stop h p.left;
-}
+and_stop first go x y g stop h p = stop_from first go (placed x) (placed y) g stop h p
 
 -- ---- the action is another one in the states that are met
 
-left_same : {A : Type 0} (action other : State → Outcome A) (x y : Seen) (g : List Logged) (r : Result A Stop)
-    → ((s : State) (answers : List Answer) → action (placed x answers s) ≡ other (placed y answers s)) → Left other y g r → Left action x g r
-left_same action other x y g (Ok a) h l = tt
-left_same action other x y g (Err stops.Finished) h l = tt
-left_same action other x y g (Err (stops.Trapped trap)) h l = tt
-left_same action other x y g (Err stops.OutOfMemory) h l = λ s rest. subst (λ o. IsFront (s.conversation ++ g) (state_of o).conversation) (sym (h s (answers_in g ++ rest))) (l s rest)
+left_same : {A : Type 0} (action other : State → Outcome A) (from mid : Placing) (g : List Logged) (r : Result A Stop)
+    → ((s : State) (answers : List Answer) → action (from answers s) ≡ other (mid answers s)) → LeftFrom other mid g r → LeftFrom action from g r
+left_same action other from mid g (Ok a) h l = tt
+left_same action other from mid g (Err stops.Finished) h l = tt
+left_same action other from mid g (Err (stops.Trapped trap)) h l = tt
+left_same action other from mid g (Err stops.OutOfMemory) h l = λ s rest. subst (λ o. IsFront (s.conversation ++ g) (state_of o).conversation) (sym (h s (answers_in g ++ rest))) (l s rest)
+
+pub same_from : {A : Type 0} (action other : State → Outcome A) (from mid to : Placing) (g : List Logged) (r : Result A Stop)
+    → ((s : State) (answers : List Answer) → action (from answers s) ≡ other (mid answers s)) → DoesFrom other mid to g r → DoesFrom action from to g r
+same_from action other from mid to g r h p = record {
+  says = λ s rest. subst (λ o. Says r o (to rest (saying g s))) (sym (h s (answers_in g ++ rest))) (p.says s rest);
+  left = left_same action other from mid g r h p.left;
+}
 
 pub same_action : {A : Type 0} (action other : State → Outcome A) (x y z : Seen) (g : List Logged) (r : Result A Stop)
     → ((s : State) (answers : List Answer) → action (placed x answers s) ≡ other (placed y answers s)) → Does other y z g r → Does action x z g r
-same_action action other x y z g r h p = record {
-  says = λ s rest. subst (λ o. Says r o (placed z rest (saying g s))) (sym (h s (answers_in g ++ rest))) (p.says s rest);
-  left = left_same action other x y g r h p.left;
-}
+same_action action other x y z g r h p = same_from action other (placed x) (placed y) (placed z) g r h p
 
 -- ---- a request
 
@@ -144,7 +180,6 @@ asked_does around c m request reply apart = record {
     memory = m;
     connections = changed_among (with_told (told_by reply)) c around.before around.behind apart j;
     current = around.current;
-    descriptors = [];
     conversation = s.conversation ++ exchange (Some c.slot) request reply ∷ [];
     answers = rest;
   });
@@ -152,6 +187,18 @@ asked_does around c m request reply apart = record {
 }
 
 module _ {X : Type 0} {F : X → Type 0} (talk : DynBox X Global F → Option Talk) (faults : DynBox X Global F → ℕ) where
+  -- a request that was answered
+  pub only_asked : (request : Request) (m : Memory) (old : Rack X F) (was : Open X F) (new : Rack X F) (now : Open X F) (a : Asked talk faults request old was new now)
+      → Over talk faults (asked (slot_of was.conn) request) m old was m new now (Ok a.reply)
+  only_asked request m old was new now a = record {
+    growth = exchange (Some (slot_of was.conn)) request a.reply ∷ [];
+    asks = a.asks;
+    named = ap (λ v. v.name) a.view ∙ told_name (told_by a.reply) (open_view was);
+    does = λ around apart.
+        subst (λ c. Does (asked (slot_of was.conn) request) (seen around m was) (there around m c) (exchange (Some (slot_of was.conn)) request a.reply ∷ []) (Ok a.reply)) (sym a.view)
+        (asked_does around (open_view was) m request a.reply apart);
+  }
+
   -- a request that was answered, and what is done with the reply
   pub over_asked : {B : Type 0} (request : Request) (m m' : Memory) (old : Rack X F) (was : Open X F) (new : Rack X F) (now : Open X F) (go : Reply → State → Outcome B) (r : Result B Stop)
       → (a : Asked talk faults request old was new now) → Grows (go a.reply) → Quiet r (go a.reply) m m'
@@ -211,6 +258,63 @@ module _ {X : Type 0} {F : X → Type 0} (talk : DynBox X Global F → Option Ta
     named = p.named;
     does = λ around apart. and_stop first go (seen around m1 o1) (seen around m2 o2) p.growth stop grows (p.does around apart);
   }
+
+  -- ---- parts that find and leave descriptors
+
+  pub over_with : {B : Type 0} (action : State → Outcome B) (m m' : Memory) (a : Areas) (old : Rack X F) (was : Open X F) (new : Rack X F) (now : Open X F) (r : Result B Stop)
+      → Over talk faults action m old was m' new now r → OverWith talk faults action m a old was m' a new now r
+  over_with action m m' a old was new now r p = record {
+    growth = p.growth;
+    asks = p.asks;
+    named = p.named;
+    does = λ around apart. lifted action (seen around m was) (seen around m' now) a p.growth r (p.does around apart);
+  }
+
+  pub with_changed : {B : Type 0} (action : State → Outcome B) (m m' : Memory) (a b : Areas) (rack : Rack X F) (open' : Open X F) (r : Result B Stop) → Grows action → Changed r action m a m' b
+      → OverWith talk faults action m a rack open' m' b rack open' r
+  with_changed action m m' a b rack open' r grows q = record {
+    growth = [];
+    asks = Asks-nil talk faults rack rack open'.conn open'.conn refl refl refl refl (omega arith);
+    named = refl;
+    does = λ around apart. changed action (seen around m open') a b m' r grows q;
+  }
+
+  pub with_next : {A B : Type 0} (first : State → Outcome A) (go : A → State → Outcome B) (m1 m2 m3 : Memory) (a1 a2 a3 : Areas) (r1 : Rack X F) (o1 : Open X F) (r2 : Rack X F) (o2 : Open X F) (r3 : Rack X F) (o3 : Open X F) (x : A) (r : Result B Stop)
+      → OverWith talk faults first m1 a1 r1 o1 m2 a2 r2 o2 (Ok x) → OverWith talk faults (go x) m2 a2 r2 o2 m3 a3 r3 o3 r → OverWith talk faults (λ s. next (first s) go) m1 a1 r1 o1 m3 a3 r3 o3 r
+  with_next first go m1 m2 m3 a1 a2 a3 r1 o1 r2 o2 r3 o3 x r p q = record {
+    growth = p.growth ++ q.growth;
+    asks = Asks-append talk faults r1 o1.conn r2 o2.conn r3 o3.conn p.growth q.growth p.asks q.asks;
+    named = q.named ∙ p.named;
+    does = λ around apart.
+        next_from first go (placed_with (seen around m1 o1) a1) (placed_with (seen around m2 o2) a2) (placed_with (seen around m3 o3) a3) x p.growth q.growth r (p.does around apart)
+        (q.does around (subst (λ i. Apart i around) (sym p.asks.slot) apart));
+  }
+
+  pub with_stop : {A B : Type 0} (first : State → Outcome A) (go : A → State → Outcome B) (m1 m2 : Memory) (a1 a2 : Areas) (r1 : Rack X F) (o1 : Open X F) (r2 : Rack X F) (o2 : Open X F) (stop : Stop) → ((x : A) → Grows (go x))
+      → OverWith {X = X} {F = F} talk faults {A = A} first m1 a1 r1 o1 m2 a2 r2 o2 (Err stop) → OverWith {X = X} {F = F} talk faults {A = B} (λ s. next (first s) go) m1 a1 r1 o1 m2 a2 r2 o2 (Err stop)
+  with_stop first go m1 m2 a1 a2 r1 o1 r2 o2 stop grows p = record {
+    growth = p.growth;
+    asks = p.asks;
+    named = p.named;
+    does = λ around apart. stop_from first go (placed_with (seen around m1 o1) a1) (placed_with (seen around m2 o2) a2) p.growth stop grows (p.does around apart);
+  }
+
+  -- a request that was answered, and what is done with the reply
+  pub with_answered : {B : Type 0} (request : Request) (m m' : Memory) (a b : Areas) (old : Rack X F) (was : Open X F) (new : Rack X F) (now : Open X F) (go : Reply → State → Outcome B) (r : Result B Stop) (reply : Reply)
+      → Asked talk faults request old was new now → Some reply ≡ last_reply_of (log_of new) → ((x : Reply) → Grows (go x)) → Changed r (go reply) m a m' b
+      → OverWith talk faults (λ s. next (asked (slot_of was.conn) request s) go) m a old was m' b new now r
+  with_answered request m m' a b old was new now go r reply asks e grows q =
+      let both : Some reply ≡ Some asks.reply = e ∙ asks.last in
+      let same : asks.reply ≡ reply = cc in
+      with_next (asked (slot_of was.conn) request) go m m m' a a b old was new now new now reply r
+      (over_with (asked (slot_of was.conn) request) m m a old was new now (Ok reply)
+      (subst (λ x. Over talk faults (asked (slot_of was.conn) request) m old was m new now (Ok x)) same (only_asked request m old was new now asks)))
+      (with_changed (go reply) m m' a b new now r (grows reply) q)
+
+  -- with the slot that a connection keeps
+  pub with_slot : {B : Type 0} (action : ℕ → State → Outcome B) (slot slot' : ℕ) (m m' : Memory) (a b : Areas) (old : Rack X F) (was : Open X F) (new : Rack X F) (now : Open X F) (r : Result B Stop) → slot ≡ slot'
+      → OverWith talk faults (action slot) m a old was m' b new now r → OverWith talk faults (action slot') m a old was m' b new now r
+  with_slot action slot slot' m m' a b old was new now r e p = subst (λ n. OverWith talk faults (action n) m a old was m' b new now r) e p
 
   -- ---- transaction control
 

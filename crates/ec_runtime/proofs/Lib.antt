@@ -4,6 +4,7 @@ pub mod Closes
 pub mod Closing
 pub mod Connections
 pub mod Connects
+pub mod Filling
 pub mod Fits
 pub mod Grows
 pub mod Joining
@@ -19,4 +20,5 @@ pub mod Stored
 pub mod Switching
 pub mod Takes
 pub mod Targets
+pub mod Telling
 pub mod Texts

@@ -17,17 +17,19 @@ use Rattle.ec_meaning_defs.specs.evaluation.State as state
 use Rattle.ec_meaning_defs.specs.evaluation.State.{Answer, Connection, State}
 use Rattle.ec_meaning_defs.specs.evaluation.Results.{on, over}
 use Rattle.ec_meaning_defs.specs.evaluation.Whole.{ready_connections, ready_name}
+use Rattle.ec_call_defs.specs.Areas.{Areas}
 use Rattle.ec_call_defs.specs.Connections.{same_name}
 use Rattle.ec_meaning_defs.specs.observed.Run.{IsFront}
 use Rattle.ec_call_defs.specs.Growth.{state_of}
 use Rattle.ec_call_defs.specs.Outcomes.{Text, Outcome}
 use Rattle.ec_call_defs.specs.Steps.{settled}
 use Rattle.ec_runtime.specs.declared.library.Library.{Library}
+use Rattle.ec_runtime.specs.declared.sessions.Sessions.{Sessions}
 use Rattle.ec_runtime.specs.declared.stop.Stop.{Stop}
 use Rattle.ec_runtime.specs.declared.stop.Stop.TheVariants as stops
 use Rattle.ec_runtime.specs.declared.stop.CallStop.{CallStop}
 use Rattle.ec_runtime.specs.declared.stop.CallStop.TheVariants as calls
-use Rattle.ec_runtime.specs.Does.{Seen, placed, saying, Does}
+use Rattle.ec_runtime.specs.Does.{Does, DoesWith, Placing, Seen, placed_with, saying}
 use Rattle.ec_runtime.specs.Opening.{open_view}
 use Rattle.ec_runtime.specs.Racks.{AllTaken, GivesAll, Moves}
 use Rattle.ec_runtime.specs.Seeking.{sought}
@@ -48,19 +50,19 @@ Answers (Err calls.OutOfMemory) o s = Unit {0}
 
 -- after want of memory, what was said is a front of what is said
 abbrev pub Stopped : (State → Outcome (Unit {0})) →
-    Seen → List Logged → Result (Unit {0}) CallStop → Type 0
-Stopped action x growth (Ok a) = Unit {0}
-Stopped action x growth (Err (calls.Trapped trap)) = Unit {0}
-Stopped action x growth (Err calls.OutOfMemory) =
+    Placing → List Logged → Result (Unit {0}) CallStop → Type 0
+Stopped action from growth (Ok a) = Unit {0}
+Stopped action from growth (Err (calls.Trapped trap)) = Unit {0}
+Stopped action from growth (Err calls.OutOfMemory) =
     (s : State) (rest : List Answer) → IsFront (s.conversation ++ growth)
-    (state_of (action (placed x (answers_in growth ++ rest) s))).conversation
+    (state_of (action (from (answers_in growth ++ rest) s))).conversation
 
 -- over the answers that came, and then any others, the call leads where it says and leaves exactly the others
-pub record Carries (action : State → Outcome (Unit {0})) (x y : Seen)
+pub record Carries (action : State → Outcome (Unit {0})) (from to : Placing)
     (growth : List Logged) (result : Result (Unit {0}) CallStop) : Type 0 where
   pub says : (s : State) (rest : List Answer) → Answers result
-      (action (placed x (answers_in growth ++ rest) s)) (placed y rest (saying growth s))
-  pub left : Stopped action x growth result
+      (action (from (answers_in growth ++ rest) s)) (to rest (saying growth s))
+  pub left : Stopped action from growth result
 
 -- whatever connections are open, where the name leads to none of them
 abbrev pub Closed : Option Text → (State → Outcome (Unit {0})) → Memory → Memory →
@@ -82,18 +84,22 @@ AllNamed (c ∷ cs) = NoneNamed c.name cs × AllNamed cs
 
 module _ {X : Type 0} {F : X → Type 0} where
   -- the connections of a library, in the order in which they were opened, and their links
-  abbrev pub connections_of : Library X F → List Connection
+  abbrev pub connections_of : Sessions X F → List Connection
   connections_of it = map open_view it.sessions.items
 
-  abbrev pub conns_of : Library X F → List (Conn X F)
+  abbrev pub conns_of : Sessions X F → List (Conn X F)
   conns_of it = map (λ o. o.conn) it.sessions.items
 
   -- what code sees of a memory and a library
-  abbrev pub seen_by : Memory → Library X F → Seen
+  abbrev pub seen_by : Memory → Sessions X F → Seen
   seen_by m it = record { memory = m; connections = connections_of it; current = it.current }
 
+  -- what it sees comes into a state, with its descriptors
+  abbrev pub placed_by : Memory → Library X F → Placing
+  placed_by m it = placed_with (seen_by m it.connections) it.areas
+
   -- the slots of the connections are taken, and no two connections have one slot or one name
-  pub record Holds (it : Library X F) (rack : Rack X F) : Type 0 where
+  pub record Holds (it : Sessions X F) (rack : Rack X F) : Type 0 where
     pub taken : AllTaken (states (slots_of rack)) (conns_of it)
     pub named : AllNamed (connections_of it)
 
@@ -104,28 +110,37 @@ module _ {X : Type 0} {F : X → Type 0} where
   TakesFirst before (conn ∷ other ∷ conns) after = ⊥
 
   pub record Opens (before : List (Slot X F))
-      (it : Library X F) (after : List (Slot X F)) : Type 0 where
+      (it : Sessions X F) (after : List (Slot X F)) : Type 0 where
     pub connections : connections_of it ≡ ready_connections (ready_slot (states before))
     pub current : it.current ≡ ready_name (ready_slot (states before))
     pub taken : TakesFirst before (conns_of it) after
 
   -- the connections are given back, the one opened last first
-  abbrev pub Closes : List (Slot X F) → Library X F → List (Slot X F) → Type 0
+  abbrev pub Closes : List (Slot X F) → Sessions X F → List (Slot X F) → Type 0
   Closes before it after = GivesAll before (reverse (conns_of it)) after
 
   module _ (talk : DynBox X Global F → Option Talk) (faults : DynBox X Global F → ℕ) where
     -- a part of a call was carried out over the connections of a library
     pub record Changes (action : State → Outcome (Unit {0})) (m : Memory) (old : Rack X F)
-        (was : Library X F) (m' : Memory) (new : Rack X F) (now : Library X F)
+        (was : Sessions X F) (m' : Memory) (new : Rack X F) (now : Sessions X F)
         (result : Result (Unit {0}) Stop) : Type 0 where
       pub growth : List Logged
       pub moves : Moves talk faults old (conns_of was) new (conns_of now) growth
       pub does : Does action (seen_by m was) (seen_by m' now) growth result
+
+    -- the same for a part that finds and leaves these descriptors
+    pub record ChangesWith (action : State → Outcome (Unit {0})) (m : Memory) (a : Areas)
+        (old : Rack X F) (was : Sessions X F) (m' : Memory) (b : Areas)
+        (new : Rack X F) (now : Sessions X F) (result : Result (Unit {0}) Stop) : Type 0 where
+      pub growth : List Logged
+      pub moves : Moves talk faults old (conns_of was) new (conns_of now) growth
+      pub does : DoesWith action (seen_by m was) a (seen_by m' now) b growth result
 
     -- a call was carried out
     pub record Called (action : State → Outcome (Unit {0})) (m : Memory) (old : Rack X F)
         (was : Library X F) (m' : Memory) (new : Rack X F) (now : Library X F)
         (result : Result (Unit {0}) CallStop) : Type 0 where
       pub growth : List Logged
-      pub moves : Moves talk faults old (conns_of was) new (conns_of now) growth
-      pub carries : Carries action (seen_by m was) (seen_by m' now) growth result
+      pub moves : Moves talk faults old (conns_of was.connections) new
+          (conns_of now.connections) growth
+      pub carries : Carries action (placed_by m was) (placed_by m' now) growth result

@@ -11,6 +11,7 @@ use Rattle.ec_memory_defs.specs.Memory.{Memory}
 use Rattle.ec_meaning_defs.specs.observed.Observed.{answers_in}
 use Rattle.ec_meaning_defs.specs.evaluation.State.{Answer, Connection, State}
 use Rattle.ec_meaning_defs.specs.observed.Run.{IsFront}
+use Rattle.ec_call_defs.specs.Areas.{Areas}
 use Rattle.ec_call_defs.specs.Growth.{state_of}
 use Rattle.ec_call_defs.specs.Outcomes.{Text, Outcome}
 use Rattle.ec_runtime.specs.declared.open.Open.{Open}
@@ -26,13 +27,22 @@ pub record Seen : Type 0 where
   pub connections : List Connection
   pub current : Option Text
 
--- a state with what is seen, and with these answers. There is no descriptor
+-- a state with what is seen, and with these answers. The descriptors are what they are
 abbrev pub placed : Seen → List Answer → State → State
 placed x answers s = record s {
   memory = x.memory;
   connections = x.connections;
   current = x.current;
-  descriptors = [];
+  answers = answers;
+}
+
+-- the same with these descriptors
+abbrev pub placed_with : Seen → Areas → List Answer → State → State
+placed_with x areas answers s = record s {
+  memory = x.memory;
+  connections = x.connections;
+  current = x.current;
+  descriptors = areas;
   answers = answers;
 }
 
@@ -40,21 +50,39 @@ placed x answers s = record s {
 abbrev pub saying : List Logged → State → State
 saying growth s = record s { conversation = s.conversation ++ growth }
 
--- after want of memory, what was said is a front of what is said
-abbrev pub Left : {A : Type 0} → (State → Outcome A) → Seen → List Logged → Result A Stop → Type 0
-Left action x growth (Ok a) = Unit {0}
-Left action x growth (Err stops.Finished) = Unit {0}
-Left action x growth (Err (stops.Trapped trap)) = Unit {0}
-Left action x growth (Err stops.OutOfMemory) =
-    (s : State) (rest : List Answer) → IsFront (s.conversation ++ growth)
-    (state_of (action (placed x (answers_in growth ++ rest) s))).conversation
+-- how what is seen comes into a state, with these answers
+abbrev pub Placing : Type 0
+Placing = List Answer → State → State
 
-pub record Does {A : Type 0} (action : State → Outcome A) (x y : Seen)
+-- after want of memory, what was said is a front of what is said
+abbrev pub LeftFrom : {A : Type 0} → (State → Outcome A) → Placing → List Logged → Result A Stop →
+    Type 0
+LeftFrom action from growth (Ok a) = Unit {0}
+LeftFrom action from growth (Err stops.Finished) = Unit {0}
+LeftFrom action from growth (Err (stops.Trapped trap)) = Unit {0}
+LeftFrom action from growth (Err stops.OutOfMemory) =
+    (s : State) (rest : List Answer) → IsFront (s.conversation ++ growth)
+    (state_of (action (from (answers_in growth ++ rest) s))).conversation
+
+pub record DoesFrom {A : Type 0} (action : State → Outcome A) (from to : Placing)
     (growth : List Logged) (result : Result A Stop) : Type 0 where
   pub says : (s : State) (rest : List Answer) →
-      Says result (action (placed x (answers_in growth ++ rest) s))
-      (placed y rest (saying growth s))
-  pub left : Left action x growth result
+      Says result (action (from (answers_in growth ++ rest) s)) (to rest (saying growth s))
+  pub left : LeftFrom action from growth result
+
+-- a part that leaves the descriptors, whatever they are
+abbrev pub Left : {A : Type 0} → (State → Outcome A) → Seen → List Logged → Result A Stop → Type 0
+Left action x growth result = LeftFrom action (placed x) growth result
+
+abbrev pub Does : {A : Type 0} → (State → Outcome A) → Seen → Seen → List Logged →
+    Result A Stop → Type 0
+Does action x y growth result = DoesFrom action (placed x) (placed y) growth result
+
+-- a part that finds and leaves these descriptors
+abbrev pub DoesWith : {A : Type 0} → (State → Outcome A) → Seen → Areas → Seen → Areas →
+    List Logged → Result A Stop → Type 0
+DoesWith action x a y b growth result =
+    DoesFrom action (placed_with x a) (placed_with y b) growth result
 
 -- ---- one connection among others
 
@@ -110,3 +138,23 @@ module _ {X : Type 0} {F : X → Type 0} (talk : DynBox X Global F → Option Ta
     pub does : (around : Around) → Apart (slot_of was.conn) around
         → LeadsTo name around (open_view was)
         → Does action (seen around m was) (seen around m' now) growth result
+
+  -- the same for a part that finds and leaves these descriptors
+  pub record OverWith {A : Type 0} (action : State → Outcome A)
+      (m : Memory) (a : Areas) (old : Rack X F) (was : Open X F) (m' : Memory) (b : Areas)
+      (new : Rack X F) (now : Open X F) (result : Result A Stop) : Type 0 where
+    pub growth : List Logged
+    pub asks : Asks talk faults old was.conn new now.conn growth
+    pub named : now.name ≡ was.name
+    pub does : (around : Around) → Apart (slot_of was.conn) around
+        → DoesWith action (seen around m was) a (seen around m' now) b growth result
+
+  pub record NamedWith (name : Option Text) (action : State → Outcome (Unit {0}))
+      (m : Memory) (a : Areas) (old : Rack X F) (was : Open X F) (m' : Memory) (b : Areas)
+      (new : Rack X F) (now : Open X F) (result : Result (Unit {0}) Stop) : Type 0 where
+    pub growth : List Logged
+    pub asks : Asks talk faults old was.conn new now.conn growth
+    pub named : now.name ≡ was.name
+    pub does : (around : Around) → Apart (slot_of was.conn) around
+        → LeadsTo name around (open_view was)
+        → DoesWith action (seen around m was) a (seen around m' now) b growth result

@@ -1,5 +1,6 @@
 pub mod Calling
 pub mod Closing
+pub mod Describing
 pub mod Does
 pub mod Fitting
 pub mod Opening

@@ -7,8 +7,8 @@ ghost use Rattle.ec_link.specs.Links.{talk_by, faults_by};
 ghost use Rattle.ec_link.specs.Rack.{slots_of};
 ghost use Rattle.ec_link.specs.Slot.{states};
 ghost use Rattle.ec_link.specs.SlotState.{TakenAt};
-ghost use Rattle.ec_runtime.specs.Calling.{Changes, Holds};
-ghost use Rattle.ec_runtime.specs.Does.{OverNamed};
+ghost use Rattle.ec_runtime.specs.Calling.{ChangesWith, Holds};
+ghost use Rattle.ec_runtime.specs.Does.{NamedWith};
 ghost use Rattle.ec_runtime.specs.Reading.{text_view};
 ghost use Rattle.ec_runtime.specs.Statements.{act_done, act_view};
 ghost use Rattle.ec_call_defs.specs.Library.{call_done};
@@ -20,13 +20,14 @@ use crate::call::Act;
 use crate::control::control;
 use crate::finding::find;
 use crate::inputs::TextArg;
-use crate::library::Library;
 use crate::nowhere::act_nowhere;
 use crate::open::Open;
 use crate::preparing::{deallocate, prepare};
 use crate::running::run;
+use crate::sessions::Sessions;
 use crate::stop::Stop;
 use ec_base::Line;
+use ec_descriptors::Areas;
 use ec_link::{Link, Rack};
 use ec_memory::Store;
 use std::alloc::Global;
@@ -37,19 +38,21 @@ fn act_over(
     store: &mut Store,
     rack: &mut Rack,
     session: &mut Open,
+    areas: &mut Areas,
     line: Line,
     act: &Act,
 ) -> Result<(), Stop>
     requires area { IsArea store.old }
     requires taken { TakenAt (states (slots_of rack.old)) (slot_of session.old.conn) }
-    ensures over { (name : Option Text) → OverNamed (talk_by ⟦<dyn Link as Link>⟧)
+    ensures over { (name : Option Text) → NamedWith (talk_by ⟦<dyn Link as Link>⟧)
         (faults_by ⟦<dyn Link as Link>⟧) name (act_done line.0 act.now name)
-        store.old rack.old session.old store.new rack.new session.new result }
+        store.old areas.old rack.old session.old
+        store.new areas.new rack.new session.new result }
     ensures kept { IsArea store.new }
     ensures still_taken { TakenAt (states (slots_of rack.new)) (slot_of session.new.conn) }
 {
     match act {
-        Act::Run(statement) => run(alloc, store, rack, session, line, statement),
+        Act::Run(statement) => run(alloc, store, rack, session, areas, line, statement),
         Act::Control(text) => control(alloc, store, rack, session, line, text.as_slice()),
         Act::Autocommit(on) => set_autocommit(alloc, store, rack, session, line, *on),
         Act::Prepare { name, text } => prepare(alloc, store, rack, session, line, name, text),
@@ -62,16 +65,18 @@ pub(crate) fn act(
     alloc: Global,
     store: &mut Store,
     rack: &mut Rack,
-    library: &mut Library,
+    library: &mut Sessions,
+    areas: &mut Areas,
     line: Line,
     connection: &TextArg,
     act: &Act,
 ) -> Result<(), Stop>
     requires area { IsArea store.old }
     requires holds { Holds library.old rack.old }
-    ensures changes { Changes (talk_by ⟦<dyn Link as Link>⟧) (faults_by ⟦<dyn Link as Link>⟧)
+    ensures changes { ChangesWith (talk_by ⟦<dyn Link as Link>⟧) (faults_by ⟦<dyn Link as Link>⟧)
         (call_done line.0 (act_view (text_view connection.now) act.now))
-        store.old rack.old library.old store.new rack.new library.new result }
+        store.old areas.old rack.old library.old
+        store.new areas.new rack.new library.new result }
     ensures kept { IsArea store.new }
     ensures still_holds { Holds library.new rack.new }
 {
@@ -83,6 +88,9 @@ pub(crate) fn act(
     ) {
         Err(trap) => Err(Stop::Trapped(trap)),
         Ok(None) => act_nowhere(alloc, store, line, act),
-        Ok(Some(at)) => act_over(alloc, store, rack, &mut library.sessions[at], line, act),
+        Ok(Some(at)) => {
+            let session = &mut library.sessions[at];
+            act_over(alloc, store, rack, session, areas, line, act)
+        }
     }
 }

@@ -3,6 +3,7 @@
 use crate::host::Host;
 use crate::inputs::{GivenText, Input, TextArg};
 use ec_base::{Bytes, Line, List, Name};
+use ec_ctypes::Item;
 
 /// A call.
 #[derive(Debug, Drop)]
@@ -23,6 +24,25 @@ pub enum Kind {
     Disconnect(GivenText),
     /// ECPGsetconn, with the name of a connection.
     SetConnection(GivenText),
+    /// A call on the descriptor of a name.
+    Describe(GivenText, Describe),
+}
+
+/// What is called on a descriptor (section "Using Descriptor Areas").
+#[derive(Debug, Drop)]
+pub enum Describe {
+    /// ECPGallocate_desc.
+    Allocate,
+    /// ECPGdeallocate_desc.
+    Deallocate,
+    /// ECPGget_desc_header, with the host that the count is stored into.
+    GetCount(Host),
+    /// ECPGset_desc_header, with the count.
+    SetCount(Input),
+    /// ECPGget_desc, with the index, and each item with the host that it is stored into.
+    GetItems(Input, List<(Item, Host)>),
+    /// ECPGset_desc, with the index, and each item with its value.
+    SetItems(Input, List<(Item, Input)>),
 }
 
 /// What CONNECT is given.
@@ -65,10 +85,21 @@ pub enum Wanted {
     Opening { head: Bytes, name: Name },
 }
 
-/// A statement, with the values that it is given and the hosts that its rows go into.
+/// Where the rows of a statement go.
+#[derive(Debug, Drop)]
+pub enum Destination {
+    /// Into hosts, or nowhere if there is none.
+    Hosts(List<Host>),
+    /// Into the descriptor of a name.
+    Area(GivenText),
+}
+
+/// A statement, with the values that it is given, the name of a descriptor whose contents are given behind them, and where
+/// its rows go.
 #[derive(Debug, Drop)]
 pub struct Statement {
     pub wanted: Wanted,
     pub ins: List<Input>,
-    pub outs: List<Host>,
+    pub area: Option<GivenText>,
+    pub outs: Destination,
 }

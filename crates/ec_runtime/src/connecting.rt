@@ -21,8 +21,8 @@ use crate::area::{begin_area, refuse};
 use crate::call::Connect;
 use crate::finding::place_of;
 use crate::inputs::{GivenText, given_text, maybe_text};
-use crate::library::Library;
 use crate::open::Open;
+use crate::sessions::Sessions;
 use crate::stop::Stop;
 use ec_base::{Bytes, Line, List, Name};
 use ec_link::{Link, Rack, Request, Tx};
@@ -71,7 +71,7 @@ fn read_connect(alloc: Global, store: &Store, it: &Connect) -> Result<(Name, Req
 }
 
 /// Keeps a connection that was opened. It is the current one.
-pub(crate) fn keep(library: &mut Library, session: Open, current: Name)
+pub(crate) fn keep(library: &mut Sessions, session: Open, current: Name)
     requires { vec_len library.old.sessions < vec_capacity library.old.sessions }
     ensures sessions { library.new.sessions.items ≡ library.old.sessions.items ++ session ∷ [] }
     ensures current { library.new.current ≡ Some current }
@@ -85,7 +85,7 @@ fn open_new(
     alloc: Global,
     store: &mut Store,
     rack: &mut Rack,
-    library: &mut Library,
+    library: &mut Sessions,
     line: Line,
     name: Name,
     request: Request,
@@ -130,7 +130,7 @@ fn open_named(
     alloc: Global,
     store: &mut Store,
     rack: &mut Rack,
-    library: &mut Library,
+    library: &mut Sessions,
     line: Line,
     name: Name,
     request: Request,
@@ -156,7 +156,7 @@ pub(crate) fn connect(
     alloc: Global,
     store: &mut Store,
     rack: &mut Rack,
-    library: &mut Library,
+    library: &mut Sessions,
     line: Line,
     it: &Connect,
 ) -> Result<(), Stop>
@@ -185,7 +185,12 @@ fn read_name(alloc: Global, store: &Store, text: &GivenText) -> Result<Name, Sto
 }
 
 /// The connection of this name, which has to be open, is the current one.
-fn set_current(store: &mut Store, library: &mut Library, line: Line, name: Name) -> Result<(), Stop>
+fn set_current(
+    store: &mut Store,
+    library: &mut Sessions,
+    line: Line,
+    name: Name,
+) -> Result<(), Stop>
     requires { IsArea store.old }
     ensures does { Does (current_set line.0 name) (seen_by store.old library.old)
         (seen_by store.new library.new) [] result }
@@ -206,7 +211,7 @@ fn set_current(store: &mut Store, library: &mut Library, line: Line, name: Name)
 pub(crate) fn set_connection(
     alloc: Global,
     store: &mut Store,
-    library: &mut Library,
+    library: &mut Sessions,
     line: Line,
     text: &GivenText,
 ) -> Result<(), Stop>

@@ -16,8 +16,8 @@ ghost use Rattle.ec_transfer_defs.specs.Area.{IsArea};
 use crate::area::{begin_area, refuse};
 use crate::finding::{place_current, place_of};
 use crate::inputs::GivenText;
-use crate::library::Library;
 use crate::open::Open;
+use crate::sessions::Sessions;
 use crate::stop::Stop;
 use ec_base::{Line, Name, OutOfMemory, Trap};
 use ec_link::{Link, Rack};
@@ -78,7 +78,7 @@ fn last_name(sessions: &[Open]) -> Result<Option<Name>, OutOfMemory>
 }
 
 /// Whether a name is that of the current connection.
-fn is_current(library: &Library, name: &[u8]) -> bool
+fn is_current(library: &Sessions, name: &[u8]) -> bool
     ensures { result ≡ is_current library.now.current name.now }
 {
     match &library.current {
@@ -89,7 +89,7 @@ fn is_current(library: &Library, name: &[u8]) -> bool
 
 /// The current connection, where that of a name is gone: if it was the current one, the one opened last of those that
 /// are left.
-fn forget(library: &mut Library, name: &[u8]) -> Result<(), Stop>
+fn forget(library: &mut Sessions, name: &[u8]) -> Result<(), Stop>
     ensures sessions { library.new.sessions.items ≡ library.old.sessions.items }
     ensures current { OnOk result (library.new.current
         ≡ current_without name.now library.old.current (connections_of library.old)) }
@@ -108,7 +108,7 @@ fn forget(library: &mut Library, name: &[u8]) -> Result<(), Stop>
 }
 
 /// Closes the connection at a place, whatever the answer.
-fn close_at(rack: &mut Rack, library: &mut Library, at: usize) -> Result<(), Stop>
+fn close_at(rack: &mut Rack, library: &mut Sessions, at: usize) -> Result<(), Stop>
     requires holds { Holds library.old rack.old }
     requires within { at < length library.old.sessions.items }
     ensures changes { (m : Memory) (c : Connection)
@@ -147,7 +147,7 @@ fn close_at(rack: &mut Rack, library: &mut Library, at: usize) -> Result<(), Sto
 }
 
 /// Closes every connection, the one opened last first.
-fn close_all(rack: &mut Rack, library: &mut Library) -> Result<(), Stop>
+fn close_all(rack: &mut Rack, library: &mut Sessions) -> Result<(), Stop>
     requires { Holds library.old rack.old }
     ensures changes { (m : Memory) → Changes (talk_by ⟦<dyn Link as Link>⟧)
         (faults_by ⟦<dyn Link as Link>⟧)
@@ -169,7 +169,7 @@ fn close_all(rack: &mut Rack, library: &mut Library) -> Result<(), Stop>
 fn close(
     store: &mut Store,
     rack: &mut Rack,
-    library: &mut Library,
+    library: &mut Sessions,
     line: Line,
     which: Which,
 ) -> Result<(), Stop>
@@ -195,7 +195,7 @@ fn close(
 pub(crate) fn disconnect(
     store: &mut Store,
     rack: &mut Rack,
-    library: &mut Library,
+    library: &mut Sessions,
     line: Line,
     text: &GivenText,
 ) -> Result<(), Stop>

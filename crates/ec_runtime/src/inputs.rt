@@ -49,7 +49,7 @@ fn value(alloc: Global, store: &Store, host: &Host) -> Result<Option<Bytes>, Sto
 }
 
 /// Reads an input.
-fn field_of(alloc: Global, store: &Store, it: &Input) -> Result<Option<Bytes>, Stop>
+pub(crate) fn field_of(alloc: Global, store: &Store, it: &Input) -> Result<Option<Bytes>, Stop>
     ensures { Quiet result (member_read (input_view it.now)) store.now store.now }
 {
     match it {

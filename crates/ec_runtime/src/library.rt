@@ -1,49 +1,31 @@
-//! The library: its connections, and its calls.
+//! The library: its connections and descriptors, and its calls.
 
-ghost use Rattle.std.specs.Prelude.{◌≡◌, IfOk, OnOk, OnErr, map, option_map, reverse, None, []};
+ghost use Rattle.std.specs.Prelude.{◌≡◌, OnOk, OnErr, None, []};
 ghost use Rattle.ec_link.specs.Links.{talk_by, faults_by};
 ghost use Rattle.ec_link.specs.Rack.{slots_of, log_of};
-ghost use Rattle.ec_link.specs.Slot.{states};
-ghost use Rattle.ec_link.specs.SlotState.{ready_slot};
 ghost use Rattle.ec_transfer_defs.specs.Area.{IsArea};
-ghost use Rattle.ec_runtime.specs.Calling.{conns_of, called_by, Called, Changes, Closes, Holds, Opens};
-ghost use Rattle.ec_runtime.specs.Racks.{AllTaken, GivesAll};
+ghost use Rattle.ec_runtime.specs.Calling.{conns_of, called_by, Called, ChangesWith, Closes, Holds, Opens};
 ghost use Rattle.ec_runtime.specs.Statements.{call_action};
 
 use crate::acting::act;
 use crate::call::{Call, Kind};
-use crate::connecting::{connect, keep, set_connection};
+use crate::connecting::{connect, set_connection};
+use crate::describing::describe;
 use crate::disconnecting::disconnect;
-use crate::open::Open;
+use crate::sessions::Sessions;
 use crate::stop::{CallStop, Stop};
-use ec_base::{List, Name, OutOfMemory};
-use ec_link::{Link, Rack, Slot, Tx};
+use ec_base::OutOfMemory;
+use ec_descriptors::Areas;
+use ec_link::{Link, Rack};
 use ec_memory::Store;
 use std::alloc::Global;
 
-/// The library of a program: the connections that are open.
+/// The library of a program: the connections that are open, and the descriptors.
 ///
 /// It can't be dropped, since its connections have to be given back.
 pub struct Library {
-    /// The connections, in the order in which they were opened. No two have one name.
-    pub(crate) sessions: Vec<Open>,
-    /// The name of the current one.
-    pub(crate) current: Option<Name>,
-}
-
-/// The name of the first slot that is ready.
-fn ready_name(slots: &[Slot]) -> Result<Option<Name>, OutOfMemory>
-    ensures { IfOk result (λ name. name
-        ≡ option_map (λ found. found.1) (ready_slot (states slots.now))) }
-{
-    let mut rest = slots;
-    while let [slot, more @ ..] = rest {
-        if let Slot::Ready(name, _) = slot {
-            return Ok(Some(name.clone()?));
-        }
-        rest = more;
-    }
-    Ok(None)
+    pub(crate) connections: Sessions,
+    pub(crate) areas: Areas,
 }
 
 /// A call.
@@ -55,52 +37,38 @@ fn carry_out(
     it: &Call,
 ) -> Result<(), Stop>
     requires area { IsArea store.old }
-    requires holds { Holds library.old rack.old }
-    ensures changes { Changes (talk_by ⟦<dyn Link as Link>⟧) (faults_by ⟦<dyn Link as Link>⟧)
+    requires holds { Holds library.old.connections rack.old }
+    ensures changes { ChangesWith (talk_by ⟦<dyn Link as Link>⟧) (faults_by ⟦<dyn Link as Link>⟧)
         (call_action it.now)
-        store.old rack.old library.old store.new rack.new library.new result }
+        store.old library.old.areas rack.old library.old.connections
+        store.new library.new.areas rack.new library.new.connections result }
     ensures kept { IsArea store.new }
-    ensures still_holds { Holds library.new rack.new }
+    ensures still_holds { Holds library.new.connections rack.new }
 {
     let line = it.line;
+    let open = &mut library.connections;
+    let areas = &mut library.areas;
     match &it.kind {
-        Kind::Over(connection, what) => act(alloc, store, rack, library, line, connection, what),
-        Kind::Connect(given) => connect(alloc, store, rack, library, line, given),
-        Kind::Disconnect(text) => disconnect(store, rack, library, line, text),
-        Kind::SetConnection(text) => set_connection(alloc, store, library, line, text),
+        Kind::Over(connection, what) => {
+            act(alloc, store, rack, open, areas, line, connection, what)
+        }
+        Kind::Connect(given) => connect(alloc, store, rack, open, line, given),
+        Kind::Disconnect(text) => disconnect(store, rack, open, line, text),
+        Kind::SetConnection(text) => set_connection(alloc, store, open, line, text),
+        Kind::Describe(name, what) => describe(alloc, store, areas, line, name, what),
     }
-}
-
-/// Gives connections back, the one opened last first.
-fn give_all(sessions: Vec<Open>, rack: &mut Rack)
-    requires { AllTaken (states (slots_of rack.old)) (map (λ o. o.conn) sessions.items) }
-    ensures gives { GivesAll (slots_of rack.old) (reverse (map (λ o. o.conn) sessions.items))
-        (slots_of rack.new) }
-    ensures log { log_of rack.new ≡ log_of rack.old }
-{
-    let mut sessions = sessions;
-    while let Some(session) = sessions.pop() {
-        let Open {
-            name: _,
-            conn,
-            autocommit: _,
-            told: _,
-            prepared: _,
-        } = session;
-        rack.give_back(conn);
-    }
-    sessions.destroy_empty();
 }
 
 impl Library {
-    /// A library without a connection. It takes no memory.
+    /// A library without a connection and without a descriptor. It takes no memory.
     pub fn new(alloc: Global) -> Library
-        ensures connections { conns_of result ≡ [] }
-        ensures current { result.current ≡ None }
+        ensures connections { conns_of result.connections ≡ [] }
+        ensures current { result.connections.current ≡ None }
+        ensures descriptors { result.areas ≡ [] }
     {
         Library {
-            sessions: Vec::new(alloc),
-            current: None,
+            connections: Sessions::new(alloc),
+            areas: Areas::new(alloc),
         }
     }
 
@@ -108,34 +76,16 @@ impl Library {
     /// name. Autocommit is on, and the server is in no transaction. Where no slot is ready nothing is changed, and so it is
     /// after want of memory.
     pub fn open_ready(&mut self, rack: &mut Rack) -> Result<(), OutOfMemory>
-        requires { conns_of self.old ≡ [] }
-        ensures ok { OnOk result (Opens (slots_of rack.old) self.new (slots_of rack.new)) }
+        requires { conns_of self.old.connections ≡ [] }
+        ensures ok { OnOk result
+            (Opens (slots_of rack.old) self.new.connections (slots_of rack.new)) }
         ensures err { OnErr result (slots_of rack.new ≡ slots_of rack.old) }
-        ensures unopened { OnErr result (conns_of self.new ≡ []) }
+        ensures unopened { OnErr result (conns_of self.new.connections ≡ []) }
         ensures log { log_of rack.new ≡ log_of rack.old }
-        ensures holds { Holds self.new rack.new }
+        ensures holds { Holds self.new.connections rack.new }
+        ensures descriptors { self.new.areas ≡ self.old.areas }
     {
-        let alloc = rack.slots().allocator();
-        let Some(name) = ready_name(rack.slots().as_slice())? else {
-            self.current = None;
-            return Ok(());
-        };
-        let current = name.clone()?;
-        self.sessions.reserve(1)?;
-        match rack.take_ready() {
-            Some(conn) => {
-                let session = Open {
-                    name,
-                    conn,
-                    autocommit: true,
-                    told: Tx::Idle,
-                    prepared: List::new(alloc),
-                };
-                keep(self, session, current);
-                Ok(())
-            }
-            None => unreachable!(),
-        }
+        self.connections.open_ready(rack)
     }
 
     /// Carries a call out. What goes wrong stands in `sqlca`, which is the first object of the memory; a trap ends the
@@ -148,26 +98,26 @@ impl Library {
         it: &Call,
     ) -> Result<(), CallStop>
         requires area { IsArea store.old }
-        requires holds { Holds self.old rack.old }
+        requires holds { Holds self.old.connections rack.old }
         ensures called { Called (talk_by ⟦<dyn Link as Link>⟧) (faults_by ⟦<dyn Link as Link>⟧)
             (call_action it.now) store.old rack.old self.old store.new rack.new self.new result }
         ensures kept { IsArea store.new }
-        ensures still_holds { Holds self.new rack.new }
+        ensures still_holds { Holds self.new.connections rack.new }
     {
         called(carry_out(alloc, store, rack, self, it))
     }
 
-    /// Gives the connections back: the slot of each is free again, and nothing is asked.
+    /// Gives the connections back: the slot of each is free again, and nothing is asked. The descriptors are let go.
     pub fn finish(self, rack: &mut Rack)
-        requires { Holds self rack.old }
-        ensures closes { Closes (slots_of rack.old) self (slots_of rack.new) }
+        requires { Holds self.connections rack.old }
+        ensures closes { Closes (slots_of rack.old) self.connections (slots_of rack.new) }
         ensures log { log_of rack.new ≡ log_of rack.old }
     {
         let Library {
-            sessions,
-            current: _,
+            connections,
+            areas: _,
         } = self;
-        give_all(sessions, rack);
+        connections.finish(rack);
     }
 }
 

@@ -13,7 +13,7 @@ ghost use Rattle.std.specs.declared.option.Option.{Option};
 use crate::area::{begin_area, refuse};
 use crate::call::{Act, Statement};
 use crate::inputs::GivenText;
-use crate::order::read;
+use crate::order::{read, read_targets};
 use crate::preparing::marked_text;
 use crate::stop::Stop;
 use ec_base::{Line, Name};
@@ -42,6 +42,10 @@ fn run_nowhere(alloc: Global, store: &mut Store, line: Line, it: &Statement) -> 
     ensures kept { IsArea store.new }
 {
     match read(alloc, store, it) {
+        Err(stop) => return Err(stop),
+        Ok(_) => {}
+    }
+    match read_targets(alloc, store, &it.outs) {
         Err(stop) => return Err(stop),
         Ok(_) => {}
     }

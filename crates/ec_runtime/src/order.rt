@@ -2,11 +2,12 @@
 
 ghost use Rattle.std.specs.Prelude.{◌≡◌, IfOk, IfErr};
 ghost use Rattle.ec_runtime.specs.Says.{Quiet};
-ghost use Rattle.ec_runtime.specs.Statements.{statement_read, wanted_read};
+ghost use Rattle.ec_runtime.specs.Statements.{area_read, outputs_seen, statement_read, targets_read, wanted_read};
 ghost use Rattle.ec_runtime.specs.declared.stop.Stop.TheVariants as stops;
 
-use crate::call::{Statement, Wanted};
-use crate::inputs::{given_text, kept, values};
+use crate::call::{Destination, Statement, Wanted};
+use crate::host::Host;
+use crate::inputs::{GivenText, given_text, kept, values};
 use crate::stop::Stop;
 use ec_base::{Bytes, List, Name};
 use ec_memory::Store;
@@ -17,6 +18,17 @@ use std::alloc::Global;
 pub(crate) struct Order {
     pub(crate) what: What,
     pub(crate) params: List<Option<Bytes>>,
+    /// The name of the descriptor whose contents are behind them.
+    pub(crate) area: Option<Bytes>,
+}
+
+/// Where rows go, once the name of a descriptor is read.
+#[derive(Debug, Drop)]
+pub(crate) enum Outputs<'h> {
+    /// Into hosts, or nowhere if there is none.
+    Hosts(&'h [Host]),
+    /// Into the descriptor of a name.
+    Area(Bytes),
 }
 
 /// What is asked for.
@@ -64,7 +76,40 @@ pub(crate) fn read(alloc: Global, store: &Store, it: &Statement) -> Result<Order
         Err(stop) => Err(stop),
         Ok(what) => match values(alloc, store, it.ins.as_slice()) {
             Err(stop) => Err(stop),
-            Ok(params) => Ok(Order { what, params }),
+            Ok(params) => match area_name(alloc, store, &it.area) {
+                Err(stop) => Err(stop),
+                Ok(area) => Ok(Order { what, params, area }),
+            },
+        },
+    }
+}
+
+/// Reads the name of a descriptor whose contents are given, if there is one.
+fn area_name(alloc: Global, store: &Store, area: &Option<GivenText>) -> Result<Option<Bytes>, Stop>
+    ensures { Quiet result (area_read area.now) store.now store.now }
+{
+    match area {
+        None => Ok(None),
+        Some(text) => match given_text(alloc, store, text) {
+            Err(stop) => Err(stop),
+            Ok(name) => Ok(Some(name)),
+        },
+    }
+}
+
+/// Reads where rows go.
+pub(crate) fn read_targets<'h>(
+    alloc: Global,
+    store: &Store,
+    targets: &'h Destination,
+) -> Result<Outputs<'h>, Stop>
+    ensures { Quiet (outputs_seen result) (targets_read targets.now) store.now store.now }
+{
+    match targets {
+        Destination::Hosts(hosts) => Ok(Outputs::Hosts(hosts.as_slice())),
+        Destination::Area(text) => match given_text(alloc, store, text) {
+            Err(stop) => Err(stop),
+            Ok(name) => Ok(Outputs::Area(name)),
         },
     }
 }

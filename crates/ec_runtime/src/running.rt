@@ -9,9 +9,9 @@ ghost use Rattle.ec_link.specs.Slot.{states};
 ghost use Rattle.ec_link.specs.SlotState.{TakenAt};
 ghost use Rattle.ec_transfer_defs.specs.Area.{IsArea};
 ghost use Rattle.ec_call_defs.specs.Connections.{begun};
-ghost use Rattle.ec_runtime.specs.Does.{Over, OverNamed};
+ghost use Rattle.ec_runtime.specs.Does.{NamedWith, Over, OverWith};
 ghost use Rattle.ec_runtime.specs.Opening.{open_view};
-ghost use Rattle.ec_runtime.specs.Statements.{sent, carried, ordered, started, ran};
+ghost use Rattle.ec_runtime.specs.Statements.{IsThere, sent, carried, ordered, outputs_view, started, ran};
 ghost use Rattle.ec_call_defs.specs.Outcomes.{Text};
 ghost use Rattle.std.specs.declared.option.Option.{Option};
 
@@ -19,12 +19,12 @@ use crate::answering::answered;
 use crate::area::begin_area;
 use crate::call::Statement;
 use crate::control::send_control;
-use crate::host::Host;
 use crate::open::{Open, ask, is_due};
-use crate::order::{Order, read};
-use crate::requests::make_request;
+use crate::order::{Order, Outputs, read, read_targets};
+use crate::requests::{find_target, make_request};
 use crate::stop::Stop;
 use ec_base::Line;
+use ec_descriptors::Areas;
 use ec_link::{Link, Rack, Request};
 use ec_memory::Store;
 use std::alloc::Global;
@@ -63,23 +63,26 @@ fn send(
     store: &mut Store,
     rack: &mut Rack,
     session: &mut Open,
+    areas: &mut Areas,
     line: Line,
     request: Request,
-    hosts: &[Host],
+    outputs: &Outputs<'_>,
 ) -> Result<(), Stop>
     requires area { IsArea store.old }
     requires taken { TakenAt (states (slots_of rack.old)) (slot_of session.old.conn) }
     requires asks { IsAsk request }
-    ensures over { Over (talk_by ⟦<dyn Link as Link>⟧) (faults_by ⟦<dyn Link as Link>⟧)
-        (sent line.0 request hosts.now (slot_of session.old.conn))
-        store.old rack.old session.old store.new rack.new session.new result }
+    requires there { IsThere (outputs_view outputs.now) areas.old }
+    ensures over { OverWith (talk_by ⟦<dyn Link as Link>⟧) (faults_by ⟦<dyn Link as Link>⟧)
+        (sent line.0 request (outputs_view outputs.now) (slot_of session.old.conn))
+        store.old areas.old rack.old session.old
+        store.new areas.new rack.new session.new result }
     ensures kept { IsArea store.new }
     ensures still_taken { TakenAt (states (slots_of rack.new)) (slot_of session.new.conn) }
 {
     match ask(rack, session, request) {
         Err(_) => Err(Stop::OutOfMemory),
         Ok(()) => match rack.last_reply() {
-            Some(reply) => answered(store, line, hosts, reply),
+            Some(reply) => answered(store, areas, line, outputs, reply),
             None => unreachable!(),
         },
     }
@@ -91,47 +94,55 @@ fn carry_out(
     store: &mut Store,
     rack: &mut Rack,
     session: &mut Open,
+    areas: &mut Areas,
     line: Line,
     request: Request,
-    hosts: &[Host],
+    outputs: &Outputs<'_>,
 ) -> Result<(), Stop>
     requires area { IsArea store.old }
     requires taken { TakenAt (states (slots_of rack.old)) (slot_of session.old.conn) }
     requires asks { IsAsk request }
-    ensures over { Over (talk_by ⟦<dyn Link as Link>⟧) (faults_by ⟦<dyn Link as Link>⟧)
-        (carried line.0 request hosts.now (open_view session.old))
-        store.old rack.old session.old store.new rack.new session.new result }
+    requires there { IsThere (outputs_view outputs.now) areas.old }
+    ensures over { OverWith (talk_by ⟦<dyn Link as Link>⟧) (faults_by ⟦<dyn Link as Link>⟧)
+        (carried line.0 request (outputs_view outputs.now) (open_view session.old))
+        store.old areas.old rack.old session.old
+        store.new areas.new rack.new session.new result }
     ensures kept { IsArea store.new }
     ensures still_taken { TakenAt (states (slots_of rack.new)) (slot_of session.new.conn) }
 {
     match begin(alloc, store, rack, session, line) {
         Err(stop) => Err(stop),
-        Ok(()) => send(store, rack, session, line, request, hosts),
+        Ok(()) => send(store, rack, session, areas, line, request, outputs),
     }
 }
 
-/// The request is made of what is asked for, and carried out. A prepared statement is looked up before a transaction is
-/// begun.
+/// The request is made of what is asked for, and carried out. A prepared statement and the descriptors are looked up before
+/// a transaction is begun.
 fn carry_order(
     alloc: Global,
     store: &mut Store,
     rack: &mut Rack,
     session: &mut Open,
+    areas: &mut Areas,
     line: Line,
     order: Order,
-    hosts: &[Host],
+    outputs: &Outputs<'_>,
 ) -> Result<(), Stop>
     requires area { IsArea store.old }
     requires taken { TakenAt (states (slots_of rack.old)) (slot_of session.old.conn) }
-    ensures over { Over (talk_by ⟦<dyn Link as Link>⟧) (faults_by ⟦<dyn Link as Link>⟧)
-        (ordered line.0 order hosts.now (open_view session.old))
-        store.old rack.old session.old store.new rack.new session.new result }
+    ensures over { OverWith (talk_by ⟦<dyn Link as Link>⟧) (faults_by ⟦<dyn Link as Link>⟧)
+        (ordered line.0 order (outputs_view outputs.now) (open_view session.old))
+        store.old areas.old rack.old session.old
+        store.new areas.new rack.new session.new result }
     ensures kept { IsArea store.new }
     ensures still_taken { TakenAt (states (slots_of rack.new)) (slot_of session.new.conn) }
 {
-    match make_request(store, line, session, order) {
+    match make_request(store, areas, line, session, order) {
         Err(stop) => Err(stop),
-        Ok(request) => carry_out(alloc, store, rack, session, line, request, hosts),
+        Ok(request) => match find_target(store, areas, line, outputs) {
+            Err(stop) => Err(stop),
+            Ok(()) => carry_out(alloc, store, rack, session, areas, line, request, outputs),
+        },
     }
 }
 
@@ -141,20 +152,22 @@ fn start(
     store: &mut Store,
     rack: &mut Rack,
     session: &mut Open,
+    areas: &mut Areas,
     line: Line,
     order: Order,
-    hosts: &[Host],
+    outputs: &Outputs<'_>,
 ) -> Result<(), Stop>
     requires area { IsArea store.old }
     requires taken { TakenAt (states (slots_of rack.old)) (slot_of session.old.conn) }
-    ensures over { (name : Option Text) → OverNamed (talk_by ⟦<dyn Link as Link>⟧)
-        (faults_by ⟦<dyn Link as Link>⟧) name (started line.0 order hosts.now name)
-        store.old rack.old session.old store.new rack.new session.new result }
+    ensures over { (name : Option Text) → NamedWith (talk_by ⟦<dyn Link as Link>⟧)
+        (faults_by ⟦<dyn Link as Link>⟧) name (started line.0 order (outputs_view outputs.now) name)
+        store.old areas.old rack.old session.old
+        store.new areas.new rack.new session.new result }
     ensures kept { IsArea store.new }
     ensures still_taken { TakenAt (states (slots_of rack.new)) (slot_of session.new.conn) }
 {
     begin_area(store);
-    carry_order(alloc, store, rack, session, line, order, hosts)
+    carry_order(alloc, store, rack, session, areas, line, order, outputs)
 }
 
 /// ECPGdo.
@@ -163,22 +176,24 @@ pub(crate) fn run(
     store: &mut Store,
     rack: &mut Rack,
     session: &mut Open,
+    areas: &mut Areas,
     line: Line,
     it: &Statement,
 ) -> Result<(), Stop>
     requires area { IsArea store.old }
     requires taken { TakenAt (states (slots_of rack.old)) (slot_of session.old.conn) }
-    ensures over { (name : Option Text) → OverNamed (talk_by ⟦<dyn Link as Link>⟧)
+    ensures over { (name : Option Text) → NamedWith (talk_by ⟦<dyn Link as Link>⟧)
         (faults_by ⟦<dyn Link as Link>⟧) name (ran line.0 it.now name)
-        store.old rack.old session.old store.new rack.new session.new result }
+        store.old areas.old rack.old session.old
+        store.new areas.new rack.new session.new result }
     ensures kept { IsArea store.new }
     ensures still_taken { TakenAt (states (slots_of rack.new)) (slot_of session.new.conn) }
 {
     match read(alloc, store, it) {
         Err(stop) => Err(stop),
-        Ok(order) => {
-            let hosts = it.outs.as_slice();
-            start(alloc, store, rack, session, line, order, hosts)
-        }
+        Ok(order) => match read_targets(alloc, store, &it.outs) {
+            Err(stop) => Err(stop),
+            Ok(outputs) => start(alloc, store, rack, session, areas, line, order, &outputs),
+        },
     }
 }

@@ -48,7 +48,7 @@ fn stopped(store: &mut Store, line: Line, stop: ConvStop) -> Stop
 }
 
 /// Stores a field in the element of a row. A code ends the call, and a value that was cut is told.
-fn keep_field(
+pub(crate) fn keep_field(
     store: &mut Store,
     line: Line,
     host: &Host,

@@ -13,7 +13,7 @@ use Rattle.ec_writing_defs.specs.Shapes.{is_byte}
 use Rattle.ec_phases_defs.specs.translation.Accepted.{IsAcceptedText}
 use Rattle.ec_sim_source_laws.specs.run.Runs.{IsReadBackAs, IsRunOf, KeepsItsMeaning}
 use Rattle.ec_execute.specs.source.Meanings.{MeansSource, KeepsMeaning}
-use Rattle.ec_execute.specs.source.Runnable.{IsRunnable, IsRunAs, refused, accepted, run, limited, unmade}
+use Rattle.ec_execute.specs.source.Runnable.{IsRunnable, IsRunAs, refused, accepted, run, limited}
 
 text_in : Text → Result Text Stop → Text
 text_in w (Ok t) = t
@@ -47,7 +47,6 @@ module _ (single : HasOneTranslation)
       → IsProgram (text_of_program q) x → IsRunAs text q (Ok p) x → MeansSource p w
   run_as p q _ reads is (run x e) = run_of p q x reads is e
   run_as p q _ reads is (limited limit e) = absurd (cc)
-  run_as p q _ reads is (unmade kind line word u e) = absurd (cc)
 
   runs_too : (p : BoundProgram) → IsRunnable text (Ok p) → MeansSource p w
   runs_too p (refused stop reads e) = absurd (cc)

@@ -2,9 +2,6 @@
 use Rattle.std.proofs.Common.{◌≡◌, ◌∙◌, ◌<◌, ℕ, suc, true, ◌&&◌, [], ◌∷◌, refl, sym, ap, subst, Result, Ok, Err}
 use Rattle.std.proofs.lemmas.Bool.{lt-ltb}
 use Rattle.std.specs.Prelude.{get_or}
-use Rattle.ec_base.specs.declared.fault.FaultKind.{FaultKind}
-use Rattle.ec_base.specs.declared.fault.FaultKind.TheVariants.{F9}
-use Rattle.ec_base.specs.declared.line.Line.{Line}
 use Rattle.ec_base.specs.declared.stop.Stop.{Stop}
 use Rattle.ec_base.specs.declared.stop.Stop.TheVariants.{Refused, Limit, OutOfMemory}
 use Rattle.ec_execute.specs.declared.executable.Executable.{Executable}
@@ -20,8 +17,8 @@ use Rattle.ec_phases_defs.specs.translation.Translations.{text_of_program, trans
 use Rattle.ec_writing_defs.specs.Shapes.{is_byte}
 use Rattle.ec_phases_defs.specs.translation.Accepted.{IsAcceptedText}
 use Rattle.ec_sim_source_laws.specs.run.Runs.{IsRunOf}
-use Rattle.ec_execute.specs.source.Answers.{RefusesWritten, TellsRunnable}
-use Rattle.ec_execute.specs.source.Runnable.{IsUnmadeIn, refused, accepted, run, limited, unmade}
+use Rattle.ec_execute.specs.source.Answers.{TellsRunnable}
+use Rattle.ec_execute.specs.source.Runnable.{refused, accepted, run, limited}
 
 -- ---- the text
 
@@ -89,21 +86,8 @@ module _ (single : HasOneTranslation)
         means = (runs text s.program accepted_is x (here x is)).means;
       }
 
-  -- a program that is the source of which this is written
-  program_in : (q : BoundProgram) → ReadsSource text (Ok q) → text_of_program q ≡ w
-  unfolding text_in
-  program_in q reads = ap (text_in w) (single text (Ok (text_of_program q)) (Ok w) (translation (Ok q) reads refl) h)
-
-  unmade_told : (kind : FaultKind) (line word : Line) → IsProgram w (Err (Refused kind line)) → IsUnmadeIn text word → TellsRunnable text (Err (Refused F9 word))
-  unmade_told kind line word is u =
-      accepted u.program (Err (Refused kind line)) u.reads (subst (λ t. IsProgram t (Err (Refused kind line))) (sym (program_in u.program u.reads)) is)
-      (unmade kind line word u.unmade refl)
-
-  pub told_on : (stop told : Stop) → TellsProgram w (Err stop) → RefusesWritten text stop told → TellsRunnable text (Err told)
-  told_on (Refused kind line) (Refused fault word) is r = subst (λ f. TellsRunnable text (Err (Refused f word))) (sym r.0) (unmade_told kind line word is r.1)
-  told_on (Refused kind line) (Limit limit) is r = absurd r
-  told_on (Refused kind line) OutOfMemory is r = tt
-  told_on (Limit limit) told is r =
-      subst (λ s. TellsRunnable text (Err s)) (sym r)
-      (accepted s.program (Err (Limit limit)) s.reads (here (Err (Limit limit)) is) (limited limit refl))
-  told_on OutOfMemory told is r = subst (λ s. TellsRunnable text (Err s)) (sym r) tt
+  -- what is written isn't refused, but may pass a limit
+  pub told_on : (stop : Stop) → TellsProgram w (Err stop) → TellsRunnable text (Err stop)
+  told_on (Refused kind line) is = absurd (runs text s.program accepted_is (Err (Refused kind line)) (here (Err (Refused kind line)) is))
+  told_on (Limit limit) is = accepted s.program (Err (Limit limit)) s.reads (here (Err (Limit limit)) is) (limited limit refl)
+  told_on OutOfMemory is = tt

@@ -1,6 +1,5 @@
 -- What reading a source to run it answers. Want of memory is the one answer that says nothing of it.
 use Rattle.std.specs.Prelude.{◌≡◌, ℕ, ⊤, List, Option, Result, Ok, Err}
-use Rattle.ec_base.specs.declared.fault.FaultKind.TheVariants.{F9}
 use Rattle.ec_base.specs.declared.stop.Stop.{Stop}
 use Rattle.ec_base.specs.declared.stop.Stop.TheVariants.{Refused, Limit, OutOfMemory}
 use Rattle.ec_meaning_defs.specs.evaluation.State.{Answer}
@@ -9,7 +8,7 @@ use Rattle.ec_execute.specs.Executables.{executable_view}
 use Rattle.ec_execution_defs.specs.Programs.{meaning}
 use Rattle.ec_language.specs.Letters.{Text}
 use Rattle.ec_phases_defs.specs.Sources.{BoundProgram}
-use Rattle.ec_execute.specs.source.Runnable.{IsRunnable, IsUnmadeIn, source_meaning}
+use Rattle.ec_execute.specs.source.Runnable.{IsRunnable, source_meaning}
 
 -- an executable that means what the source means
 pub record RunsSource (text : Text) (executable : Executable) : Type 0 where
@@ -25,11 +24,3 @@ TellsRunnable text (Ok executable) = RunsSource text executable
 TellsRunnable text (Err (Refused kind line)) = IsRunnable text (Err (Refused kind line))
 TellsRunnable text (Err (Limit limit)) = IsRunnable text (Err (Limit limit))
 TellsRunnable text (Err OutOfMemory) = ⊤
-
--- Why a source isn't run whose written C is refused for this
-abbrev pub RefusesWritten : Text → Stop → Stop → Type 0
-RefusesWritten text (Refused kind line) (Refused fault word) = (fault ≡ F9) × IsUnmadeIn text word
-RefusesWritten text (Refused kind line) (Limit limit) = ⊥
-RefusesWritten text (Refused kind line) OutOfMemory = ⊤
-RefusesWritten text (Limit limit) told = told ≡ Limit limit
-RefusesWritten text OutOfMemory told = told ≡ OutOfMemory

@@ -2,31 +2,16 @@
 
 ghost use Rattle.std.specs.Prelude.{◌≡◌, Ok};
 ghost use Rattle.ec_phases_defs.specs.translation.Translations.{IsTranslation};
-ghost use Rattle.ec_execute.specs.source.Answers.{RefusesWritten, TellsRunnable};
+ghost use Rattle.ec_execute.specs.source.Answers.{TellsRunnable};
 
-use crate::source::unmade::unmade_line;
 use crate::{Executable, read_program};
-use ec_base::{FaultKind, Stop};
+use ec_base::Stop;
 use ec_front::translation::translate;
 use ec_phases_defs::translation::translations_are_single;
 use ec_sim_source_laws::run::written_texts_are_run;
 use std::alloc::Global;
 
-// Why a source isn't run whose written C isn't: a call is made that the library doesn't make yet, or a limit is passed.
-fn refusal(alloc: Global, text: &[u8], stop: Stop) -> Stop
-    ensures { RefusesWritten text.now stop result }
-{
-    match stop {
-        Stop::Refused(_, _) => match unmade_line(alloc, text) {
-            Some(line) => Stop::Refused(FaultKind::F9, line),
-            None => Stop::OutOfMemory,
-        },
-        Stop::Limit(limit) => Stop::Limit(limit),
-        Stop::OutOfMemory => Stop::OutOfMemory,
-    }
-}
-
-// The executable of the C that is written of a source. It is the source that is refused where what is written isn't run.
+// The executable of the C that is written of a source. It is the source that is refused where what is written passes a limit.
 fn read_back(alloc: Global, text: &[u8], written: &[u8]) -> Result<Executable, Stop>
     requires { IsTranslation text.now (Ok written.now) }
     ensures { TellsRunnable text.now result }
@@ -35,7 +20,7 @@ fn read_back(alloc: Global, text: &[u8], written: &[u8]) -> Result<Executable, S
     translations_are_single();
     match read_program(alloc, written) {
         Ok(executable) => Ok(executable),
-        Err(stop) => Err(refusal(alloc, text, stop)),
+        Err(stop) => Err(stop),
     }
 }
 
@@ -43,8 +28,8 @@ fn read_back(alloc: Global, text: &[u8], written: &[u8]) -> Result<Executable, S
 ///
 /// # Errors
 ///
-/// What `translate` refuses the source for. Of a source that is accepted: F9 on the line of the first word behind EXEC SQL of the first
-/// statement whose call the library doesn't make yet; and the limits L2, L3 and L6 where the C that is written passes one.
+/// What `translate` refuses the source for. Of a source that is accepted: the limits L2, L3 and L6 where the C that is written
+/// passes one.
 pub fn read_source(alloc: Global, text: &[u8]) -> Result<Executable, Stop>
     ensures { TellsRunnable text.now result }
 {

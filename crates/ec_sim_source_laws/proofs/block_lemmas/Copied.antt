@@ -55,7 +55,8 @@ use Rattle.ec_sim_world_laws.specs.call.Pointers.{text_there}
 use Rattle.ec_sim_statement_laws.specs.expression.Alike.{SameStorage}
 use Rattle.ec_sim_statement_laws.specs.expression.Rules.{none_before, none_behind}
 use Rattle.ec_sim_statement_laws.specs.expression.Worlds.{AreAlike}
-use Rattle.ec_sim_world_laws.specs.growth.Growth.{Begins, Grows}
+use Rattle.ec_meaning_defs.specs.observed.Run.{IsFront}
+use Rattle.ec_sim_world_laws.specs.growth.Growth.{Grows}
 use Rattle.ec_sim_world_laws.proofs.growth_lemmas.Rules.{grows_further, demand_same}
 use Rattle.ec_sim_world_laws.specs.test.Area.{KnowsArea}
 use Rattle.ec_sim_world_laws.specs.test.Laws.{TestsFound, TellsActions}
@@ -246,7 +247,7 @@ module _ (laws : StatementLaws) (below : LawsBelow) (u : UnitData) (hosts : List
 
       got_row : slice_get z.denoted n ≡ Some (denoted_in w names)
       got_row =
-          (λ i. slice_get (grows_behind.denoted.is i) ((is_next ∙ sym come.denoted) i))
+          (λ i. slice_get (grows_behind.denoted.same i) ((is_next ∙ sym come.denoted) i))
           ∙ get_front (w.denoted ++ denoted_in w names ∷ []) grows_behind.denoted.rest (length w.denoted) (get_last w.denoted (denoted_in w names) [])
 
       row_is : row ≡ denoted_in w names
@@ -420,8 +421,8 @@ module _ (laws : StatementLaws) (below : LawsBelow) (u : UnitData) (hosts : List
       statements_same : s1.statements ≡ s.statements
       statements_same = tested.adds_none.statements
 
-      sites_grow : Begins s.sites s1.sites
-      sites_grow = subst (λ r. Begins s.sites r.storage.sites) resolved_here ((laws.walk u u.embs labels at n e).sites s w)
+      sites_grow : IsFront s.sites s1.sites
+      sites_grow = subst (λ r. IsFront s.sites r.storage.sites) resolved_here ((laws.walk u u.embs labels at n e).sites s w)
 
       known_at_end : IsKnown u (with_statement form s1) w1
       known_at_end = subst (λ r. IsKnown u r.storage r.world) resolved_here ((laws.walk u u.embs labels at n e).known s w come.known)
@@ -453,9 +454,9 @@ module _ (laws : StatementLaws) (below : LawsBelow) (u : UnitData) (hosts : List
 
       -- ---- the block stands where the statement stood
 
-      module _ (begin : Begins (s1.statements ++ form ∷ []) forms) (begin_calls : Begins y3.calls calls) where
+      module _ (begin : IsFront (s1.statements ++ form ∷ []) forms) (begin_calls : IsFront y3.calls calls) where
         forms_begin : forms ≡ (s.statements ++ form ∷ []) ++ begin.rest
-        forms_begin = begin.is ∙ (λ i. (statements_same i ++ form ∷ []) ++ begin.rest)
+        forms_begin = begin.same ∙ (λ i. (statements_same i ++ form ∷ []) ++ begin.rest)
 
         is_form : form_of n forms ≡ Some form
         is_form = (λ i. form_of n (forms_begin i)) ∙ form_last s.statements form begin.rest count behind (come.in_order ∙ in_numbers)
@@ -473,7 +474,7 @@ module _ (laws : StatementLaws) (below : LawsBelow) (u : UnitData) (hosts : List
 
         is_call_there : slice_get calls (length y.calls) ≡ Some (name_of (call_of t.structs same_call.statement), arguments (cut_of_statement t.structs e.line.0 same_call.statement))
         is_call_there =
-            (λ i. slice_get ((begin_calls.is ∙ (λ j. tested.adds_none_there.calls j ++ begin_calls.rest)) i) (length y.calls))
+            (λ i. slice_get ((begin_calls.same ∙ (λ j. tested.adds_none_there.calls j ++ begin_calls.rest)) i) (length y.calls))
             ∙ get_front (y.calls ++ made ∷ []) begin_calls.rest (length y.calls) (get_last y.calls made [])
             ∙ (λ i. Some (made_is i))
 
@@ -510,8 +511,8 @@ module _ (laws : StatementLaws) (below : LawsBelow) (u : UnitData) (hosts : List
           block = same.block ∙ sym ((handlers_pass u.embs labels at e plain).block s w1);
         };
         to_come = come_behind;
-        forms_grow = record { rest = form ∷ []; is = λ i. statements_same i ++ form ∷ [] };
-        calls_grow = record { rest = made ∷ []; is = tested.adds_none_there.calls };
+        forms_grow = record { rest = form ∷ []; same = λ i. statements_same i ++ form ∷ [] };
+        calls_grow = record { rest = made ∷ []; same = tested.adds_none_there.calls };
         like = λ begin begin_calls. is_written begin begin_calls;
         functions = λ begin begin_calls before.
             subst (λ fs. AreFunctionCopies g.Stands s1.functions fs) (sym tested.adds_none_there.functions)

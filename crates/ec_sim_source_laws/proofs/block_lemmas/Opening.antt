@@ -262,7 +262,7 @@ module _ (below : LawsBelow) (again : ReferencesAreFoundAgain) (found_there : Re
     -- what its names denote
     row_there : row_at z.denoted o.number ≡ denoted_in f.found.before (names_of d)
     row_there =
-        row_is z.denoted o.number ((λ i. slice_get (grows.denoted.is i) o.number) ∙ get_front w.denoted grows.denoted.rest o.number f.is_row)
+        row_is z.denoted o.number ((λ i. slice_get (grows.denoted.same i) o.number) ∙ get_front w.denoted grows.denoted.rest o.number f.is_row)
         ∙ f.found.denoted
         ∙ (λ i. denoted_in f.found.before (variables_of u.embs (numbered.number i) (emb_is i)))
         ∙ (λ i. denoted_in f.found.before (append-nil (names_of d) i))

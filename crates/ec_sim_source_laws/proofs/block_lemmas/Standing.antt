@@ -21,7 +21,8 @@ use Rattle.ec_sim_world_laws.specs.call.Pointers.{AreSimple, text_there}
 use Rattle.ec_sim_world_laws.specs.closing.Closing.{AreInTheirOrder, HaveTypes, ListedStay}
 use Rattle.ec_sim_world_laws.specs.closing.Laws.{WithTypesAreListed, HadTypes}
 use Rattle.ec_sim_statement_laws.specs.expression.Worlds.{KeepsReserved, AllKeepReserved, AreAlike}
-use Rattle.ec_sim_world_laws.specs.growth.Growth.{is_unlisted, Begins, Grows}
+use Rattle.ec_meaning_defs.specs.observed.Run.{IsFront}
+use Rattle.ec_sim_world_laws.specs.growth.Growth.{is_unlisted, Grows}
 use Rattle.ec_sim_world_laws.proofs.growth_lemmas.Rules.{begins_itself, begins_further, grows_further}
 use Rattle.ec_sim_world_laws.specs.known.Known.{IsFound, AreFound}
 use Rattle.ec_sim_world_laws.specs.place.References.{IsDeclared, NamesAreDeclared}
@@ -118,13 +119,13 @@ grows_denoting names w = record {
   written = refl;
   defined = refl;
   types = begins_itself w.types;
-  denoted = record { rest = denoted_in w names ∷ []; is = refl };
+  denoted = record { rest = denoted_in w names ∷ []; same = refl };
   closed = begins_itself w.closed;
   structs = λ k info is e. is;
 }
 
 -- what was found of statements stays so, and of one more it is
-module _ (u : UnitData) (s r : Storage) (w z : World) (g : Grows w z) (sites : Begins s.sites r.sites) where
+module _ (u : UnitData) (s r : Storage) (w z : World) (g : Grows w z) (sites : IsFront s.sites r.sites) where
   found_still : (f : StatementForm) (row : Denoted) → IsFound u s w f row → IsFound u r z f row
   found_still f row h = record {
     emb = h.emb;

@@ -1,20 +1,17 @@
 -- The text that is written of an accepted source is run as what is written.
 use Rattle.std.proofs.Common.{◌≡◌, ◌∙◌, ℕ, true, false, List, [], refl, sym, ap, subst, Option, Some, None, Result, Ok, Err, ◌⊎◌, inl, inr}
-use Rattle.ec_base.specs.declared.fault.FaultKind.TheVariants.{F16}
 use Rattle.ec_base.specs.declared.fault.LimitKind.TheVariants.{L2, L3, L6}
 use Rattle.ec_base.specs.declared.fault.LimitKind.{LimitKind}
-use Rattle.ec_base.specs.declared.line.Line.{Line}
 use Rattle.ec_base.specs.declared.stop.Stop.{Stop}
-use Rattle.ec_base.specs.declared.stop.Stop.TheVariants.{Refused, Limit, OutOfMemory}
+use Rattle.ec_base.specs.declared.stop.Stop.TheVariants.{Limit}
 use Rattle.ec_ctypes.specs.trees.Checked.{BoundData, TypedData}
 use Rattle.ec_ctypes.specs.trees.Units.{UnitData}
 use Rattle.ec_direct_defs.specs.Direct.{direct_meaning}
 use Rattle.ec_meaning_defs.specs.evaluation.State.{Answer}
-use Rattle.ec_execution_defs.specs.Programs.{Executable, executable, unless_unmade, resolved, IsProgram, left_of, meaning}
+use Rattle.ec_execution_defs.specs.Programs.{Executable, executable, resolved, IsProgram, left_of, meaning}
 use Rattle.ec_expansion_defs.specs.Programs.{written_program}
 use Rattle.ec_language.specs.First.{Violation, first_of, stop_at, Reads}
 use Rattle.ec_language.specs.Letters.{Text}
-use Rattle.ec_execution_defs.specs.library_calls.LibraryCalls.{first_unmade_call}
 use Rattle.ec_phases_defs.specs.Sources.{bound_from, BoundProgram}
 use Rattle.ec_readback_laws.specs.ReadBack.{read_back, IsReadBack}
 use Rattle.ec_host_defs.specs.sections.Answers.{hosts_answer}
@@ -59,12 +56,6 @@ keeps_its_meaning p same bound turns ready answers = sym (same turns ready answe
 
 -- ---- what it is run as
 
-by_call : (p : BoundProgram) (v : UnitData) (found : Option Line) → v ≡ written_program p.program p.bounds → first_unmade_call v ≡ found
-    → ((turns : ℕ) (ready : Option (ℕ × List ℕ)) (answers : List Answer) → meaning (executable v) turns ready answers ≡ direct_meaning p.program turns ready answers)
-    → IsRunOf p (unless_unmade found (executable v))
-by_call p v None same e m = record { is = ap executable same; means = m }
-by_call p v (Some line) same e m = (refl, ap first_unmade_call (sym same) ∙ e)
-
 meant : (p : BoundProgram) → MeanTheSame p.program → bound_from p.program 0 p.program.unit.embs ≡ Ok p.bounds → (turns : ℕ) (ready : Option (ℕ × List ℕ)) (answers : List Answer)
     → meaning (executable (written_program p.program p.bounds)) turns ready answers ≡ direct_meaning p.program turns ready answers
 unfolding meaning
@@ -79,7 +70,7 @@ run_of p same bound none hosts back x (left_of read reads e) = subst (IsRunOf p)
     by_tree : (tree : Result UnitData Stop) → IsReadBack (written_program p.program p.bounds) tree → IsRunOf p (resolved (checked_written tree))
     by_tree tree (inl is) =
         subst (λ t. IsRunOf p (resolved t)) (sym (read_again (written_program p.program p.bounds) tree refl is ∙ checked_is (written_program p.program p.bounds) (hosts_of (written_program p.program p.bounds)) hosts none))
-        (by_call p (written_program p.program p.bounds) (first_unmade_call (written_program p.program p.bounds)) refl refl (meant p same bound))
+        (record { is = refl; means = meant p same bound })
     by_tree tree (inr (inl is)) = subst (λ t. IsRunOf p (resolved (checked_written t))) (sym is) (subst (λ t. IsRunOf p (resolved t)) (sym (limited L2)) (inl refl))
     by_tree tree (inr (inr (inl is))) = subst (λ t. IsRunOf p (resolved (checked_written t))) (sym is) (subst (λ t. IsRunOf p (resolved t)) (sym (limited L3)) (inr (inl refl)))
     by_tree tree (inr (inr (inr is))) = subst (λ t. IsRunOf p (resolved (checked_written t))) (sym is) (subst (λ t. IsRunOf p (resolved t)) (sym (limited L6)) (inr (inr refl)))

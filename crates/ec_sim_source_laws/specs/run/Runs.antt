@@ -1,6 +1,5 @@
 -- What is written of an accepted source, as a text: what that is read as and means, and as what it is run.
-use Rattle.std.specs.Prelude.{◌≡◌, ◌⊎◌, ℕ, List, Option, Some, Result, Ok, Err}
-use Rattle.ec_base.specs.declared.fault.FaultKind.TheVariants.{F16}
+use Rattle.std.specs.Prelude.{◌≡◌, ◌⊎◌, ℕ, List, Option, Result, Ok, Err}
 use Rattle.ec_base.specs.declared.fault.LimitKind.TheVariants.{L2, L3, L6}
 use Rattle.ec_base.specs.declared.stop.Stop.{Stop}
 use Rattle.ec_base.specs.declared.stop.Stop.TheVariants.{Refused, Limit, OutOfMemory}
@@ -11,7 +10,6 @@ use Rattle.ec_meaning_defs.specs.evaluation.State.{Answer}
 use Rattle.ec_execution_defs.specs.Programs.{Executable, executable, meaning}
 use Rattle.ec_expansion_defs.specs.Programs.{written_program}
 use Rattle.ec_language.specs.Letters.{Text}
-use Rattle.ec_execution_defs.specs.library_calls.LibraryCalls.{first_unmade_call}
 use Rattle.ec_phases_defs.specs.Sources.{BoundProgram}
 use Rattle.ec_direct_defs.specs.simulation.Written.{written_meaning}
 use Rattle.ec_phases_defs.specs.written.Written.{ReadsWritten}
@@ -42,10 +40,9 @@ pub record MeansSource (p : BoundProgram) (x : Executable) : Type 0 where
   pub means : (turns : ℕ) (ready : Option (ℕ × List ℕ)) (answers : List Answer)
       → meaning x turns ready answers ≡ direct_meaning p.program turns ready answers
 
--- What its text is run as: that program, unless it passes a limit of texts, of tokens or of nesting, or makes a call that the library doesn't make yet
+-- What its text is run as: that program, unless it passes a limit of texts, of tokens or of nesting
 abbrev pub IsRunOf : BoundProgram → Result Executable Stop → Type 0
 IsRunOf p (Ok x) = MeansSource p x
-IsRunOf p (Err (Refused kind line)) =
-    (kind ≡ F16) × (first_unmade_call (written_program p.program p.bounds) ≡ Some line)
+IsRunOf p (Err (Refused kind line)) = ⊥
 IsRunOf p (Err (Limit limit)) = (limit ≡ L2) ⊎ (limit ≡ L3) ⊎ (limit ≡ L6)
 IsRunOf p (Err OutOfMemory) = ⊥

@@ -15,7 +15,7 @@ use ec_readback_laws::written_programs_are_read_back;
 use ec_written_laws::written_sources::sources_are_written_in_shape;
 
 /// The text that is written of an accepted source is run as the program that is written, which means what the source means;
-/// unless it passes a limit, or makes a call that the library doesn't make yet.
+/// unless it passes a limit.
 #[tactic(none)]
 pub fn written_texts_are_run()
     ensures { (text : Text) (p : BoundProgram) → IsAcceptedText text p

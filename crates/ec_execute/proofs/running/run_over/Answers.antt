@@ -6,7 +6,7 @@ use Rattle.ec_execute.proofs.running.run_over.Goals as goal
 pub returns-in-Ok : goal.returns-in-Ok
 returns-in-Ok g c =
     over_first _ _ g.O.Sink.held g.O.Sink.faults g.E.Sink.held g.E.Sink.faults (executable_view c.args.executable.now) c.args.turns _ _ _ _ c.open_ready.new.self c.args.rack.now c.open_ready.new.rack c.carry_out.new.rack c.carry_out.result
-    c.in-Ok.ensures.ok c.open_ready.ensures.log c.carry_out.ensures
+    c.in-Ok.ensures.ok (c.open_ready.ensures.descriptors ∙ c.new-library.ensures.descriptors) c.open_ready.ensures.log c.carry_out.ensures
 
 pub returns-in-Err : goal.returns-in-Err
 returns-in-Err g c =

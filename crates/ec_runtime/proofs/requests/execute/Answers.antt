@@ -9,9 +9,9 @@ pub returns-in-None-clause-quiet : goal.returns-in-None-clause-quiet
 returns-in-None-clause-quiet g c =
     no_execution c.args.line.0 c.args.name (open_view c.args.session.now) c.args.store.now c.refuse.new.store c.refuse.result
     ((λ j. prepared_text (sym c.as_slice-2.ensures j) (prepared_views (sym c.as_slice.ensures j))) ∙ sym c.in-None.ensures)
-    c.refuse.ensures.area c.refuse.ensures.stop c.args.params
+    c.refuse.ensures.area c.refuse.ensures.stop
 
 pub returns-in-Some-clause-quiet : goal.returns-in-Some-clause-quiet
 returns-in-Some-clause-quiet g c =
     executes c.args.line.0 c.args.name (open_view c.args.session.now) c.args.store.now c.in-Some.field-0.now
-    ((λ j. prepared_text (sym c.as_slice-2.ensures j) (prepared_views (sym c.as_slice.ensures j))) ∙ sym c.in-Some.ensures) c.args.params
+    ((λ j. prepared_text (sym c.as_slice-2.ensures j) (prepared_views (sym c.as_slice.ensures j))) ∙ sym c.in-Some.ensures)

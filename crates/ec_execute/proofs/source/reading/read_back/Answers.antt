@@ -10,4 +10,4 @@ returns-in-Ok c =
 pub returns-in-Err : goal.returns-in-Err
 returns-in-Err c =
     told_on c.translations_are_single.ensures.one c.written_texts_are_run.ensures c.args.text.now c.args.written.now
-    (bytes_are c.args.text.now (λ i. omega (arith, c.type_inv.text i))) c.requires c.in-Err.stop c.refusal.result c.in-Err.ensures.answer c.refusal.ensures
+    (bytes_are c.args.text.now (λ i. omega (arith, c.type_inv.text i))) c.requires c.in-Err.stop c.in-Err.ensures.answer
