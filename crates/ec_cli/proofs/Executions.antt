@@ -1,19 +1,15 @@
--- From the run of a program to what is promised of a call that runs a source or written C.
+-- From the run of a program to what is promised of a call that runs a text.
 use Rattle.std.proofs.Common.{◌≡◌, ℕ, ◌≤◌, ◌^◌, List, [], ◌++◌, length, refl, ap, sym, ◌∙◌, subst, arith, Option, Some, inl, inr, Result, Ok, Err}
-use Rattle.std.specs.Prelude.{◌⊎◌, ◌↔◌}
+use Rattle.std.specs.Prelude.{◌⊎◌}
 use Rattle.std.specs.declared.alloc.Global.{Global as Allocator}
 use Rattle.std.specs.declared.dyn_box.DynBox.{DynBox}
 use Rattle.ec_base.specs.declared.fault.FaultKind.{FaultKind}
 use Rattle.ec_base.specs.declared.fault.LimitKind.{LimitKind}
 use Rattle.ec_base.specs.declared.fault.LimitKind.TheVariants.{L1, L2, L3, L4, L5, L6, L7, L8, L9, L10, L11}
 use Rattle.ec_base.specs.declared.line.Line.{Line}
-use Rattle.ec_base.specs.declared.stop.InputStop.{InputStop}
-use Rattle.ec_base.specs.declared.stop.InputStop.TheVariants as input_stop
 use Rattle.ec_base.specs.declared.stop.Stop.{Stop}
 use Rattle.ec_base.specs.declared.stop.Stop.TheVariants as stops
 use Rattle.ec_base.specs.Causes.{Rose}
-use Rattle.ec_base.specs.Reading.{ReadsAll, ReadsPart}
-use Rattle.ec_base.proofs.Transfers.{Reads-none, ReadsAll-text, ReadsPart-long}
 use Rattle.ec_link.proofs.Runs.{growth_of-grown}
 use Rattle.ec_link.specs.declared.logged.Logged.{Logged}
 use Rattle.ec_link.specs.declared.rack.Rack.{Rack}
@@ -22,7 +18,7 @@ use Rattle.ec_link.specs.Rack.{slots_of, log_of}
 use Rattle.ec_link.specs.Slot.{states, link_at, talk_at}
 use Rattle.ec_link.specs.SlotState.{ready_slot}
 use Rattle.ec_link.specs.Told.{KeepsTalks, SparesDropped}
-use Rattle.ec_meaning_defs.specs.observed.Headline.{IsRead, RefusesAt, ReadsWithin}
+use Rattle.ec_meaning_defs.specs.observed.Headline.{ReadsWithin}
 use Rattle.ec_meaning_defs.specs.observed.Observed.{answers_in}
 use Rattle.ec_meaning_defs.specs.evaluation.State as evaluation
 use Rattle.ec_meaning_defs.specs.evaluation.State.{Answer}
@@ -36,17 +32,20 @@ use Rattle.ec_execute.specs.Answers.{TellsProgram}
 use Rattle.ec_execute.specs.Ends.{Performs}
 use Rattle.ec_execute.specs.Executables.{executable_view}
 use Rattle.ec_execute.specs.Runs.{Connects, Ran}
-use Rattle.ec_cli.specs.Answers.{IsCrowded, grown}
-use Rattle.ec_cli.specs.Executing.{IsOfProgram, IsOfCarried, IsOfExecution, EndsAs, ending_of_program, limit_of, text_refusal, IsRefusedAs, PassesAs, DecidesExecution, meaning_over, Untouched, CarriedOut, CarriedPart, Carries, RefusesText, ExecutesText, Executes}
-use Rattle.ec_cli.specs.Forms.{Program, IsRunAs, Meaning, meaning_as, RunsText, TellsRun}
+use Rattle.ec_cli.specs.Answers.{IsCrowded, ComesWhere, grown}
+use Rattle.ec_cli.specs.Executing.{IsOfProgram, IsOfCarried, IsOfExecution, EndsAs, ending_of_program, limit_of, text_refusal, RefusesRun, PassesAs, DecidesExecution, meaning_over, Untouched, CarriedOut, CarriedPart, Carries, RefusesText, ExecutesText, Executes}
+use Rattle.ec_cli.specs.Forms.{Program, IsRunAs, Meaning, meaning_as, reports, RunsText, TellsRun}
 use Rattle.ec_cli.specs.Racks.{RunsOver}
+use Rattle.ec_cli.specs.Reports.{reported}
+use Rattle.ec_cli.specs.Taking.{Gives, limit_on, IsWithin, IsLarge, IsPassed, Takes, Lacks}
 use Rattle.ec_cli.specs.declared.form.Form.{Form}
-use Rattle.ec_cli.specs.declared.form.Form.TheVariants.{Source, Written}
+use Rattle.ec_cli.specs.declared.form.Form.TheVariants.{Source, Written, Generated}
 use Rattle.ec_execute.specs.source.Answers.{TellsRunnable}
 use Rattle.ec_cli.specs.declared.ending.Ending.{Ending}
 use Rattle.ec_cli.specs.declared.ending.Ending.TheVariants.{Wrote, Exited, Trapped, TurnsSpent, Usage, Refused, Limit, ReadFault, WriteFault, OutOfMemory}
 use Rattle.ec_cli.proofs.SameRack.{same_log, same_talks, same_links, same_dropped}
 use Rattle.ec_cli.proofs.Sessions as session
+use Rattle.ec_cli.proofs.Unread.{unread_within}
 
 either : {A B C : Type 0} → (A → C) → (B → C) → A ⊎ B → C
 either f g (inl a) = f a
@@ -82,19 +81,19 @@ carried_is_own (Refused kind line) h = tt
 carried_is_own (Limit kind) h = tt
 carried_is_own ReadFault h = tt
 
--- every limit but that on slots is one of a text
-pub limit_same : (kind : LimitKind) → (kind ≡ L7 → ⊥) → Limit kind ≡ limit_of kind
-limit_same L1 h = refl
-limit_same L2 h = refl
-limit_same L3 h = refl
-limit_same L4 h = refl
-limit_same L5 h = refl
-limit_same L6 h = refl
-limit_same L7 h = absurd (h refl)
-limit_same L8 h = refl
-limit_same L9 h = refl
-limit_same L10 h = refl
-limit_same L11 h = refl
+-- every limit but those on slots and on numbers is one of a text
+limit_same : (kind : LimitKind) → (kind ≡ L7 → ⊥) → (kind ≡ L8 → ⊥) → Limit kind ≡ limit_of kind
+limit_same L1 h k = refl
+limit_same L2 h k = refl
+limit_same L3 h k = refl
+limit_same L4 h k = refl
+limit_same L5 h k = refl
+limit_same L6 h k = refl
+limit_same L7 h k = absurd (h refl)
+limit_same L8 h k = absurd (k refl)
+limit_same L9 h k = refl
+limit_same L10 h k = refl
+limit_same L11 h k = refl
 
 -- ---- a text that is read
 
@@ -103,6 +102,12 @@ source_told text (Ok executable) r = record { program = r.program; is = r.is; me
 source_told text (Err (stops.Refused kind line)) h = h
 source_told text (Err (stops.Limit kind)) h = h
 source_told text (Err stops.OutOfMemory) h = h
+
+pub generated_told : (number : ℕ) (text : List ℕ) (answer : Result execute.Executable Stop) → TellsRunnable text answer → TellsRun (Generated number) text answer
+generated_told number text (Ok executable) r = record { program = r.program; is = r.is; means = r.means }
+generated_told number text (Err (stops.Refused kind line)) h = h
+generated_told number text (Err (stops.Limit kind)) h = h
+generated_told number text (Err stops.OutOfMemory) h = h
 
 pub written_told : (text : List ℕ) (answer : Result execute.Executable Stop) → TellsProgram text answer → TellsRun Written text answer
 written_told text (Ok executable) h = record { program = executable_view executable; is = h; means = λ turns ready answers. refl }
@@ -113,17 +118,17 @@ written_told text (Err stops.OutOfMemory) h = h
 -- ---- a text that is refused
 
 limited : (form : Form) (text : List ℕ) (kind : LimitKind) → IsRunAs form text (Err (stops.Limit kind)) → RefusesText form text (limit_of kind)
-limited form text L1 h = (λ e. cc (e), h)
-limited form text L2 h = (λ e. cc (e), h)
-limited form text L3 h = (λ e. cc (e), h)
-limited form text L4 h = (λ e. cc (e), h)
-limited form text L5 h = (λ e. cc (e), h)
-limited form text L6 h = (λ e. cc (e), h)
+limited form text L1 h = (λ e. cc (e), λ e. cc (e), h)
+limited form text L2 h = (λ e. cc (e), λ e. cc (e), h)
+limited form text L3 h = (λ e. cc (e), λ e. cc (e), h)
+limited form text L4 h = (λ e. cc (e), λ e. cc (e), h)
+limited form text L5 h = (λ e. cc (e), λ e. cc (e), h)
+limited form text L6 h = (λ e. cc (e), λ e. cc (e), h)
 limited form text L7 h = tt
-limited form text L8 h = (λ e. cc (e), h)
-limited form text L9 h = (λ e. cc (e), h)
-limited form text L10 h = (λ e. cc (e), h)
-limited form text L11 h = (λ e. cc (e), h)
+limited form text L8 h = tt
+limited form text L9 h = (λ e. cc (e), λ e. cc (e), h)
+limited form text L10 h = (λ e. cc (e), λ e. cc (e), h)
+limited form text L11 h = (λ e. cc (e), λ e. cc (e), h)
 
 pub refuses : (form : Form) (text : List ℕ) (stop : Stop) → TellsRun form text (Err stop) → RefusesText form text (text_refusal stop)
 refuses form text (stops.Refused kind line) h = h
@@ -154,10 +159,10 @@ refused_is_own form text ReadFault h = tt
 refused_is_own form text WriteFault h = tt
 refused_is_own form text OutOfMemory h = tt
 
-refused_decides : (form : Form) (turns : ℕ) (ready : Option (ℕ × List ℕ)) (answers : List Answer) (text : List ℕ) (ending : Ending) → length text ≤ 2 ^ 24 → RefusesText form text ending
+refused_decides : (form : Form) (turns : ℕ) (ready : Option (ℕ × List ℕ)) (answers : List Answer) (text : List ℕ) (ending : Ending) → IsWithin form text → RefusesText form text ending
     → DecidesExecution form turns ready answers text ending
 refused_decides form turns ready answers text (Refused kind line) small h = inr (inr (small, (Err (stops.Refused kind line), h, refl)))
-refused_decides form turns ready answers text (Limit kind) small h = inr (inr (small, (Err (stops.Limit kind), h.1, limit_same kind h.0)))
+refused_decides form turns ready answers text (Limit kind) small h = inr (inr (small, (Err (stops.Limit kind), h.2, limit_same kind h.0 h.1)))
 refused_decides form turns ready answers text OutOfMemory small h = inl refl
 refused_decides form turns ready answers text (Exited status) small h = absurd h
 refused_decides form turns ready answers text (Trapped trap line) small h = absurd h
@@ -167,15 +172,26 @@ refused_decides form turns ready answers text Usage small h = absurd h
 refused_decides form turns ready answers text ReadFault small h = absurd h
 refused_decides form turns ready answers text WriteFault small h = absurd h
 
--- an input that was not read
-pub unread_within : {I : Type 0} (left : I → Option (List ℕ)) (reads : I → ℕ) (input input' : I) → input' ≡ input → ReadsWithin (left input) (left input')
-unread_within left reads input input' same = subst (λ i. ReadsWithin (left input) (left i)) (sym same) (record { bytes = []; taken = (Reads-none {left = left} {faults = reads} input).taken; bounded = omega arith })
+-- a text within the limit has no number that is too large
+not_large : (form : Form) (text : List ℕ) → IsWithin form text → IsLarge form → ⊥
+not_large Source text w h = h
+not_large Written text w h = h
+not_large (Generated number) text w h = omega (arith, w, h)
 
--- the ending where reading the input stopped
-abbrev pub stopped_ending : InputStop → Ending
-stopped_ending input_stop.Fault = ReadFault
-stopped_ending input_stop.TooLong = Limit L6
-stopped_ending input_stop.OutOfMemory = OutOfMemory
+-- the limit on numbers is that of a generated program alone
+large_of : (form : Form) (input input' : Option (List ℕ)) → IsPassed form input input' → limit_on form ≡ L8 → IsLarge form
+large_of Source input input' p e = absurd (cc (e))
+large_of Written input input' p e = absurd (cc (e))
+large_of (Generated number) input input' p e = p
+
+-- and none is that on slots
+no_slots : (form : Form) → limit_on form ≡ L7 → ⊥
+no_slots Source e = cc (e)
+no_slots Written e = cc (e)
+no_slots (Generated number) e = cc (e)
+
+limit_name : (a b : LimitKind) → Limit a ≡ Limit b → a ≡ b
+limit_name a b e = cc (e)
 
 module _ {O E X : Type 0} {F : X → Type 0} (held : O → Option (List ℕ)) (puts : O → ℕ) (told : E → Option (List ℕ)) (tells : E → ℕ) (talk : DynBox X Allocator F → Option Talk) (faults : DynBox X Allocator F → ℕ) where
   -- ---- a program
@@ -296,12 +312,23 @@ module _ {O E X : Type 0} {F : X → Type 0} (held : O → Option (List ℕ)) (p
       steady = c.steady;
     }
 
+  -- a program of a text of that form
+  pub as_form : (f form : Form) (m : Meaning) (turns : ℕ) (out out' : O) (err err' : E) (rack rack' : Rack X F) (ending : Ending) → form ≡ f
+      → Carries held puts told tells talk faults (reports f m) turns out out' err err' rack rack' ending
+      → Carries held puts told tells talk faults (reports form m) turns out out' err err' rack rack' ending
+  as_form f form m turns out out' err err' rack rack' ending is c = subst (λ w. Carries held puts told tells talk faults (reports w m) turns out out' err err' rack rack' ending) (sym is) c
+
   -- the executable of a text was run
   pub text_carried : (form : Form) (text : List ℕ) (executable : execute.Executable) (turns : ℕ) (out out' : O) (err err' : E) (rack rack' : Rack X F) (ending : Ending)
-      → RunsText form text executable → Carries held puts told tells talk faults (meaning (executable_view executable)) turns out out' err err' rack rack' ending
+      → RunsText form text executable → Carries held puts told tells talk faults (reports form (meaning (executable_view executable))) turns out out' err err' rack rack' ending
       → ExecutesText held puts told tells talk faults form turns text out out' err err' rack rack' ending
   text_carried form text executable turns out out' err err' rack rack' ending r c =
-      inl (r.program, r.is, carries_as (meaning (executable_view executable)) (meaning_as form r.program) turns out out' err err' rack rack' (r.means turns) ending c)
+      inl (
+        r.program,
+        r.is,
+        carries_as (reports form (meaning (executable_view executable))) (meaning_as form r.program) turns out out' err err' rack rack'
+            (λ ready answers. ap (reported form) (r.means turns ready answers)) ending c,
+      )
 
   -- ---- a call
 
@@ -310,32 +337,34 @@ module _ {O E X : Type 0} {F : X → Type 0} (held : O → Option (List ℕ)) (p
     Done ending = Executes held puts told tells talk faults left reads form turns input input' out out' err err' rack rack' ending
 
     abbrev Decided : Ending → Type 0
-    Decided ending = (text : List ℕ) → (IsCrowded rack → ⊥) → left input ≡ Some text
+    Decided ending = (text : List ℕ) → (IsCrowded rack → ⊥) → Gives form (left input) text
         → (Rose (reads input) (reads input') → ⊥) → (Rose (puts out) (puts out') → ⊥) → (Rose (tells err) (tells err') → ⊥)
         → DecidesExecution form turns (ready_slot (states (slots_of rack))) (answers_in (grown rack rack')) text ending
 
     abbrev Refusing : Ending → Type 0
-    Refusing ending = (kind : FaultKind) (line : Line) → ending ≡ Refused kind line → RefusesAt (IsRefusedAs form) (left input) (left input') kind line.0
+    Refusing ending = (kind : FaultKind) (line : Line) → ending ≡ Refused kind line → RefusesRun form (left input) (left input') kind line.0
 
     abbrev Limiting : Ending → Type 0
     Limiting ending = (kind : LimitKind) → (kind ≡ L7 → ⊥) → ending ≡ Limit kind → PassesAs form (left input) (left input') kind
 
-    read_of : (text : List ℕ) → ReadsAll left reads input input' (2 ^ 24) text → IsRead (left input) (left input') text
-    read_of text r = record { taken = r.reads.taken; ended = r.ended; within = r.within }
+    abbrev Made : Type 0
+    Made = (number : ℕ) → form ≡ Generated number → input' ≡ input
 
     -- nothing was run
     idle : (ending : Ending) → Untouched held puts told tells talk faults out out' err err' rack rack' → (IsOfProgram ending → ⊥) → (ending ≡ WriteFault → ⊥) → IsOfExecution ending
-        → ((ending ≡ Limit L7) ↔ IsCrowded rack) → (ending ≡ Limit L7 → input' ≡ input) → Refusing ending → Limiting ending
+        → ComesWhere (Limit L7) ending (IsCrowded rack) → ComesWhere (Limit L8) ending (IsLarge form × (IsCrowded rack → ⊥)) → (ending ≡ Limit L7 → input' ≡ input) → Made → Refusing ending → Limiting ending
         → (ending ≡ ReadFault → Rose (reads input) (reads input')) → ReadsWithin (left input) (left input') → ((ending ≡ ReadFault → ⊥) → reads input' ≡ reads input) → Decided ending
         → Done ending
-    idle ending u not_run calm own crowded unread refused limit fault within steady decides = record {
+    idle ending u not_run calm own crowded numbered unread made refused limit fault within steady decides = record {
       whole = λ h. absurd (not_run h);
       part = λ h. absurd (calm h);
       want = λ h. inl u;
       other = inr (inr (inr u));
       ends = own;
       crowded = crowded;
+      numbered = numbered;
       unread = unread;
+      made = made;
       talks = same_talks talk rack rack' u.links;
       links = same_links talk faults rack rack' u.links;
       dropped = same_dropped rack rack' u.links;
@@ -351,23 +380,30 @@ module _ {O E X : Type 0} {F : X → Type 0} (held : O → Option (List ℕ)) (p
       decides = decides;
     }
 
+    -- the rack has room, and the ending is none of the two limits on slots and numbers
+    no_crowd : (ending : Ending) → (IsCrowded rack → ⊥) → (ending ≡ Limit L7 → ⊥) → ComesWhere (Limit L7) ending (IsCrowded rack)
+    no_crowd ending room other = record { only = λ e. absurd (other e); there = λ full. absurd (room full) }
+
+    no_number : (ending : Ending) (text : List ℕ) → IsWithin form text → (ending ≡ Limit L8 → ⊥) → ComesWhere (Limit L8) ending (IsLarge form × (IsCrowded rack → ⊥))
+    no_number ending text small other = record { only = λ e. absurd (other e); there = λ h. absurd (not_large form text small h.0) }
+
     -- the text was refused
-    text_refused : (ending : Ending) (text : List ℕ) → (IsCrowded rack → ⊥) → ReadsAll left reads input input' (2 ^ 24) text → RefusesText form text ending
+    text_refused : (ending : Ending) (text : List ℕ) → (IsCrowded rack → ⊥) → Takes left reads form input input' text → RefusesText form text ending
         → Untouched held puts told tells talk faults out out' err err' rack rack' → Done ending
-    text_refused ending text room r h u =
+    text_refused ending text room t h u =
         idle ending u (refused_not_run form text ending h) (λ e. subst (RefusesText form text) e h) (refused_is_own form text ending h)
-        ((λ e. absurd ((subst (RefusesText form text) e h).0 refl)), (λ full. absurd (room full)))
-        (λ e. absurd ((subst (RefusesText form text) e h).0 refl))
-        (λ kind line e. record { text = text; read = read_of text r; fault = subst (RefusesText form text) e h })
-        (λ kind other e. inr (record { text = text; read = read_of text r; limit = (subst (RefusesText form text) e h).1 }))
+        (no_crowd ending room (λ e. (subst (RefusesText form text) e h).0 refl))
+        (no_number ending text t.within (λ e. (subst (RefusesText form text) e h).1 refl))
+        (λ e. absurd ((subst (RefusesText form text) e h).0 refl)) t.unread
+        (λ kind line e. record { text = text; from = t.from; fault = subst (RefusesText form text) e h })
+        (λ kind other e. inr (record { text = text; from = t.from; limit = (subst (RefusesText form text) e h).2 }))
         (λ e. absurd (subst (RefusesText form text) e h))
-        (record { bytes = text; taken = r.reads.taken; bounded = omega (arith, r.within) })
-        (λ e. r.reads.steady)
-        (λ told none e calm calm' calm''. subst (λ w. DecidesExecution form turns (ready_slot (states (slots_of rack))) (answers_in (grown rack rack')) w ending) (ReadsAll-text e r)
-        (refused_decides form turns _ _ text ending r.within h))
+        t.bounded (λ e. t.steady)
+        (λ told none e calm calm' calm''. subst (λ w. DecidesExecution form turns (ready_slot (states (slots_of rack))) (answers_in (grown rack rack')) w ending) (sym (t.given told e))
+        (refused_decides form turns _ _ text ending t.within h))
 
     -- a program that was carried out ends as it means to
-    concluded : (ending : Ending) (text : List ℕ) (p : Program form) → length text ≤ 2 ^ 24 → IsRunAs form text (Ok p) → Carries held puts told tells talk faults (meaning_as form p) turns out out' err err' rack rack' ending
+    concluded : (ending : Ending) (text : List ℕ) (p : Program form) → IsWithin form text → IsRunAs form text (Ok p) → Carries held puts told tells talk faults (meaning_as form p) turns out out' err err' rack rack' ending
         → (Rose (puts out) (puts out') → ⊥) → (Rose (tells err) (tells err') → ⊥) → Sorted ending → DecidesExecution form turns (ready_slot (states (slots_of rack))) (answers_in (grown rack rack')) text ending
     concluded ending text p small is c calm calm' (inl h) =
         let w = c.whole h in inr (inr (small, (Ok p, is, subst (λ e. EndsAs e ending) (sym w.runs.ends) w.ends)))
@@ -380,16 +416,18 @@ module _ {O E X : Type 0} {F : X → Type 0} (held : O → Option (List ℕ)) (p
     other_of ending (inr (inr e)) = inr (inr (inl e))
 
     -- its program was run
-    text_run : (ending : Ending) (text : List ℕ) (p : Program form) → (IsCrowded rack → ⊥) → ReadsAll left reads input input' (2 ^ 24) text → IsRunAs form text (Ok p)
+    text_run : (ending : Ending) (text : List ℕ) (p : Program form) → (IsCrowded rack → ⊥) → Takes left reads form input input' text → IsRunAs form text (Ok p)
         → Carries held puts told tells talk faults (meaning_as form p) turns out out' err err' rack rack' ending → Done ending
-    text_run ending text p room r is c = record {
-      whole = λ h. record { text = text; read = read_of text r; program = p; is = is; carried = c.whole h };
-      part = λ h. record { text = text; read = read_of text r; program = p; is = is; carried = c.part (inl h) };
-      want = λ h. inr (record { text = text; read = read_of text r; program = p; is = is; carried = c.part (inr h) });
+    text_run ending text p room t is c = record {
+      whole = λ h. record { text = text; from = t.from; program = p; is = is; carried = c.whole h };
+      part = λ h. record { text = text; from = t.from; program = p; is = is; carried = c.part (inl h) };
+      want = λ h. inr (record { text = text; from = t.from; program = p; is = is; carried = c.part (inr h) });
       other = other_of ending (sorted ending c.ends);
       ends = carried_is_own ending c.ends;
-      crowded = ((λ e. absurd (subst IsOfCarried e c.ends)), (λ full. absurd (room full)));
+      crowded = no_crowd ending room (λ e. subst IsOfCarried e c.ends);
+      numbered = no_number ending text t.within (λ e. subst IsOfCarried e c.ends);
       unread = λ e. absurd (subst IsOfCarried e c.ends);
+      made = t.unread;
       talks = c.talks;
       links = c.links;
       dropped = c.dropped;
@@ -398,43 +436,79 @@ module _ {O E X : Type 0} {F : X → Type 0} (held : O → Option (List ℕ)) (p
       limit = λ kind but e. absurd (subst IsOfCarried e c.ends);
       read_fault = λ e. absurd (subst IsOfCarried e c.ends);
       write_fault = c.fault;
-      within = record { bytes = text; taken = r.reads.taken; bounded = omega (arith, r.within) };
-      reads_steady = λ e. r.reads.steady;
+      within = t.bounded;
+      reads_steady = λ e. t.steady;
       puts_steady = λ h. (c.steady h).0;
       tells_steady = λ h. (c.steady h).1;
-      decides = λ told none e calm calm' calm''. subst (λ w. DecidesExecution form turns (ready_slot (states (slots_of rack))) (answers_in (grown rack rack')) w ending) (ReadsAll-text e r)
-          (concluded ending text p r.within is c calm' calm'' (sorted ending c.ends));
+      decides = λ told none e calm calm' calm''. subst (λ w. DecidesExecution form turns (ready_slot (states (slots_of rack))) (answers_in (grown rack rack')) w ending) (sym (t.given told e))
+          (concluded ending text p t.within is c calm' calm'' (sorted ending c.ends));
     }
 
-    -- the input was read to its end
-    pub executes : (ending : Ending) (text : List ℕ) → (IsCrowded rack → ⊥) → ReadsAll left reads input input' (2 ^ 24) text
+    -- the text was taken
+    pub executes : (ending : Ending) (text : List ℕ) → (IsCrowded rack → ⊥) → Takes left reads form input input' text
         → ExecutesText held puts told tells talk faults form turns text out out' err err' rack rack' ending → Done ending
-    executes ending text room r (inl ran) = text_run ending text ran.0 room r ran.1 ran.2
-    executes ending text room r (inr h) = text_refused ending text room r h.0 h.1
+    executes ending text room t (inl ran) = text_run ending text ran.0 room t ran.1 ran.2
+    executes ending text room t (inr h) = text_refused ending text room t h.0 h.1
 
-    -- reading it stopped
-    pub stopped : (stop : InputStop) → (IsCrowded rack → ⊥) → ReadsPart left reads input input' (2 ^ 24) stop → Untouched held puts told tells talk faults out out' err err' rack rack' → Done (stopped_ending stop)
-    stopped input_stop.Fault room r u =
-        idle ReadFault u (λ h. h) (λ e. cc (e)) tt ((λ e. absurd (cc (e))), (λ full. absurd (room full))) (λ e. absurd (cc (e)))
-        (λ kind line e. absurd (cc (e))) (λ kind but e. absurd (cc (e))) (λ e. r.reason.0)
-        (record { bytes = r.bytes; taken = r.taken; bounded = omega (arith, r.reason.1) })
-        (λ e. absurd (e refl)) (λ text none e calm calm' calm''. absurd (calm r.reason.0))
-    stopped input_stop.TooLong room r u =
-        idle (Limit L6) u (λ h. h) (λ e. cc (e)) tt ((λ e. absurd (cc (e))), (λ full. absurd (room full))) (λ e. absurd (cc (e)))
-        (λ kind line e. absurd (cc (e)))
-        (λ kind but e. inl (cc (e), record { bytes = r.bytes; taken = r.taken; long = r.reason.1; bounded = r.reason.2 }))
-        (λ e. absurd (cc (e)))
-        (record { bytes = r.bytes; taken = r.taken; bounded = r.reason.2 })
-        (λ e. r.reason.0) (λ text none e calm calm' calm''. inr (inl (ReadsPart-long e r, refl)))
-    stopped input_stop.OutOfMemory room r u =
-        idle OutOfMemory u (λ h. h) (λ e. cc (e)) tt ((λ e. absurd (cc (e))), (λ full. absurd (room full))) (λ e. absurd (cc (e)))
-        (λ kind line e. absurd (cc (e))) (λ kind but e. absurd (cc (e))) (λ e. absurd (cc (e)))
-        (record { bytes = r.bytes; taken = r.taken; bounded = r.reason.1 })
-        (λ e. r.reason.0) (λ text none e calm calm' calm''. inl refl)
+    -- there is no text
+    abbrev IsLacking : Ending → Type 0
+    IsLacking ending = (ending ≡ ReadFault) ⊎ (ending ≡ Limit (limit_on form)) ⊎ (ending ≡ OutOfMemory)
+
+    lacking_own : (ending : Ending) → IsLacking ending → IsOfExecution ending
+    lacking_own ending (inl e) = subst IsOfExecution (sym e) tt
+    lacking_own ending (inr (inl e)) = subst IsOfExecution (sym e) tt
+    lacking_own ending (inr (inr e)) = subst IsOfExecution (sym e) tt
+
+    lacking_not_run : (ending : Ending) → IsLacking ending → IsOfProgram ending → ⊥
+    lacking_not_run ending (inl e) h = subst IsOfProgram e h
+    lacking_not_run ending (inr (inl e)) h = subst IsOfProgram e h
+    lacking_not_run ending (inr (inr e)) h = subst IsOfProgram e h
+
+    lacking_calm : (ending : Ending) → IsLacking ending → ending ≡ WriteFault → ⊥
+    lacking_calm ending (inl e) w = cc (e, w)
+    lacking_calm ending (inr (inl e)) w = cc (e, w)
+    lacking_calm ending (inr (inr e)) w = cc (e, w)
+
+    lacking_refused : (ending : Ending) → IsLacking ending → (kind : FaultKind) (line : Line) → ending ≡ Refused kind line → ⊥
+    lacking_refused ending (inl e) kind line w = cc (e, w)
+    lacking_refused ending (inr (inl e)) kind line w = cc (e, w)
+    lacking_refused ending (inr (inr e)) kind line w = cc (e, w)
+
+    -- a limit is that on what is run
+    lacking_limit : (ending : Ending) → IsLacking ending → (kind : LimitKind) → ending ≡ Limit kind → limit_on form ≡ kind
+    lacking_limit ending (inl e) kind w = absurd (cc (e, w))
+    lacking_limit ending (inr (inl e)) kind w = limit_name (limit_on form) kind (sym e ∙ w)
+    lacking_limit ending (inr (inr e)) kind w = absurd (cc (e, w))
+
+    lacking_decides : (ending : Ending) → Lacks left reads form input input' ending → IsLacking ending → Decided ending
+    lacking_decides ending l (inl e) text none is calm calm' calm'' = absurd (calm (l.fault e))
+    lacking_decides ending l (inr (inl e)) text none is calm calm' calm'' = inr (inl (l.beyond text is e, e))
+    lacking_decides ending l (inr (inr e)) text none is calm calm' calm'' = inl e
+
+    pub lacks : (ending : Ending) → (IsCrowded rack → ⊥) → Lacks left reads form input input' ending → Untouched held puts told tells talk faults out out' err err' rack rack' → Done ending
+    lacks ending room l u =
+        let named : (kind : LimitKind) → ending ≡ Limit kind → limit_on form ≡ kind = lacking_limit ending l.ends in
+        let passed : (kind : LimitKind) → ending ≡ Limit kind → IsPassed form (left input) (left input') = λ kind e. l.passed (e ∙ ap Limit (sym (named kind e))) in
+        idle ending u (lacking_not_run ending l.ends) (lacking_calm ending l.ends) (lacking_own ending l.ends)
+        (no_crowd ending room (λ e. no_slots form (named L7 e)))
+        (record { only = λ e. (large_of form (left input) (left input') (passed L8 e) (named L8 e), room); there = λ h. l.numbered h.0 })
+        (λ e. absurd (no_slots form (named L7 e))) l.unread
+        (λ kind line e. absurd (lacking_refused ending l.ends kind line e))
+        (λ kind but e. inl (sym (named kind e), passed kind e))
+        l.fault l.bounded l.steady (lacking_decides ending l l.ends)
 
     -- the rack has too many slots
     pub full : IsCrowded rack → input' ≡ input → Untouched held puts told tells talk faults out out' err err' rack rack' → Done (Limit L7)
     full crowded same u =
-        idle (Limit L7) u (λ h. h) (λ e. cc (e)) tt ((λ e. crowded), (λ h. refl)) (λ e. same)
+        idle (Limit L7) u (λ h. h) (λ e. cc (e)) tt (record { only = λ e. crowded; there = λ h. inl refl })
+        (record { only = λ e. absurd (cc (e)); there = λ h. absurd (h.1 crowded) }) (λ e. same) (λ number e. same)
         (λ kind line e. absurd (cc (e))) (λ kind but e. absurd (but (cc (e)))) (λ e. absurd (cc (e)))
         (unread_within left reads input input' same) (λ e. ap reads same) (λ text none e calm calm' calm''. absurd (none crowded))
+
+    -- there was no memory to read the words
+    pub wordless : input' ≡ input → Untouched held puts told tells talk faults out out' err err' rack rack' → Done OutOfMemory
+    wordless same u =
+        idle OutOfMemory u (λ h. h) (λ e. cc (e)) tt (record { only = λ e. absurd (cc (e)); there = λ h. inr refl })
+        (record { only = λ e. absurd (cc (e)); there = λ h. inr refl }) (λ e. same) (λ number e. same)
+        (λ kind line e. absurd (cc (e))) (λ kind but e. absurd (cc (e))) (λ e. absurd (cc (e)))
+        (unread_within left reads input input' same) (λ e. ap reads same) (λ text none e calm calm' calm''. inl refl)

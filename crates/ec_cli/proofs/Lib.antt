@@ -1,6 +1,8 @@
 pub mod Executions
+pub mod Reports
 pub mod SameRack
 pub mod Sessions
+pub mod Tasks
 pub mod Tools
 pub mod Translations
-pub mod Words
+pub mod Unread

@@ -1,11 +1,11 @@
 -- From what was done to the clauses of the top call.
-use Rattle.std.proofs.Common.{◌≡◌, ℕ, List, ◌++◌, ap, subst, Option, Some, inl, inr, arith}
-use Rattle.std.specs.Prelude.{◌⊎◌, ◌↔◌, ◌≤◌, String, Result, Ok, Err, OnOk, OnErr}
+use Rattle.std.proofs.Common.{◌≡◌, ℕ, List, ◌++◌, refl, ap, subst, sym, ◌∙◌, Option, Some, None, inl, inr, arith}
+use Rattle.std.specs.Prelude.{◌⊎◌, ◌≤◌, String, Result, Ok, Err, OnOk, OnErr}
 use Rattle.std.specs.declared.alloc.Global.{Global as Allocator}
 use Rattle.std.specs.declared.dyn_box.DynBox.{DynBox}
 use Rattle.ec_base.specs.declared.fault.FaultKind.{FaultKind}
 use Rattle.ec_base.specs.declared.fault.LimitKind.{LimitKind}
-use Rattle.ec_base.specs.declared.fault.LimitKind.TheVariants.{L7}
+use Rattle.ec_base.specs.declared.fault.LimitKind.TheVariants.{L7, L8}
 use Rattle.ec_base.specs.declared.line.Line.{Line}
 use Rattle.ec_base.specs.Causes.{Rose}
 use Rattle.ec_link.specs.declared.rack.Rack.{Rack}
@@ -19,19 +19,34 @@ use Rattle.ec_meaning_defs.specs.observed.Headline.{RefusesAt, ReadsWithin}
 use Rattle.ec_cli.specs.declared.ending.Ending.{Ending}
 use Rattle.ec_cli.specs.declared.ending.Ending.TheVariants.{Wrote, Exited, Trapped, TurnsSpent, Usage, Refused, Limit, ReadFault, WriteFault, OutOfMemory}
 use Rattle.ec_cli.specs.declared.form.Form.{Form}
-use Rattle.ec_cli.specs.Tools.{HasTranslated, HasExecuted, Does}
-use Rattle.ec_cli.specs.Executing.{IsOfProgram, IsOfExecution, IsRefusedAs, PassesAs, DecidesExecution, BeforeLine, ExecutesWhole, ExecutesPart, MayExecute, Executes, Untouched}
-use Rattle.ec_cli.specs.Forms.{IsRunning, HasTurns}
-use Rattle.ec_cli.specs.Answers.{IsCrowded, IsRefusal, Announces, grown}
-use Rattle.ec_cli.specs.Translating.{IsTranslating, IsOfTranslation, IsRefused, PassesLimit, WritesWhole, WritesPart, DecidesTranslation}
+use Rattle.ec_cli.specs.declared.form.Form.TheVariants.{Generated}
+use Rattle.ec_cli.specs.declared.task.Task.{Task}
+use Rattle.ec_cli.specs.declared.task.Task.TheVariants as tasks
+use Rattle.ec_cli.specs.Tools.{HasTranslated, HasExecuted, HasDeclined, Does}
+use Rattle.ec_cli.specs.Executing.{IsOfProgram, IsOfExecution, RefusesRun, PassesAs, DecidesExecution, BeforeLine, ExecutesWhole, ExecutesPart, MayExecute, Executes, Untouched}
+use Rattle.ec_cli.specs.Taking.{Gives, IsLarge}
+use Rattle.ec_cli.specs.Tasks.{task, IsUnnamed, IsTranslating, HasTurns}
+use Rattle.ec_cli.specs.Answers.{IsCrowded, IsRefusal, Announces, ComesWhere, grown}
+use Rattle.ec_cli.specs.Translating.{Translates, IsOfTranslation, IsRefused, PassesLimit, WritesWhole, WritesPart, DecidesTranslation}
 use Rattle.ec_runtime.specs.Racks.{KeepsLinks}
-use Rattle.ec_cli.proofs.Executions.{unread_within}
+use Rattle.ec_cli.proofs.Executions.{wordless}
+use Rattle.ec_cli.proofs.Unread.{unread_within}
 use Rattle.ec_cli.proofs.SameRack.{same_log, same_talks, same_links, same_dropped}
-use Rattle.ec_cli.proofs.Words.{never_both, is_running, one_form, as_named}
+use Rattle.ec_cli.proofs.Tasks.{never_both, run_named, translation_named, as_named}
+use Rattle.ec_cli.proofs.Translations.{untranslated}
 
 -- an ending that isn't of a translation
 not_of : (a b : Ending) → a ≡ b → IsOfTranslation a → (IsOfTranslation b → ⊥) → ⊥
 not_of a b e h isnt = isnt (subst IsOfTranslation e h)
+
+-- an ending of words that name no command is no other
+declined_not : {ending other : Ending} → (ending ≡ Usage) ⊎ (ending ≡ OutOfMemory) → ending ≡ other → (other ≡ Usage → ⊥) → (other ≡ OutOfMemory → ⊥) → ⊥
+declined_not (inl u) e no_usage no_want = no_usage (sym e ∙ u)
+declined_not (inr u) e no_usage no_want = no_want (sym e ∙ u)
+
+-- words that name a command don't end with usage
+named_usage : (ending : Ending) (Holds : Type 0) → (ending ≡ Usage → ⊥) → (Holds → ⊥) → ComesWhere Usage ending Holds
+named_usage ending Holds other none = record { only = λ e. absurd (other e); there = λ h. absurd (none h) }
 
 no_refusal_but : (ending : Ending) → IsRefusal ending → (ending ≡ Wrote → ⊥) × (ending ≡ WriteFault → ⊥)
 no_refusal_but ending h = (λ e. subst IsRefusal e h, λ e. subst IsRefusal e h)
@@ -83,13 +98,13 @@ module _ {I O E X : Type 0} {F : X → Type 0} {left : I → Option (List ℕ)} 
 
   translation_of : Does left reads held puts told tells talk faults words input input' out out' err err' rack rack' ending → IsTranslating words → HasTranslated left reads held puts told tells talk faults words input input' out out' err err' rack rack' ending
   translation_of (inl t) h = t
-  translation_of (inr (inl x)) h = absurd (never_both words x.form (is_running words x.form x.turns x.named) h)
-  translation_of (inr (inr r)) h = absurd (r.other h)
+  translation_of (inr (inl x)) h = absurd (never_both words x.form x.turns x.named h)
+  translation_of (inr (inr r)) h = absurd (translation_named words h r.unnamed)
 
   pub wrote : Does left reads held puts told tells talk faults words input input' out out' err err' rack rack' ending → ending ≡ Wrote → WritesWhole (left input) (left input') (held out) (held out')
   wrote (inl t) e = t.translates.wrote e
   wrote (inr (inl x)) e = absurd (subst IsOfExecution e x.executes.ends)
-  wrote (inr (inr r)) e = absurd (cc (e, r.usage))
+  wrote (inr (inr r)) e = absurd (declined_not r.declines e (λ u. cc (u)) (λ u. cc (u)))
 
   pub written_part : Does left reads held puts told tells talk faults words input input' out out' err err' rack rack' ending → IsTranslating words → ending ≡ WriteFault → WritesPart left reads held puts input input' out out'
   written_part d h = (translation_of d h).translates.part
@@ -117,34 +132,30 @@ module _ {I O E X : Type 0} {F : X → Type 0} {left : I → Option (List ℕ)} 
 
   -- ---- what a run owes
 
-  executed_of : Does left reads held puts told tells talk faults words input input' out out' err err' rack rack' ending → (form : Form) → IsRunning words form → HasExecuted left reads held puts told tells talk faults words input input' out out' err err' rack rack' ending
-  executed_of (inl t) form h = absurd (never_both words form h t.named)
-  executed_of (inr (inl x)) form h = x
-  executed_of (inr (inr r)) form h = absurd (r.unnamed form h)
-
   -- with the form and the turns that the words name
   executes : Does left reads held puts told tells talk faults words input input' out out' err err' rack rack' ending → (form : Form) (turns : ℕ) → HasTurns words form turns → Executes held puts told tells talk faults left reads form turns input input' out out' err err' rack rack' ending
-  executes d form turns h =
-      let x = executed_of d form (is_running words form turns h) in
+  executes (inl t) form turns h = absurd (never_both words form turns h t.named)
+  executes (inr (inl x)) form turns h =
       as_named words (λ f n. Executes held puts told tells talk faults left reads f n input input' out out' err err' rack rack' ending) x.form form x.turns turns x.named h x.executes
+  executes (inr (inr r)) form turns h = absurd (run_named words form turns h r.unnamed)
 
-  -- with the form that they name
-  executes_as : Does left reads held puts told tells talk faults words input input' out out' err err' rack rack' ending → (form : Form) → IsRunning words form → (turns : ℕ) × Executes held puts told tells talk faults left reads form turns input input' out out' err err' rack rack' ending
-  executes_as d form h =
-      let x = executed_of d form h in
-      (x.turns, subst (λ f. Executes held puts told tells talk faults left reads f x.turns input input' out out' err err' rack rack' ending) (one_form words x.form form (is_running words x.form x.turns x.named) h) x.executes)
+  pub own : Does left reads held puts told tells talk faults words input input' out out' err err' rack rack' ending → (form : Form) (turns : ℕ) → HasTurns words form turns → IsOfExecution ending
+  own d form turns h = (executes d form turns h).ends
 
-  pub own : Does left reads held puts told tells talk faults words input input' out out' err err' rack rack' ending → (form : Form) → IsRunning words form → IsOfExecution ending
-  own d form h = (executes_as d form h).1.ends
+  pub crowded : Does left reads held puts told tells talk faults words input input' out out' err err' rack rack' ending → (form : Form) (turns : ℕ) → HasTurns words form turns → ComesWhere (Limit L7) ending (IsCrowded rack)
+  crowded d form turns h = (executes d form turns h).crowded
 
-  pub crowded : Does left reads held puts told tells talk faults words input input' out out' err err' rack rack' ending → (form : Form) → IsRunning words form → ((ending ≡ Limit L7) ↔ IsCrowded rack)
-  crowded d form h = (executes_as d form h).1.crowded
+  pub numbered : Does left reads held puts told tells talk faults words input input' out out' err err' rack rack' ending → (form : Form) (turns : ℕ) → HasTurns words form turns → ComesWhere (Limit L8) ending (IsLarge form × (IsCrowded rack → ⊥))
+  numbered d form turns h = (executes d form turns h).numbered
 
-  pub refused : Does left reads held puts told tells talk faults words input input' out out' err err' rack rack' ending → (form : Form) (kind : FaultKind) (line : Line) → IsRunning words form → ending ≡ Refused kind line → RefusesAt (IsRefusedAs form) (left input) (left input') kind line.0
-  refused d form kind line h = (executes_as d form h).1.refused kind line
+  pub made : Does left reads held puts told tells talk faults words input input' out out' err err' rack rack' ending → (number turns : ℕ) → HasTurns words (Generated number) turns → input' ≡ input
+  made d number turns h = (executes d (Generated number) turns h).made number refl
 
-  pub limit : Does left reads held puts told tells talk faults words input input' out out' err err' rack rack' ending → (form : Form) (kind : LimitKind) → IsRunning words form → (kind ≡ L7 → ⊥) → ending ≡ Limit kind → PassesAs form (left input) (left input') kind
-  limit d form kind h = (executes_as d form h).1.limit kind
+  pub refused : Does left reads held puts told tells talk faults words input input' out out' err err' rack rack' ending → (form : Form) (turns : ℕ) (kind : FaultKind) (line : Line) → HasTurns words form turns → ending ≡ Refused kind line → RefusesRun form (left input) (left input') kind line.0
+  refused d form turns kind line h = (executes d form turns h).refused kind line
+
+  pub limit : Does left reads held puts told tells talk faults words input input' out out' err err' rack rack' ending → (form : Form) (turns : ℕ) (kind : LimitKind) → HasTurns words form turns → (kind ≡ L7 → ⊥) → ending ≡ Limit kind → PassesAs form (left input) (left input') kind
+  limit d form turns kind h = (executes d form turns h).limit kind
 
   module _ (last : E) (line : List ℕ) (a : Announces told tells err' last line) where
     pub whole : Does left reads held puts told tells talk faults words input input' out out' err err' rack rack' ending → (form : Form) (turns : ℕ) → HasTurns words form turns → IsOfProgram ending
@@ -159,7 +170,7 @@ module _ {I O E X : Type 0} {F : X → Type 0} {left : I → Option (List ℕ)} 
         → BeforeLine told tells last line (λ between. MayExecute held puts told tells talk faults left form turns input input' out out' err between rack rack')
     want d form turns h e = record { between = err'; done = (executes d form turns h).want e; announced = a }
 
-    pub decides : Does left reads held puts told tells talk faults words input input' out out' err err' rack rack' ending → (form : Form) (turns : ℕ) (text : List ℕ) → HasTurns words form turns → (IsCrowded rack → ⊥) → left input ≡ Some text
+    pub decides : Does left reads held puts told tells talk faults words input input' out out' err err' rack rack' ending → (form : Form) (turns : ℕ) (text : List ℕ) → HasTurns words form turns → (IsCrowded rack → ⊥) → Gives form (left input) text
         → (Rose (reads input) (reads input') → ⊥) → (Rose (puts out) (puts out') → ⊥) → (Rose (tells err) (tells last) → ⊥)
         → DecidesExecution form turns (ready_slot (states (slots_of rack))) (answers_in (grown rack rack')) text ending
     decides d form turns text h room e calm calm' calm'' =
@@ -175,35 +186,38 @@ module _ {I O E X : Type 0} {F : X → Type 0} {left : I → Option (List ℕ)} 
     pub either_fault : Does left reads held puts told tells talk faults words input input' out out' err err' rack rack' ending → ending ≡ WriteFault → Rose (puts out) (puts out') ⊎ Rose (tells err) (tells last)
     either_fault (inl t) e = inl (t.translates.write_fault e)
     either_fault (inr (inl x)) e = risen puts tells out out' err err' last line a (x.executes.write_fault e)
-    either_fault (inr (inr r)) e = absurd (cc (e, r.usage))
+    either_fault (inr (inr r)) e = absurd (declined_not r.declines e (λ u. cc (u)) (λ u. cc (u)))
 
     -- only a program puts something before the last line
-    silent : Does left reads held puts told tells talk faults words input input' out out' err err' rack rack' ending → IsTranslating words ⊎ IsRefusal ending → err' ≡ err
+    silent : Does left reads held puts told tells talk faults words input input' out out' err err' rack rack' ending → IsTranslating words ⊎ IsUnnamed words ⊎ IsRefusal ending → err' ≡ err
     silent (inl t) h = t.silent
     silent (inr (inr r)) h = r.untouched.errors
-    silent (inr (inl x)) (inl h) = absurd (never_both words x.form (is_running words x.form x.turns x.named) h)
-    silent (inr (inl x)) (inr refusal) = (idle x.executes refusal).errors
+    silent (inr (inl x)) (inl h) = absurd (never_both words x.form x.turns x.named h)
+    silent (inr (inl x)) (inr (inl h)) = absurd (run_named words x.form x.turns x.named h)
+    silent (inr (inl x)) (inr (inr refusal)) = (idle x.executes refusal).errors
 
-    pub last_line : Does left reads held puts told tells talk faults words input input' out out' err err' rack rack' ending → IsTranslating words ⊎ IsRefusal ending → Announces told tells err last line
+    pub last_line : Does left reads held puts told tells talk faults words input input' out out' err err' rack rack' ending → IsTranslating words ⊎ IsUnnamed words ⊎ IsRefusal ending → Announces told tells err last line
     last_line d h = subst (λ e. Announces told tells e last line) (silent d h) a
 
   -- ---- what all owe
 
-  pub untouched : Does left reads held puts told tells talk faults words input input' out out' err err' rack rack' ending → IsRefusal ending → (rack' ≡ rack) × (out' ≡ out)
-  untouched (inl t) h = let but = no_refusal_but ending h in (t.unlinked, t.translates.untouched but.0 but.1)
-  untouched (inr (inl x)) h = let u = idle x.executes h in (u.links, u.output)
+  pub untouched : Does left reads held puts told tells talk faults words input input' out out' err err' rack rack' ending → IsRefusal ending ⊎ IsUnnamed words → (rack' ≡ rack) × (out' ≡ out)
+  untouched (inl t) (inl h) = let but = no_refusal_but ending h in (t.unlinked, t.translates.untouched but.0 but.1)
+  untouched (inl t) (inr h) = absurd (translation_named words t.named h)
+  untouched (inr (inl x)) (inl h) = let u = idle x.executes h in (u.links, u.output)
+  untouched (inr (inl x)) (inr h) = absurd (run_named words x.form x.turns x.named h)
   untouched (inr (inr r)) h = (r.untouched.links, r.untouched.output)
 
-  pub usage : Does left reads held puts told tells talk faults words input input' out out' err err' rack rack' ending → ((ending ≡ Usage) ↔ ((IsTranslating words → ⊥) × ((form : Form) → IsRunning words form → ⊥)))
-  usage (inl t) = (λ e. absurd (not_of ending Usage e t.translates.ends (λ h. h)), λ neither. absurd (neither.0 t.named))
-  usage (inr (inl x)) = (λ e. absurd (subst IsOfExecution e x.executes.ends), λ neither. absurd (neither.1 x.form (is_running words x.form x.turns x.named)))
-  usage (inr (inr r)) = (λ e. (r.other, r.unnamed), λ neither. r.usage)
+  pub usage : Does left reads held puts told tells talk faults words input input' out out' err err' rack rack' ending → ComesWhere Usage ending (IsUnnamed words)
+  usage (inl t) = named_usage ending (IsUnnamed words) (λ e. not_of ending Usage e t.translates.ends (λ h. h)) (translation_named words t.named)
+  usage (inr (inl x)) = named_usage ending (IsUnnamed words) (λ e. subst IsOfExecution e x.executes.ends) (run_named words x.form x.turns x.named)
+  usage (inr (inr r)) = record { only = λ e. r.unnamed; there = λ h. r.declines }
 
-  pub unread : Does left reads held puts told tells talk faults words input input' out out' err err' rack rack' ending → (ending ≡ Usage) ⊎ ((form : Form) × IsRunning words form × (ending ≡ Limit L7)) → input' ≡ input
-  unread (inl t) (inl e) = absurd (not_of ending Usage e t.translates.ends (λ h. h))
-  unread (inl t) (inr h) = absurd (never_both words h.0 h.1 t.named)
-  unread (inr (inl x)) (inl e) = absurd (subst IsOfExecution e x.executes.ends)
-  unread (inr (inl x)) (inr h) = x.executes.unread h.2
+  pub unread : Does left reads held puts told tells talk faults words input input' out out' err err' rack rack' ending → IsUnnamed words ⊎ ((form : Form) × (turns : ℕ) × HasTurns words form turns × (ending ≡ Limit L7)) → input' ≡ input
+  unread (inl t) (inl h) = absurd (translation_named words t.named h)
+  unread (inl t) (inr h) = absurd (never_both words h.0 h.1 h.2 t.named)
+  unread (inr (inl x)) (inl h) = absurd (run_named words x.form x.turns x.named h)
+  unread (inr (inl x)) (inr h) = x.executes.unread h.3
   unread (inr (inr r)) h = r.unread
 
   pub within : Does left reads held puts told tells talk faults words input input' out out' err err' rack rack' ending → ReadsWithin (left input) (left input')
@@ -214,7 +228,7 @@ module _ {I O E X : Type 0} {F : X → Type 0} {left : I → Option (List ℕ)} 
   pub read_fault : Does left reads held puts told tells talk faults words input input' out out' err err' rack rack' ending → ending ≡ ReadFault → Rose (reads input) (reads input')
   read_fault (inl t) = t.translates.read_fault
   read_fault (inr (inl x)) = x.executes.read_fault
-  read_fault (inr (inr r)) = λ e. absurd (cc (e, r.usage))
+  read_fault (inr (inr r)) = λ e. absurd (declined_not r.declines e (λ u. cc (u)) (λ u. cc (u)))
 
   pub read_steady : Does left reads held puts told tells talk faults words input input' out out' err err' rack rack' ending → (ending ≡ ReadFault → ⊥) → reads input' ≡ reads input
   read_steady (inl t) = t.translates.reads_steady
@@ -245,3 +259,20 @@ module _ {I O E X : Type 0} {F : X → Type 0} {left : I → Option (List ℕ)} 
   logged (inl t) = same_log rack rack' t.unlinked
   logged (inr (inl x)) = x.executes.logged
   logged (inr (inr r)) = same_log rack rack' r.untouched.links
+
+-- ---- what is done
+
+module _ {I O E X : Type 0} {F : X → Type 0} (left : I → Option (List ℕ)) (reads : I → ℕ) (held : O → Option (List ℕ)) (puts : O → ℕ) (told : E → Option (List ℕ)) (tells : E → ℕ) (talk : DynBox X Allocator F → Option Talk) (faults : DynBox X Allocator F → ℕ) (words : List (String Allocator)) where
+  -- there was no memory to read the words
+  pub wants : (input : I) (out : O) (err : E) (rack : Rack X F) → Does left reads held puts told tells talk faults words input input out out err err rack rack OutOfMemory
+  wants input out err rack = go (task words) refl
+    where
+      go : (it : Option Task) → task words ≡ it → Does left reads held puts told tells talk faults words input input out out err err rack rack OutOfMemory
+      go None e = inr (inr (record { unnamed = e; declines = inr refl; unread = refl; untouched = record { output = refl; errors = refl; links = refl } }))
+      go (Some tasks.Translate) e = inl (record { named = e; silent = refl; unlinked = refl; translates = untranslated left reads held puts input out })
+      go (Some (tasks.Run form turns)) e = inr (inl (record {
+        form = form;
+        turns = turns;
+        named = e;
+        executes = wordless held puts told tells talk faults left reads form turns input input out out err err rack rack refl (record { output = refl; errors = refl; links = refl });
+      }))

@@ -9,6 +9,7 @@ use Rattle.ec_meaning_defs.specs.observed.Headline.{IsRead}
 use Rattle.ec_front.specs.translation.Answers.{TellsTranslation}
 use Rattle.ec_cli.specs.declared.ending.Ending.{Ending}
 use Rattle.ec_cli.specs.declared.ending.Ending.TheVariants.{Wrote, Exited, Trapped, TurnsSpent, Usage, Refused, Limit, ReadFault, WriteFault, OutOfMemory}
+use Rattle.ec_cli.proofs.Unread.{unread_within}
 use Rattle.ec_cli.specs.Translating.{refusal_of, IsOfTranslation, TranslatesText, Translates, DecidesTranslation}
 
 -- where a text is refused
@@ -85,4 +86,21 @@ module _ {I O : Type 0} (left : I → Option (List ℕ)) (reads : I → ℕ) (he
     reads_steady = λ other. r.reads.steady;
     puts_steady = calm_of text out out' ending t;
     decides = λ told e calm calm'. subst (λ w. DecidesTranslation w ending) (ReadsAll-text e r) (decided text out out' ending r.within t calm');
+  }
+
+  -- there was no memory to read the words
+  pub untranslated : (input : I) (out : O) → Translates left reads held puts input input out out OutOfMemory
+  untranslated input out = record {
+    wrote = λ h. absurd (cc (h));
+    part = λ h. absurd (cc (h));
+    untouched = λ a b. refl;
+    ends = tt;
+    refused = λ kind line h. absurd (cc (h));
+    limit = λ kind h. absurd (cc (h));
+    read_fault = λ h. absurd (cc (h));
+    write_fault = λ h. absurd (cc (h));
+    within = unread_within left reads input input refl;
+    reads_steady = λ other. refl;
+    puts_steady = λ other. refl;
+    decides = λ text e calm calm'. inl refl;
   }

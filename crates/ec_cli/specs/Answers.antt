@@ -1,5 +1,5 @@
 -- What a call of the tool leaves, whatever its command.
-use Rattle.std.specs.Prelude.{ℕ, ◌<◌, ◌⊎◌, List, length, Option}
+use Rattle.std.specs.Prelude.{◌≡◌, ℕ, ◌<◌, ◌⊎◌, List, length, Option}
 use Rattle.ec_base.specs.Putting.{Puts, PutsPart}
 use Rattle.ec_link.specs.declared.logged.Logged.{Logged}
 use Rattle.ec_link.specs.declared.rack.Rack.{Rack}
@@ -11,6 +11,11 @@ use Rattle.ec_cli.specs.declared.ending.Ending.TheVariants.{Wrote, Exited, Trapp
 -- the rack has more slots than the tool takes
 abbrev pub IsCrowded : {X : Type 0} {F : X → Type 0} → Rack X F → Type 0
 IsCrowded rack = 64 < length (slots_of rack)
+
+-- this answer comes exactly where that holds, but that want of memory may come in its place
+pub record ComesWhere (answer ending : Ending) (Holds : Type 0) : Type 0 where
+  pub only : ending ≡ answer → Holds
+  pub there : Holds → (ending ≡ answer) ⊎ (ending ≡ OutOfMemory)
 
 -- nothing was run, by the ending alone
 abbrev pub IsRefusal : Ending → Type 0

@@ -1,10 +1,10 @@
--- What a call that runs a source or written C answers, and what it leaves.
-use Rattle.std.specs.Prelude.{◌≡◌, ℕ, ◌^◌, ◌<◌, ◌≤◌, ◌⊎◌, ◌↔◌, List, ◌++◌, length, Option, Some, Result, Ok, Err}
+-- What a call that runs a source, written C or a generated program answers, and what it leaves.
+use Rattle.std.specs.Prelude.{◌≡◌, ℕ, ◌⊎◌, List, ◌++◌, Option, Result, Ok, Err}
 use Rattle.std.specs.declared.alloc.Global.{Global as Allocator}
 use Rattle.std.specs.declared.dyn_box.DynBox.{DynBox}
 use Rattle.ec_base.specs.declared.fault.FaultKind.{FaultKind}
 use Rattle.ec_base.specs.declared.fault.LimitKind.{LimitKind}
-use Rattle.ec_base.specs.declared.fault.LimitKind.TheVariants.{L6, L7}
+use Rattle.ec_base.specs.declared.fault.LimitKind.TheVariants.{L7, L8}
 use Rattle.ec_base.specs.declared.line.Line.{Line}
 use Rattle.ec_base.specs.declared.stop.Stop.{Stop}
 use Rattle.ec_base.specs.declared.stop.Stop.TheVariants as stops
@@ -15,7 +15,7 @@ use Rattle.ec_link.specs.Rack.{slots_of, log_of}
 use Rattle.ec_link.specs.Slot.{states, link_at, talk_at}
 use Rattle.ec_link.specs.SlotState.{ready_slot}
 use Rattle.ec_link.specs.Told.{KeepsTalks, SparesDropped}
-use Rattle.ec_meaning_defs.specs.observed.Headline.{IsRead, RefusesAt, IsTooLong, ReadsWithin}
+use Rattle.ec_meaning_defs.specs.observed.Headline.{ReadsWithin}
 use Rattle.ec_meaning_defs.specs.observed.Observed.{answers_in}
 use Rattle.ec_meaning_defs.specs.evaluation.State as evaluation
 use Rattle.ec_meaning_defs.specs.evaluation.State.{Answer}
@@ -24,10 +24,12 @@ use Rattle.ec_execution_defs.specs.Runs.{Runs, RunsPart}
 use Rattle.ec_runtime.specs.Racks.{KeepsLinks}
 use Rattle.ec_execute.specs.declared.running.RunEnd.{RunEnd}
 use Rattle.ec_execute.specs.declared.running.RunEnd.TheVariants as ends
-use Rattle.ec_cli.specs.Answers.{IsCrowded, Announces, grown}
+use Rattle.ec_cli.specs.Answers.{IsCrowded, Announces, ComesWhere, grown}
 use Rattle.ec_cli.specs.Forms.{Program, IsRunAs, Meaning, meaning_as}
 use Rattle.ec_cli.specs.Racks.{RunsOver}
+use Rattle.ec_cli.specs.Taking.{HasText, Gives, limit_on, IsWithin, IsBeyond, IsLarge, IsPassed}
 use Rattle.ec_cli.specs.declared.form.Form.{Form}
+use Rattle.ec_cli.specs.declared.form.Form.TheVariants.{Generated}
 use Rattle.ec_cli.specs.declared.ending.Ending.{Ending}
 use Rattle.ec_cli.specs.declared.ending.Ending.TheVariants.{Wrote, Exited, Trapped, TurnsSpent, Usage, Refused, Limit, ReadFault, WriteFault, OutOfMemory}
 
@@ -88,9 +90,10 @@ ending_of_program ends.TurnsSpent = TurnsSpent
 ending_of_program ends.WriteFault = WriteFault
 ending_of_program ends.OutOfMemory = OutOfMemory
 
--- a limit of a text: every one but that on slots, which is none of a text's
+-- a limit of a text: every one but those on slots and on numbers of programs, which are none of a text's
 abbrev pub limit_of : LimitKind → Ending
 limit_of L7 = OutOfMemory
+limit_of L8 = OutOfMemory
 limit_of kind = Limit kind
 
 -- the ending of a text that is refused
@@ -106,22 +109,29 @@ abbrev pub IsRefusedAs : Form → List ℕ → FaultKind → ℕ → Type 0
 IsRefusedAs form text kind line =
     IsRunAs form text (Err (stops.Refused kind (record { 0 = line })))
 
--- the input was read to its end and passes this limit, or more than 2^24 bytes came
+-- its text is refused for this fault at this line
+pub record RefusesRun (form : Form) (input input' : Option (List ℕ))
+    (kind : FaultKind) (line : ℕ) : Type 0 where
+  pub text : List ℕ
+  pub from : HasText form input input' text
+  pub fault : IsRefusedAs form text kind line
+
+-- its text passes this limit, or there is no text: more than 2^24 bytes came, or its number is too large
 pub record LimitsRun (form : Form) (input input' : Option (List ℕ))
     (kind : LimitKind) : Type 0 where
   pub text : List ℕ
-  pub read : IsRead input input' text
+  pub from : HasText form input input' text
   pub limit : IsRunAs form text (Err (stops.Limit kind))
 
 abbrev pub PassesAs : Form → Option (List ℕ) → Option (List ℕ) → LimitKind → Type 0
 PassesAs form input input' kind =
-    ((kind ≡ L6) × IsTooLong input input') ⊎ LimitsRun form input input' kind
+    ((kind ≡ limit_on form) × IsPassed form input input') ⊎ LimitsRun form input input' kind
 
 -- a text is refused, or there was no memory for it
 abbrev pub RefusesText : Form → List ℕ → Ending → Type 0
 RefusesText form text (Refused kind line) = IsRunAs form text (Err (stops.Refused kind line))
 RefusesText form text (Limit kind) =
-    (kind ≡ L7 → ⊥) × IsRunAs form text (Err (stops.Limit kind))
+    (kind ≡ L7 → ⊥) × (kind ≡ L8 → ⊥) × IsRunAs form text (Err (stops.Limit kind))
 RefusesText form text OutOfMemory = Unit {0}
 RefusesText form text (Exited status) = ⊥
 RefusesText form text (Trapped trap line) = ⊥
@@ -144,14 +154,14 @@ AnswersProgram form turns ready answers text ending =
     (answer : Result (Program form) Stop) × IsRunAs form text answer
     × Concludes form turns ready answers answer ending
 
--- What a text decides, where nothing fails: more than 2^24 bytes pass the limit; any other text is refused as its phases
--- say, or ends as its program does. Want of memory may come at any point.
+-- What a text decides, where nothing fails: beyond the limit on what is run it is refused for that; any other text is
+-- refused as its phases say, or ends as its program does. Want of memory may come at any point.
 abbrev pub DecidesExecution : Form → ℕ → Option (ℕ × List ℕ) → List Answer → List ℕ → Ending →
     Type 0
 DecidesExecution form turns ready answers text ending =
     (ending ≡ OutOfMemory)
-    ⊎ ((2 ^ 24 < length text) × (ending ≡ Limit L6))
-    ⊎ ((length text ≤ 2 ^ 24) × AnswersProgram form turns ready answers text ending)
+    ⊎ (IsBeyond form text × (ending ≡ Limit (limit_on form)))
+    ⊎ (IsWithin form text × AnswersProgram form turns ready answers text ending)
 
 -- ---- runs
 
@@ -219,11 +229,11 @@ module _ {O E X : Type 0} {F : X → Type 0} (held : O → Option (List ℕ)) (p
       ⊎ (RefusesText form text ending × Untouched out out' err err' rack rack')
 
   module _ {I : Type 0} (left : I → Option (List ℕ)) where
-    -- the input was read to its end, and the whole of what its program means was carried out
+    -- the text was read or made, and the whole of what its program means was carried out
     pub record ExecutesWhole (form : Form) (turns : ℕ) (input input' : I) (out out' : O)
         (err err' : E) (rack rack' : Rack X F) (ending : Ending) : Type 0 where
       pub text : List ℕ
-      pub read : IsRead (left input) (left input') text
+      pub from : HasText form (left input) (left input') text
       pub program : Program form
       pub is : IsRunAs form text (Ok program)
       pub carried : CarriedOut (meaning_as form program) turns out out' err err' rack rack' ending
@@ -232,7 +242,7 @@ module _ {O E X : Type 0} {F : X → Type 0} (held : O → Option (List ℕ)) (p
     pub record ExecutesPart (form : Form) (turns : ℕ) (input input' : I) (out out' : O)
         (err err' : E) (rack rack' : Rack X F) : Type 0 where
       pub text : List ℕ
-      pub read : IsRead (left input) (left input') text
+      pub from : HasText form (left input) (left input') text
       pub program : Program form
       pub is : IsRunAs form text (Ok program)
       pub carried : CarriedPart (meaning_as form program) turns out out' err err' rack rack'
@@ -255,8 +265,10 @@ module _ {O E X : Type 0} {F : X → Type 0} (held : O → Option (List ℕ)) (p
       pub other : IsOfProgram ending ⊎ (ending ≡ WriteFault)
           ⊎ (ending ≡ OutOfMemory) ⊎ Untouched out out' err err' rack rack'
       pub ends : IsOfExecution ending
-      pub crowded : (ending ≡ Limit L7) ↔ IsCrowded rack
+      pub crowded : ComesWhere (Limit L7) ending (IsCrowded rack)
+      pub numbered : ComesWhere (Limit L8) ending (IsLarge form × (IsCrowded rack → ⊥))
       pub unread : ending ≡ Limit L7 → input' ≡ input
+      pub made : (number : ℕ) → form ≡ Generated number → input' ≡ input
       pub talks : KeepsTalks (talk_at talk (slots_of rack))
           (talk_at talk (slots_of rack')) (grown rack rack')
       pub links : KeepsLinks talk faults (link_at (slots_of rack))
@@ -265,7 +277,7 @@ module _ {O E X : Type 0} {F : X → Type 0} (held : O → Option (List ℕ)) (p
           (states (slots_of rack')) (grown rack rack')
       pub logged : log_of rack' ≡ log_of rack ++ grown rack rack'
       pub refused : (kind : FaultKind) (line : Line) → ending ≡ Refused kind line →
-          RefusesAt (IsRefusedAs form) (left input) (left input') kind line.0
+          RefusesRun form (left input) (left input') kind line.0
       pub limit : (kind : LimitKind) → (kind ≡ L7 → ⊥) →
           ending ≡ Limit kind → PassesAs form (left input) (left input') kind
       pub read_fault : ending ≡ ReadFault → Rose (reads input) (reads input')
@@ -275,7 +287,7 @@ module _ {O E X : Type 0} {F : X → Type 0} (held : O → Option (List ℕ)) (p
       pub reads_steady : (ending ≡ ReadFault → ⊥) → reads input' ≡ reads input
       pub puts_steady : (ending ≡ WriteFault → ⊥) → puts out' ≡ puts out
       pub tells_steady : (ending ≡ WriteFault → ⊥) → tells err' ≡ tells err
-      pub decides : (text : List ℕ) → (IsCrowded rack → ⊥) → left input ≡ Some text
+      pub decides : (text : List ℕ) → (IsCrowded rack → ⊥) → Gives form (left input) text
           → (Rose (reads input) (reads input') → ⊥) →
           (Rose (puts out) (puts out') → ⊥) → (Rose (tells err) (tells err') → ⊥)
           → DecidesExecution form turns (ready_slot (states (slots_of rack)))

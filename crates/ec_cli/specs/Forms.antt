@@ -1,7 +1,6 @@
--- What is run: a source, by `run`, or written C, by `exec`. What either is run as, and what that means.
-use Rattle.std.specs.Prelude.{◌≡◌, ℕ, ⊤, List, map, codes, option_map, is_some, IsTrue, Option, Some, Result, Ok, Err, String}
-use Rattle.std.specs.String.{string_bytes}
-use Rattle.std.specs.declared.alloc.Global.{Global as Allocator}
+-- What is run: a source, by `run`, written C, by `exec`, or a generated program, by `gen`, which is a source. What each is
+-- run as, and what that means.
+use Rattle.std.specs.Prelude.{◌≡◌, ℕ, ⊤, List, Option, Result, Ok, Err}
 use Rattle.ec_base.specs.declared.stop.Stop.{Stop}
 use Rattle.ec_base.specs.declared.stop.Stop.TheVariants.{Refused, Limit, OutOfMemory}
 use Rattle.ec_meaning_defs.specs.evaluation.State.{Answer}
@@ -12,41 +11,37 @@ use Rattle.ec_execution_defs.specs.Programs as execution
 use Rattle.ec_execution_defs.specs.Programs.{IsProgram, meaning}
 use Rattle.ec_phases_defs.specs.Sources.{BoundProgram}
 use Rattle.ec_execute.specs.source.Runnable.{IsRunnable, source_meaning}
-use Rattle.ec_words.specs.Words.{Word, asked_by}
 use Rattle.ec_cli.specs.declared.form.Form.{Form}
-use Rattle.ec_cli.specs.declared.form.Form.TheVariants.{Source, Written}
-
--- the command that runs it
-abbrev pub command_of : Form → Word
-command_of Source = codes "run"
-command_of Written = codes "exec"
-
--- the words name the run of such a text, and one of so many turns
-abbrev pub IsRunning : List (String Allocator) → Form → Type 0
-IsRunning words form =
-    IsTrue (is_some (asked_by (command_of form) (map string_bytes words)))
-
-abbrev pub HasTurns : List (String Allocator) → Form → ℕ → Type 0
-HasTurns words form turns =
-    option_map (λ it. it.turns) (asked_by (command_of form) (map string_bytes words)) ≡ Some turns
+use Rattle.ec_cli.specs.declared.form.Form.TheVariants.{Source, Written, Generated}
+use Rattle.ec_cli.specs.Reports.{reported}
 
 -- what it is run as
 abbrev pub Program : Form → Type 0
 Program Source = BoundProgram
 Program Written = execution.Executable
+Program (Generated number) = BoundProgram
 
 -- the text is run as this program, or refused for this
 abbrev pub IsRunAs : (form : Form) → List ℕ → Result (Program form) Stop → Type 0
 IsRunAs Source text answer = IsRunnable text answer
 IsRunAs Written text answer = IsProgram text answer
+IsRunAs (Generated number) text answer = IsRunnable text answer
 
 -- what a program means that runs for so many turns, with a slot and a name that are connected, or none, over these answers
 abbrev pub Meaning : Type 0
 Meaning = ℕ → Option (ℕ × List ℕ) → List Answer → Observed
 
+abbrev pub program_meaning : (form : Form) → Program form → Meaning
+program_meaning Source program = source_meaning program
+program_meaning Written program = meaning program
+program_meaning (Generated number) program = source_meaning program
+
+-- with the line that is told of its run, if it is a generated one
+abbrev pub reports : Form → Meaning → Meaning
+reports form means turns ready answers = reported form (means turns ready answers)
+
 abbrev pub meaning_as : (form : Form) → Program form → Meaning
-meaning_as Source program = source_meaning program
-meaning_as Written program = meaning program
+meaning_as form program = reports form (program_meaning form program)
 
 -- an executable that means what the text means
 pub record RunsText (form : Form) (text : List ℕ) (executable : Executable) : Type 0 where
@@ -54,7 +49,7 @@ pub record RunsText (form : Form) (text : List ℕ) (executable : Executable) : 
   pub is : IsRunAs form text (Ok program)
   pub means : (turns : ℕ) (ready : Option (ℕ × List ℕ)) (answers : List Answer)
       → meaning (executable_view executable) turns ready answers
-      ≡ meaning_as form program turns ready answers
+      ≡ program_meaning form program turns ready answers
 
 -- the answer is what the text is run as
 abbrev pub TellsRun : Form → List ℕ → Result Executable Stop → Type 0

@@ -3,5 +3,9 @@ pub mod Ending
 pub mod Executing
 pub mod Forms
 pub mod Racks
+pub mod Reporting
+pub mod Reports
+pub mod Taking
+pub mod Tasks
 pub mod Tools
 pub mod Translating

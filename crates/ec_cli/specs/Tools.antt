@@ -1,16 +1,16 @@
--- What a call of the tool does, the last line on standard error aside: a translation, a run of a source or of written C, or
--- nothing, where the words name neither.
+-- What a call of the tool does, the last line on standard error aside: a translation, a run, or nothing, where the words
+-- name neither.
 use Rattle.std.specs.Prelude.{◌≡◌, ℕ, ◌⊎◌, List, Option, String}
 use Rattle.std.specs.declared.alloc.Global.{Global as Allocator}
 use Rattle.std.specs.declared.dyn_box.DynBox.{DynBox}
 use Rattle.ec_link.specs.declared.rack.Rack.{Rack}
 use Rattle.ec_link.specs.Logged.{Talk}
 use Rattle.ec_cli.specs.declared.ending.Ending.{Ending}
-use Rattle.ec_cli.specs.declared.ending.Ending.TheVariants.{Usage}
+use Rattle.ec_cli.specs.declared.ending.Ending.TheVariants.{Usage, OutOfMemory}
 use Rattle.ec_cli.specs.declared.form.Form.{Form}
 use Rattle.ec_cli.specs.Executing.{Executes, Untouched}
-use Rattle.ec_cli.specs.Forms.{IsRunning, HasTurns}
-use Rattle.ec_cli.specs.Translating.{IsTranslating, Translates}
+use Rattle.ec_cli.specs.Tasks.{IsUnnamed, IsTranslating, HasTurns}
+use Rattle.ec_cli.specs.Translating.{Translates}
 
 module _ {I O E X : Type 0} {F : X → Type 0} (left : I → Option (List ℕ)) (reads : I → ℕ)
     (held : O → Option (List ℕ)) (puts : O → ℕ) (told : E → Option (List ℕ)) (tells : E → ℕ)
@@ -33,9 +33,8 @@ module _ {I O E X : Type 0} {F : X → Type 0} (left : I → Option (List ℕ)) 
 
   pub record HasDeclined (words : List (String Allocator)) (input input' : I) (out out' : O)
       (err err' : E) (rack rack' : Rack X F) (ending : Ending) : Type 0 where
-    pub other : IsTranslating words → ⊥
-    pub unnamed : (form : Form) → IsRunning words form → ⊥
-    pub usage : ending ≡ Usage
+    pub unnamed : IsUnnamed words
+    pub declines : (ending ≡ Usage) ⊎ (ending ≡ OutOfMemory)
     pub unread : input' ≡ input
     pub untouched : Untouched held puts told tells talk faults out out' err err' rack rack'
 

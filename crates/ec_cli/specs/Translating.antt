@@ -1,8 +1,6 @@
 -- What a call that translates a source answers, and what it leaves.
-use Rattle.std.specs.Prelude.{◌≡◌, ℕ, ◌^◌, ◌<◌, ◌≤◌, ◌⊎◌, List, map, length, true, Option, Some, Result, Ok, Err, String}
+use Rattle.std.specs.Prelude.{◌≡◌, ℕ, ◌^◌, ◌<◌, ◌≤◌, ◌⊎◌, List, length, Option, Some, Result, Ok, Err}
 use Rattle.std.specs.Io.KnownBytes.{Appends}
-use Rattle.std.specs.String.{string_bytes}
-use Rattle.std.specs.declared.alloc.Global.{Global as Allocator}
 use Rattle.ec_base.specs.declared.fault.FaultKind.{FaultKind}
 use Rattle.ec_base.specs.declared.fault.LimitKind.{LimitKind}
 use Rattle.ec_base.specs.declared.fault.LimitKind.TheVariants.{L6}
@@ -14,13 +12,8 @@ use Rattle.ec_base.specs.Putting.{Puts, PutsPart}
 use Rattle.ec_meaning_defs.specs.observed.Headline.{IsRead, RefusesAt, IsTooLong, ReadsWithin}
 use Rattle.ec_execute.specs.source.Meanings.{KeepsMeaning}
 use Rattle.ec_phases_defs.specs.translation.Translations.{IsTranslation}
-use Rattle.ec_words.specs.Words.{names_translation}
 use Rattle.ec_cli.specs.declared.ending.Ending.{Ending}
 use Rattle.ec_cli.specs.declared.ending.Ending.TheVariants.{Wrote, Exited, Trapped, TurnsSpent, Usage, Refused, Limit, ReadFault, WriteFault, OutOfMemory}
-
--- the words name a translation
-abbrev pub IsTranslating : List (String Allocator) → Type 0
-IsTranslating words = names_translation (map string_bytes words) ≡ true
 
 -- endings of a translation
 abbrev pub IsOfTranslation : Ending → Type 0

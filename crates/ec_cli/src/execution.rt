@@ -1,16 +1,20 @@
-//! The commands `run` and `exec`: a source or written C is read, and run.
-ghost use Rattle.std.specs.Prelude.{◌≡◌};
+//! The commands that run a program: `run` a source, `exec` written C, and `gen` a generated source.
+ghost use Rattle.std.specs.Prelude.{◌≡◌, length};
 ghost use Rattle.ec_execute.specs.Executables.{executable_view};
 ghost use Rattle.ec_link.specs.Links.{talk_by, faults_by};
 ghost use Rattle.ec_cli.specs.Answers.{IsCrowded};
 ghost use Rattle.ec_execution_defs.specs.Programs.{meaning};
 ghost use Rattle.ec_cli.specs.Executing.{ending_of_program, text_refusal, Carries, ExecutesText, Executes};
-ghost use Rattle.ec_cli.specs.Forms.{TellsRun};
+ghost use Rattle.ec_cli.specs.Forms.{TellsRun, reports};
+ghost use Rattle.ec_cli.specs.Taking.{IsMadeFor};
+ghost use Rattle.ec_generate.specs.Generated.{generated};
 
 use crate::ending::Ending;
 use crate::form::Form;
-use crate::limits::{INPUT_LIMIT, is_crowded};
-use ec_base::{Bytes, InputStop, LimitKind, Sink, Source as Input, Stop, read_all};
+use crate::limits::is_crowded;
+use crate::report::{Summary, report};
+use crate::text::take_text;
+use ec_base::{Bytes, LimitKind, Sink, Source as Input, Stop};
 use ec_execute::source::read_source;
 use ec_execute::{Executable, RunEnd, read_program, run};
 use ec_link::{Link, Rack};
@@ -29,13 +33,14 @@ fn ended(end: RunEnd) -> Ending
     }
 }
 
-// The ending of a text that is refused. The limit on slots is none of a text's: there is no memory for one that passed it.
+// The ending of a text that is refused. The limits on slots and on numbers are none of a text's: there is no memory for one
+// that passed them.
 fn refused(stop: Stop) -> Ending
     ensures { result ≡ text_refusal stop }
 {
     match stop {
         Stop::Refused(kind, line) => Ending::Refused(kind, line),
-        Stop::Limit(LimitKind::L7) | Stop::OutOfMemory => Ending::OutOfMemory,
+        Stop::Limit(LimitKind::L7 | LimitKind::L8) | Stop::OutOfMemory => Ending::OutOfMemory,
         Stop::Limit(kind) => Ending::Limit(kind),
     }
 }
@@ -65,6 +70,62 @@ fn read_text(alloc: Global, form: Form, text: &[u8]) -> Result<Executable, Stop>
     match form {
         Form::Source => read_source(alloc, text),
         Form::Written => read_program(alloc, text),
+        Form::Generated(_) => read_source(alloc, text),
+    }
+}
+
+// Runs the program of a generated text, and tells how that went.
+fn run_told<O: Sink, E: Sink>(
+    alloc: Global,
+    number: u32,
+    text: &[u8],
+    executable: &Executable,
+    turns: u64,
+    out: &mut O,
+    err: &mut E,
+    rack: &mut Rack,
+) -> Ending
+    requires room { IsCrowded rack.old → ⊥ }
+    requires made { text.now ≡ generated number }
+    ensures { Carries O.held O.faults E.held E.faults
+        (talk_by ⟦<dyn Link as Link>⟧) (faults_by ⟦<dyn Link as Link>⟧)
+        (reports (Form.Generated number) (meaning (executable_view executable.now))) turns
+        out.old out.new err.old err.new rack.old rack.new result }
+{
+    let before = rack.log().len();
+    let ending = run_over(alloc, executable, turns, out, err, rack);
+    let told = Summary {
+        number,
+        bytes: text.len(),
+        requests: rack.log().len() - before,
+    };
+    report(out, &told, ending)
+}
+
+// Runs the program of a text of that form.
+fn run_as<O: Sink, E: Sink>(
+    alloc: Global,
+    form: Form,
+    text: &[u8],
+    executable: &Executable,
+    turns: u64,
+    out: &mut O,
+    err: &mut E,
+    rack: &mut Rack,
+) -> Ending
+    requires room { IsCrowded rack.old → ⊥ }
+    requires made { IsMadeFor form text.now }
+    ensures { Carries O.held O.faults E.held E.faults
+        (talk_by ⟦<dyn Link as Link>⟧) (faults_by ⟦<dyn Link as Link>⟧)
+        (reports form (meaning (executable_view executable.now))) turns
+        out.old out.new err.old err.new rack.old rack.new result }
+{
+    match form {
+        Form::Source => run_over(alloc, executable, turns, out, err, rack),
+        Form::Written => run_over(alloc, executable, turns, out, err, rack),
+        Form::Generated(number) => {
+            run_told(alloc, number, text, executable, turns, out, err, rack)
+        }
     }
 }
 
@@ -78,18 +139,31 @@ fn execute_text<O: Sink, E: Sink>(
     err: &mut E,
     rack: &mut Rack,
 ) -> Ending
-    requires { IsCrowded rack.old → ⊥ }
+    requires room { IsCrowded rack.old → ⊥ }
+    requires made { IsMadeFor form text }
     ensures { ExecutesText O.held O.faults E.held E.faults
         (talk_by ⟦<dyn Link as Link>⟧) (faults_by ⟦<dyn Link as Link>⟧)
         form turns text out.old out.new err.old err.new rack.old rack.new result }
 {
     match read_text(alloc, form, text.as_slice()) {
-        Ok(executable) => run_over(alloc, &executable, turns, out, err, rack),
+        Ok(executable) => {
+            run_as(
+                alloc,
+                form,
+                text.as_slice(),
+                &executable,
+                turns,
+                out,
+                err,
+                rack,
+            )
+        }
         Err(stop) => refused(stop),
     }
 }
 
-/// Runs the text that the input gives, with so many turns. What it prints is passed on before the ending is decided.
+/// Runs the text of that form that the input gives or that is made, with so many turns. What it prints is passed on before
+/// the ending is decided.
 pub fn execute<I: Input, O: Sink, E: Sink>(
     alloc: Global,
     form: Form,
@@ -107,10 +181,8 @@ pub fn execute<I: Input, O: Sink, E: Sink>(
     if is_crowded(rack) {
         return Ending::Limit(LimitKind::L7);
     }
-    match read_all(alloc, input, INPUT_LIMIT) {
+    match take_text(alloc, form, input) {
         Ok(text) => execute_text(alloc, form, turns, text, out, err, rack),
-        Err(InputStop::Fault) => Ending::ReadFault,
-        Err(InputStop::TooLong) => Ending::Limit(LimitKind::L6),
-        Err(InputStop::OutOfMemory) => Ending::OutOfMemory,
+        Err(ending) => ending,
     }
 }

@@ -5,4 +5,6 @@ pub enum Form {
     Source,
     /// Written C, by `exec`.
     Written,
+    /// The source of the generated program of this number, by `gen`.
+    Generated(u32),
 }

@@ -6,9 +6,14 @@ mod execution;
 mod form;
 mod limits;
 mod message;
+mod putting;
+mod report;
+mod task;
+mod text;
 mod tool;
 mod translation;
 
 pub use ending::{Ending, status};
 pub use form::Form;
+pub use task::Task;
 pub use tool::ec_main;

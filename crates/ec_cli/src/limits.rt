@@ -10,6 +10,9 @@ pub const INPUT_LIMIT: usize = 1 << 24;
 /// The most slots that a rack has.
 pub const SLOT_LIMIT: usize = 64;
 
+/// The greatest number of a program that is made.
+pub const NUMBER_LIMIT: u32 = 10_000;
+
 /// Whether the rack has more slots than are taken.
 pub fn is_crowded(rack: &Rack) -> bool
     ensures { IsTrue result ↔ IsCrowded rack.now }

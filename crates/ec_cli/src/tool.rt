@@ -1,8 +1,8 @@
 //! The top call.
-ghost use Rattle.std.specs.Prelude.{◌≡◌, ◌⊎◌, ◌↔◌, ◌++◌, ℕ, List, Some, MatchOption};
+ghost use Rattle.std.specs.Prelude.{◌≡◌, ◌⊎◌, ◌++◌, ℕ, List, Some};
 ghost use Rattle.ec_base.specs.declared.fault.FaultKind.{FaultKind};
 ghost use Rattle.ec_base.specs.declared.fault.LimitKind.{LimitKind};
-ghost use Rattle.ec_base.specs.declared.fault.LimitKind.TheVariants.{L7};
+ghost use Rattle.ec_base.specs.declared.fault.LimitKind.TheVariants.{L7, L8};
 ghost use Rattle.ec_base.specs.declared.line.Line.{Line};
 ghost use Rattle.ec_base.specs.Causes.{Rose};
 ghost use Rattle.ec_link.specs.Rack.{slots_of, log_of};
@@ -13,37 +13,23 @@ ghost use Rattle.ec_meaning_defs.specs.observed.Observed.{answers_in};
 ghost use Rattle.ec_runtime.specs.Racks.{KeepsLinks};
 ghost use Rattle.ec_meaning_defs.specs.observed.Headline.{RefusesAt, ReadsWithin};
 ghost use Rattle.ec_cli.specs.declared.form.Form.{Form};
-ghost use Rattle.ec_cli.specs.Answers.{IsCrowded, IsRefusal, Announces, grown};
+ghost use Rattle.ec_cli.specs.Answers.{IsCrowded, IsRefusal, Announces, ComesWhere, grown};
 ghost use Rattle.ec_cli.specs.Ending.{last_line};
-ghost use Rattle.ec_cli.specs.Executing.{IsOfProgram, IsOfExecution, IsRefusedAs, PassesAs, DecidesExecution, BeforeLine, ExecutesWhole, ExecutesPart, MayExecute};
-ghost use Rattle.ec_cli.specs.Forms.{IsRunning, HasTurns};
+ghost use Rattle.ec_cli.specs.Executing.{IsOfProgram, IsOfExecution, RefusesRun, PassesAs, DecidesExecution, BeforeLine, ExecutesWhole, ExecutesPart, MayExecute};
+ghost use Rattle.ec_cli.specs.Taking.{Gives, IsLarge};
+ghost use Rattle.ec_cli.specs.Tasks.{IsUnnamed, IsTranslating, HasTurns};
 ghost use Rattle.ec_cli.specs.Tools.{Does};
-ghost use Rattle.ec_cli.specs.Translating.{IsTranslating, IsOfTranslation, IsRefused, PassesLimit, WritesWhole, WritesPart, DecidesTranslation};
+ghost use Rattle.ec_cli.specs.Translating.{IsOfTranslation, IsRefused, PassesLimit, WritesWhole, WritesPart, DecidesTranslation};
 ghost use Rattle.ec_link.specs.Links.{talk_by, faults_by};
 
 use crate::ending::Ending;
 use crate::execution::execute;
-use crate::form::Form;
 use crate::message::put_last_line;
+use crate::task::{Task, read_task};
 use crate::translation::translate_input;
-use ec_base::{Sink, Source};
+use ec_base::{OutOfMemory, Sink, Source};
 use ec_link::{Link, Rack};
-use ec_words::{names_translation, read_words};
 use std::alloc::Global;
-
-// What the words run, and for how many turns, if they name a run.
-fn named_run(words: &[String]) -> Option<(Form, u64)>
-    ensures { MatchOption result ((form : Form) → IsRunning words.now form → ⊥)
-        (λ named. HasTurns words.now named.0 named.1) }
-{
-    if let Some(turns) = read_words(b"run", words) {
-        return Some((Form::Source, turns));
-    }
-    match read_words(b"exec", words) {
-        Some(turns) => Some((Form::Written, turns)),
-        None => None,
-    }
-}
 
 // Does what the words name, but for the last line on standard error.
 fn perform<I: Source, O: Sink, E: Sink>(
@@ -58,12 +44,11 @@ fn perform<I: Source, O: Sink, E: Sink>(
         (talk_by ⟦<dyn Link as Link>⟧) (faults_by ⟦<dyn Link as Link>⟧)
         words.now input.old input.new out.old out.new err.old err.new rack.old rack.new result }
 {
-    if names_translation(words) {
-        return translate_input(alloc, input, out);
-    }
-    match named_run(words) {
-        Some((form, turns)) => execute(alloc, form, turns, input, out, err, rack),
-        None => Ending::Usage,
+    match read_task(alloc, words) {
+        Ok(Some(Task::Translate)) => translate_input(alloc, input, out),
+        Ok(Some(Task::Run(form, turns))) => execute(alloc, form, turns, input, out, err, rack),
+        Ok(None) => Ending::Usage,
+        Err(OutOfMemory) => Ending::OutOfMemory,
     }
 }
 
@@ -75,8 +60,11 @@ fn perform<I: Source, O: Sink, E: Sink>(
 /// `run` runs the source that `input` gives, and `exec` the written C. What the program prints on its two outputs goes to
 /// `out` and `err`, which are flushed at its end, before the ending is decided. It begins connected to the first ready slot
 /// of the rack, if it has one, and may open, choose and close connections. The slots of those that are open at the end are
-/// free again. A program with a call that the library doesn't make yet is refused. More than 64 slots are a limit, which is
-/// tested before the input is read.
+/// free again. More than 64 slots are a limit, which is tested before the input is read.
+///
+/// `gen` makes the program of a number, and runs it as `run` does; the input isn't read. Behind what the program prints it
+/// puts one line on `out`: the number, the length of the source in bytes, how many requests were made, and how it ended. A
+/// number above 10,000 is a limit.
 ///
 /// A fault while the last line is put changes no ending.
 pub fn ec_main<I: Source, O: Sink, E: Sink>(
@@ -99,8 +87,8 @@ pub fn ec_main<I: Source, O: Sink, E: Sink>(
 
     // A run to its end is the whole of what the source means, or of what the written C means, over the answers that the log
     // got in this call: what is said is in the log, what is printed is on the two outputs, and the last line stands behind it.
-    // The first ready slot is taken, each exchange does to the slots what it says, and the connections are given back at the
-    // end (`RunsOver`).
+    // What a generated program prints ends with the line that tells of its run (`reported`). The first ready slot is taken,
+    // each exchange does to the slots what it says, and the connections are given back at the end (`RunsOver`).
     ensures whole { (form : Form) (turns : ℕ) → HasTurns words.now form turns → IsOfProgram result →
         BeforeLine E.held E.faults err.new (last_line result) (λ between.
         ExecutesWhole O.held O.faults E.held E.faults
@@ -134,30 +122,36 @@ pub fn ec_main<I: Source, O: Sink, E: Sink>(
         (states (slots_of rack.old)) (states (slots_of rack.new)) (grown rack.old rack.new) }
     ensures logged { log_of rack.new ≡ log_of rack.old ++ grown rack.old rack.new }
 
-    // A refusal touches nothing, and wrong words read nothing. No call reads far beyond the limit.
-    ensures unread { (result ≡ Ending.Usage)
-        ⊎ ((form : Form) × IsRunning words.now form × (result ≡ Ending.Limit L7))
-        → input.new ≡ input.old }
-    ensures untouched { IsRefusal result → (rack.new ≡ rack.old) × (out.new ≡ out.old) }
+    // A refusal touches nothing, and neither do words that name no command. These read nothing, and a generated program
+    // neither. No call reads far beyond the limit.
+    ensures unread { IsUnnamed words.now ⊎ ((form : Form) × (turns : ℕ)
+        × HasTurns words.now form turns × (result ≡ Ending.Limit L7)) → input.new ≡ input.old }
+    ensures made { (number turns : ℕ) → HasTurns words.now (Form.Generated number) turns →
+        input.new ≡ input.old }
+    ensures untouched { IsRefusal result ⊎ IsUnnamed words.now →
+        (rack.new ≡ rack.old) × (out.new ≡ out.old) }
     ensures within { ReadsWithin (I.left input.old) (I.left input.new) }
 
-    // When each answer comes.
-    ensures usage { (result ≡ Ending.Usage) ↔ ((IsTranslating words.now → ⊥)
-        × ((form : Form) → IsRunning words.now form → ⊥)) }
+    // When each answer comes. Words that name no command, more slots than are taken and a number that is too large are told
+    // by it always, but that want of memory may come in its place.
+    ensures usage { ComesWhere Ending.Usage result (IsUnnamed words.now) }
     ensures own_translation { IsTranslating words.now → IsOfTranslation result }
     ensures source_refused { (kind : FaultKind) (line : Line) → IsTranslating words.now
         → result ≡ Ending.Refused kind line →
         RefusesAt IsRefused (I.left input.old) (I.left input.new) kind line.0 }
     ensures source_limit { (kind : LimitKind) → IsTranslating words.now
         → result ≡ Ending.Limit kind → PassesLimit (I.left input.old) (I.left input.new) kind }
-    ensures own { (form : Form) → IsRunning words.now form → IsOfExecution result }
-    ensures crowded { (form : Form) → IsRunning words.now form →
-        ((result ≡ Ending.Limit L7) ↔ IsCrowded rack.old) }
-    ensures refused { (form : Form) (kind : FaultKind) (line : Line) → IsRunning words.now form
-        → result ≡ Ending.Refused kind line →
-        RefusesAt (IsRefusedAs form) (I.left input.old) (I.left input.new) kind line.0 }
-    ensures limit { (form : Form) (kind : LimitKind) → IsRunning words.now form → (kind ≡ L7 → ⊥)
-        → result ≡ Ending.Limit kind → PassesAs form (I.left input.old) (I.left input.new) kind }
+    ensures own { (form : Form) (turns : ℕ) → HasTurns words.now form turns → IsOfExecution result }
+    ensures crowded { (form : Form) (turns : ℕ) → HasTurns words.now form turns →
+        ComesWhere (Ending.Limit L7) result (IsCrowded rack.old) }
+    ensures numbered { (form : Form) (turns : ℕ) → HasTurns words.now form turns →
+        ComesWhere (Ending.Limit L8) result (IsLarge form × (IsCrowded rack.old → ⊥)) }
+    ensures refused { (form : Form) (turns : ℕ) (kind : FaultKind) (line : Line)
+        → HasTurns words.now form turns → result ≡ Ending.Refused kind line →
+        RefusesRun form (I.left input.old) (I.left input.new) kind line.0 }
+    ensures limit { (form : Form) (turns : ℕ) (kind : LimitKind) → HasTurns words.now form turns
+        → (kind ≡ L7 → ⊥) → result ≡ Ending.Limit kind →
+        PassesAs form (I.left input.old) (I.left input.new) kind }
     ensures read_fault { result ≡ Ending.ReadFault →
         Rose (I.faults input.old) (I.faults input.new) }
     ensures write_fault { IsTranslating words.now → result ≡ Ending.WriteFault →
@@ -168,7 +162,7 @@ pub fn ec_main<I: Source, O: Sink, E: Sink>(
         → I.left input.old ≡ Some text → (Rose (I.faults input.old) (I.faults input.new) → ⊥)
         → (Rose (O.faults out.old) (O.faults out.new) → ⊥) → DecidesTranslation text result }
     ensures decides { (form : Form) (turns : ℕ) (text : List ℕ) → HasTurns words.now form turns
-        → (IsCrowded rack.old → ⊥) → I.left input.old ≡ Some text
+        → (IsCrowded rack.old → ⊥) → Gives form (I.left input.old) text
         → (Rose (I.faults input.old) (I.faults input.new) → ⊥)
         → (Rose (O.faults out.old) (O.faults out.new) → ⊥)
         → (Rose (E.faults err.old) (E.faults err.new) → ⊥)
@@ -185,7 +179,7 @@ pub fn ec_main<I: Source, O: Sink, E: Sink>(
 
     // The last line, whole, or in part where the count of `err` rose.
     // Only a program that runs puts something before it.
-    ensures last_line { IsTranslating words.now ⊎ IsRefusal result →
+    ensures last_line { IsTranslating words.now ⊎ IsUnnamed words.now ⊎ IsRefusal result →
         Announces E.held E.faults err.old err.new (last_line result) }
 {
     let ending = perform(alloc, words, input, out, err, rack);

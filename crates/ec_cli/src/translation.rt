@@ -1,25 +1,13 @@
 //! The command `translate`: a source is read, and the C that is written of it is put.
-ghost use Rattle.std.specs.Prelude.{◌≡◌, ◌≤◌, ◌^◌, length, OnOk, OnErr};
-ghost use Rattle.ec_base.specs.Putting.{Puts, PutsPart};
+ghost use Rattle.std.specs.Prelude.{◌≡◌, ◌≤◌, ◌^◌, length};
 ghost use Rattle.ec_cli.specs.Translating.{refusal_of, TranslatesText, Translates};
 
 use crate::ending::Ending;
 use crate::limits::INPUT_LIMIT;
-use ec_base::{
-    Bytes, Failed, InputStop, LimitKind, Sink, Source as Input, Stop, put_all, read_all,
-};
+use crate::putting::put_text;
+use ec_base::{Bytes, Failed, InputStop, LimitKind, Sink, Source as Input, Stop, read_all};
 use ec_execute::source::translate_source;
 use std::alloc::Global;
-
-// Puts a text, and passes on what was kept back.
-#[tactic(auto, using(ec_base::proofs::Transfers::putting))]
-fn put_text<O: Sink>(out: &mut O, text: &[u8]) -> Result<(), Failed>
-    ensures ok { OnOk result (Puts O.held O.faults out.old out.new text.now) }
-    ensures part { OnErr result (PutsPart O.held O.faults out.old out.new text.now) }
-{
-    put_all(out, text)?;
-    out.flush()
-}
 
 // The ending of a text that is refused.
 fn refusal(stop: Stop) -> Ending

@@ -33,7 +33,7 @@ pub use Rattle.ec_embedded.specs.Directives
 pub use Rattle.ec_embedded.specs.LeftOut
 pub use Rattle.ec_embedded.specs.Findings
 pub use Rattle.ec_embedded.specs.Answers as EmbeddedStatements
-pub use Rattle.ec_embedded.specs.SentText
+pub use Rattle.ec_embedded.specs.Parameters
 -- Violations: what is found out about a program, and faults of hosts; the first of all
 pub use Rattle.ec_base.specs.Numbers
 pub use Rattle.ec_typing_defs.specs.Worlds

@@ -1,8 +1,10 @@
-//! Rows of whole runs of the tool, and of calls of the library. Each subject has its section (`ec_rows`).
+//! Rows of whole runs of the tool, of calls of the library, and of words of the command line. Each subject has its section
+//! (`ec_rows`).
 #![tactic(auto)]
 
 mod calls;
 mod runs;
+mod words;
 
 use ec_base::Bytes;
 use ec_rows::{Failure, Sections, show_input, text_of};
@@ -13,10 +15,15 @@ use std::process::ExitCode;
 enum Subject {
     Runs,
     Calls,
+    Words,
 }
 
 /// The name of each section.
-const SUBJECTS: [(&str, Subject); 2] = [("runs", Subject::Runs), ("calls", Subject::Calls)];
+const SUBJECTS: [(&str, Subject); 3] = [
+    ("runs", Subject::Runs),
+    ("calls", Subject::Calls),
+    ("words", Subject::Words),
+];
 
 // The subject of this name.
 fn subject_named(name: &[u8]) -> Option<Subject> {
@@ -42,6 +49,7 @@ impl Sections for Rows {
         match subject_named(name).ok_or(Failure::Usage)? {
             Subject::Runs => runs::show_rows(rt.alloc(), rows, out),
             Subject::Calls => Ok(calls::show_rows(rt.alloc(), text_of(rows)?, out)?),
+            Subject::Words => Ok(words::show_rows(rt.alloc(), text_of(rows)?, out)?),
         }
     }
 }

@@ -2,10 +2,10 @@
 //! has the form of both.
 
 mod call;
-mod line;
+pub mod line;
 mod place;
 mod setup;
-mod show;
+pub mod show;
 
 use crate::runs::setup::Setup;
 use ec_base::Bytes;

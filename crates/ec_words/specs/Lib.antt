@@ -1,2 +1,5 @@
-pub mod Reading
 pub mod Words
+pub mod Served
+pub mod Line
+pub mod Reading
+pub mod Examples

@@ -1,10 +1,13 @@
-//! The words of the command line: which command they name, with its options, and which links.
+//! The words of the command line: the command that they name, with its options and links.
 #![tactic(auto)]
 
 mod examples;
+mod line;
 mod links;
+mod served;
 mod words;
 
 pub use examples::word_examples;
-pub use links::{LinkSpec, links_named};
-pub use words::{names_translation, read_words};
+pub use links::LinkSpec;
+pub use served::{command_named, links_named};
+pub use words::{Command, GenWords, RunWords, USUAL_TURNS, read_words};

@@ -1,302 +1,355 @@
-//! What the words behind the program's name ask for.
-ghost use Rattle.std.specs.Prelude.{◌≡◌, ◌==◌, ◌||◌, None, codes, map, option_map, position, string_bytes, MatchOption};
-ghost use Rattle.ec_words.specs.Words.{text_behind, number_from, turns_of, is_word, link_of, unmarked_link, named_link, file_of, said_turns, said_link, joined_or_link, reads, at_end, sayings, anything, is_nothing, run_words, asked_by, asked};
-ghost use Rattle.ec_words.specs.Words as spec;
-ghost use Rattle.ec_words.specs.Reading.{spec_of, said_of, expected_of, tally_with, tallied_over};
+//! The command that the words behind the program's name ask for.
+ghost use Rattle.std.specs.Prelude.{◌≡◌, ◌≤◌, ◌<◌, ◌^◌, Some, None, map, option_map, take, drop, length, if◌then◌else◌, codes, false, IfOk, IfSome, MatchOption, string_bytes};
+ghost use Rattle.std.specs.List.{before_first};
+ghost use Rattle.ec_words.specs.Words.{number_of, turns_by, places_by, run_by, gen_by, links_by, links_then, place_then, transcript_of, asked, is_equals, is_replay, names_replay, replay_at, is_word, all_fair, plain_in, words_before, parts_behind, run_of, gen_of, translate_of};
+ghost use Rattle.ec_words.specs.Reading.{HasTexts};
+ghost use Rattle.ec_words.specs.declared.words.Command.TheVariants as commands;
+
+use crate::line::{matches_of, texts_found};
+use crate::links::{LinkSpec, equals_in, is_word, push_links, transcript_of};
+use ec_base::{List, OutOfMemory};
+use std::alloc::Global;
 
 /// The most turns that can be given.
 const MOST_TURNS: u64 = 1_000_000_000;
 
-/// The turns that a run has where none are given.
-const USUAL_TURNS: u64 = 1_000_000;
+/// The turns of a run where none are given.
+pub const USUAL_TURNS: u64 = 1_000_000;
 
-/// A link that a word names.
-#[derive(Clone, Copy, Debug)]
-pub struct LinkWord<'a> {
-    /// Whether the connection is ready at the start.
-    pub is_ready: bool,
-    /// The name of the server.
-    pub target: &'a [u8],
-    /// The path of its file, or none where it is in memory.
-    pub path: Option<&'a [u8]>,
+/// The greatest number of a generated program.
+const MOST_PROGRAMS: u64 = 4_294_967_295;
+
+/// What a run is asked for.
+#[derive(Debug, Drop)]
+pub struct RunWords {
+    /// How many turns it has.
+    pub turns: u64,
+    /// Its links, in order.
+    pub links: List<LinkSpec>,
 }
 
-/// What a word says.
-#[derive(Clone, Copy, Debug)]
-pub enum Saying<'a> {
-    /// It has no meaning.
-    Wrong,
-    /// A number of turns.
-    Turns(u64),
-    /// A link.
-    Link(LinkWord<'a>),
+/// What a generated program is asked for.
+#[derive(Debug, Drop)]
+pub struct GenWords {
+    /// Its number, from 1 up.
+    pub number: u32,
+    /// Its links, in order.
+    pub links: List<LinkSpec>,
 }
 
-/// What a word may be.
-#[derive(Clone, Copy, Debug, PartialEq, Eq)]
-pub enum Expecting {
-    /// An option or another word.
-    Anything,
-    /// The value of the option before it.
-    Value,
-    /// No option.
-    NoOption,
+/// A command.
+#[derive(Debug, Drop)]
+pub enum Command {
+    /// `translate`: a source is translated.
+    Translate,
+    /// `exec`: written C is run.
+    Exec(RunWords),
+    /// `run`: a source is run.
+    Run(RunWords),
+    /// `record`: a source is run, and what was said is recorded.
+    Record(RunWords),
+    /// `gen`: a program is made, and run.
+    Gen(GenWords),
 }
 
-// What stands behind that front of a text, if it has it.
-fn text_behind<'a>(front: &[u8], text: &'a [u8]) -> Option<&'a [u8]>
-    ensures { option_map (λ rest. rest.now) result ≡ text_behind front.now text.now }
+// The number of one or more decimal digits, if it is not too large. Zeros may lead it.
+fn number_of(most: u64, text: &[u8]) -> Option<u64>
+    requires { most < 2 ^ 32 }
+    ensures number { result ≡ number_of most text.now }
+    ensures within { IfSome result (λ n. n ≤ most) }
 {
-    let mut wanted = front;
-    let mut rest = text;
-    while let [byte, later @ ..] = wanted {
-        match rest {
-            [] => return None,
-            [first, ..] if *byte != *first => return None,
-            [_, more @ ..] => rest = more,
-        }
-        wanted = later;
+    if text.is_empty() {
+        return None;
     }
-    Some(rest)
-}
-
-// Whether a word is that one.
-fn is_word(word: &[u8], it: &[u8]) -> bool
-    ensures { result ≡ is_word word.now it.now }
-{
-    word == it
-}
-
-// The number of a text of digits, if it is not too large.
-fn number_of(text: &[u8]) -> Option<u64>
-    ensures { result ≡ number_from 0 text.now }
-{
     let mut number = 0;
     for digit in text {
         if !digit.is_ascii_digit() {
             return None;
         }
         number = 10 * number + u64::from(*digit - b'0');
-        if number > MOST_TURNS {
+        if number > most {
             return None;
         }
     }
     Some(number)
 }
 
-// The number of turns that a text gives.
-fn turns_of(text: &[u8]) -> Option<u64>
-    ensures { result ≡ turns_of text.now }
+// The turns of a run: the option stands at most once.
+fn turns_by(texts: &[&str]) -> Option<u64>
+    ensures { result ≡ turns_by (map (λ t. t.now) texts.now) }
 {
-    match text {
-        [] => None,
-        _ => number_of(text),
+    match texts {
+        [] => Some(USUAL_TURNS),
+        [only] => number_of(MOST_TURNS, only.as_bytes()),
+        _ => None,
     }
 }
 
-// The file behind the name and the `=` of a link.
-fn file_of<'a>(is_ready: bool, target: &'a [u8], path: Option<&'a [u8]>) -> Option<LinkWord<'a>>
-    ensures { option_map spec_of result
-        ≡ file_of is_ready target.now (option_map (λ it. it.now) path.entry) }
+// The links of words, with a transcript between them.
+#[tactic(auto, using(crate::proofs::CodeLemmas::from_none, crate::proofs::CodeLemmas::one_between))]
+fn places_round(
+    alloc: Global,
+    path: &str,
+    front: &[&str],
+    back: &[&str],
+) -> Result<Option<List<LinkSpec>>, OutOfMemory>
+    ensures { IfOk result (λ it. it ≡ links_then (links_by (map (λ t. t.now) front.now))
+        (place_then (transcript_of path.now) (links_by (map (λ t. t.now) back.now)))) }
 {
-    match path {
-        None | Some([]) => None,
-        Some(path) => Some(LinkWord {
-            is_ready,
-            target,
-            path: Some(path),
-        }),
+    let mut links = List::new(alloc);
+    if !push_links(alloc, &mut links, front)? {
+        return Ok(None);
+    }
+    let Some(transcript) = transcript_of(alloc, path.as_bytes())? else {
+        return Ok(None);
+    };
+    links.push(transcript)?;
+    if !push_links(alloc, &mut links, back)? {
+        return Ok(None);
+    }
+    Ok(Some(links))
+}
+
+// The links of words.
+#[tactic(auto, using(crate::proofs::CodeLemmas::from_none))]
+fn links_by(alloc: Global, plain: &[&str]) -> Result<Option<List<LinkSpec>>, OutOfMemory>
+    ensures { IfOk result (λ it. it ≡ links_by (map (λ t. t.now) plain.now)) }
+{
+    let mut links = List::new(alloc);
+    if !push_links(alloc, &mut links, plain)? {
+        return Ok(None);
+    }
+    Ok(Some(links))
+}
+
+// The links of words of which so many stand before the transcript, if there is one.
+fn places_by(
+    alloc: Global,
+    replay: &[&str],
+    plain: &[&str],
+    before: usize,
+) -> Result<Option<List<LinkSpec>>, OutOfMemory>
+    requires { before ≤ length plain.now }
+    ensures { IfOk result (λ it. it
+        ≡ places_by (map (λ t. t.now) replay.now) (map (λ t. t.now) plain.now) before) }
+{
+    let Some(path) = replay.first() else {
+        return links_by(alloc, plain);
+    };
+    if replay.len() > 1 {
+        return Ok(None);
+    }
+    let places = places_round(alloc, path, &plain[..before], &plain[before..])?;
+    Ok(places)
+}
+
+// What a run is asked for by the texts of its words.
+#[tactic(auto, using(crate::proofs::CodeLemmas::no_places, crate::proofs::CodeLemmas::all_placed))]
+fn run_by(
+    alloc: Global,
+    turns: &[&str],
+    replay: &[&str],
+    plain: &[&str],
+    before: usize,
+) -> Result<Option<RunWords>, OutOfMemory>
+    requires { before ≤ length plain.now }
+    ensures { IfOk result (λ it. it ≡ run_by (map (λ t. t.now) turns.now)
+        (map (λ t. t.now) replay.now) (map (λ t. t.now) plain.now) before) }
+{
+    let Some(turns) = turns_by(turns) else {
+        return Ok(None);
+    };
+    match places_by(alloc, replay, plain, before)? {
+        Some(links) => Ok(Some(RunWords { turns, links })),
+        None => Ok(None),
     }
 }
 
-// The link of a name and of what stands behind it.
-fn named_link<'a>(is_ready: bool, target: &'a [u8], place: &'a [u8]) -> Option<LinkWord<'a>>
-    ensures { option_map spec_of result ≡ named_link is_ready target.now place.now }
+// What a generated program is asked for by the texts of its words.
+fn gen_by(
+    alloc: Global,
+    turns: &[&str],
+    replay: &[&str],
+    plain: &[&str],
+) -> Result<Option<GenWords>, OutOfMemory>
+    ensures { IfOk result (λ it. it ≡ gen_by (map (λ t. t.now) turns.now)
+        (map (λ t. t.now) replay.now) (map (λ t. t.now) plain.now)) }
 {
-    if target.is_empty() {
-        return None;
+    let ([], [], [number, plain @ ..]) = (turns, replay, plain) else {
+        return Ok(None);
+    };
+    let number = match number_of(MOST_PROGRAMS, number.as_bytes()) {
+        None | Some(0) => return Ok(None),
+        Some(number) => number as u32,
+    };
+    match links_by(alloc, plain)? {
+        Some(links) => Ok(Some(GenWords { number, links })),
+        None => Ok(None),
     }
-    if is_word(place, b"memory") {
-        return Some(LinkWord {
-            is_ready,
-            target,
-            path: None,
-        });
+}
+
+// The name of an option.
+fn name_of(text: &[u8]) -> &[u8]
+    ensures { result.now ≡ before_first is_equals text.now }
+{
+    match equals_in(text) {
+        Some(end) => &text[..end],
+        None => text,
     }
-    file_of(is_ready, target, text_behind(b"file:", place))
 }
 
-// The first `=` of a word.
-fn equals_in(word: &[u8]) -> Option<usize>
-    ensures { result ≡ position (λ b. b == 61) word.now }
-{
-    word.iter().position(|byte| *byte == b'=')
-}
-
-// The link of a word without its mark.
-fn unmarked_link(is_ready: bool, word: &[u8]) -> Option<LinkWord<'_>>
-    ensures { option_map spec_of result ≡ unmarked_link is_ready word.now }
-{
-    let end = equals_in(word)?;
-    named_link(is_ready, &word[..end], &word[end + 1..])
-}
-
-// The link that a word names.
-fn link_of(word: &[u8]) -> Option<LinkWord<'_>>
-    ensures { option_map spec_of result ≡ link_of word.now }
+// Whether a word is the option of a transcript, alone or with its value.
+fn names_replay(word: &[u8]) -> bool
+    ensures { result ≡ names_replay word.now }
 {
     match word {
-        [] | [b'-', ..] => None,
-        [b'+', word @ ..] => unmarked_link(true, word),
-        _ => unmarked_link(false, word),
+        [b'-', b'-', text @ ..] => is_word(b"replay", name_of(text)),
+        _ => false,
     }
 }
 
-// A word that is a link or has no meaning.
-fn said_link(word: &[u8]) -> Saying<'_>
-    ensures { said_of result ≡ said_link (link_of word.now) }
+// How many words stand before that option.
+fn replay_at(words: &[String]) -> usize
+    ensures at { result ≡ replay_at (map string_bytes words.now) }
+    ensures within { result ≤ length words.now }
 {
-    match link_of(word) {
-        Some(link) => Saying::Link(link),
-        None => Saying::Wrong,
-    }
-}
-
-// A text that is a number of turns or has no meaning.
-fn said_turns(text: &[u8]) -> Saying<'_>
-    ensures { said_of result ≡ said_turns (turns_of text.now) }
-{
-    match turns_of(text) {
-        Some(number) => Saying::Turns(number),
-        None => Saying::Wrong,
-    }
-}
-
-// A word that is an option with its value, or a link.
-fn joined_or_link(word: &[u8]) -> Saying<'_>
-    ensures { said_of result ≡ joined_or_link (text_behind (codes "--turns=") word.now) word.now }
-{
-    match text_behind(b"--turns=", word) {
-        Some(text) => said_turns(text),
-        None => said_link(word),
-    }
-}
-
-/// What a word says, if it says something by itself, and what the next one may be.
-pub fn read_word(expecting: Expecting, word: &[u8]) -> (Option<Saying<'_>>, Expecting)
-    ensures said { option_map said_of result.0 ≡ (reads (expected_of expecting) word.now).0 }
-    ensures next { expected_of result.1 ≡ (reads (expected_of expecting) word.now).1 }
-{
-    match expecting {
-        Expecting::Anything if is_word(word, b"--") => (None, Expecting::NoOption),
-        Expecting::Anything if is_word(word, b"--turns") => (None, Expecting::Value),
-        Expecting::Anything => (Some(joined_or_link(word)), Expecting::Anything),
-        Expecting::Value => (Some(said_turns(word)), Expecting::Anything),
-        Expecting::NoOption => (Some(said_link(word)), Expecting::NoOption),
-    }
-}
-
-/// The turns that are given so far.
-#[derive(Clone, Copy, Debug)]
-pub struct Tally {
-    /// Whether nothing was wrong.
-    pub is_right: bool,
-    /// The number, if one was given.
-    pub turns: Option<u64>,
-}
-
-// The tally with what one more word says.
-fn tallied(tally: Tally, saying: Option<Saying<'_>>) -> Tally
-    ensures { result ≡ tally_with (option_map said_of saying.entry) tally }
-{
-    match saying {
-        None | Some(Saying::Link(_)) => tally,
-        Some(Saying::Turns(number)) if tally.turns.is_none() => Tally {
-            is_right: tally.is_right,
-            turns: Some(number),
-        },
-        Some(Saying::Turns(_) | Saying::Wrong) => Tally {
-            is_right: false,
-            turns: tally.turns,
-        },
-    }
-}
-
-// The turns of a run, where nothing was wrong and no value is missing.
-fn turns_in(tally: Tally, expecting: Expecting) -> Option<u64>
-    ensures { result ≡ tallied_over tally (at_end (expected_of expecting)) }
-{
-    if !tally.is_right || expecting == Expecting::Value {
-        return None;
-    }
-    Some(tally.turns.unwrap_or(USUAL_TURNS))
-}
-
-/// The turns of a run by the words behind the command's, or none where they don't fit it.
-#[tactic(auto, using(crate::proofs::WordLemmas::tally_step, crate::proofs::WordLemmas::tallied_is))]
-pub fn run_turns(words: &[String]) -> Option<u64>
-    ensures { result ≡ option_map (λ it. it.turns) (run_words (map string_bytes words.now)) }
-{
-    let mut tally = Tally {
-        is_right: true,
-        turns: None,
-    };
-    let mut expecting = Expecting::Anything;
+    let mut at = 0;
     for word in words {
-        let (saying, next) = read_word(expecting, word.as_bytes());
-        tally = tallied(tally, saying);
-        expecting = next;
+        if names_replay(word.as_bytes()) {
+            return at;
+        }
+        at += 1;
     }
-    turns_in(tally, expecting)
+    at
 }
 
-// Whether words say nothing: only a `--` may stand there.
-#[tactic(auto, using(crate::proofs::WordLemmas::one_word, crate::proofs::WordLemmas::two_words))]
-fn say_nothing(words: &[String]) -> bool
-    ensures { result ≡ is_nothing (sayings anything (map string_bytes words.now)) }
+// How many words that are no options stand before the transcript, or none where `clap` refuses the words before it. It
+// tells no place of an option among the other words, so it is asked once more, for the words before this one.
+fn before_replay(alloc: Global, words: &[String]) -> Result<Option<usize>, OutOfMemory>
+    requires { 0 < length words.now }
+    ensures { IfOk result (λ before. MatchOption before
+        (all_fair (words_before (map string_bytes words.now)) ≡ false)
+        (λ n. n ≡ length (plain_in (words_before (map string_bytes words.now))))) }
 {
-    match words {
-        [] => true,
-        [only] => is_word(only.as_bytes(), b"--"),
-        [_, _, ..] => false,
-    }
-}
-
-// Whether a word is that of a command that runs a program.
-fn names_run(word: &[u8]) -> bool
-    ensures { result ≡ (is_word word.now (codes "run") || is_word word.now (codes "exec")) }
-{
-    is_word(word, b"run") || is_word(word, b"exec")
-}
-
-/// The words behind the command's, where they are those of a run, of a source or of written C.
-pub fn run_behind(words: &[String]) -> Option<&[String]>
-    ensures { MatchOption result (asked (map string_bytes words.now) ≡ None)
-        (λ rest. asked (map string_bytes words.now) ≡ run_words (map string_bytes rest.now)) }
-{
-    match words {
-        [first, rest @ ..] if names_run(first.as_bytes()) => Some(rest),
-        _ => None,
+    let front = &words[..1 + replay_at(&words[1..])];
+    match matches_of(alloc, front)? {
+        Some(found) => {
+            let texts = texts_found(alloc, &found, "plain")?;
+            Ok(Some(texts.as_slice().len()))
+        },
+        None => Ok(None),
     }
 }
 
-/// Whether the words name a translation: `translate`, with nothing behind it but a `--`. It takes no memory.
-pub fn names_translation(words: &[String]) -> bool
-    ensures { result ≡ spec.names_translation (map string_bytes words.now) }
+// What `clap` finds in the words behind the command's, as the texts of its arguments.
+#[derive(Debug, Drop)]
+struct Texts<'a> {
+    turns: Vec<&'a str>,
+    replay: Vec<&'a str>,
+    plain: Vec<&'a str>,
+}
+
+// The texts that `clap` finds, or none where it refuses the words.
+fn texts_in<'a>(alloc: Global, words: &'a [String]) -> Result<Option<Texts<'a>>, OutOfMemory>
+    ensures { IfOk result (λ found. MatchOption found
+        (all_fair (parts_behind (map string_bytes words.now)) ≡ false)
+        (λ it. HasTexts it (parts_behind (map string_bytes words.now)))) }
 {
-    match words {
-        [first, rest @ ..] => is_word(first.as_bytes(), b"translate") && say_nothing(rest),
-        [] => false,
+    let Some(found) = matches_of(alloc, words)? else {
+        return Ok(None);
+    };
+    Ok(Some(Texts {
+        turns: texts_found(alloc, &found, "turns")?,
+        replay: texts_found(alloc, &found, "replay")?,
+        plain: texts_found(alloc, &found, "plain")?,
+    }))
+}
+
+// How many words that are no options stand before the transcript, if there is one.
+fn place_of(alloc: Global, replay: &[&str], words: &[String]) -> Result<Option<usize>, OutOfMemory>
+    requires { 0 < length words.now }
+    ensures { IfOk result (λ place. MatchOption place
+        ((all_fair (words_before (map string_bytes words.now)) ≡ false) × (0 < length replay.now))
+        (λ n. (length replay.now ≡ 0 → n ≡ 0) × (0 < length replay.now →
+        n ≡ length (plain_in (words_before (map string_bytes words.now)))))) }
+{
+    if replay.is_empty() {
+        return Ok(Some(0));
+    }
+    let before = before_replay(alloc, words)?;
+    Ok(before)
+}
+
+// What the words behind the command's ask of a run.
+fn run_of(alloc: Global, words: &[String]) -> Result<Option<RunWords>, OutOfMemory>
+    requires { 0 < length words.now }
+    ensures { IfOk result (λ it. it ≡ run_of (parts_behind (map string_bytes words.now))) }
+{
+    let Some(texts) = texts_in(alloc, words)? else {
+        return Ok(None);
+    };
+    let turns = texts.turns.as_slice();
+    let replay = texts.replay.as_slice();
+    let plain = texts.plain.as_slice();
+    let Some(before) = place_of(alloc, replay, words)? else {
+        return Ok(None);
+    };
+    if before > plain.len() {
+        return Ok(None);
+    }
+    let run = run_by(alloc, turns, replay, plain, before)?;
+    Ok(run)
+}
+
+// What the words behind the command's ask of a generated program.
+fn gen_of(alloc: Global, words: &[String]) -> Result<Option<GenWords>, OutOfMemory>
+    ensures { IfOk result (λ it. it ≡ gen_of (parts_behind (map string_bytes words.now))) }
+{
+    match texts_in(alloc, words)? {
+        Some(texts) => gen_by(
+            alloc,
+            texts.turns.as_slice(),
+            texts.replay.as_slice(),
+            texts.plain.as_slice(),
+        ),
+        None => Ok(None),
     }
 }
 
-/// How many turns the run by this command has that the words ask for, or none where they don't name it. It takes no memory.
-pub fn read_words(command: &[u8], words: &[String]) -> Option<u64>
-    ensures { result ≡ option_map (λ it. it.turns)
-        (asked_by command.now (map string_bytes words.now)) }
+// Whether nothing stands behind the command's word but a `--`.
+fn is_alone(alloc: Global, words: &[String]) -> Result<bool, OutOfMemory>
+    ensures { IfOk result (λ it. (if it then Some commands.Translate else None)
+        ≡ translate_of (parts_behind (map string_bytes words.now))) }
 {
-    match words {
-        [first, rest @ ..] if is_word(first.as_bytes(), command) => run_turns(rest),
-        _ => None,
+    let Some(texts) = texts_in(alloc, words)? else {
+        return Ok(false);
+    };
+    let alone = texts.turns.is_empty() && texts.replay.is_empty() && texts.plain.is_empty();
+    Ok(alone)
+}
+
+/// The command that the words name, as `clap` reads them, or none exactly where they name none.
+pub fn read_words(alloc: Global, words: &[String]) -> Result<Option<Command>, OutOfMemory>
+    ensures { IfOk result (λ it. it ≡ asked (map string_bytes words.now)) }
+{
+    let [first, ..] = words else {
+        return Ok(None);
+    };
+    let first = first.as_bytes();
+    if is_word(first, b"translate") {
+        return Ok(is_alone(alloc, words)?.then_some(Command::Translate));
     }
+    if is_word(first, b"exec") {
+        return Ok(run_of(alloc, words)?.map(Command::Exec));
+    }
+    if is_word(first, b"run") {
+        return Ok(run_of(alloc, words)?.map(Command::Run));
+    }
+    if is_word(first, b"record") {
+        return Ok(run_of(alloc, words)?.map(Command::Record));
+    }
+    if is_word(first, b"gen") {
+        return Ok(gen_of(alloc, words)?.map(Command::Gen));
+    }
+    Ok(None)
 }

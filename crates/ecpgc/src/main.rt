@@ -24,21 +24,32 @@ fn words(rt: &HostRuntime) -> Result<Vec<String>, OutOfMemory> {
     Ok(words)
 }
 
-// The link that a word names.
-fn link(rt: &HostRuntime, spec: &LinkSpec) -> Result<SqliteLink, OutOfMemory> {
-    match spec {
-        LinkSpec::Memory { .. } => SqliteLink::memory(rt.alloc()),
-        LinkSpec::File { path, .. } => SqliteLink::file(rt, rt.alloc(), path.as_slice()),
-    }
+// A link with its name, and whether its connection is ready at the start.
+#[derive(Drop)]
+struct NamedLink {
+    target: Name,
+    ready: bool,
+    link: SqliteLink,
 }
 
-// The name of a link, and whether its connection is ready at the start.
-fn target(spec: &LinkSpec) -> Result<(Name, bool), OutOfMemory> {
+// The link that a word names. No command that the tool does names a transcript.
+fn link_of(rt: &HostRuntime, spec: &LinkSpec) -> Result<Option<NamedLink>, OutOfMemory> {
     match spec {
-        LinkSpec::Memory { ready, target } | LinkSpec::File { ready, target, .. } => Ok((
-            target.clone()?,
-            *ready,
-        )),
+        LinkSpec::Memory { ready, target } => Ok(Some(NamedLink {
+            target: target.clone()?,
+            ready: *ready,
+            link: SqliteLink::memory(rt.alloc())?,
+        })),
+        LinkSpec::File {
+            ready,
+            target,
+            path,
+        } => Ok(Some(NamedLink {
+            target: target.clone()?,
+            ready: *ready,
+            link: SqliteLink::file(rt, rt.alloc(), path.as_slice())?,
+        })),
+        LinkSpec::Replay(_) => Ok(None),
     }
 }
 
@@ -59,8 +70,17 @@ fn run(rt: &HostRuntime) -> Result<Ending, OutOfMemory> {
         if rack.slots().len() >= ENOUGH_SLOTS {
             break;
         }
-        let (target, ready) = target(spec)?;
-        let link = Box::new(rt.alloc(), link(rt, spec)?)?;
+        let Some(
+            NamedLink {
+                target,
+                ready,
+                link,
+            },
+        ) = link_of(rt, spec)?
+        else {
+            continue;
+        };
+        let link = Box::new(rt.alloc(), link)?;
         // A second ready one is added as a free one.
         let added = if ready && !rack.has_ready() {
             rack.add_ready(target, link)

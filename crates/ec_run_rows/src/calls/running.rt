@@ -10,7 +10,7 @@ use ec_convert::HostPlace;
 use ec_ctypes::Sym;
 use ec_link::{MemLink, Rack, Reply};
 use ec_memory::Store;
-use ec_runtime::{Act, Call, Host, Input, Kind, Library, Statement, TextArg, Wanted};
+use ec_runtime::{Act, Call, Destination, Host, Input, Kind, Library, Statement, TextArg, Wanted};
 use std::alloc::Global;
 
 // An int at the front of an object.
@@ -43,7 +43,8 @@ fn select(alloc: Global) -> Result<Call, OutOfMemory> {
             Act::Run(Statement {
                 wanted: Wanted::Normal(text),
                 ins,
-                outs,
+                area: None,
+                outs: Destination::Hosts(outs),
             }),
         ),
     })
