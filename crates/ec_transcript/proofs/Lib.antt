@@ -1,0 +1,13 @@
+pub mod Joins
+pub mod FieldLists
+pub mod Letters
+pub mod Numerals
+pub mod NumberLaws
+pub mod RequestLaws
+pub mod LineLaws
+pub mod Machine
+pub mod Prefixes
+pub mod Splits
+pub mod Breaks
+pub mod Texts
+pub mod Cleaning

@@ -1,0 +1,11 @@
+pub mod Text
+pub mod Clean
+pub mod Reading
+pub mod States
+pub mod Lines
+pub mod Fitting
+pub mod Transcripts
+pub mod Laws
+pub mod Views
+pub mod Examples
+pub mod Whole
