@@ -1,5 +1,5 @@
-// The memory of crates/ec_memory, written in Rust as plainly: what a load, a store, a move of a pointer, and making and
-// ending an object take. Build by `rustc --edition 2021 -O bench/memory.rs`; run as `memory load`, and so on.
+// The memory of crates/ec_memory, written in Rust as plainly: what a load, a store, a fill, a move of a pointer, and
+// making and ending an object take. Build by `rustc --edition 2021 -O bench/memory.rs`; run as `memory load`, and so on.
 
 #[derive(Clone, Copy, Debug, PartialEq)]
 enum Trap {
@@ -74,6 +74,13 @@ impl Store {
         let at = self.reach(ptr, N)?;
         self.bytes[at..at + N].copy_from_slice(&bytes);
         self.set[at..at + N].fill(true);
+        Ok(())
+    }
+
+    fn fill(&mut self, ptr: u64, n: usize, byte: u8) -> Result<(), Trap> {
+        let at = self.reach(ptr, n)?;
+        self.bytes[at..at + n].fill(byte);
+        self.set[at..at + n].fill(true);
         Ok(())
     }
 
@@ -153,9 +160,15 @@ fn main() {
                 count += store.move_ptr(ptr, (i % 1024) as i64, 4).is_ok() as u64;
             }
         }
+        "fill" => {
+            for i in 0..10_000_000u64 {
+                count += store.fill(ptr + i % 1024, 100, 1).is_ok() as u64;
+            }
+        }
         _ => {
+            let size = if what == "make-many" { 100 } else { 8 };
             for _ in 0..10_000_000u64 {
-                count += (store.make(8) > 0) as u64;
+                count += (store.make(size) > 0) as u64;
                 store.end_to(1);
             }
         }

@@ -1,6 +1,7 @@
 //! Does what is measured. `ec_bench pieces`, `tokens`, `syntax`, `written`, `statements` and `checks` read a source on
-//! standard input by one part of the precompiler, and print how much it found. `ec_bench load`, `store`, `move` and `make` do
-//! one thing with the memory of a C program again and again, and print how often that went well.
+//! standard input by one part of the precompiler, and print how much it found. `ec_bench load`, `store`, `move`, `make`,
+//! `make-many` and `fill` do one thing with the memory of a C program again and again, and print how often that went
+//! well.
 #![tactic(auto)]
 
 mod count;
@@ -79,7 +80,7 @@ enum Measured {
 }
 
 /// The word that names each.
-const MEASURED: [(&str, Measured); 10] = [
+const MEASURED: [(&str, Measured); 12] = [
     ("pieces", Measured::Source(Part::Pieces)),
     ("tokens", Measured::Source(Part::Tokens)),
     ("syntax", Measured::Source(Part::Syntax)),
@@ -90,6 +91,8 @@ const MEASURED: [(&str, Measured); 10] = [
     ("store", Measured::Memory(Work::Store)),
     ("move", Measured::Memory(Work::Move)),
     ("make", Measured::Memory(Work::Make)),
+    ("make-many", Measured::Memory(Work::MakeMany)),
+    ("fill", Measured::Memory(Work::Fill)),
 ];
 
 // What a word names.

@@ -1,5 +1,7 @@
 //! One thing that is done with the memory of a C program again and again.
 
+ghost use Rattle.std.specs.Prelude.{◌≤◌, ◌^◌};
+
 use ec_bytes::Ptr;
 use ec_memory::{MakeStop, Store, Value};
 use ec_memory_defs::Kind;
@@ -8,7 +10,10 @@ use std::alloc::Global;
 /// How often a value is loaded or stored, or a pointer is moved.
 const TURNS: u64 = 100_000_000;
 
-/// How many objects are made and ended.
+/// How many bytes are filled at once, and how many an object of many has.
+const MANY: u64 = 100;
+
+/// How often many bytes are filled, and how many objects are made and ended.
 const OBJECTS: u64 = 10_000_000;
 
 /// The value at a pointer is an int of bytes that are all 1.
@@ -22,10 +27,13 @@ fn is_stored(store: &mut Store, ptr: Ptr) -> bool {
     store.store_kind(ptr, Kind::Int, Value::Int(7)).is_ok()
 }
 
-/// An object is made, and ends.
-fn is_made(store: &mut Store) -> bool {
+/// An object of so many bytes is made, and ends.
+#[inline(always)]
+fn is_made(store: &mut Store, size: u64) -> bool
+    requires { (1 ≤ size) × (size ≤ 2 ^ 24) }
+{
     let mark = store.mark();
-    let made = store.make(8).is_ok();
+    let made = store.make(size).is_ok();
     store.end_to(mark);
     made
 }
@@ -41,6 +49,10 @@ pub enum Work {
     Move,
     /// An object is made.
     Make,
+    /// An object of many bytes is made.
+    MakeMany,
+    /// Many bytes are filled.
+    Fill,
 }
 
 // How many of the loads went well.
@@ -73,11 +85,24 @@ fn count_moves(store: &Store, ptr: Ptr) -> u64 {
     count
 }
 
-// How many of the objects were made.
-fn count_made(store: &mut Store) -> u64 {
+// How many of the objects of so many bytes were made.
+#[inline(always)]
+fn count_made(store: &mut Store, size: u64) -> u64
+    requires { (1 ≤ size) × (size ≤ 2 ^ 24) }
+{
     let mut count = 0u64;
     for _ in 0..OBJECTS {
-        count = count.wrapping_add(is_made(store) as u64);
+        count = count.wrapping_add(is_made(store, size) as u64);
+    }
+    count
+}
+
+// How many of the fills went well.
+fn count_fills(store: &mut Store, ptr: Ptr) -> u64 {
+    let mut count = 0u64;
+    for i in 0..OBJECTS {
+        let at = Ptr(ptr.0.wrapping_add(i % 1024));
+        count = count.wrapping_add(store.fill(at, MANY, 1).is_ok() as u64);
     }
     count
 }
@@ -91,6 +116,8 @@ pub fn count_done(alloc: Global, work: Work) -> Result<u64, MakeStop> {
         Work::Load => count_loads(&store, ptr),
         Work::Store => count_stores(&mut store, ptr),
         Work::Move => count_moves(&store, ptr),
-        Work::Make => count_made(&mut store),
+        Work::Make => count_made(&mut store, 8),
+        Work::MakeMany => count_made(&mut store, MANY),
+        Work::Fill => count_fills(&mut store, ptr),
     })
 }
