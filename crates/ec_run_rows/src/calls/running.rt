@@ -10,7 +10,7 @@ use ec_convert::HostPlace;
 use ec_ctypes::Sym;
 use ec_link::{MemLink, Rack, Reply};
 use ec_memory::Store;
-use ec_runtime::{Act, Call, Destination, Host, Input, Kind, Library, Statement, TextArg, Wanted};
+use ec_runtime::{Act, Call, CallStop, Destination, Host, Input, Kind, Library, Statement, TextArg, Wanted};
 use std::alloc::Global;
 
 // An int at the front of an object.
@@ -61,24 +61,43 @@ fn memory(alloc: Global) -> Option<Store>
     Some(store)
 }
 
+// A rack with a link that gives this answer, under the empty name.
+fn rack_of(alloc: Global, reply: Reply) -> Result<Rack, OutOfMemory> {
+    let mut replies = List::new(alloc);
+    replies.push(reply)?;
+    let link = MemLink::new(alloc, replies, &[])?;
+    let link = Box::new(alloc, link)?;
+    let mut rack = Rack::new(alloc);
+    match rack.add_ready(Name::new(), link) {
+        Ok(()) => Ok(rack),
+        Err(_) => Err(OutOfMemory),
+    }
+}
+
+// Carries the call out over the link that is ready.
+fn carry_out(
+    alloc: Global,
+    store: &mut Store,
+    rack: &mut Rack,
+    call: &Call,
+) -> Result<Result<(), CallStop>, OutOfMemory>
+    requires { IsArea store.old }
+{
+    let mut library = Library::new(alloc);
+    let opened = library.open_ready(rack);
+    let done = library.call(alloc, store, rack, call);
+    library.finish(rack);
+    opened?;
+    Ok(done)
+}
+
 /// Runs the call over a link with this answer, and shows what is left.
 pub fn run(alloc: Global, reply: Reply, shown: &mut Bytes) -> Result<(), OutOfMemory> {
     let call = select(alloc)?;
     let Some(mut store) = memory(alloc) else {
         return Err(OutOfMemory);
     };
-    let mut replies = List::new(alloc);
-    replies.push(reply)?;
-    let link = MemLink::new(alloc, replies, &[])?;
-    let link = Box::new(alloc, link)?;
-    let mut rack = Rack::new(alloc);
-    if rack.add_ready(Name::new(), link).is_err() {
-        return Err(OutOfMemory);
-    }
-    let mut library = Library::new(alloc);
-    let opened = library.open_ready(&mut rack);
-    let done = library.call(alloc, &mut store, &mut rack, &call);
-    library.finish(&mut rack);
-    opened?;
+    let mut rack = rack_of(alloc, reply)?;
+    let done = carry_out(alloc, &mut store, &mut rack, &call)?;
     show(done, &store, rack.log().len(), shown)
 }
