@@ -10,7 +10,9 @@ use ec_convert::HostPlace;
 use ec_ctypes::Sym;
 use ec_link::{MemLink, Rack, Reply};
 use ec_memory::Store;
-use ec_runtime::{Act, Call, CallStop, Destination, Host, Input, Kind, Library, Statement, TextArg, Wanted};
+use ec_runtime::{
+    Act, Call, CallStop, Destination, Host, Input, Kind, Library, Statement, TextArg, Wanted,
+};
 use std::alloc::Global;
 
 // An int at the front of an object.
