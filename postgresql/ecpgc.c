@@ -384,13 +384,27 @@ static bool is_taken(enum ECPGdtype item, enum ECPGttype type)
         || !(is_char(type) || type == ECPGt_varchar || type == ECPGt_const || type == ECPGt_bool);
 }
 
+enum { ITEM_WORDS = 6, AT_WORD = 2 };
+
+/* Turns the items round: `ecpg` gives the last one first, so that one which fails is behind the same others. */
+static void turn_items(long *at, size_t count)
+{
+    for (size_t number = 0; number < count / 2 * ITEM_WORDS; number++) {
+        size_t item = number / ITEM_WORDS, word = number % ITEM_WORDS;
+        size_t other = (count - 1 - item) * ITEM_WORDS + word;
+        long kept = at[number];
+
+        at[number] = at[other];
+        at[other] = kept;
+    }
+}
+
 /*
  * The items of a descriptor, each before its member, which has no indicator in libecpg's list. A number that libecpg
  * wouldn't take is kept in `numbers`, which has a place for each item.
  */
 static void descriptor_items(bool is_set, int line, const char *descriptor, va_list *list)
 {
-    enum { ITEM_WORDS = 6, AT_WORD = 2 };
     enum ECPGttype type = va_arg(*list, enum ECPGttype);
     struct member member = next_member(type, list);
     struct words words = new_words(), numbers = new_words();
@@ -413,6 +427,7 @@ static void descriptor_items(bool is_set, int line, const char *descriptor, va_l
         for (size_t number = 0; number < numbers.count; number++)
             if (at[number * ITEM_WORDS + AT_WORD] == 0)
                 at[number * ITEM_WORDS + AT_WORD] = (long)&numbers.at[number];
+        turn_items(at, numbers.count);
         if (is_set)
             WITH_WORDS(&words, REGISTERS, ECPGset_desc, line, descriptor, index, at[0], at[1], at[2]);
         else
