@@ -93,11 +93,11 @@ class Answers(Link):
         super().__init__([], breaks)
         self.rng, self.made = rng, []
 
-    def answer(self, kind, outputs):
+    def answer(self, request, outputs):
         self.asks += 1
         if self.asks - 1 in self.breaks:
             return ("broken",)
-        self.made.append(self.opening() if kind == "connect" else self.reply(outputs))
+        self.made.append(self.opening() if request[0] == "connect" else self.reply(outputs))
         return self.made[-1]
 
     def opening(self):
@@ -111,9 +111,11 @@ class Answers(Link):
             return self.rng.choice([("broken",), ("connected",), ("notarget",)])
         if pick < 0.18:
             return ("refused", tx, self.rng.choice(STATES).encode(), self.message())
+        has_notice = self.rng.random() < 0.15
         if pick < (0.25 if outputs else 0.7):
-            return ("done", tx, self.rng.choice([None, None, 0, 0, 1, 1, 2, 7, 2 ** 31, 2 ** 63 - 1, 2 ** 63, 2 ** 64 - 1]))
-        return ("rows", tx, *self.table(outputs))
+            count = self.rng.choice([None, None, 0, 0, 1, 1, 2, 7, 2 ** 31, 2 ** 63 - 1, 2 ** 63, 2 ** 64 - 1])
+            return ("done", tx, count, has_notice)
+        return ("rows", tx, *self.table(outputs), has_notice)
 
     def message(self):
         length = self.rng.choice([0, 1, 5, 20, 20, 20, 130, 137, 138, 139, 140, 148, 149, 150, 200])
@@ -132,7 +134,7 @@ class Answers(Link):
     def field(self, member):
         if self.rng.random() < (0.2 if member is not None and member.has_indicator else 0.04):
             return None
-        if member is None or self.rng.random() < 0.04:
+        if member is None or member.symbol == "descriptor" or self.rng.random() < 0.04:
             return self.rng.choice(WORDS + ODD_NUMBERS).encode()
         if member.symbol in INTEGERS:
             return self.number(*INTEGERS[member.symbol][1:])
@@ -166,7 +168,7 @@ class Programs:
         # whether connections are opened and closed
         self.is_linked = self.chance(0.5)
         # whether there are descriptors
-        self.is_described = self.chance(0.4)
+        self.is_described = self.chance(0.8)
         # how often something in a list leads nowhere, or is an odd one
         self.wild = self.pick([0, 0, 0, 0.02, 0.05, 0.12])
         # how often a pointer is what a function gives
@@ -764,7 +766,7 @@ def places(rng, there, made):
     found = []
     for (r, n), slot in zip(there, made):
         replies, breaks = slot.link.made, sorted(slot.link.breaks)
-        replies = replies[:-1] if rng.random() < 0.05 else replies + [("done", "I", 1)] * (rng.random() < 0.1)
+        replies = replies[:-1] if rng.random() < 0.05 else replies + [("done", "I", 1, False)] * (rng.random() < 0.1)
         found.append(SlotOf(r, n, replies, breaks))
     return found
 

@@ -6,6 +6,7 @@ from dataclasses import dataclass, field
 from calls_made import Link, Run, Slot
 
 NAMES = {"turns_spent": "turns spent"}
+NOTICE = " notice"
 DEFAULT_TURNS, ROOM = 1_000_000, 1 << 16
 
 
@@ -68,11 +69,12 @@ def fields(text):
 def reply_lines(reply):
     kind, *rest = reply
     if kind == "rows":
-        tx, columns, rows = rest
-        return [f"< rows {tx}", *(f"c {quoted(name)} {code}" for name, code in columns),
+        tx, columns, rows, has_notice = rest
+        return [f"< rows {tx}" + NOTICE * has_notice, *(f"c {quoted(name)} {code}" for name, code in columns),
                 *("r" + "".join(" " + field_text(f) for f in row) for row in rows)]
     if kind == "done":
-        return [f"< done {rest[0]} {'-' if rest[1] is None else rest[1]}"]
+        tx, count, has_notice = rest
+        return [f"< done {tx} {'-' if count is None else count}" + NOTICE * has_notice]
     if kind == "refused":
         return [f"< refused {rest[0]} {rest[1].decode('latin-1')} {quoted(rest[2])}"]
     return [f"< {kind}"]
@@ -95,10 +97,11 @@ def given(row):
 
 def reply_read(words):
     kind, *rest = words.split(" ", 3)
+    has_notice = rest[-1:] == ["notice"]
     if kind == "rows":
-        return ("rows", rest[0], [], [])
+        return ("rows", rest[0], [], [], has_notice)
     if kind == "done":
-        return ("done", rest[0], None if rest[1] == "-" else int(rest[1]))
+        return ("done", rest[0], None if rest[1] == "-" else int(rest[1]), has_notice)
     if kind == "refused":
         return ("refused", rest[0], rest[1].encode("latin-1"), unquoted(rest[2][1:-1]))
     return (kind,)
@@ -123,16 +126,22 @@ def place_line(place, word, rest):
     elif word == "<":
         place.replies.append(reply_read(rest))
     elif word == "c":
-        name, code = re.fullmatch(r'"([^"]*)" (\d+)', rest).groups()
+        name, code = re.fullmatch(r'"([^"]*)" (-?\d+)', rest).groups()
         place.replies[-1][2].append((unquoted(name), int(code)))
     elif word == "r":
         place.replies[-1][3].append(fields(rest))
 
 
+def section(text, name="runs"):
+    """The lines of a section, or of a whole file that has none."""
+    parts = re.split(r"^section (\w+)\n", text, flags=re.M)
+    return dict(zip(parts[1::2], parts[2::2]))[name] if len(parts) > 1 else text
+
+
 def read(text, command="exec"):
     """The rows of a file that run written C, or sources, over outputs which take all."""
     found, source, is_wanted = [], "", True
-    for line in text.split("\n"):
+    for line in section(text).split("\n"):
         word, _, rest = line.partition(" ")
         if word == "source":
             source = ""
@@ -144,7 +153,7 @@ def read(text, command="exec"):
             words = re.fullmatch(rf"{command}(?: --turns (\d+))?", rest)
             is_wanted = words is not None
             row.turns = int(words[1]) if words and words[1] else None
-        elif word in ("reads", "puts", "last", "room", "chunk"):
+        elif word in ("reads", "puts", "last", "room", "chunk", "refusals"):
             is_wanted = False
         elif word == "slot":
             state, _, name = rest.partition(" ")
@@ -184,4 +193,4 @@ def left(row, run):
 
 def parted(text):
     """What was printed, row by row."""
-    return [part.strip("\n") for part in re.split(r"\n\n(?=row )|\n\n$", text) if part.strip("\n")]
+    return [part.strip("\n") for part in re.split(r"\n\n(?=row )|\n\n$", section(text)) if part.strip("\n")]

@@ -4,8 +4,9 @@
     compare/calls_made.py TURNS FILE
 
 runs a program of written C without a slot. The link of a slot has a script of replies. A reply is a tuple: its kind, and what
-docs/rows/ROWS.md says behind it, as bytes and numbers: ("rows", "I", [(name, code)], [[field]]), ("done", "I", count),
-("refused", "I", state, message), ("connected",), ("notarget",) and ("broken",). A field and a parameter are bytes, or None for NULL.
+docs/rows/ROWS.md says behind it, as bytes and numbers: ("rows", "I", [(name, code)], [[field]], has_notice),
+("done", "I", count, has_notice), ("refused", "I", state, message), ("connected",), ("notarget",) and ("broken",). A field and a
+parameter are bytes, or None for NULL.
 """
 
 import re
@@ -280,14 +281,18 @@ class WrittenParser(evaluator.Parser):
 
 # ---- links
 
+def has_notice(reply):
+    return reply[0] in ("rows", "done") and reply[-1]
+
+
 class Link:
     """A script of replies; behind the last one the link breaks, and so it does at some asks, counted from 0."""
 
     def __init__(self, replies, breaks=()):
         self.replies, self.breaks, self.asks = list(replies), set(breaks), 0
 
-    def answer(self, kind, outputs):
-        """The reply to a request of a kind, whose rows go into these."""
+    def answer(self, request, outputs):
+        """The reply to a request, whose rows go into these."""
         self.asks += 1
         if self.asks - 1 in self.breaks or not self.replies:
             return ("broken",)
@@ -456,8 +461,9 @@ class CallingMachine(evaluator.Machine):
             raise finding(-402)
         free = [(n, slot) for n, slot in enumerate(self.slots) if slot.state == "free" and slot.name == target]
         number, slot = free[0] if free else (None, None)
-        reply = slot.link.answer("connect", []) if free else ("notarget",)
-        self.exchanges.append((number, ("connect", target, user, password), reply))
+        request = "connect", target, user, password
+        reply = slot.link.answer(request, []) if free else ("notarget",)
+        self.exchanges.append((number, request, reply))
         if not free or reply[0] != "connected":
             raise finding(-402)
         self.connections.append(Connection(own, number, slot, False))
@@ -575,10 +581,12 @@ class CallingMachine(evaluator.Machine):
         return member.at.literal if member.symbol == "const" else storing.to_text(self.objects, member.host())
 
     def asked(self, c, request, outputs):
-        """The reply to a request over a connection, and what it tells of the transaction."""
-        reply = c.slot.link.answer(request[0], outputs)
+        """The reply to a request over a connection, what it tells of the transaction, and its notice."""
+        reply = c.slot.link.answer(request, outputs)
         if reply[0] in ("rows", "done", "refused"):
             c.told = reply[1]
+        if request[0] != "close" and has_notice(reply):
+            storing.notice(self.objects[1])
         self.exchanges.append((c.number, request, reply))
         return reply
 

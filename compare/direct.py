@@ -3,8 +3,7 @@
 
 No C is written and no call of the library is made. C is taken by evaluator.py. An embedded statement is a step of its own: its
 hosts are places with types, found in the scope where it stands, and its handlers are the last WHENEVER of each condition above it
-in the text. It takes sources that the checks accept, with statements that pass to the server, cursors of a text, connections,
-transaction control and autocommit.
+in the text. It takes sources that the checks accept, with statements of every form.
 
 Without a slot, each statement that is sent is -220. `Run` takes slots and replies as calls_made.py does.
 """
@@ -13,6 +12,7 @@ import re
 import sys
 from functools import lru_cache
 
+import direct_dynamic
 import evaluator
 import storing
 from calls_made import AREA, MESSAGE, MESSAGE_LENGTH, SHORTER
@@ -28,13 +28,12 @@ TEXTS = {
     -203: (b"21000", b"too many rows"), -204: (b"42804", b"not a number of type int"),
     -205: (b"42804", b"not a number of an unsigned type"), -211: (b"42804", b"not a bool"),
     -213: (b"22002", b"null value without indicator"), -220: (b"08003", b"no such connection"),
+    -230: (b"26000", b"no such statement"), -240: (b"33000", b"no such descriptor"), -241: (b"07009", b"descriptor index out of range"),
     -401: (b"08007", b"transaction control refused"), -402: (b"08001", b"could not connect"),
 }
 OPENING = ("connect", "set-connection", "disconnect")
-
-
-class NotMade(Exception):
-    """A statement of another form than those that are run here, by its line."""
+OF_DESCRIPTORS = ("allocate", "free", "get-count", "set-count", "get", "set")
+SENT = ("text", "open", "immediate", "execute")
 
 
 # ---- what is read
@@ -110,12 +109,25 @@ def leaves(node):
     return [Leaf(node, t[1], t[2], size(t[1]))]
 
 
-class Step:
-    """A statement that runs: its form, the connection it is for or the texts of a form that opens and closes these, its text, its
-    inputs and its outputs (leaves, or bytes)."""
+class Into:
+    """A descriptor that a row goes into, as replies are made for it."""
 
-    def __init__(self, line, form):
-        self.line, self.form, self.texts, self.text, self.inputs, self.outputs = line, form, [], b"", [], []
+    symbol, count, has_indicator, length = "descriptor", 1, True, 0
+
+
+class Step:
+    """A statement that runs: its form, its texts (the connection it is for, or the names of a form that needs none, and a text that
+    is known when it runs), its own text, the name of what is prepared, its inputs and its outputs (leaves, or bytes), the names of
+    the items of a descriptor, and the descriptors that it is given and that its row goes into."""
+
+    def __init__(self, line, form, texts):
+        self.line, self.form, self.texts, self.text, self.name, self.items = line, form, texts, b"", None, []
+        self.inputs, self.outputs, self.source, self.into = [], [], None, None
+
+    @property
+    def answered(self):
+        """What replies are made for."""
+        return self.outputs if self.into is None else [Into()]
 
 
 class SourceParser(evaluator.Parser):
@@ -231,32 +243,48 @@ class SourceParser(evaluator.Parser):
         return True
 
     def executed(self, statement):
-        line = statement.line
-        step = Step(line, statement.form)
-        texts = statement.texts if statement.form in OPENING else [statement.at]
-        step.texts = [self.text_argument(text) for text in texts]
-        if statement.form in ("text", "open"):
+        line, form = statement.line, statement.form
+        texts = statement.texts if form in OPENING or form in ("allocate", "free") else [statement.area]
+        if form not in OPENING + OF_DESCRIPTORS:
+            texts = [statement.at, *statement.texts]
+        step = Step(line, form, [self.text_argument(text) for text in texts])
+        if form in ("get-count", "set-count", "get", "set"):
+            self.described(step, statement)
+        elif form in SENT:
             self.fill(step, statement)
-        elif statement.form == "transaction":
+        elif form in ("prepare", "deallocate"):
+            step.name = statement.name
+        elif form == "transaction":
             step.text = statement.text
-        elif statement.form == "autocommit":
+        elif form == "autocommit":
             step.text = statement.name
-        elif statement.form not in OPENING:
-            raise NotMade(line)
         self.emit("evaluate", line, Node("step", VOID, step))
         for condition in ("not-found", "warning", "error"):
             self.handler(line, condition)
 
+    def described(self, step, statement):
+        """The index, and what is set or what is stored into."""
+        if step.form in ("get", "set"):
+            step.inputs = self.values([statement.index])
+        step.items = [name for name, _ in statement.items]
+        hosts = self.values([one for _, one in statement.items])
+        if step.form.startswith("get"):
+            step.outputs = hosts
+        else:
+            step.inputs += hosts
+
     def fill(self, step, statement):
         """What a statement sends and stores: of OPEN the text of its cursor."""
-        text, outs = statement, statement.outs
+        text = statement
         if statement.form == "open":
-            text, outs = self.cursors[statement.name.lower()], None
-            if text.prepared is not None:
-                raise NotMade(step.line)
+            text = self.cursors[statement.name.lower()]
+            step.name = text.prepared
+        elif statement.form == "execute":
+            step.name = statement.name
         self.sent(step, text.parts)
-        step.inputs += self.values(statement.ins, step.line)
-        step.outputs = self.values(outs, step.line)
+        given, step.source = self.listed(statement.ins)
+        step.inputs += given
+        step.outputs, step.into = self.listed(None if text is not statement else statement.outs)
 
     def sent(self, step, parts):
         """The text, in which each value of a host is a number, and these values."""
@@ -269,12 +297,15 @@ class SourceParser(evaluator.Parser):
             step.text += b", ".join(b"$%d" % n for n in numbers)
             step.inputs += found
 
-    def values(self, listed, line):
-        if listed is None:
-            return []
-        if listed[0] != "listed":
-            raise NotMade(line)
-        return [one for part in listed[1] for one in ([part] if isinstance(part, bytes) else self.host(part))]
+    def listed(self, parts):
+        """The values of a list, and the name of a descriptor that stands in its place."""
+        if parts is None:
+            return [], None
+        kind, found = parts
+        return ([], self.text_argument(found)) if kind == "area" else (self.values(found), None)
+
+    def values(self, parts):
+        return [one for part in parts for one in ([part] if isinstance(part, bytes) else self.host(part))]
 
     def host(self, part):
         found = leaves(self.reference(part.value))
@@ -375,11 +406,11 @@ def field_as(t, field):
 
 
 class Open:
-    """A connection that is open: its name, its slot with the number of that, and where it stands."""
+    """A connection that is open: its name, its slot with the number of that, where it stands, and the texts prepared over it."""
 
     def __init__(self, name, number, slot, begins):
         self.name, self.number, self.slot = name, number, slot
-        self.begins, self.is_idle = begins, True
+        self.begins, self.is_idle, self.prepared = begins, True, {}
 
 
 class DirectMachine(evaluator.Machine):
@@ -390,6 +421,7 @@ class DirectMachine(evaluator.Machine):
         super().__init__(program, turns)
         self.exchanges, self.slots = [], slots
         self.there, self.current = [], None
+        self.descriptors = direct_dynamic.Descriptors()
 
     def main(self):
         for number, slot in enumerate(self.slots):
@@ -426,22 +458,36 @@ class DirectMachine(evaluator.Machine):
     # -- a step
 
     def value_step(self, t, step):
-        texts = [self.value(text) if isinstance(text, Node) else text for text in step.texts]
+        texts = [self.led_to(text) for text in step.texts]
         inputs = [self.placed(leaf) for leaf in step.inputs]
+        source = self.led_to(step.source)
         outputs = [self.placed(leaf) for leaf in step.outputs]
+        into = self.led_to(step.into)
         self.turn()
-        texts = [bytes(self.front(text)) if isinstance(of, Node) else text for of, text in zip(step.texts, texts)]
-        parameters = [self.parameter(*one) for one in inputs]
+        texts = [self.read_text(of, text) for of, text in zip(step.texts, texts)]
+        values = [self.parameter(*one) for one in inputs]
+        source, into = self.read_text(step.source, source), self.read_text(step.into, into)
         storing.reset(self.area)
         try:
             if step.form in OPENING:
                 getattr(self, "step_" + step.form.replace("-", "_"))(*texts)
+            elif step.form in OF_DESCRIPTORS:
+                self.on_descriptor(step, texts[0], values, outputs)
             else:
-                self.over(self.chosen(texts[0]), step, parameters, outputs)
+                self.over(self.chosen(texts[0]), step, texts[1:], values, outputs, source, into)
         except Told as told:
             storing.raise_code(self.area, *told.args, step.line)
+        except direct_dynamic.Refused as refused:
+            storing.raise_code(self.area, *code(*refused.args).args, step.line)
 
-    def over(self, one, step, parameters, outputs):
+    def led_to(self, text):
+        return self.value(text) if isinstance(text, Node) else text
+
+    def read_text(self, of, text):
+        """The bytes of a text argument, of which a pointer was evaluated."""
+        return bytes(self.front(text)) if isinstance(of, Node) else text
+
+    def over(self, one, step, texts, values, outputs, source, into):
         """A step over a connection."""
         if step.form == "transaction":
             self.controlled(one, step.text)
@@ -449,10 +495,52 @@ class DirectMachine(evaluator.Machine):
             if step.text == b"on" and one.begins and not one.is_idle:
                 self.controlled(one, b"commit")
             one.begins = step.text == b"off"
+        elif step.form == "prepare":
+            text = direct_dynamic.numbered(*texts)
+            self.taken(self.answered(one, ("prepare", step.name, text), []))
+            one.prepared[step.name] = text
+        elif step.form == "deallocate":
+            self.prepared_of(one, step.name)
+            self.taken(self.answered(one, ("deallocate", step.name), []))
+            del one.prepared[step.name]
         else:
+            kind, what = self.what_is_sent(one, step, texts)
+            if source is not None:
+                values = values + self.descriptors.contents(source)
+            if into is not None:
+                self.descriptors.of(into)
             if one.begins and one.is_idle:
                 self.controlled(one, b"begin transaction")
-            self.settled(self.answered(one, ("text", step.text, parameters), step.outputs), outputs)
+            self.settled(self.answered(one, (kind, what, values), step.answered), outputs, into)
+
+    def prepared_of(self, one, name):
+        if name not in one.prepared:
+            raise code(-230)
+        return one.prepared[name]
+
+    def what_is_sent(self, one, step, texts):
+        if step.form == "immediate":
+            return "text", texts[0]
+        if step.name is None:
+            return "text", step.text
+        text = self.prepared_of(one, step.name)
+        return ("exec", step.name) if step.form == "execute" else ("text", step.text + text)
+
+    def on_descriptor(self, step, name, values, outputs):
+        if step.form in ("allocate", "free"):
+            getattr(self.descriptors, step.form)(name)
+        elif step.form == "set-count":
+            self.descriptors.set_count(name, *values)
+        elif step.form == "set":
+            self.descriptors.set(name, values[0], list(zip(step.items, values[1:])))
+        elif step.form == "get-count":
+            self.field_stored(*outputs[0], 0, self.descriptors.count(name))
+        else:
+            entry = self.descriptors.entry(name, *values)
+            for item, output in zip(step.items, outputs):
+                # what is NULL is left out where the indicator is told
+                if item != "DATA" or entry.content is not None or "INDICATOR" not in step.items:
+                    self.field_stored(*output, 0, entry.given(item))
 
     def controlled(self, one, text):
         if self.answered(one, ("text", text, []), [])[0] not in ("rows", "done"):
@@ -474,7 +562,7 @@ class DirectMachine(evaluator.Machine):
         request = "connect", target, user, password
         for number, slot in enumerate(self.slots):
             if slot.state == "free" and slot.name == target:
-                reply = slot.link.answer("connect", [])
+                reply = slot.link.answer(request, [])
                 self.exchanges.append((number, request, reply))
                 if reply[0] != "connected":
                     raise code(-402)
@@ -530,32 +618,47 @@ class DirectMachine(evaluator.Machine):
 
     def answered(self, one, request, outputs):
         """The reply over a connection, and what it tells of a transaction."""
-        reply = one.slot.link.answer(request[0], outputs)
+        reply = one.slot.link.answer(request, outputs)
         if reply[0] in ("rows", "done", "refused"):
             one.is_idle = reply[1] == "I"
+        if reply[0] in ("rows", "done") and reply[-1] and request[0] != "close":
+            self.area[240], self.area[242] = BYTE_OF_W, BYTE_OF_W
         self.exchanges.append((one.number, request, reply))
         return reply
 
-    def settled(self, reply, outputs):
+    def taken(self, reply):
+        """Done is as good as rows, and neither is counted."""
+        if reply[0] not in ("rows", "done"):
+            self.failed(reply)
+
+    def failed(self, reply):
         kind, *rest = reply
         if kind == "refused":
             raise Told({b"23505": -403, b"21000": -404}.get(rest[1], -400), rest[1], rest[2])
         if kind == "broken":
             raise Told(-400, b"08006", b"connection broken")
-        if kind in ("connected", "notarget"):
-            raise Told(-400, b"08P01", b"reply out of place")
+        raise Told(-400, b"08P01", b"reply out of place")
+
+    def settled(self, reply, outputs, into):
+        kind, *rest = reply
+        if kind not in ("rows", "done"):
+            self.failed(reply)
         if kind == "done":
             storing.rows(self.area, rest[1] or 0)
             if rest[1] == 0:
                 raise code(100)
-            if outputs:
+            if outputs or into is not None:
                 raise code(-201)
             return
-        _, columns, rows = rest
+        _, columns, rows, _ = rest
         storing.rows(self.area, len(rows))
         if not rows:
             raise code(100)
-        if outputs:
+        if into is not None:
+            if len(rows) > 1:
+                raise code(-203)
+            self.descriptors.fill(into, columns, rows[0])
+        elif outputs:
             self.rows_stored(len(columns), rows, outputs)
 
     def rows_stored(self, width, rows, outputs):

@@ -36,7 +36,14 @@ TOUCHES = ["sqlca.sqlerrm.sqlerrml = 3;", "sqlca.sqlerrm.sqlerrml = 500;", "sqlc
 HELPED = ["return;", 'printf("called %ld %d\\n", SQLCODE, n);', ";", "sqlca.sqlcode = -5;", "sqlca.sqlcode = 100;", "SQLCODE = 0;",
           "sqlca.sqlwarn[0] = 'W';", "memset(&sqlca, 0, sizeof sqlca);", "n++;", "{ int k = 3; connp = room + k; connp = conn; }",
           "exit(n + 4);", "EXEC SQL INSERT INTO log VALUES (:n :null);", "EXEC SQL SELECT c INTO :n FROM t;", "sqlprint();",
-          "if (n) EXEC SQL AT :conn DELETE FROM t; else sqlprint();"]
+          "if (n) EXEC SQL AT :conn DELETE FROM t; else sqlprint();", "EXEC SQL GET DESCRIPTOR d :n = COUNT;",
+          "EXEC SQL EXECUTE p USING :n, :null;"]
+# What a text to prepare is put together of, as it stands between quotes.
+PARTS = ["?", "?", "?", "''", "''", '"', "/*", "*/", "--", "\n", "E", "e", "\\", "x", "1", ".", "$", "_", " ", "ä", "E''", "?''?''"]
+AREAS = ["d"] * 9 + ["e", "e", "D"]
+INDEXES = ["1"] * 9 + ["2"] * 4 + ["3", "0", "-1", "- 1", "1000", "1001", "007", "99999999999999999999", "'x'", "'+1'", "''", "'2'"]
+COUNTS = ["0", "1", "1", "2", "2", "3", "1000", "1001", "-1", "'x'", "' 1'", "'9223372036854775808'"]
+NUMBERS = ["0", "1", "-1", "-1", "12", "2147483647", "2147483648", "-2147483648", "'x'", "'1x'", "'+7'", "'-0'", "''"]
 
 
 class Replies(Answers):
@@ -68,6 +75,8 @@ class Programs(ServerMaker):
         self.most = self.pick([2, 3, 4])
         self.world, self.callable, self.in_section = [], [], False
         self.early, self.placed = [], set()
+        # whether there are prepared statements and descriptors
+        self.is_prepared, self.is_described = self.chance(0.5), self.chance(0.8)
 
     # ---- values
 
@@ -180,8 +189,71 @@ class Programs(ServerMaker):
             lambda: f"FETCH {cursor} {self.into()}", lambda: f"UPDATE t SET a = 1 RETURNING {noise} {self.into()}"])()
 
     def executable(self):
-        make = self.pick([self.server] * 5 + [self.asked] * 5 + [self.fetch] + [self.open] * (2 * bool(self.cursors)) + self.linking())
+        make = self.pick([self.server] * 5 + [self.asked] * 5 + [self.fetch] + [self.open] * (2 * bool(self.cursors))
+                         + self.linking() + self.preparing() + self.describing())
         return self.spelled(make())
+
+    def preparing(self):
+        """What makes the forms of statements whose texts are known when they run."""
+        return [self.prepare, self.prepare, *[self.execute] * 4, self.immediate, self.deallocate] * self.is_prepared
+
+    def describing(self):
+        """What makes the forms of descriptors."""
+        return [self.allocate, self.free, *[self.get] * 4, *[self.set] * 3, self.header, self.header] * self.is_described
+
+    def command_text(self):
+        if self.chance(0.6):
+            return "'" + "".join(self.pick(PARTS) for _ in range(self.rng.randrange(12))) + "'"
+        return super().command_text()
+
+    def prepare(self):
+        name = self.pick(["p", "p", "p", "q", "P"])
+        self.prepared.append(name)
+        return self.at() + f"PREPARE {name} FROM {self.command_text()}"
+
+    def deallocate(self):
+        return self.at() + self.pick(["DEALLOCATE PREPARE ", "deallocate ", "DEALLOCATE "]) + self.pick(self.prepared or ["p"])
+
+    def area(self):
+        return self.pick(AREAS) if self.chance(0.8) else self.text_argument(AREAS)
+
+    def free(self):
+        return f"DEALLOCATE DESCRIPTOR {self.area()}"
+
+    def number_given(self, numbers, only_by_word=False, may_have_indicator=True):
+        """An index, a count or a value that is a number."""
+        if self.chance(0.75):
+            return self.pick(numbers)
+        return self.value(self.is_single, only_by_word, may_have_indicator)
+
+    def get(self):
+        items = [(self.host(self.is_single, False), self.pick(["DATA", "DATA", "INDICATOR", "NAME", "TYPE", "RETURNED_OCTET_LENGTH", "data"]))
+                 for _ in range(self.pick([1, 1, 2, 3]))]
+        listed = self.pick([", ", ","]).join(f"{host} = {item}" for host, item in items if host)
+        if not listed:
+            return self.allocate()
+        return f"GET DESCRIPTOR {self.area()} VALUE {self.number_given(INDEXES, True)} {listed}"
+
+    def set(self):
+        items = [self.item_set() for _ in range(self.pick([1, 1, 2, 3]))]
+        return f"SET DESCRIPTOR {self.area()} VALUE {self.number_given(INDEXES)} {self.pick([', ', ',']).join(items)}"
+
+    def item_set(self):
+        item = self.pick(["DATA", "DATA", "INDICATOR", "TYPE", "data"])
+        is_number = item in ("INDICATOR", "TYPE")
+        value = self.number_given(NUMBERS, False, False) if is_number else self.value(self.is_single, may_have_indicator=False)
+        return f"{item} = {value}"
+
+    def header(self):
+        if self.chance(0.5):
+            host = self.host(self.is_single)
+            return f"GET DESCRIPTOR {self.area()} {host} = COUNT" if host else self.allocate()
+        return f"SET DESCRIPTOR {self.area()} COUNT = {self.number_given(COUNTS)}"
+
+    def into(self):
+        if self.is_described and self.chance(0.3):
+            return f"INTO SQL DESCRIPTOR {self.area()}"
+        return super().into()
 
     def at(self):
         if self.chance(2 * self.wild):
@@ -194,7 +266,7 @@ class Programs(ServerMaker):
                                   self.host(self.is_text, False) or "db"]) + " "
 
     def using(self):
-        return self.inputs()
+        return f"SQL DESCRIPTOR {self.area()}" if self.is_described and self.chance(0.4) else self.inputs()
 
     def index(self, length):
         """Mostly one of an element that is there."""
@@ -209,7 +281,8 @@ class Programs(ServerMaker):
         name = self.name("cur")
         option = self.pick(["", "", "INSENSITIVE ", "NO SCROLL ", "scroll ", "ASENSITIVE "])
         hold = self.pick(["", "", " WITH HOLD", " without hold"])
-        body = f"SELECT {self.pick(self.noise)} FROM t{self.where()}"
+        is_named = self.is_prepared and self.chance(0.4)
+        body = self.pick(self.prepared or ["p"]) if is_named else f"SELECT {self.pick(self.noise)} FROM t{self.where()}"
         self.emit(self.spelled(f"DECLARE {name} {option}CURSOR{hold} FOR {body}"))
         self.cursors.append(name)
         self.words_of[name] = set(re.findall(r"\w+", body))
@@ -359,6 +432,8 @@ class Programs(ServerMaker):
         start = len(self.out)
         for _ in range(self.pick([0, 1, 2, 3]) if is_main and self.is_linked else 0):
             self.emit(self.spelled(self.connect()))
+        for make in self.first_forms() if is_main else []:
+            self.emit(self.spelled(make()))
         for _ in range(self.rng.randint(2, 8)):
             self.statement()
         front = [label for label in sorted(self.labels - self.placed) if self.chance(0.06)]
@@ -372,6 +447,14 @@ class Programs(ServerMaker):
             self.out.append(f"return {self.expression()};\n")
         self.close()
         self.out.append("}\n")
+
+    def first_forms(self):
+        """What `main` begins with, so that most names are there."""
+        found = [self.prepare] * self.pick([0, 1, 1, 2]) * self.is_prepared
+        if self.is_described:
+            found += [lambda: "ALLOCATE DESCRIPTOR d"] * self.chance(0.9) + [self.allocate] * self.pick([0, 1])
+            found += [self.set] * self.pick([0, 1, 2])
+        return found
 
     def asking(self):
         """A function with statements in it, which others may call."""

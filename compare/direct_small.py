@@ -9,11 +9,11 @@ SHOWN = ('printf("%ld %.5s %ld;%.149s\\n", sqlca.sqlcode, sqlca.sqlstate, sqlca.
 
 def rows(*found, width=1):
     """Rows, all as wide as the first."""
-    return ("rows", "I", [(b"a", 4)] * (len(found[0]) if found else width), [list(row) for row in found])
+    return ("rows", "I", [(b"a", 4)] * (len(found[0]) if found else width), [list(row) for row in found], False)
 
 
 def done(count=None):
-    return ("done", "I", count)
+    return ("done", "I", count, False)
 
 
 def refused(state, message):
@@ -312,6 +312,152 @@ EXEC SQL VARCHAR v[2];
 int main(void) {
 v.len = -1;
 EXEC SQL AT other SELECT :v;
+}
+"""),
+    ("name of a descriptor then index place", 5, [], """\
+EXEC SQL char *q; EXEC SQL int k[2]; EXEC SQL long i = 5; EXEC SQL int x;
+int main(void) {
+EXEC SQL struct s { char *q; } *p = NULL;
+EXEC SQL GET DESCRIPTOR :p->q VALUE :k[i] :x = DATA;
+}
+"""),
+    ("index place then item place", 5, [], """\
+EXEC SQL struct s { int a; int b; } *p; EXEC SQL int k[2]; EXEC SQL long i = 5;
+int main(void) {
+EXEC SQL GET DESCRIPTOR d VALUE :k[i] :p->b = DATA;
+}
+"""),
+    ("item places then turn", 0, [], """\
+EXEC SQL struct s { int a; int b; } *p; EXEC SQL int k[2];
+int main(void) {
+EXEC SQL SET DESCRIPTOR d VALUE :k[0] DATA = :k[1], TYPE = :p->b;
+}
+"""),
+    ("turn of a descriptor", 1, [], """\
+int main(void) {
+EXEC SQL ALLOCATE DESCRIPTOR d;
+EXEC SQL DEALLOCATE DESCRIPTOR d;
+}
+"""),
+    ("index read before the descriptor is found", 5, [], """\
+EXEC SQL VARCHAR v[2]; EXEC SQL int x;
+int main(void) {
+v.len = 3;
+EXEC SQL GET DESCRIPTOR d VALUE :v :x = DATA;
+}
+"""),
+    ("name read before index", 5, [], """\
+EXEC SQL char q[2] = "ab"; EXEC SQL VARCHAR v[2];
+int main(void) {
+v.len = 3;
+EXEC SQL SET DESCRIPTOR :q VALUE :v DATA = 'x';
+}
+"""),
+    ("items read before the first is set", 5, [], """\
+EXEC SQL int x = 5; EXEC SQL int n; EXEC SQL VARCHAR v[2];
+int main(void) {
+v.len = 3;
+EXEC SQL ALLOCATE DESCRIPTOR d;
+EXEC SQL SET DESCRIPTOR d VALUE 1 DATA = :x, TYPE = :v;
+}
+"""),
+    ("connection, prepared statement, descriptors", 20, [done()], """\
+int main(void) {
+EXEC SQL AT no EXECUTE p INTO SQL DESCRIPTOR e USING SQL DESCRIPTOR d;
+SHOWN
+EXEC SQL EXECUTE p INTO SQL DESCRIPTOR e USING SQL DESCRIPTOR d;
+SHOWN
+EXEC SQL PREPARE p FROM 'SELECT ?';
+EXEC SQL EXECUTE p INTO SQL DESCRIPTOR e USING SQL DESCRIPTOR d;
+SHOWN
+EXEC SQL ALLOCATE DESCRIPTOR d;
+EXEC SQL EXECUTE p INTO SQL DESCRIPTOR e USING SQL DESCRIPTOR d;
+SHOWN
+}
+"""),
+    ("descriptors before a transaction begins", 20, [done(), rows([b"x"]), done()], """\
+int main(void) {
+EXEC SQL SET AUTOCOMMIT TO OFF;
+EXEC SQL SELECT 1 INTO SQL DESCRIPTOR d;
+SHOWN
+EXEC SQL ALLOCATE DESCRIPTOR d;
+SHOWN
+EXEC SQL SELECT 1 INTO SQL DESCRIPTOR d;
+SHOWN
+}
+"""),
+    ("a refused transaction leaves a descriptor", 20, [refused(b"25P01", b"no"), refused(b"42P01", b"no")], """\
+EXEC SQL int n; EXEC SQL char s[3];
+int main(void) {
+EXEC SQL ALLOCATE DESCRIPTOR d;
+EXEC SQL SET DESCRIPTOR d VALUE 2 DATA = 'ab';
+EXEC SQL SET AUTOCOMMIT TO OFF;
+EXEC SQL SELECT 1 INTO SQL DESCRIPTOR d;
+SHOWN
+EXEC SQL SET AUTOCOMMIT TO ON;
+EXEC SQL SELECT 1 INTO SQL DESCRIPTOR d;
+SHOWN
+EXEC SQL GET DESCRIPTOR d :n = COUNT;
+EXEC SQL GET DESCRIPTOR d VALUE 2 :s = DATA;
+printf("%d %s", n, s);
+}
+"""),
+    ("what is got before a code stays", 20, [rows([b"12", None], width=2)], """\
+EXEC SQL int x; EXEC SQL bool b; EXEC SQL long l = 7; EXEC SQL short i = 9; EXEC SQL char c[2];
+int main(void) {
+EXEC SQL ALLOCATE DESCRIPTOR d;
+EXEC SQL SELECT 1 INTO SQL DESCRIPTOR d;
+EXEC SQL GET DESCRIPTOR d VALUE 1 :c = NAME, :x = DATA, :b = DATA, :l = DATA;
+SHOWN
+printf("%d %ld %c;", x, l, c[0]);
+EXEC SQL GET DESCRIPTOR d VALUE 2 :x = TYPE, :l = DATA, :i = INDICATOR;
+SHOWN
+printf("%d %ld %d;", x, l, i);
+EXEC SQL GET DESCRIPTOR d VALUE 2 :i = TYPE, :l = DATA, :x = TYPE;
+SHOWN
+printf("%d %ld %d;", x, l, i);
+}
+"""),
+    ("what is set before a code stays", 20, [], """\
+EXEC SQL int x; EXEC SQL char c[4]; EXEC SQL int n;
+int main(void) {
+EXEC SQL ALLOCATE DESCRIPTOR d;
+EXEC SQL SET DESCRIPTOR d VALUE 2 TYPE = 'x', DATA = 'no';
+SHOWN
+EXEC SQL GET DESCRIPTOR d :n = COUNT;
+printf("%d;", n);
+EXEC SQL SET DESCRIPTOR d VALUE 2 DATA = 'yes', TYPE = 'x', DATA = 'no';
+SHOWN
+EXEC SQL GET DESCRIPTOR d :n = COUNT;
+EXEC SQL GET DESCRIPTOR d VALUE 2 :c = DATA, :x = TYPE;
+printf("%d %.3s %d", n, c, x);
+}
+"""),
+    ("a host that is the index", 20, [rows([b"2", b"7"])], """\
+EXEC SQL int i = 1; EXEC SQL int x;
+int main(void) {
+EXEC SQL ALLOCATE DESCRIPTOR d;
+EXEC SQL SELECT 1 INTO SQL DESCRIPTOR d;
+EXEC SQL GET DESCRIPTOR d VALUE :i :i = DATA, :x = DATA;
+printf("%d %d", i, x);
+}
+"""),
+    ("names in sqlca", 20, [rows([b"1"])], """\
+EXEC SQL char *q; EXEC SQL int n;
+int main(void) {
+q = sqlca.sqlstate;
+EXEC SQL ALLOCATE DESCRIPTOR :q;
+}
+"""),
+    ("a text that is prepared", 20, [done(), done(), done(2)], r"""
+EXEC SQL char q[60] = "a ? 'it''s ?' E'\\'?' e\"?\" \"?\" /* ? /* */ ? */ -- ?\n?1?x?";
+int main(void) {
+EXEC SQL PREPARE p FROM :q;
+EXEC SQL DECLARE c CURSOR FOR p;
+EXEC SQL OPEN c USING 1, 'x', :q;
+EXEC SQL EXECUTE IMMEDIATE :q;
+EXEC SQL DEALLOCATE PREPARE P;
+SHOWN
 }
 """),
 ]

@@ -235,7 +235,7 @@ class Maker:
 
     def into(self):
         if self.chance(0.1):
-            return f"INTO SQL DESCRIPTOR {self.text_argument(self.areas)}"
+            return f"INTO SQL DESCRIPTOR {self.area()}"
         hosts = self.outputs()
         return f"INTO {hosts}" if hosts else ""
 
@@ -295,7 +295,7 @@ class Maker:
 
     def using(self):
         if self.chance(0.2):
-            return f"SQL DESCRIPTOR {self.text_argument(self.areas)}"
+            return f"SQL DESCRIPTOR {self.area()}"
         return self.inputs()
 
     def open(self):
@@ -309,6 +309,10 @@ class Maker:
         if self.chance(0.4):
             return self.pick(["'DELETE FROM t'", "'INSERT INTO t VALUES (?, ''x'')'", "''", "'a\nb'"])
         return self.host(self.is_text, False) or "'x'"
+
+    def area(self):
+        """The name of a descriptor."""
+        return self.text_argument(self.areas)
 
     def immediate(self):
         return self.at() + f"EXECUTE IMMEDIATE {self.command_text()}"
@@ -326,11 +330,11 @@ class Maker:
 
     def deallocate(self):
         if self.chance(0.3):
-            return f"DEALLOCATE DESCRIPTOR {self.text_argument(self.areas)}"
+            return f"DEALLOCATE DESCRIPTOR {self.area()}"
         return self.at() + self.pick(["DEALLOCATE PREPARE ", "deallocate prepare "]) + self.pick(self.prepared or ["p"])
 
     def allocate(self):
-        return f"ALLOCATE DESCRIPTOR {self.text_argument(self.areas)}"
+        return f"ALLOCATE DESCRIPTOR {self.area()}"
 
     def is_single(self, t):
         return leaf(("name", "x"), t) is not None
@@ -341,16 +345,16 @@ class Maker:
         items = [f"{h} = {item}" for h, item in items if h][: self.rng.randint(1, 3)]
         if not items:
             return self.allocate()
-        return (f"GET DESCRIPTOR {self.text_argument(self.areas)} VALUE {self.value(self.is_single, True)} "
+        return (f"GET DESCRIPTOR {self.area()} VALUE {self.value(self.is_single, True)} "
                 + self.pick([", ", ","]).join(items))
 
     def set(self):
         values = [(self.pick(["DATA", "INDICATOR", "TYPE", "data"]), self.value(self.is_single, may_have_indicator=False)) for _ in range(self.rng.randint(1, 3))]
         items = [f"{item} = {value}" for item, value in values]
-        return f"SET DESCRIPTOR {self.text_argument(self.areas)} VALUE {self.value(self.is_single)} {', '.join(items)}"
+        return f"SET DESCRIPTOR {self.area()} VALUE {self.value(self.is_single)} {', '.join(items)}"
 
     def header(self):
-        area = self.text_argument(self.areas)
+        area = self.area()
         if self.chance(0.5):
             host = self.host(self.is_single)
             return f"GET DESCRIPTOR {area} {host} = COUNT" if host else self.allocate()

@@ -12,62 +12,16 @@ import sqlite3
 import sys
 from pathlib import Path
 
+from sqlite_link import COUNTED, FIRST_WORD, code, controls, new_connection, state, with_marks
+
 ROWS = Path(__file__).resolve().parent.parent / "crates" / "ec_base_rows"
 LINK_ONLY = re.compile(r"(?i)^(prepare|deallocate|connect|close)\b|^text (declare|fetch|close)\b")
-SKIPPED = re.compile(r"('[^']*'|\"[^\"]*\"|/\*.*?\*/|--[^\n]*)|\$(\d)")
-FIRST_WORD = re.compile(r"(?is)(\s|/\*.*?\*/|--[^\n]*\n?)*(\w*)")
-COUNTED = ("INSERT", "UPDATE", "DELETE", "REPLACE")
-GAPS = re.compile(r"(\s|/\*.*?\*/|--[^\n]*|;\s*$)+")
-WORK, CHAIN = r"( (?:WORK|TRANSACTION))?", r"( AND(?: NO)? CHAIN)?"
-MODE = (r"(?:ISOLATION LEVEL (?:SERIALIZABLE|REPEATABLE READ|READ COMMITTED|READ UNCOMMITTED)|READ (?:ONLY|WRITE)"
-        r"|(?:NOT )?DEFERRABLE)")
-MODES = rf"( {MODE}(?: ?,? {MODE})*)?"
-NAME = r' ("[^"]*"|[A-Z_][A-Z_0-9]*)'
-# The forms of transaction control, each with what is said to SQLite. What is said of a savepoint needs a transaction.
-CONTROLS = [(re.compile(form + "$", re.I), said) for form, said in (
-    ("BEGIN" + WORK + MODES, "BEGIN"), ("START TRANSACTION" + MODES, "BEGIN"),
-    ("(?:COMMIT|END)" + WORK + CHAIN, "COMMIT"), ("(?:ROLLBACK|ABORT)" + WORK + CHAIN, "ROLLBACK"),
-    ("SAVEPOINT" + NAME, "SAVEPOINT {}"), ("ROLLBACK" + WORK + " TO(?: SAVEPOINT)?" + NAME, "ROLLBACK TO {}"),
-    ("RELEASE(?: SAVEPOINT)?" + NAME, "RELEASE {}"))]
-
-
-def new_connection():
-    return sqlite3.connect(":memory:", isolation_level=None)
-
-
-def with_marks(text):
-    """The text with ?n for each $n that stands in no quote and no comment."""
-    return SKIPPED.sub(lambda match: match.group(1) or "?" + match.group(2), text)
 
 
 def field(value):
     if value is None:
         return "NULL"
     return value.decode() if isinstance(value, bytes) else str(value)
-
-
-def code(values):
-    """The code of a column: 4 where it has whole numbers and NULLs alone, else 12."""
-    return 4 if {type(value) for value in values if value is not None} == {int} else 12
-
-
-def state(connection):
-    return "A" if connection.in_transaction else "I"
-
-
-def controls(connection, text):
-    """What is said to SQLite for transaction control, or none where the text asks for something else."""
-    words = GAPS.sub(" ", text).strip()
-    for form, said in CONTROLS:
-        found = form.match(words)
-        if found and connection.in_transaction == (said != "BEGIN"):
-            is_chained = (found.groups()[-1] or "").upper() == " AND CHAIN"
-            return [said.format(found.groups()[-1])] + ["BEGIN"] * is_chained
-        if found and "{" not in said and (found.groups()[-1] or "").upper() != " AND CHAIN":
-            return []
-        if found:
-            return ["not in a transaction"]
-    return None
 
 
 def printed_rows(connection, names, rows):
@@ -175,4 +129,5 @@ def main():
     return 1 if compared.differ else 0
 
 
-sys.exit(main())
+if __name__ == "__main__":
+    sys.exit(main())

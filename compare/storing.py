@@ -167,5 +167,9 @@ def warn(area):
     area[240:242] = list(b"WW")
 
 
+def notice(area):
+    area[240] = area[242] = ord("W")
+
+
 def rows(area, count):
     area[208:216] = list((count & (2 ** 64 - 1)).to_bytes(8, "little"))
