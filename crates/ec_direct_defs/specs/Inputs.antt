@@ -6,7 +6,7 @@ use Rattle.ec_ctypes.specs.trees.Types.{StructData}
 use Rattle.ec_transfer_defs.specs.Conversion.{parameter}
 use Rattle.ec_meaning_defs.specs.evaluation.State.{State}
 use Rattle.ec_call_defs.specs.Outcomes.{Text, Field, Outcome, gives, next, trying, present}
-use Rattle.ec_call_defs.specs.Inputs.{given_read}
+use Rattle.ec_direct_defs.specs.Texts.{text_wanted}
 use Rattle.ec_direct_defs.specs.Leaves.{Leaf, leaf_data}
 use Rattle.ec_direct_defs.specs.Statements.{Input, stored, constant}
 
@@ -36,4 +36,4 @@ module _ (structs : List StructData) where
 -- the name of the descriptor, if there is one
 abbrev pub area_read : Option (TextArg ℕ) → State → Outcome (Option Text)
 area_read None s = gives None s
-area_read (Some name) s = next (given_read name s) (λ bytes t. gives (Some bytes) t)
+area_read (Some name) s = next (text_wanted name s) (λ bytes t. gives (Some bytes) t)

@@ -1,6 +1,14 @@
 pub mod Leaves
+pub mod Hosts
 pub mod Statements
 pub mod Places
+pub mod Names
+pub mod Texts
+pub mod Requests
+pub mod Connections
+pub mod Marks
+pub mod Prepared
+pub mod Descriptors
 pub mod Inputs
 pub mod Storing
 pub mod Executing

@@ -6,12 +6,13 @@ use Rattle.ec_ctypes.specs.trees.Types.{TyData, pointer, array, structure, Struc
 use Rattle.ec_ctypes.specs.trees.Exprs.{ExprData}
 use Rattle.ec_ctypes.specs.trees.Embedded.{HostData, TextArgData, word_arg, host_arg, host_with_indicator, InputData, host_input, const_input, InsData, listed_ins, area_ins, OutsData, no_outs, listed_outs, area_outs, PartData, bytes_part, host_part, EmbData, connect, set_connection, disconnect, autocommit, trans, server_text, declare_cursor, open_cursor, execute_immediate, prepare, execute, deallocate, allocate_area, free_area, get_count, get_items, set_count, set_items, whenever, include_sqlca}
 use Rattle.ec_language.specs.Letters.{Text}
-use Rattle.ec_host_defs.specs.Bound.{pairs_of, sent_from}
+use Rattle.ec_host_defs.specs.Bound.{sent_from}
 use Rattle.ec_host_defs.specs.Faults.{host_count}
 use Rattle.ec_host_defs.specs.Programs.{ProgramData, Denoted, reference_type, names_count}
 use Rattle.ec_memory_defs.specs.Memory.{pointer_type}
 use Rattle.ec_meaning_defs.specs.resolved.Resolved.{Exp, load, faulty}
 use Rattle.ec_resolving_defs.specs.Storage.{ReferenceForm}
+use Rattle.ec_direct_defs.specs.Hosts.{leaves_with_indicators}
 use Rattle.ec_direct_defs.specs.Leaves.{Leaf, leaf_at, member_place}
 
 -- a value that is sent: that of a leaf, or a constant of the statement
@@ -117,7 +118,7 @@ module _ (p : ProgramData) where
   -- a host as its leaves
   abbrev pub host_leaves : HostData → Around → Made (List (Leaf Exp))
   host_leaves h x =
-      made (map (leaf_at p.structs (reference_at 0 x) (indicator_at h x)) (pairs_of p h x.denoted))
+      made (map (leaf_at p.structs (reference_at 0 x) (indicator_at h x)) (leaves_with_indicators p h x.denoted))
       (behind (host_count h) (references_of h) x)
 
   abbrev pub input : InputData → Around → Made (List (Input Exp))

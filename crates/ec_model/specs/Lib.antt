@@ -86,6 +86,14 @@ pub use Rattle.ec_meaning_defs.specs.evaluation
 pub use Rattle.ec_direct_defs.specs.Leaves as DirectLeaves
 pub use Rattle.ec_direct_defs.specs.Places as DirectPlaces
 pub use Rattle.ec_direct_defs.specs.Statements as DirectStatements
+pub use Rattle.ec_direct_defs.specs.Hosts as DirectHosts
+pub use Rattle.ec_direct_defs.specs.Names as DirectNames
+pub use Rattle.ec_direct_defs.specs.Texts as DirectTexts
+pub use Rattle.ec_direct_defs.specs.Requests as DirectRequests
+pub use Rattle.ec_direct_defs.specs.Connections as DirectConnections
+pub use Rattle.ec_direct_defs.specs.Marks as DirectMarks
+pub use Rattle.ec_direct_defs.specs.Prepared as DirectPrepared
+pub use Rattle.ec_direct_defs.specs.Descriptors as DirectDescriptors
 pub use Rattle.ec_direct_defs.specs.Inputs as DirectInputs
 pub use Rattle.ec_direct_defs.specs.Storing as DirectStoring
 pub use Rattle.ec_direct_defs.specs.Executing

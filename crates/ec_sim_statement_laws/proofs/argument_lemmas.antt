@@ -1,3 +1,4 @@
 pub mod AllArguments
 pub mod BoundSame
+pub mod OwnLeaves
 pub mod Pointers

@@ -7,7 +7,11 @@ pub mod Evaluated
 pub mod Keeping
 pub mod Kept
 pub mod Memories
+pub mod OwnWords
 pub mod Plain
+pub mod SharedExecuting
+pub mod SharedInputs
+pub mod SharedStoring
 pub mod Tests
 pub mod TidyRuns
 pub mod Whole

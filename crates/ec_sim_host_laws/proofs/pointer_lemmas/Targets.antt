@@ -1,5 +1,5 @@
 -- The statement that a call is written for stores into something, if it stores.
-use Rattle.std.proofs.Common.{◌≡◌, ◌∙◌, ℕ, List, [], ◌∷◌, ◌++◌, map, Option, Some, None, refl, subst}
+use Rattle.std.proofs.Common.{◌≡◌, ◌∙◌, ℕ, List, [], ◌∷◌, ◌++◌, map, Option, Some, None, refl, sym, subst}
 use Rattle.ec_arguments.specs.Arguments.{TextArg}
 use Rattle.ec_ctypes.specs.trees.Embedded.{TextArgData, word_arg, host_arg, host_with_indicator, InputData, host_input, const_input, InsData, listed_ins, area_ins, OutsData, no_outs, listed_outs, area_outs, PartData, bytes_part, host_part, EmbData, EmbKindData, connect, set_connection, disconnect, autocommit, trans, server_text, declare_cursor, open_cursor, execute_immediate, prepare, execute, deallocate, allocate_area, free_area, get_count, get_items, set_count, set_items, whenever, include_sqlca}
 use Rattle.ec_host_defs.specs.Bound as bound
@@ -15,6 +15,7 @@ use Rattle.ec_direct_defs.specs.Statements as direct
 use Rattle.ec_direct_defs.specs.Statements.{Around, Cursor, Statement, into_leaves, host_leaves, input, part, text_arg, text_option, sent, outputs, reference_at, indicator_at, first_of, get_leaves, set_inputs, gets_count, sets_count, gets_items, sets_items, executed, statement_of}
 use Rattle.ec_sim_world_laws.specs.place.References.{tables_of}
 use Rattle.ec_sim_statement_laws.specs.statement.Calls.{HasLeaves, HasTargets}
+use Rattle.ec_sim_statement_laws.proofs.argument_lemmas.OwnLeaves.{own_pairs}
 use Rattle.ec_sim_host_laws.specs.host.Hosts.{StatementStands}
 use Rattle.ec_sim_host_laws.specs.fit.Fits.{AreSome}
 use Rattle.ec_sim_host_laws.specs.pointer.Pointers.{HasHosts, OutputsAreSome}
@@ -71,7 +72,9 @@ module _ (at : Place) (s : Storage) (w z : World) (hosts functions : List ℕ) (
   outputs_have (listed_outs (a ∷ hs)) x h u = of_host (host_stands at s w z hosts functions g output_role refl a x.denoted u.0)
     where
       of_host : HostStands at s w z hosts functions g output_role a x.denoted → HasLeaves (outputs p (listed_outs (a ∷ hs)) x)
-      of_host k = some_leaves (leaf_at p.structs (reference_at 0 x) (indicator_at a x)) (pairs_of p a x.denoted) (direct.each_of (host_leaves p) hs (host_leaves p a x).left).made k.are_some
+      of_host k = subst (λ qs. HasLeaves (into_leaves (map (leaf_at p.structs (reference_at 0 x) (indicator_at a x)) qs ++ (direct.each_of (host_leaves p) hs (host_leaves p a x).left).made)))
+          (sym (own_pairs p a x.denoted))
+          (some_leaves (leaf_at p.structs (reference_at 0 x) (indicator_at a x)) (pairs_of p a x.denoted) (direct.each_of (host_leaves p) hs (host_leaves p a x).left).made k.are_some)
   outputs_have (area_outs a) x h u = tt
 
   -- with the first of these, if there is one

@@ -27,6 +27,7 @@ use Rattle.ec_direct_defs.specs.Leaves as leaves_of
 use Rattle.ec_direct_defs.specs.Leaves.{Leaf, leaf_place, leaf_at}
 use Rattle.ec_direct_defs.specs.Statements as direct
 use Rattle.ec_direct_defs.specs.Statements.{Around, Cursor, Sent, Input, stored, gets_count, gets_items, sets_count, sets_items, first_of, opened_by, reference_at, indicator_at, host_leaves, input, part, text_arg, text_option, sent, outputs, get_leaves, set_inputs}
+use Rattle.ec_sim_statement_laws.proofs.argument_lemmas.OwnLeaves.{own_pairs}
 use Rattle.ec_sim_statement_laws.specs.statement.Calls.{indicator_of, host_of, input_of, area_of, ins_of, outs_of, asked_of, got_of, given_of}
 use Rattle.ec_sim_statement_laws.specs.argument.Bound.{cursor_of, IsOne, IndicatorIs, PairsAre, TextIs, OptionIs, InputIs, InputsAre, InsAre, PartsAre, HostsAre, OutputsAre, OneHostIs, OneInputIs, GetsAre, SetsAre, KindIs, IsCall}
 
@@ -158,11 +159,23 @@ module _ (p : ProgramData) (g : ExprData → Exp) where
     inputs_are [] a = refl
     inputs_are (q ∷ qs) a = λ j. pair_same h x q a.0 a.1 j ∷ inputs_are qs a.2 j
 
+    -- the leaves of a host are found alike
+    found : (host_leaves p h x).made ≡ map (leaf_at p.structs (reference_at 0 x) (indicator_at h x)) (pairs_of p h x.denoted)
+    found = λ j. map (leaf_at p.structs (reference_at 0 x) (indicator_at h x)) (own_pairs p h x.denoted j)
+
     leaves_are : (qs : List Pair) → PairsAre p g h (reference_at 0 x) (reference_at 1 x) qs
         → map (member_with g) (map member_of (map (places.leaf_place p.structs h.value h.indicator) qs))
         ≡ map (host_of p.structs) (map (leaf_at p.structs (reference_at 0 x) (indicator_at h x)) qs)
     leaves_are [] a = refl
     leaves_are (q ∷ qs) a = λ j. pair_same h x q a.0 a.1 j ∷ leaves_are qs a.2 j
+
+    host_inputs : PairsAre p g h (reference_at 0 x) (reference_at 1 x) (pairs_of p h x.denoted)
+        → map (member_with g) (map member_of (host_places p h x.denoted).made) ≡ map (input_of p.structs) (map stored (host_leaves p h x).made)
+    host_inputs a = inputs_are (pairs_of p h x.denoted) a ∙ (λ j. map (input_of p.structs) (map stored (sym found j)))
+
+    host_targets : PairsAre p g h (reference_at 0 x) (reference_at 1 x) (pairs_of p h x.denoted)
+        → map (member_with g) (map member_of (host_places p h x.denoted).made) ≡ map (host_of p.structs) (host_leaves p h x).made
+    host_targets a = leaves_are (pairs_of p h x.denoted) a ∙ (λ j. map (host_of p.structs) (sym found j))
 
   abbrev seen_as : List PlaceData → List (Member Exp)
   seen_as ps = map (member_with g) (map member_of ps)
@@ -173,7 +186,7 @@ module _ (p : ProgramData) (g : ExprData → Exp) where
   -- ---- inputs and outputs
 
   input_same : (i : InputData) (x : Around) → InputIs p g i x → seen_as (input_places p i x.denoted).made ≡ map (input_of p.structs) (input p i x).made
-  input_same (host_input h) x is = inputs_are h x (pairs_of p h x.denoted) is
+  input_same (host_input h) x is = host_inputs h x is
   input_same (const_input bytes) x is = refl
 
   input_left : (i : InputData) (x : Around) → (input_places p i x.denoted).left ≡ (input p i x).left.denoted
@@ -199,7 +212,7 @@ module _ (p : ProgramData) (g : ExprData → Exp) where
   parts_same (bytes_part bytes ∷ ps) x h = parts_same ps x h.1
   parts_same (host_part a ∷ ps) x h =
       seen_append (host_places p a x.denoted).made (bound.each_of (part_places p) ps (host_leaves p a x).left.denoted).made
-      ∙ (λ j. inputs_are a x (pairs_of p a x.denoted) h.0 j ++ parts_same ps (host_leaves p a x).left h.1 j)
+      ∙ (λ j. host_inputs a x h.0 j ++ parts_same ps (host_leaves p a x).left h.1 j)
       ∙ sym (map_append (input_of p.structs) (map stored (host_leaves p a x).made) (direct.each_of (part p) ps (host_leaves p a x).left).made)
 
   parts_left : (ps : List PartData) (x : Around) → (bound.each_of (part_places p) ps x.denoted).left ≡ (direct.each_of (part p) ps x).left.denoted
@@ -212,7 +225,7 @@ module _ (p : ProgramData) (g : ExprData → Exp) where
   hosts_same [] x h = refl
   hosts_same (a ∷ hs) x h =
       seen_append (host_places p a x.denoted).made (bound.each_of (host_places p) hs (host_leaves p a x).left.denoted).made
-      ∙ (λ j. leaves_are a x (pairs_of p a x.denoted) h.0 j ++ hosts_same hs (host_leaves p a x).left h.1 j)
+      ∙ (λ j. host_targets a x h.0 j ++ hosts_same hs (host_leaves p a x).left h.1 j)
       ∙ sym (map_append (host_of p.structs) (host_leaves p a x).made (direct.each_of (host_leaves p) hs (host_leaves p a x).left).made)
 
   -- ---- texts
@@ -267,22 +280,23 @@ module _ (p : ProgramData) (g : ExprData → Exp) where
     one : PlaceData
     leaf : Leaf Exp
     are_places : map (places.leaf_place p.structs h.value h.indicator) qs ≡ one ∷ []
-    are_leaves : map (leaf_at p.structs (reference_at 0 x) (indicator_at h x)) qs ≡ leaf ∷ []
+    are_leaves : (host_leaves p h x).made ≡ leaf ∷ []
     same : member_with g (member_of one) ≡ host_of p.structs leaf
 
-  one_of : (h : HostData) (x : Around) (qs : List Pair) → IsOne qs → PairsAre p g h (reference_at 0 x) (reference_at 1 x) qs → OneOf h x qs
-  one_of h x [] one is = absurd one
-  one_of h x (q ∷ []) one is = record {
+  one_of : (h : HostData) (x : Around) (qs : List Pair) → (host_leaves p h x).made ≡ map (leaf_at p.structs (reference_at 0 x) (indicator_at h x)) qs
+      → IsOne qs → PairsAre p g h (reference_at 0 x) (reference_at 1 x) qs → OneOf h x qs
+  one_of h x [] e one is = absurd one
+  one_of h x (q ∷ []) e one is = record {
     one = places.leaf_place p.structs h.value h.indicator q;
     leaf = leaf_at p.structs (reference_at 0 x) (indicator_at h x) q;
     are_places = refl;
-    are_leaves = refl;
+    are_leaves = e;
     same = pair_same h x q is.0 is.1;
   }
-  one_of h x (q ∷ r ∷ qs) one is = absurd one
+  one_of h x (q ∷ r ∷ qs) e one is = absurd one
 
   one_host : (h : HostData) (x : Around) → OneHostIs p g h x → OneOf h x (pairs_of p h x.denoted)
-  one_host h x is = one_of h x (pairs_of p h x.denoted) is.0 is.1
+  one_host h x is = one_of h x (pairs_of p h x.denoted) (found h x) is.0 is.1
 
   record OneInput (i : InputData) (x : Around) : Type 0 where
     one : PlaceData

@@ -29,11 +29,15 @@ use Rattle.ec_call_defs.specs.Library.{call_done}
 use Rattle.ec_direct_defs.specs.Leaves.{Leaf, leaf_data}
 use Rattle.ec_direct_defs.specs.Statements as direct
 use Rattle.ec_direct_defs.specs.Statements.{Input, stored, Sent, Outputs, nowhere, into_leaves, into_area, Asked, sends, executes, reads_text, opens, Statement, runs, connects, disconnects, sets_connection, sets_autocommit, controls, prepares, deallocates, allocates, frees, gets_count, sets_count, gets_items, sets_items}
-use Rattle.ec_direct_defs.specs.Inputs.{leaf_read, input_read, values_read, items_read, area_read}
-use Rattle.ec_direct_defs.specs.Storing as direct_storing
-use Rattle.ec_direct_defs.specs.Storing.{Targets, no_targets, leaf_targets, area_target, are_wanted, rows_kept, any_smaller, counted, leaves_kept, into_targets, table_kept}
-use Rattle.ec_direct_defs.specs.Executing as direct_executing
-use Rattle.ec_direct_defs.specs.Executing.{asked_read, targets_read, targets_found, with_notice, answer_kept, asks_indicator, has_indicator, carried_out, run_over, kept_in, item_kept, items_kept, statement_done}
+use Rattle.ec_direct_defs.specs.Inputs.{leaf_read, input_read, values_read, items_read}
+use Rattle.ec_direct_defs.specs.Storing.{Targets, no_targets, leaf_targets, area_target, are_wanted, any_smaller}
+use Rattle.ec_direct_defs.specs.Executing as own
+use Rattle.ec_sim_statement_laws.proofs.statement_lemmas.SharedInputs.{area_read}
+use Rattle.ec_sim_statement_laws.proofs.statement_lemmas.SharedStoring as direct_storing
+use Rattle.ec_sim_statement_laws.proofs.statement_lemmas.SharedStoring.{rows_kept, counted, leaves_kept, into_targets, table_kept}
+use Rattle.ec_sim_statement_laws.proofs.statement_lemmas.SharedExecuting as direct_executing
+use Rattle.ec_sim_statement_laws.proofs.statement_lemmas.SharedExecuting.{asked_read, targets_read, targets_found, with_notice, answer_kept, asks_indicator, has_indicator, carried_out, run_over, kept_in, item_kept, items_kept, statement_done}
+use Rattle.ec_sim_statement_laws.proofs.statement_lemmas.OwnWords.{own_same}
 use Rattle.ec_sim_statement_laws.specs.statement.Calls.{indicator_of, place_of, host_of, input_of, area_of, ins_of, outs_of, asked_of, got_of, given_of, call_of, HasLeaves, HasTargets}
 use Rattle.ec_sim_statement_laws.proofs.statement_lemmas.ByType.{data_same}
 
@@ -310,30 +314,30 @@ module _ (structs : List StructData) where
         next (fields_same is t j) (λ fields u.
         gives ((i.0, field) ∷ fields) u))
 
-    pub done_same : (x : Statement ℕ) → HasTargets x → (s : State) → call_done line (call_of structs x) s ≡ statement_done structs line x s
-    done_same (runs at asked ins outs) h s = run_same at asked ins outs h s
-    done_same (connects target user password name) h s = refl
-    done_same (disconnects name) h s = refl
-    done_same (sets_connection name) h s = refl
-    done_same (sets_autocommit on at) h s = refl
-    done_same (controls at bytes) h s = refl
-    done_same (prepares at name bytes) h s = refl
-    done_same (deallocates at name) h s = refl
-    done_same (allocates name) h s = refl
-    done_same (frees name) h s = refl
-    done_same (gets_count name l) h s = λ j.
+    halfway : (x : Statement ℕ) → HasTargets x → (s : State) → call_done line (call_of structs x) s ≡ statement_done structs line x s
+    halfway (runs at asked ins outs) h s = run_same at asked ins outs h s
+    halfway (connects target user password name) h s = refl
+    halfway (disconnects name) h s = refl
+    halfway (sets_connection name) h s = refl
+    halfway (sets_autocommit on at) h s = refl
+    halfway (controls at bytes) h s = refl
+    halfway (prepares at name bytes) h s = refl
+    halfway (deallocates at name) h s = refl
+    halfway (allocates name) h s = refl
+    halfway (frees name) h s = refl
+    halfway (gets_count name l) h s = λ j.
         next (given_read name s) (λ called s.
         next (begun_area s) (λ _ s.
         next (area_found line called s) (λ items s.
         kept_in_same l (Some (decimal (length items))) s j)))
-    done_same (sets_count name x) h s = λ j.
+    halfway (sets_count name x) h s = λ j.
         next (given_read name s) (λ called s.
         next (input_same x s j) (λ field s.
         next (begun_area s) (λ _ s.
         next (area_found line called s) (λ items s.
         next (index_of line 0 1000 field s) (λ n s.
         gives tt (with_descriptor called (resized n items) s))))))
-    done_same (gets_items name index wanted) h s = λ j.
+    halfway (gets_items name index wanted) h s = λ j.
         next (given_read name s) (λ called s.
         next (input_same index s j) (λ field s.
         next (begun_area s) (λ _ s.
@@ -346,7 +350,7 @@ module _ (structs : List StructData) where
             → areas.items_stored line (areas.asks_indicator (map (got_of structs) wanted)) it (map (got_of structs) wanted) t
             ≡ items_kept structs line (asks_indicator wanted) it wanted t
         got it t = (λ j. areas.items_stored line (asks_same wanted j) it (map (got_of structs) wanted) t) ∙ items_same (asks_indicator wanted) it wanted t
-    done_same (sets_items name index given) h s = λ j.
+    halfway (sets_items name index given) h s = λ j.
         next (given_read name s) (λ called s.
         next (input_same index s j) (λ field s.
         next (fields_same given s j) (λ fields s.
@@ -354,3 +358,7 @@ module _ (structs : List StructData) where
         next (area_found line called s) (λ items s.
         next (index_of line 1 1000 field s) (λ n s.
         items_set line called n fields s))))))
+
+    -- what a statement does by its own words is what its call does
+    pub done_same : (x : Statement ℕ) → HasTargets x → (s : State) → call_done line (call_of structs x) s ≡ own.statement_done structs line x s
+    done_same x h s = halfway x h s ∙ own_same structs line x s

@@ -1,5 +1,5 @@
 -- A statement makes no object and ends none, whatever it stores and whatever is answered.
-use Rattle.std.proofs.Common.{◌≡◌, ℕ, zero, suc, Bool, true, false, ℤ, List, [], ◌∷◌, ◌++◌, length, Option, Some, None, Result, Ok, Err}
+use Rattle.std.proofs.Common.{◌≡◌, ℕ, zero, suc, Bool, true, false, ℤ, List, [], ◌∷◌, ◌++◌, length, Option, Some, None, Result, Ok, Err, subst}
 use Rattle.std.specs.Prelude.{pos, negsuc, nat_lt, reverse, codes}
 use Rattle.std.specs.Fmt.{decimal}
 use Rattle.ec_arguments.specs.Arguments.{TextArg, absent, word, held}
@@ -35,10 +35,14 @@ use Rattle.ec_call_defs.specs.Descriptors.{with_descriptor, allocate_call, deall
 use Rattle.ec_direct_defs.specs.Leaves.{Leaf, leaf_data}
 use Rattle.ec_direct_defs.specs.Statements as direct
 use Rattle.ec_direct_defs.specs.Statements.{Input, stored, Sent, Outputs, nowhere, into_leaves, into_area, Asked, sends, executes, reads_text, opens, Statement, runs, connects, disconnects, sets_connection, sets_autocommit, controls, prepares, deallocates, allocates, frees, gets_count, sets_count, gets_items, sets_items}
-use Rattle.ec_direct_defs.specs.Inputs.{leaf_read, input_read, values_read, items_read, area_read}
-use Rattle.ec_direct_defs.specs.Storing as kept
-use Rattle.ec_direct_defs.specs.Storing.{Targets, no_targets, leaf_targets, area_target, are_wanted, rows_kept, any_smaller, counted, leaves_kept, into_targets, table_kept}
-use Rattle.ec_direct_defs.specs.Executing.{asked_read, targets_read, targets_found, with_notice, has_indicator, asks_indicator, answer_kept, carried_out, run_over, kept_in, count_got, count_set, item_kept, items_kept, items_got, items_given, statement_done}
+use Rattle.ec_direct_defs.specs.Inputs.{leaf_read, input_read, values_read, items_read}
+use Rattle.ec_direct_defs.specs.Storing.{Targets, no_targets, leaf_targets, area_target, are_wanted, any_smaller}
+use Rattle.ec_direct_defs.specs.Executing as own
+use Rattle.ec_sim_statement_laws.proofs.statement_lemmas.SharedInputs.{area_read}
+use Rattle.ec_sim_statement_laws.proofs.statement_lemmas.SharedStoring as kept
+use Rattle.ec_sim_statement_laws.proofs.statement_lemmas.SharedStoring.{rows_kept, counted, leaves_kept, into_targets, table_kept}
+use Rattle.ec_sim_statement_laws.proofs.statement_lemmas.OwnWords.{own_same}
+use Rattle.ec_sim_statement_laws.proofs.statement_lemmas.SharedExecuting.{asked_read, targets_read, targets_found, with_notice, has_indicator, asks_indicator, answer_kept, carried_out, run_over, kept_in, count_got, count_set, item_kept, items_kept, items_got, items_given, statement_done}
 use Rattle.ec_call_defs.specs.Steps.{settled}
 use Rattle.ec_sim_statement_laws.specs.statement.Lives.{Tidy, LeavesTidy}
 use Rattle.ec_sim_statement_laws.proofs.statement_lemmas.Memories.{tidy_same, tidy_then, OkIs, ok_then, with_cells_tidy, store_tidy}
@@ -513,8 +517,8 @@ module _ (line : ℕ) where
         sets_keep called n fields s))))))
 
 -- as a part of a program
-pub settled_tidy : (structs : List StructData) (line messages : ℕ) (x : Statement ℕ) (s : State) → LeavesTidy s.memory (settled line (statement_done structs messages x s))
-settled_tidy structs line messages x s = as_result (statement_done structs messages x s) (statement_keeps messages structs x s)
+pub settled_tidy : (structs : List StructData) (line messages : ℕ) (x : Statement ℕ) (s : State) → LeavesTidy s.memory (settled line (own.statement_done structs messages x s))
+settled_tidy structs line messages x s = as_result (own.statement_done structs messages x s) (subst (Keeps s.memory) (own_same structs messages x s) (statement_keeps messages structs x s))
   where
     as_result : (o : Outcome (Unit {0})) → Keeps s.memory o → LeavesTidy s.memory (settled line o)
     as_result (gives a t) h = h
