@@ -10,6 +10,7 @@ use ec_cwrite::write;
 use ec_front::source::read_checked;
 use ec_read_statement::read_statement;
 use ec_split::split;
+use ec_transcript::{ReadStop, read_transcript, write_transcript};
 use std::alloc::Global;
 
 // How many pieces.
@@ -73,4 +74,22 @@ pub fn count_statements(alloc: Global, text: &[u8]) -> Result<usize, Stop>
         }
     }
     Ok(count)
+}
+
+// How many exchanges a transcript has.
+pub fn count_exchanges(alloc: Global, text: &[u8]) -> Result<usize, ReadStop>
+    requires { length text.now ≤ 2 ^ 24 }
+{
+    Ok(read_transcript(alloc, text)?.log.len())
+}
+
+// How many bytes the transcript has that is written of one that was read.
+pub fn count_recorded(alloc: Global, text: &[u8]) -> Result<usize, ReadStop>
+    requires { length text.now ≤ 2 ^ 24 }
+{
+    let found = read_transcript(alloc, text)?;
+    match write_transcript(alloc, &found.slots, found.log.as_slice()) {
+        Ok(written) => Ok(written.len()),
+        Err(_) => Err(ReadStop::OutOfMemory),
+    }
 }

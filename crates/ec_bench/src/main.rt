@@ -1,23 +1,26 @@
 //! Does what is measured. `ec_bench pieces`, `tokens`, `syntax`, `written`, `statements` and `checks` read a source on
-//! standard input by one part of the precompiler, and print how much it found. `ec_bench load`, `store`, `move`, `make`,
-//! `make-many` and `fill` do one thing with the memory of a C program again and again, and print how often that went
-//! well.
+//! standard input by one part of the precompiler, and print how much it found. `ec_bench exchanges` and `recorded` read a
+//! transcript, and print how many exchanges it has, or, where it is written again, how many bytes. `ec_bench load`,
+//! `store`, `move`, `make`, `make-many` and `fill` do one thing with the memory of a C program again and again, and print
+//! how often that went well.
 #![tactic(auto)]
 
 mod count;
 mod memory;
 
 use crate::count::{
-    count_checked, count_pieces, count_statements, count_tokens, count_tops, count_written,
+    count_checked, count_exchanges, count_pieces, count_recorded, count_statements, count_tokens,
+    count_tops, count_written,
 };
 use crate::memory::{Work, count_done};
 use ec_base::{InputStop, OutOfMemory, StdSource, Stop, read_all};
 use ec_memory::MakeStop;
+use ec_transcript::ReadStop;
 use std::alloc::Global;
 use std::env;
 use std::process::ExitCode;
 
-/// The most bytes of a source.
+/// The most bytes of a text.
 const MAX_TEXT: usize = 1 << 24;
 
 // Why there is nothing to print.
@@ -61,7 +64,16 @@ impl From<MakeStop> for Failure {
     }
 }
 
-// What of a source is counted.
+impl From<ReadStop> for Failure {
+    fn from(stop: ReadStop) -> Failure {
+        match stop {
+            ReadStop::OutOfMemory => Failure::OutOfMemory,
+            ReadStop::Bad(_) => Failure::Stopped,
+        }
+    }
+}
+
+// What of a text is counted.
 #[derive(Clone, Copy)]
 enum Part {
     Pieces,
@@ -70,23 +82,27 @@ enum Part {
     Written,
     Statements,
     Checks,
+    Exchanges,
+    Recorded,
 }
 
 // What is measured.
 #[derive(Clone, Copy)]
 enum Measured {
-    Source(Part),
+    Text(Part),
     Memory(Work),
 }
 
 /// The word that names each.
-const MEASURED: [(&str, Measured); 12] = [
-    ("pieces", Measured::Source(Part::Pieces)),
-    ("tokens", Measured::Source(Part::Tokens)),
-    ("syntax", Measured::Source(Part::Syntax)),
-    ("written", Measured::Source(Part::Written)),
-    ("statements", Measured::Source(Part::Statements)),
-    ("checks", Measured::Source(Part::Checks)),
+const MEASURED: [(&str, Measured); 14] = [
+    ("pieces", Measured::Text(Part::Pieces)),
+    ("tokens", Measured::Text(Part::Tokens)),
+    ("syntax", Measured::Text(Part::Syntax)),
+    ("written", Measured::Text(Part::Written)),
+    ("statements", Measured::Text(Part::Statements)),
+    ("checks", Measured::Text(Part::Checks)),
+    ("exchanges", Measured::Text(Part::Exchanges)),
+    ("recorded", Measured::Text(Part::Recorded)),
     ("load", Measured::Memory(Work::Load)),
     ("store", Measured::Memory(Work::Store)),
     ("move", Measured::Memory(Work::Move)),
@@ -131,6 +147,8 @@ fn count_of(alloc: Global, part: Part, text: &[u8]) -> Result<usize, Failure> {
         Part::Written => Ok(count_written(alloc, text)?),
         Part::Statements => Ok(count_statements(alloc, text)?),
         Part::Checks => Ok(count_checked(alloc, text)?),
+        Part::Exchanges => Ok(count_exchanges(alloc, text)?),
+        Part::Recorded => Ok(count_recorded(alloc, text)?),
     }
 }
 
@@ -143,7 +161,7 @@ fn count_read(rt: &HostRuntime, part: Part) -> Result<u64, Failure> {
 
 fn run(rt: &HostRuntime) -> Result<u64, Failure> {
     match asked_for(rt) {
-        Some(Measured::Source(part)) => count_read(rt, part),
+        Some(Measured::Text(part)) => count_read(rt, part),
         Some(Measured::Memory(work)) => Ok(count_done(rt.alloc(), work)?),
         None => Err(Failure::Usage),
     }
