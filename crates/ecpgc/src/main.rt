@@ -1,12 +1,14 @@
 //! The program `ecpgc`: the tool over standard input, output and error, and over the links that its words name.
 #![tactic(auto)]
 
-use ec_base::{Name, OutOfMemory, StdSink, StdSource};
+use ec_base::{Line, List, Name, OutOfMemory, StdSink, StdSource};
 use ec_cli::{Ending, ec_main, status};
-use ec_link::Rack;
+use ec_link::{Link, Rack};
+use ec_replay::{ReplayStop, Replayed, replay};
 use ec_sqlitelink::SqliteLink;
 use ec_words::{LinkSpec, links_named};
 use std::env;
+use std::fs::File;
 use std::io::{BufWriter, Stdout};
 use std::process::ExitCode;
 
@@ -24,33 +26,83 @@ fn words(rt: &HostRuntime) -> Result<Vec<String>, OutOfMemory> {
     Ok(words)
 }
 
-// A link with its name, and whether its connection is ready at the start.
-#[derive(Drop)]
-struct NamedLink {
-    target: Name,
-    ready: bool,
-    link: SqliteLink,
+// Adds a link to a rack, unless there are enough. A second one that is ready is added as a free one.
+fn add(rack: &mut Rack, ready: bool, target: Name, link: Box<dyn Link>) -> Result<(), OutOfMemory> {
+    if rack.slots().len() >= ENOUGH_SLOTS {
+        return Ok(());
+    }
+    let added = if ready && !rack.has_ready() {
+        rack.add_ready(target, link)
+    } else {
+        rack.add(target, link)
+    };
+    match added {
+        Ok(()) => Ok(()),
+        Err(_) => Err(OutOfMemory),
+    }
 }
 
-// The link that a word names. No command that the tool does names a transcript.
-fn link_of(rt: &HostRuntime, spec: &LinkSpec) -> Result<Option<NamedLink>, OutOfMemory> {
+// The links of the transcript in a file. One that can't be opened is one that can't be read.
+fn links_at(rt: &HostRuntime, path: &[u8]) -> Result<List<Replayed>, ReplayStop> {
+    let Ok(path) = std::str::from_utf8(path) else {
+        return Err(ReplayStop::ReadFault);
+    };
+    match File::open(rt, path) {
+        Ok(file) => replay(rt.alloc(), &mut StdSource::new(file)),
+        Err(_) => Err(ReplayStop::ReadFault),
+    }
+}
+
+// Adds a link to a database.
+fn add_database(
+    rt: &HostRuntime,
+    rack: &mut Rack,
+    ready: bool,
+    target: &Name,
+    link: SqliteLink,
+) -> Result<(), OutOfMemory> {
+    let target = target.clone()?;
+    let link = Box::new(rt.alloc(), link)?;
+    add(rack, ready, target, link)
+}
+
+// Adds the link of a slot of a transcript.
+fn add_slot(rt: &HostRuntime, rack: &mut Rack, slot: Replayed) -> Result<(), OutOfMemory> {
+    let Replayed {
+        ready,
+        target,
+        link,
+    } = slot;
+    let link = Box::new(rt.alloc(), link)?;
+    add(rack, ready, target, link)
+}
+
+// Adds the links of the transcript in a file.
+fn add_replayed(rt: &HostRuntime, rack: &mut Rack, path: &[u8]) -> Result<(), ReplayStop> {
+    for slot in links_at(rt, path)? {
+        add_slot(rt, rack, slot)?;
+    }
+    Ok(())
+}
+
+// Adds the link or the links that words name.
+fn add_links(rt: &HostRuntime, rack: &mut Rack, spec: &LinkSpec) -> Result<(), ReplayStop> {
     match spec {
-        LinkSpec::Memory { ready, target } => Ok(Some(NamedLink {
-            target: target.clone()?,
-            ready: *ready,
-            link: SqliteLink::memory(rt.alloc())?,
-        })),
+        LinkSpec::Memory { ready, target } => {
+            let link = SqliteLink::memory(rt.alloc())?;
+            add_database(rt, rack, *ready, target, link)?;
+        }
         LinkSpec::File {
             ready,
             target,
             path,
-        } => Ok(Some(NamedLink {
-            target: target.clone()?,
-            ready: *ready,
-            link: SqliteLink::file(rt, rt.alloc(), path.as_slice())?,
-        })),
-        LinkSpec::Replay(_) => Ok(None),
+        } => {
+            let link = SqliteLink::file(rt, rt.alloc(), path.as_slice())?;
+            add_database(rt, rack, *ready, target, link)?;
+        }
+        LinkSpec::Replay(path) => add_replayed(rt, rack, path.as_slice())?,
     }
+    Ok(())
 }
 
 // Standard output behind a buffer, so that many small pieces are few writes. The tool flushes it.
@@ -62,7 +114,7 @@ fn output(rt: &HostRuntime) -> Result<StdSink<BufWriter<Stdout>>, OutOfMemory> {
 }
 
 // Runs the tool over the links that the words name.
-fn run(rt: &HostRuntime) -> Result<Ending, OutOfMemory> {
+fn run(rt: &HostRuntime) -> Result<Ending, ReplayStop> {
     let words = words(rt)?;
     let specs = links_named(rt.alloc(), words.as_slice())?;
     let mut rack = Rack::new(rt.alloc());
@@ -70,26 +122,7 @@ fn run(rt: &HostRuntime) -> Result<Ending, OutOfMemory> {
         if rack.slots().len() >= ENOUGH_SLOTS {
             break;
         }
-        let Some(
-            NamedLink {
-                target,
-                ready,
-                link,
-            },
-        ) = link_of(rt, spec)?
-        else {
-            continue;
-        };
-        let link = Box::new(rt.alloc(), link)?;
-        // A second ready one is added as a free one.
-        let added = if ready && !rack.has_ready() {
-            rack.add_ready(target, link)
-        } else {
-            rack.add(target, link)
-        };
-        if added.is_err() {
-            return Err(OutOfMemory);
-        }
+        add_links(rt, &mut rack, spec)?;
     }
     let mut input = StdSource::new(rt.stdin());
     let mut out = output(rt)?;
@@ -104,12 +137,31 @@ fn run(rt: &HostRuntime) -> Result<Ending, OutOfMemory> {
     ))
 }
 
+// Says why the tool was not run, and gives the status.
+fn refuse(rt: &HostRuntime, stop: ReplayStop) -> u8 {
+    match stop {
+        ReplayStop::ReadFault => {
+            let _ = eprintln!(rt; "ecpgc: transcript read fault");
+            72
+        }
+        ReplayStop::Bad(Line(line)) => {
+            let _ = eprintln!(rt; "ecpgc: bad transcript at line {line}");
+            73
+        }
+        ReplayStop::TooLong => {
+            let _ = eprintln!(rt; "ecpgc: transcript too long");
+            74
+        }
+        ReplayStop::OutOfMemory => {
+            let _ = eprintln!(rt; "ecpgc: out of memory");
+            69
+        }
+    }
+}
+
 fn main(rt: HostRuntime) -> ExitCode {
     match run(&rt) {
         Ok(ending) => ExitCode::from(status(&ending)),
-        Err(OutOfMemory) => {
-            let _ = eprintln!(rt; "ecpgc: out of memory");
-            ExitCode::from(69)
-        }
+        Err(stop) => ExitCode::from(refuse(&rt, stop)),
     }
 }

@@ -1,0 +1,5 @@
+pub mod Same
+pub mod Part
+pub mod Laws
+pub mod Replay
+pub mod Stops
