@@ -37,8 +37,7 @@ def run_asked(command, text):
     if len(turns) > 1 or len(replays) > 1 or any(number > 10**9 for number in turns):
         return "none"
     places = (" replay " + quoted(item["replay"]) if item["replay"] else link_shown(item["link"]) for item in items if item["turns"] is None)
-    shown = f"{command} {turns[0] if turns else 1000000}" + "".join(places)
-    return f"({shown})" if replays or command == "record" else shown
+    return f"{command} {turns[0] if turns else 1000000}" + "".join(places)
 
 
 def gen_asked(text):

@@ -16,12 +16,13 @@ use Rattle.ec_link.specs.declared.rack.Rack.{Rack}
 use Rattle.ec_link.specs.Logged.{Talk}
 use Rattle.ec_link.specs.Rack.{slots_of, log_of}
 use Rattle.ec_link.specs.Slot.{states, link_at, talk_at}
-use Rattle.ec_link.specs.SlotState.{ready_slot}
+use Rattle.ec_link.specs.SlotState.{SlotState, ready_slot}
 use Rattle.ec_link.specs.Told.{KeepsTalks, SparesDropped}
 use Rattle.ec_meaning_defs.specs.observed.Headline.{ReadsWithin}
 use Rattle.ec_meaning_defs.specs.observed.Observed.{answers_in}
 use Rattle.ec_meaning_defs.specs.evaluation.State as evaluation
 use Rattle.ec_meaning_defs.specs.evaluation.State.{Answer}
+use Rattle.ec_meaning_defs.specs.evaluation.Whole.{Observed}
 use Rattle.ec_runtime.specs.Racks.{KeepsLinks}
 use Rattle.ec_execution_defs.specs.Programs.{Executable, meaning}
 use Rattle.ec_execution_defs.specs.Runs.{Runs, RunsPart}
@@ -33,16 +34,17 @@ use Rattle.ec_execute.specs.Ends.{Performs}
 use Rattle.ec_execute.specs.Executables.{executable_view}
 use Rattle.ec_execute.specs.Runs.{Connects, Ran}
 use Rattle.ec_cli.specs.Answers.{IsCrowded, ComesWhere, grown}
-use Rattle.ec_cli.specs.Executing.{IsOfProgram, IsOfCarried, IsOfExecution, EndsAs, ending_of_program, limit_of, text_refusal, RefusesRun, PassesAs, DecidesExecution, meaning_over, Untouched, CarriedOut, CarriedPart, Carries, RefusesText, ExecutesText, Executes}
-use Rattle.ec_cli.specs.Forms.{Program, IsRunAs, Meaning, meaning_as, reports, RunsText, TellsRun}
+use Rattle.ec_cli.specs.Executing.{IsOfProgram, IsOfCarried, IsOfExecution, EndsAs, ending_of_program, limit_of, text_refusal, RefusesRun, PassesAs, DecidesExecution, meaning_over, shown_over, Untouched, CarriedOut, CarriedPart, Carries, MayCarry, RefusesText, ExecutesText, Executes}
+use Rattle.ec_cli.specs.Forms.{Program, IsRunAs, Meaning, program_meaning, shown, RunsText, TellsRun}
 use Rattle.ec_cli.specs.Racks.{RunsOver}
-use Rattle.ec_cli.specs.Reports.{reported}
+use Rattle.ec_cli.specs.Recordings.{RecordsAs}
 use Rattle.ec_cli.specs.Taking.{Gives, limit_on, IsWithin, IsLarge, IsPassed, Takes, Lacks}
 use Rattle.ec_cli.specs.declared.form.Form.{Form}
-use Rattle.ec_cli.specs.declared.form.Form.TheVariants.{Source, Written, Generated}
+use Rattle.ec_cli.specs.declared.form.Form.TheVariants.{Source, Written, Recorded, Generated}
 use Rattle.ec_execute.specs.source.Answers.{TellsRunnable}
 use Rattle.ec_cli.specs.declared.ending.Ending.{Ending}
 use Rattle.ec_cli.specs.declared.ending.Ending.TheVariants.{Wrote, Exited, Trapped, TurnsSpent, Usage, Refused, Limit, ReadFault, WriteFault, OutOfMemory}
+use Rattle.ec_cli.proofs.Recordings.{front_unchanged}
 use Rattle.ec_cli.proofs.SameRack.{same_log, same_talks, same_links, same_dropped}
 use Rattle.ec_cli.proofs.Sessions as session
 use Rattle.ec_cli.proofs.Unread.{unread_within}
@@ -108,6 +110,12 @@ generated_told number text (Ok executable) r = record { program = r.program; is 
 generated_told number text (Err (stops.Refused kind line)) h = h
 generated_told number text (Err (stops.Limit kind)) h = h
 generated_told number text (Err stops.OutOfMemory) h = h
+
+pub recorded_told : (text : List ℕ) (answer : Result execute.Executable Stop) → TellsRunnable text answer → TellsRun Recorded text answer
+recorded_told text (Ok executable) r = record { program = r.program; is = r.is; means = r.means }
+recorded_told text (Err (stops.Refused kind line)) h = h
+recorded_told text (Err (stops.Limit kind)) h = h
+recorded_told text (Err stops.OutOfMemory) h = h
 
 pub written_told : (text : List ℕ) (answer : Result execute.Executable Stop) → TellsProgram text answer → TellsRun Written text answer
 written_told text (Ok executable) h = record { program = executable_view executable; is = h; means = λ turns ready answers. refl }
@@ -176,22 +184,37 @@ refused_decides form turns ready answers text WriteFault small h = absurd h
 not_large : (form : Form) (text : List ℕ) → IsWithin form text → IsLarge form → ⊥
 not_large Source text w h = h
 not_large Written text w h = h
+not_large Recorded text w h = h
 not_large (Generated number) text w h = omega (arith, w, h)
 
 -- the limit on numbers is that of a generated program alone
 large_of : (form : Form) (input input' : Option (List ℕ)) → IsPassed form input input' → limit_on form ≡ L8 → IsLarge form
 large_of Source input input' p e = absurd (cc (e))
 large_of Written input input' p e = absurd (cc (e))
+large_of Recorded input input' p e = absurd (cc (e))
 large_of (Generated number) input input' p e = p
 
 -- and none is that on slots
 no_slots : (form : Form) → limit_on form ≡ L7 → ⊥
 no_slots Source e = cc (e)
 no_slots Written e = cc (e)
+no_slots Recorded e = cc (e)
 no_slots (Generated number) e = cc (e)
+
+-- what is shown of a run ends as the run does
+shown_ending : (form : Form) (slots : List SlotState) (o : Observed) → (shown form slots o).ending ≡ o.ending
+shown_ending Source slots o = refl
+shown_ending Written slots o = refl
+shown_ending Recorded slots o = refl
+shown_ending (Generated number) slots o = refl
 
 limit_name : (a b : LimitKind) → Limit a ≡ Limit b → a ≡ b
 limit_name a b e = cc (e)
+
+-- what isn't recorded puts no transcript
+pub unrecorded : {E X : Type 0} {F : X → Type 0} (told : E → Option (List ℕ)) (tells : E → ℕ) (f form : Form) (err err' : E) (rack rack' : Rack X F) → form ≡ f → (f ≡ Recorded → ⊥)
+    → RecordsAs told tells form err err' rack rack'
+unrecorded told tells f form err err' rack rack' is other e = absurd (other (sym is ∙ e))
 
 module _ {O E X : Type 0} {F : X → Type 0} (held : O → Option (List ℕ)) (puts : O → ℕ) (told : E → Option (List ℕ)) (tells : E → ℕ) (talk : DynBox X Allocator F → Option Talk) (faults : DynBox X Allocator F → ℕ) where
   -- ---- a program
@@ -228,14 +251,14 @@ module _ {O E X : Type 0} {F : X → Type 0} (held : O → Option (List ℕ)) (p
 
     module _ (growth : List Logged) (c : Connects talk faults rack rack' growth) where
       carried_out : (e : evaluation.Ending) (ending : Ending) → EndsAs e ending → Runs held puts told tells (meaning_over (meaning x) turns rack rack') (grown rack rack') e out out' err err'
-          → CarriedOut held puts told tells talk faults (meaning x) turns out out' err err' rack rack' ending
+          → CarriedOut held puts told tells talk faults (meaning_over (meaning x) turns rack rack') out out' err err' rack rack' ending
       carried_out e ending agrees r = record { ended = e; ends = agrees; runs = r; slots = over_slots growth c }
 
-      carried_part : RunsPart held puts told tells (meaning_over (meaning x) turns rack rack') (grown rack rack') out out' err err' → CarriedPart held puts told tells talk faults (meaning x) turns out out' err err' rack rack'
+      carried_part : RunsPart held puts told tells (meaning_over (meaning x) turns rack rack') (grown rack rack') out out' err err' → CarriedPart held puts told tells talk faults (meaning_over (meaning x) turns rack rack') out out' err err' rack rack'
       carried_part r = record { part = r; slots = over_slots growth c }
 
       ran : (e : evaluation.Ending) (ending : Ending) → EndsAs e ending → IsOfCarried ending → (ending ≡ WriteFault → ⊥) → (ending ≡ OutOfMemory → ⊥)
-          → Runs held puts told tells (meaning_over (meaning x) turns rack rack') (grown rack rack') e out out' err err' → Carries held puts told tells talk faults (meaning x) turns out out' err err' rack rack' ending
+          → Runs held puts told tells (meaning_over (meaning x) turns rack rack') (grown rack rack') e out out' err err' → Carries held puts told tells talk faults (meaning_over (meaning x) turns rack rack') out out' err err' rack rack' ending
       ran e ending agrees own calm room r = record {
         whole = λ h. carried_out e ending agrees r;
         part = λ h. absurd (either calm room h);
@@ -249,7 +272,7 @@ module _ {O E X : Type 0} {F : X → Type 0} (held : O → Option (List ℕ)) (p
       }
 
       performed : (end : RunEnd) → Performs held puts told tells (meaning_over (meaning x) turns rack rack') (grown rack rack') out out' err err' end
-          → Carries held puts told tells talk faults (meaning x) turns out out' err err' rack rack' (ending_of_program end)
+          → Carries held puts told tells talk faults (meaning_over (meaning x) turns rack rack') out out' err err' rack rack' (ending_of_program end)
       performed (ends.Exited status) done = ran (evaluation.exited status) (Exited status) refl tt (λ e. cc (e)) (λ e. cc (e)) done
       performed (ends.Trapped trap line) done = ran (evaluation.trapped trap line.0) (Trapped trap line) refl tt (λ e. cc (e)) (λ e. cc (e)) done
       performed ends.TurnsSpent done = ran evaluation.turns_spent TurnsSpent refl tt (λ e. cc (e)) (λ e. cc (e)) done
@@ -278,57 +301,31 @@ module _ {O E X : Type 0} {F : X → Type 0} (held : O → Option (List ℕ)) (p
 
     -- with the ending of the run
     pub carries_by : (end : RunEnd) (ending : Ending) → ending ≡ ending_of_program end → Ran talk faults held puts told tells x turns out out' err err' rack rack' end
-        → Carries held puts told tells talk faults (meaning x) turns out out' err err' rack rack' ending
+        → Carries held puts told tells talk faults (meaning_over (meaning x) turns rack rack') out out' err err' rack rack' ending
     carries_by end ending e r =
-        subst (λ w. Carries held puts told tells talk faults (meaning x) turns out out' err err' rack rack' w) (sym e) (performed r.growth r.connects end (here end r))
+        subst (λ w. Carries held puts told tells talk faults (meaning_over (meaning x) turns rack rack') out out' err err' rack rack' w) (sym e) (performed r.growth r.connects end (here end r))
 
-  -- ---- a program that means the same
+  -- ---- a program of a text of that form
 
-  module _ (m m' : Meaning) (turns : ℕ) (out out' : O) (err err' : E) (rack rack' : Rack X F) (same : (ready : Option (ℕ × List ℕ)) (answers : List Answer) → m turns ready answers ≡ m' turns ready answers) where
-    over : meaning_over m turns rack rack' ≡ meaning_over m' turns rack rack'
-    over = same (ready_slot (states (slots_of rack))) (answers_in (grown rack rack'))
-
-    out_as : (ending : Ending) → CarriedOut held puts told tells talk faults m turns out out' err err' rack rack' ending → CarriedOut held puts told tells talk faults m' turns out out' err err' rack rack' ending
-    out_as ending c = record {
-      ended = c.ended;
-      ends = c.ends;
-      runs = subst (λ w. Runs held puts told tells w (grown rack rack') c.ended out out' err err') over c.runs;
-      slots = c.slots;
-    }
-
-    part_as : CarriedPart held puts told tells talk faults m turns out out' err err' rack rack' → CarriedPart held puts told tells talk faults m' turns out out' err err' rack rack'
-    part_as c = record { part = subst (λ w. RunsPart held puts told tells w (grown rack rack') out out' err err') over c.part; slots = c.slots }
-
-    carries_as : (ending : Ending) → Carries held puts told tells talk faults m turns out out' err err' rack rack' ending → Carries held puts told tells talk faults m' turns out out' err err' rack rack' ending
-    carries_as ending c = record {
-      whole = λ h. out_as ending (c.whole h);
-      part = λ h. part_as (c.part h);
-      ends = c.ends;
-      talks = c.talks;
-      links = c.links;
-      dropped = c.dropped;
-      logged = c.logged;
-      fault = c.fault;
-      steady = c.steady;
-    }
-
-  -- a program of a text of that form
   pub as_form : (f form : Form) (m : Meaning) (turns : ℕ) (out out' : O) (err err' : E) (rack rack' : Rack X F) (ending : Ending) → form ≡ f
-      → Carries held puts told tells talk faults (reports f m) turns out out' err err' rack rack' ending
-      → Carries held puts told tells talk faults (reports form m) turns out out' err err' rack rack' ending
-  as_form f form m turns out out' err err' rack rack' ending is c = subst (λ w. Carries held puts told tells talk faults (reports w m) turns out out' err err' rack rack' ending) (sym is) c
+      → MayCarry held puts told tells talk faults (shown_over f m turns rack rack') out out' err err' rack rack' ending
+      → MayCarry held puts told tells talk faults (shown_over form m turns rack rack') out out' err err' rack rack' ending
+  as_form f form m turns out out' err err' rack rack' ending is c = subst (λ w. MayCarry held puts told tells talk faults (shown_over w m turns rack rack') out out' err err' rack rack' ending) (sym is) c
 
-  -- the executable of a text was run
+  -- the executable of a text was run, or there was no memory to begin
   pub text_carried : (form : Form) (text : List ℕ) (executable : execute.Executable) (turns : ℕ) (out out' : O) (err err' : E) (rack rack' : Rack X F) (ending : Ending)
-      → RunsText form text executable → Carries held puts told tells talk faults (reports form (meaning (executable_view executable))) turns out out' err err' rack rack' ending
+      → RunsText form text executable → MayCarry held puts told tells talk faults (shown_over form (meaning (executable_view executable)) turns rack rack') out out' err err' rack rack' ending
+      → RecordsAs told tells form err err' rack rack'
       → ExecutesText held puts told tells talk faults form turns text out out' err err' rack rack' ending
-  text_carried form text executable turns out out' err err' rack rack' ending r c =
+  text_carried form text executable turns out out' err err' rack rack' ending r (inl c) told_as =
       inl (
         r.program,
         r.is,
-        carries_as (reports form (meaning (executable_view executable))) (meaning_as form r.program) turns out out' err err' rack rack'
-            (λ ready answers. ap (reported form) (r.means turns ready answers)) ending c,
+        subst (λ o. Carries held puts told tells talk faults (shown form (states (slots_of rack)) o) out out' err err' rack rack' ending)
+            (r.means turns (ready_slot (states (slots_of rack))) (answers_in (grown rack rack'))) c,
+        told_as,
       )
+  text_carried form text executable turns out out' err err' rack rack' ending r (inr w) told_as = inr (subst (RefusesText form text) (sym w.0) tt, w.1)
 
   -- ---- a call
 
@@ -365,6 +362,7 @@ module _ {O E X : Type 0} {F : X → Type 0} (held : O → Option (List ℕ)) (p
       numbered = numbered;
       unread = unread;
       made = made;
+      recorded = λ e. front_unchanged (states (slots_of rack)) (grown rack rack') err err' u.errors;
       talks = same_talks talk rack rack' u.links;
       links = same_links talk faults rack rack' u.links;
       dropped = same_dropped rack rack' u.links;
@@ -403,10 +401,10 @@ module _ {O E X : Type 0} {F : X → Type 0} (held : O → Option (List ℕ)) (p
         (refused_decides form turns _ _ text ending t.within h))
 
     -- a program that was carried out ends as it means to
-    concluded : (ending : Ending) (text : List ℕ) (p : Program form) → IsWithin form text → IsRunAs form text (Ok p) → Carries held puts told tells talk faults (meaning_as form p) turns out out' err err' rack rack' ending
+    concluded : (ending : Ending) (text : List ℕ) (p : Program form) → IsWithin form text → IsRunAs form text (Ok p) → Carries held puts told tells talk faults (shown_over form (program_meaning form p) turns rack rack') out out' err err' rack rack' ending
         → (Rose (puts out) (puts out') → ⊥) → (Rose (tells err) (tells err') → ⊥) → Sorted ending → DecidesExecution form turns (ready_slot (states (slots_of rack))) (answers_in (grown rack rack')) text ending
     concluded ending text p small is c calm calm' (inl h) =
-        let w = c.whole h in inr (inr (small, (Ok p, is, subst (λ e. EndsAs e ending) (sym w.runs.ends) w.ends)))
+        let w = c.whole h in inr (inr (small, (Ok p, is, subst (λ e. EndsAs e ending) (sym w.runs.ends ∙ shown_ending form (states (slots_of rack)) (meaning_over (program_meaning form p) turns rack rack')) w.ends)))
     concluded ending text p small is c calm calm' (inr (inl e)) = absurd (either calm calm' (c.fault e))
     concluded ending text p small is c calm calm' (inr (inr e)) = inl e
 
@@ -417,8 +415,9 @@ module _ {O E X : Type 0} {F : X → Type 0} (held : O → Option (List ℕ)) (p
 
     -- its program was run
     text_run : (ending : Ending) (text : List ℕ) (p : Program form) → (IsCrowded rack → ⊥) → Takes left reads form input input' text → IsRunAs form text (Ok p)
-        → Carries held puts told tells talk faults (meaning_as form p) turns out out' err err' rack rack' ending → Done ending
-    text_run ending text p room t is c = record {
+        → Carries held puts told tells talk faults (shown_over form (program_meaning form p) turns rack rack') out out' err err' rack rack' ending
+        → RecordsAs told tells form err err' rack rack' → Done ending
+    text_run ending text p room t is c told_as = record {
       whole = λ h. record { text = text; from = t.from; program = p; is = is; carried = c.whole h };
       part = λ h. record { text = text; from = t.from; program = p; is = is; carried = c.part (inl h) };
       want = λ h. inr (record { text = text; from = t.from; program = p; is = is; carried = c.part (inr h) });
@@ -428,6 +427,7 @@ module _ {O E X : Type 0} {F : X → Type 0} (held : O → Option (List ℕ)) (p
       numbered = no_number ending text t.within (λ e. subst IsOfCarried e c.ends);
       unread = λ e. absurd (subst IsOfCarried e c.ends);
       made = t.unread;
+      recorded = told_as;
       talks = c.talks;
       links = c.links;
       dropped = c.dropped;
@@ -447,7 +447,7 @@ module _ {O E X : Type 0} {F : X → Type 0} (held : O → Option (List ℕ)) (p
     -- the text was taken
     pub executes : (ending : Ending) (text : List ℕ) → (IsCrowded rack → ⊥) → Takes left reads form input input' text
         → ExecutesText held puts told tells talk faults form turns text out out' err err' rack rack' ending → Done ending
-    executes ending text room t (inl ran) = text_run ending text ran.0 room t ran.1 ran.2
+    executes ending text room t (inl ran) = text_run ending text ran.0 room t ran.1 ran.2 ran.3
     executes ending text room t (inr h) = text_refused ending text room t h.0 h.1
 
     -- there is no text

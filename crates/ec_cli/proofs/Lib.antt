@@ -1,4 +1,5 @@
 pub mod Executions
+pub mod Recordings
 pub mod Reports
 pub mod SameRack
 pub mod Sessions

@@ -17,11 +17,9 @@ use Rattle.ec_meaning_defs.specs.observed.Run.{IsFront}
 use Rattle.ec_execution_defs.specs.Runs.{Runs, RunsPart}
 use Rattle.ec_cli.specs.declared.ending.Ending.{Ending}
 use Rattle.ec_cli.specs.declared.ending.Ending.TheVariants.{Wrote, Exited, Trapped, TurnsSpent, Usage, Refused, Limit, ReadFault, WriteFault, OutOfMemory}
-use Rattle.ec_cli.specs.declared.form.Form.TheVariants.{Generated}
 use Rattle.ec_cli.specs.declared.report.Summary.{Summary}
 use Rattle.ec_cli.specs.Answers.{grown}
-use Rattle.ec_cli.specs.Executing.{IsOfProgram, EndsAs, meaning_over, CarriedOut, CarriedPart, Carries}
-use Rattle.ec_cli.specs.Forms.{Meaning, reports}
+use Rattle.ec_cli.specs.Executing.{IsOfProgram, EndsAs, CarriedOut, CarriedPart, Carries}
 use Rattle.ec_cli.specs.Reporting.{outcome_of, line_of, Reports}
 use Rattle.ec_cli.specs.Reports.{outcome, line_with, report_line, with_report}
 
@@ -38,7 +36,7 @@ how_many old grew new e = rw e omega (arith, length-append old grew)
 front_more : {A : Type 0} (front whole more : List A) → IsFront front whole → IsFront front (whole ++ more)
 front_more front whole more f = record { rest = f.rest ++ more; same = ap (λ l. l ++ more) f.same ∙ append_assoc front f.rest more }
 
-front_all : {A : Type 0} (whole : List A) → IsFront whole whole
+pub front_all : {A : Type 0} (whole : List A) → IsFront whole whole
 front_all whole = record { rest = []; same = sym (append-nil whole) }
 
 front_behind : {A : Type 0} (whole front rest more : List A) → more ≡ front ++ rest → IsFront (whole ++ front) (whole ++ more)
@@ -61,19 +59,16 @@ line_is it o how bytes requests ends =
     ∙ (λ i. line_with it.number (sym bytes i) (sym requests i) how)
 
 module _ {O E X : Type 0} {F : X → Type 0} (held : O → Option (List ℕ)) (puts : O → ℕ) (told : E → Option (List ℕ)) (tells : E → ℕ) (talk : DynBox X Allocator F → Option Talk) (faults : DynBox X Allocator F → ℕ)
-    (it : Summary) (m : Meaning) (turns : ℕ) (out mid out' : O) (err err' : E) (rack rack' : Rack X F)
+    (it : Summary) (over : Observed) (out mid out' : O) (err err' : E) (rack rack' : Rack X F)
     (bytes : it.bytes ≡ length (generated it.number)) (requests : it.requests ≡ length (grown rack rack')) where
-  abbrev over : Observed
-  over = meaning_over m turns rack rack'
-
   abbrev Out : Ending → Type 0
-  Out ending = CarriedOut held puts told tells talk faults m turns out mid err err' rack rack' ending
+  Out ending = CarriedOut held puts told tells talk faults over out mid err err' rack rack' ending
 
   abbrev OutTold : Ending → Type 0
-  OutTold ending = CarriedOut held puts told tells talk faults (reports (Generated it.number) m) turns out out' err err' rack rack' ending
+  OutTold ending = CarriedOut held puts told tells talk faults (with_report it.number over) out out' err err' rack rack' ending
 
   abbrev PartTold : Type 0
-  PartTold = CarriedPart held puts told tells talk faults (reports (Generated it.number) m) turns out out' err err' rack rack'
+  PartTold = CarriedPart held puts told tells talk faults (with_report it.number over) out out' err err' rack rack'
 
   -- the line is that of the run
   line_told : (ending : Ending) (how : List ℕ) → outcome_of ending ≡ Some how → (c : Out ending)
@@ -111,7 +106,7 @@ module _ {O E X : Type 0} {F : X → Type 0} (held : O → Option (List ℕ)) (p
       }
 
   -- a part of a run is a part of it with its line
-  part_more : CarriedPart held puts told tells talk faults m turns out mid err err' rack rack' → out' ≡ mid → PartTold
+  part_more : CarriedPart held puts told tells talk faults over out mid err err' rack rack' → out' ≡ mid → PartTold
   part_more c same = record {
     part = record {
       printed = c.part.printed;
@@ -126,10 +121,10 @@ module _ {O E X : Type 0} {F : X → Type 0} (held : O → Option (List ℕ)) (p
   }
 
   abbrev Ran : Ending → Type 0
-  Ran ending = Carries held puts told tells talk faults m turns out mid err err' rack rack' ending
+  Ran ending = Carries held puts told tells talk faults over out mid err err' rack rack' ending
 
   abbrev RanTold : Ending → Type 0
-  RanTold ending = Carries held puts told tells talk faults (reports (Generated it.number) m) turns out out' err err' rack rack' ending
+  RanTold ending = Carries held puts told tells talk faults (with_report it.number over) out out' err err' rack rack' ending
 
   -- the program came to its end
   told_whole : (ending : Ending) (how : List ℕ) → outcome_of ending ≡ Some how → IsOfProgram ending → (ending ≡ WriteFault → ⊥) → (ending ≡ OutOfMemory → ⊥) → Ran ending

@@ -1,6 +1,6 @@
 -- From what was done to the clauses of the top call.
-use Rattle.std.proofs.Common.{◌≡◌, ℕ, List, ◌++◌, refl, ap, subst, sym, ◌∙◌, Option, Some, None, inl, inr, arith}
-use Rattle.std.specs.Prelude.{◌⊎◌, ◌≤◌, String, Result, Ok, Err, OnOk, OnErr}
+use Rattle.std.proofs.Common.{◌≡◌, ℕ, List, [], ◌++◌, refl, ap, subst, sym, ◌∙◌, Bool, true, false, Option, Some, None, inl, inr, arith}
+use Rattle.std.specs.Prelude.{◌⊎◌, ◌≤◌, ◌&&◌, not, if◌then◌else◌, String, Result, Ok, Err, OnOk, OnErr}
 use Rattle.std.specs.declared.alloc.Global.{Global as Allocator}
 use Rattle.std.specs.declared.dyn_box.DynBox.{DynBox}
 use Rattle.ec_base.specs.declared.fault.FaultKind.{FaultKind}
@@ -8,6 +8,7 @@ use Rattle.ec_base.specs.declared.fault.LimitKind.{LimitKind}
 use Rattle.ec_base.specs.declared.fault.LimitKind.TheVariants.{L7, L8}
 use Rattle.ec_base.specs.declared.line.Line.{Line}
 use Rattle.ec_base.specs.Causes.{Rose}
+use Rattle.ec_base.specs.Putting.{Puts, PutsPart}
 use Rattle.ec_link.specs.declared.rack.Rack.{Rack}
 use Rattle.ec_link.specs.Logged.{Talk}
 use Rattle.ec_link.specs.Rack.{slots_of, log_of}
@@ -19,13 +20,15 @@ use Rattle.ec_meaning_defs.specs.observed.Headline.{RefusesAt, ReadsWithin}
 use Rattle.ec_cli.specs.declared.ending.Ending.{Ending}
 use Rattle.ec_cli.specs.declared.ending.Ending.TheVariants.{Wrote, Exited, Trapped, TurnsSpent, Usage, Refused, Limit, ReadFault, WriteFault, OutOfMemory}
 use Rattle.ec_cli.specs.declared.form.Form.{Form}
-use Rattle.ec_cli.specs.declared.form.Form.TheVariants.{Generated}
+use Rattle.ec_cli.specs.declared.form.Form.TheVariants.{Recorded, Generated}
 use Rattle.ec_cli.specs.declared.task.Task.{Task}
 use Rattle.ec_cli.specs.declared.task.Task.TheVariants as tasks
 use Rattle.ec_cli.specs.Tools.{HasTranslated, HasExecuted, HasDeclined, Does}
 use Rattle.ec_cli.specs.Executing.{IsOfProgram, IsOfExecution, RefusesRun, PassesAs, DecidesExecution, BeforeLine, ExecutesWhole, ExecutesPart, MayExecute, Executes, Untouched}
+use Rattle.ec_cli.specs.Ending.{is_whole, last_line}
+use Rattle.ec_cli.specs.Recordings.{transcript, RecordsPart}
 use Rattle.ec_cli.specs.Taking.{Gives, IsLarge}
-use Rattle.ec_cli.specs.Tasks.{task, IsUnnamed, IsTranslating, HasTurns}
+use Rattle.ec_cli.specs.Tasks.{task, is_recording, is_told, line_for, IsUnnamed, IsTranslating, HasTurns}
 use Rattle.ec_cli.specs.Answers.{IsCrowded, IsRefusal, Announces, ComesWhere, grown}
 use Rattle.ec_cli.specs.Translating.{Translates, IsOfTranslation, IsRefused, PassesLimit, WritesWhole, WritesPart, DecidesTranslation}
 use Rattle.ec_runtime.specs.Racks.{KeepsLinks}
@@ -53,10 +56,64 @@ no_refusal_but ending h = (λ e. subst IsRefusal e h, λ e. subst IsRefusal e h)
 
 -- ---- the last line
 
--- it was put, or its front
-pub announced : {A B X : Type 0} (r : Result (Unit {0}) X) → OnOk r A → OnErr r B → A ⊎ B
-announced (Ok v) a b = inl a
-announced (Err e) a b = inr b
+and_false : (b : Bool) → (b && false) ≡ false
+and_false true = refl
+and_false false = refl
+
+whole_of : (ending : Ending) → IsOfProgram ending → is_whole ending ≡ true
+whole_of (Exited status) h = refl
+whole_of (Trapped trap line) h = refl
+whole_of TurnsSpent h = refl
+whole_of Wrote h = absurd h
+whole_of Usage h = absurd h
+whole_of (Refused kind line) h = absurd h
+whole_of (Limit kind) h = absurd h
+whole_of ReadFault h = absurd h
+whole_of WriteFault h = absurd h
+whole_of OutOfMemory h = absurd h
+
+refusal_not_whole : (ending : Ending) → IsRefusal ending → is_whole ending ≡ false
+refusal_not_whole Usage h = refl
+refusal_not_whole (Refused kind line) h = refl
+refusal_not_whole (Limit kind) h = refl
+refusal_not_whole ReadFault h = refl
+refusal_not_whole Wrote h = absurd h
+refusal_not_whole (Exited status) h = absurd h
+refusal_not_whole (Trapped trap line) h = absurd h
+refusal_not_whole TurnsSpent h = absurd h
+refusal_not_whole WriteFault h = absurd h
+refusal_not_whole OutOfMemory h = absurd h
+
+module _ (words : List (String Allocator)) (ending : Ending) where
+  -- a recording that came to its end has none
+  pub untold : (turns : ℕ) → HasTurns words Recorded turns → IsOfProgram ending → is_told words ending ≡ false
+  untold turns h e =
+      let recording : is_recording (task words) ≡ true = ap is_recording h in
+      λ i. not (whole_of ending e i && recording i)
+
+  told_unless : is_whole ending ≡ false → is_told words ending ≡ true
+  told_unless e = ap (λ b. not (b && is_recording (task words))) e
+
+  told_but : is_recording (task words) ≡ false → is_told words ending ≡ true
+  told_but e = ap (λ b. not (is_whole ending && b)) e ∙ ap not (and_false (is_whole ending))
+
+  line_told : is_told words ending ≡ true → line_for words ending ≡ last_line ending
+  line_told e = ap (λ b. if b then last_line ending else []) e
+
+  line_of_stopped : is_whole ending ≡ false → line_for words ending ≡ last_line ending
+  line_of_stopped e = line_told (told_unless e)
+
+  line_of_other : IsTranslating words ⊎ IsUnnamed words ⊎ IsRefusal ending → line_for words ending ≡ last_line ending
+  line_of_other (inl h) = line_told (told_but (ap is_recording h))
+  line_of_other (inr (inl h)) = line_told (told_but (ap is_recording h))
+  line_of_other (inr (inr h)) = line_of_stopped (refusal_not_whole ending h)
+
+  -- the line was put, or its front
+  pub line_put : {E X : Type 0} {told : E → Option (List ℕ)} {tells : E → ℕ} (old new : E) (b : Bool) (r : Result (Unit {0}) X) → b ≡ is_told words ending
+      → OnOk r (Puts told tells old new (if b then last_line ending else [])) → OnErr r (PutsPart told tells old new (if b then last_line ending else []))
+      → Announces told tells old new (line_for words ending)
+  line_put {told} {tells} old new b (Ok v) e p q = inl (subst (λ w. Puts told tells old new (if w then last_line ending else [])) e p)
+  line_put {told} {tells} old new b (Err x) e p q = inr (subst (λ w. PutsPart told tells old new (if w then last_line ending else [])) e q)
 
 module _ {E : Type 0} {told : E → Option (List ℕ)} {tells : E → ℕ} where
   later : (a b : E) (line : List ℕ) → Announces told tells a b line → tells a ≤ tells b
@@ -157,35 +214,51 @@ module _ {I O E X : Type 0} {F : X → Type 0} {left : I → Option (List ℕ)} 
   pub limit : Does left reads held puts told tells talk faults words input input' out out' err err' rack rack' ending → (form : Form) (turns : ℕ) (kind : LimitKind) → HasTurns words form turns → (kind ≡ L7 → ⊥) → ending ≡ Limit kind → PassesAs form (left input) (left input') kind
   limit d form turns kind h = (executes d form turns h).limit kind
 
-  module _ (last : E) (line : List ℕ) (a : Announces told tells err' last line) where
+  module _ (last : E) (a : Announces told tells err' last (line_for words ending)) where
+    stopped : is_whole ending ≡ false → Announces told tells err' last (last_line ending)
+    stopped e = subst (λ l. Announces told tells err' last l) (line_of_stopped words ending e) a
+
     pub whole : Does left reads held puts told tells talk faults words input input' out out' err err' rack rack' ending → (form : Form) (turns : ℕ) → HasTurns words form turns → IsOfProgram ending
-        → BeforeLine told tells last line (λ between. ExecutesWhole held puts told tells talk faults left form turns input input' out out' err between rack rack' ending)
+        → BeforeLine told tells last (line_for words ending) (λ between. ExecutesWhole held puts told tells talk faults left form turns input input' out out' err between rack rack' ending)
     whole d form turns h e = record { between = err'; done = (executes d form turns h).whole e; announced = a }
 
     pub part : Does left reads held puts told tells talk faults words input input' out out' err err' rack rack' ending → (form : Form) (turns : ℕ) → HasTurns words form turns → ending ≡ WriteFault
-        → BeforeLine told tells last line (λ between. ExecutesPart held puts told tells talk faults left form turns input input' out out' err between rack rack')
-    part d form turns h e = record { between = err'; done = (executes d form turns h).part e; announced = a }
+        → BeforeLine told tells last (last_line ending) (λ between. ExecutesPart held puts told tells talk faults left form turns input input' out out' err between rack rack')
+    part d form turns h e = record { between = err'; done = (executes d form turns h).part e; announced = stopped (ap is_whole e) }
 
     pub want : Does left reads held puts told tells talk faults words input input' out out' err err' rack rack' ending → (form : Form) (turns : ℕ) → HasTurns words form turns → ending ≡ OutOfMemory
-        → BeforeLine told tells last line (λ between. MayExecute held puts told tells talk faults left form turns input input' out out' err between rack rack')
-    want d form turns h e = record { between = err'; done = (executes d form turns h).want e; announced = a }
+        → BeforeLine told tells last (last_line ending) (λ between. MayExecute held puts told tells talk faults left form turns input input' out out' err between rack rack')
+    want d form turns h e = record { between = err'; done = (executes d form turns h).want e; announced = stopped (ap is_whole e) }
+
+    -- a recording to its end puts its transcript alone
+    pub recorded : Does left reads held puts told tells talk faults words input input' out out' err err' rack rack' ending → (is_told words ending ≡ false → last ≡ err') → (turns : ℕ) → HasTurns words Recorded turns → IsOfProgram ending
+        → Puts told tells err last (transcript (states (slots_of rack)) (grown rack rack'))
+    recorded d silent turns h e =
+        let x = (executes d Recorded turns h).whole e in
+        subst (λ l. Puts told tells err l (transcript (states (slots_of rack)) (grown rack rack'))) (sym (silent (untold words ending turns h e)))
+        (subst (λ g. Puts told tells err err' (transcript (states (slots_of rack)) g)) x.carried.runs.conversation x.carried.runs.errors)
+
+    -- and any recording a front of it before its last line
+    pub recorded_part : Does left reads held puts told tells talk faults words input input' out out' err err' rack rack' ending → (turns : ℕ) → HasTurns words Recorded turns
+        → BeforeLine told tells last (line_for words ending) (λ between. RecordsPart told tells (states (slots_of rack)) (grown rack rack') err between)
+    recorded_part d turns h = record { between = err'; done = (executes d Recorded turns h).recorded refl; announced = a }
 
     pub decides : Does left reads held puts told tells talk faults words input input' out out' err err' rack rack' ending → (form : Form) (turns : ℕ) (text : List ℕ) → HasTurns words form turns → (IsCrowded rack → ⊥) → Gives form (left input) text
         → (Rose (reads input) (reads input') → ⊥) → (Rose (puts out) (puts out') → ⊥) → (Rose (tells err) (tells last) → ⊥)
         → DecidesExecution form turns (ready_slot (states (slots_of rack))) (answers_in (grown rack rack')) text ending
     decides d form turns text h room e calm calm' calm'' =
-        (executes d form turns h).decides text room e calm calm' (λ r. calm'' (rose_later _ _ _ r (later err' last line a)))
+        (executes d form turns h).decides text room e calm calm' (λ r. calm'' (rose_later _ _ _ r (later err' last (line_for words ending) a)))
 
     -- ---- what all owe to standard error
 
-    pub errors_steady : Does left reads held puts told tells talk faults words input input' out out' err err' rack rack' ending → (ending ≡ WriteFault → ⊥) → BeforeLine told tells last line (λ between. tells between ≡ tells err)
+    pub errors_steady : Does left reads held puts told tells talk faults words input input' out out' err err' rack rack' ending → (ending ≡ WriteFault → ⊥) → BeforeLine told tells last (line_for words ending) (λ between. tells between ≡ tells err)
     errors_steady (inl t) calm = record { between = err'; done = ap tells t.silent; announced = a }
     errors_steady (inr (inl x)) calm = record { between = err'; done = x.executes.tells_steady calm; announced = a }
     errors_steady (inr (inr r)) calm = record { between = err'; done = ap tells r.untouched.errors; announced = a }
 
     pub either_fault : Does left reads held puts told tells talk faults words input input' out out' err err' rack rack' ending → ending ≡ WriteFault → Rose (puts out) (puts out') ⊎ Rose (tells err) (tells last)
     either_fault (inl t) e = inl (t.translates.write_fault e)
-    either_fault (inr (inl x)) e = risen puts tells out out' err err' last line a (x.executes.write_fault e)
+    either_fault (inr (inl x)) e = risen puts tells out out' err err' last (line_for words ending) a (x.executes.write_fault e)
     either_fault (inr (inr r)) e = absurd (declined_not r.declines e (λ u. cc (u)) (λ u. cc (u)))
 
     -- only a program puts something before the last line
@@ -196,8 +269,8 @@ module _ {I O E X : Type 0} {F : X → Type 0} {left : I → Option (List ℕ)} 
     silent (inr (inl x)) (inr (inl h)) = absurd (run_named words x.form x.turns x.named h)
     silent (inr (inl x)) (inr (inr refusal)) = (idle x.executes refusal).errors
 
-    pub last_line : Does left reads held puts told tells talk faults words input input' out out' err err' rack rack' ending → IsTranslating words ⊎ IsUnnamed words ⊎ IsRefusal ending → Announces told tells err last line
-    last_line d h = subst (λ e. Announces told tells e last line) (silent d h) a
+    pub last_told : Does left reads held puts told tells talk faults words input input' out out' err err' rack rack' ending → IsTranslating words ⊎ IsUnnamed words ⊎ IsRefusal ending → Announces told tells err last (last_line ending)
+    last_told d h = subst (λ l. Announces told tells err last l) (line_of_other words ending h) (subst (λ e. Announces told tells e last (line_for words ending)) (silent d h) a)
 
   -- ---- what all owe
 

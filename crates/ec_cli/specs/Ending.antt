@@ -1,5 +1,5 @@
 -- The exit status of each ending, and what it says on standard error.
-use Rattle.std.specs.Prelude.{ℕ, List, [], ◌∷◌, ◌++◌, codes, Option, None, Some}
+use Rattle.std.specs.Prelude.{ℕ, Bool, true, false, List, [], ◌∷◌, ◌++◌, codes, Option, None, Some}
 use Rattle.std.specs.Fmt.{decimal}
 use Rattle.ec_base.specs.declared.line.Line.{Line}
 use Rattle.ec_base.specs.Texts.{fault_text, limit_text, trap_text}
@@ -17,6 +17,19 @@ status_of TurnsSpent = 68
 status_of OutOfMemory = 69
 status_of WriteFault = 70
 status_of (Limit kind) = 71
+
+-- whether a program was run to its end
+abbrev pub is_whole : Ending → Bool
+is_whole (Exited status) = true
+is_whole (Trapped trap line) = true
+is_whole TurnsSpent = true
+is_whole Wrote = false
+is_whole Usage = false
+is_whole (Refused kind line) = false
+is_whole (Limit kind) = false
+is_whole ReadFault = false
+is_whole WriteFault = false
+is_whole OutOfMemory = false
 
 -- the place that a message names, if it names one
 abbrev pub place_text : Option Line → List ℕ

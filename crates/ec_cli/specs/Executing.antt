@@ -25,8 +25,9 @@ use Rattle.ec_runtime.specs.Racks.{KeepsLinks}
 use Rattle.ec_execute.specs.declared.running.RunEnd.{RunEnd}
 use Rattle.ec_execute.specs.declared.running.RunEnd.TheVariants as ends
 use Rattle.ec_cli.specs.Answers.{IsCrowded, Announces, ComesWhere, grown}
-use Rattle.ec_cli.specs.Forms.{Program, IsRunAs, Meaning, meaning_as}
+use Rattle.ec_cli.specs.Forms.{Program, IsRunAs, Meaning, program_meaning, shown}
 use Rattle.ec_cli.specs.Racks.{RunsOver}
+use Rattle.ec_cli.specs.Recordings.{RecordsAs}
 use Rattle.ec_cli.specs.Taking.{HasText, Gives, limit_on, IsWithin, IsBeyond, IsLarge, IsPassed}
 use Rattle.ec_cli.specs.declared.form.Form.{Form}
 use Rattle.ec_cli.specs.declared.form.Form.TheVariants.{Generated}
@@ -145,7 +146,7 @@ RefusesText form text WriteFault = ⊥
 abbrev pub Concludes : (form : Form) → ℕ → Option (ℕ × List ℕ) → List Answer →
     Result (Program form) Stop → Ending → Type 0
 Concludes form turns ready answers (Ok program) ending =
-    EndsAs (meaning_as form program turns ready answers).ending ending
+    EndsAs (program_meaning form program turns ready answers).ending ending
 Concludes form turns ready answers (Err stop) ending = ending ≡ text_refusal stop
 
 abbrev pub AnswersProgram : Form → ℕ → Option (ℕ × List ℕ) → List Answer → List ℕ → Ending →
@@ -171,6 +172,12 @@ abbrev pub meaning_over : {X : Type 0} {F : X → Type 0} →
 meaning_over meaning turns rack rack' =
     meaning turns (ready_slot (states (slots_of rack))) (answers_in (grown rack rack'))
 
+-- what is shown of it
+abbrev pub shown_over : {X : Type 0} {F : X → Type 0} →
+    Form → Meaning → ℕ → Rack X F → Rack X F → Observed
+shown_over form meaning turns rack rack' =
+    shown form (states (slots_of rack)) (meaning_over meaning turns rack rack')
+
 -- the last line was put behind what was done
 pub record BeforeLine {E : Type 0} (told : E → Option (List ℕ))
     (tells : E → ℕ) (last : E) (line : List ℕ) (Done : E → Type 0) : Type 0 where
@@ -187,28 +194,26 @@ module _ {O E X : Type 0} {F : X → Type 0} (held : O → Option (List ℕ)) (p
     pub errors : err' ≡ err
     pub links : rack' ≡ rack
 
-  -- the whole of what a program means was carried out, and the connections were given back
-  pub record CarriedOut (meaning : Meaning) (turns : ℕ) (out out' : O)
+  -- the whole of what is shown of a run was carried out, and the connections were given back
+  pub record CarriedOut (observed : Observed) (out out' : O)
       (err err' : E) (rack rack' : Rack X F) (ending : Ending) : Type 0 where
     pub ended : evaluation.Ending
     pub ends : EndsAs ended ending
-    pub runs : Runs held puts told tells (meaning_over meaning turns rack rack')
-        (grown rack rack') ended out out' err err'
+    pub runs : Runs held puts told tells observed (grown rack rack') ended out out' err err'
     pub slots : RunsOver (slots_of rack) (grown rack rack') (slots_of rack')
 
   -- a part of it was
-  pub record CarriedPart (meaning : Meaning) (turns : ℕ) (out out' : O)
+  pub record CarriedPart (observed : Observed) (out out' : O)
       (err err' : E) (rack rack' : Rack X F) : Type 0 where
-    pub part : RunsPart held puts told tells
-        (meaning_over meaning turns rack rack') (grown rack rack') out out' err err'
+    pub part : RunsPart held puts told tells observed (grown rack rack') out out' err err'
     pub slots : RunsOver (slots_of rack) (grown rack rack') (slots_of rack')
 
   -- what carrying it out does, by its ending
-  pub record Carries (meaning : Meaning) (turns : ℕ) (out out' : O)
+  pub record Carries (observed : Observed) (out out' : O)
       (err err' : E) (rack rack' : Rack X F) (ending : Ending) : Type 0 where
-    pub whole : IsOfProgram ending → CarriedOut meaning turns out out' err err' rack rack' ending
+    pub whole : IsOfProgram ending → CarriedOut observed out out' err err' rack rack' ending
     pub part : (ending ≡ WriteFault) ⊎ (ending ≡ OutOfMemory) →
-        CarriedPart meaning turns out out' err err' rack rack'
+        CarriedPart observed out out' err err' rack rack'
     pub ends : IsOfCarried ending
     pub talks : KeepsTalks (talk_at talk (slots_of rack))
         (talk_at talk (slots_of rack')) (grown rack rack')
@@ -220,12 +225,19 @@ module _ {O E X : Type 0} {F : X → Type 0} (held : O → Option (List ℕ)) (p
     pub fault : ending ≡ WriteFault → Rose (puts out) (puts out') ⊎ Rose (tells err) (tells err')
     pub steady : (ending ≡ WriteFault → ⊥) → (puts out' ≡ puts out) × (tells err' ≡ tells err)
 
+  -- it was carried out, or there was no memory to begin
+  abbrev pub MayCarry : Observed → O → O → E → E → Rack X F → Rack X F → Ending → Type 0
+  MayCarry observed out out' err err' rack rack' ending =
+      Carries observed out out' err err' rack rack' ending
+      ⊎ ((ending ≡ OutOfMemory) × Untouched out out' err err' rack rack')
+
   -- what a text leads to
   abbrev pub ExecutesText : Form → ℕ → List ℕ → O → O → E → E → Rack X F → Rack X F → Ending →
       Type 0
   ExecutesText form turns text out out' err err' rack rack' ending =
       ((program : Program form) × IsRunAs form text (Ok program)
-      × Carries (meaning_as form program) turns out out' err err' rack rack' ending)
+      × Carries (shown_over form (program_meaning form program) turns rack rack')
+      out out' err err' rack rack' ending × RecordsAs told tells form err err' rack rack')
       ⊎ (RefusesText form text ending × Untouched out out' err err' rack rack')
 
   module _ {I : Type 0} (left : I → Option (List ℕ)) where
@@ -236,7 +248,8 @@ module _ {O E X : Type 0} {F : X → Type 0} (held : O → Option (List ℕ)) (p
       pub from : HasText form (left input) (left input') text
       pub program : Program form
       pub is : IsRunAs form text (Ok program)
-      pub carried : CarriedOut (meaning_as form program) turns out out' err err' rack rack' ending
+      pub carried : CarriedOut (shown_over form (program_meaning form program) turns rack rack')
+          out out' err err' rack rack' ending
 
     -- a part of it was
     pub record ExecutesPart (form : Form) (turns : ℕ) (input input' : I) (out out' : O)
@@ -245,7 +258,8 @@ module _ {O E X : Type 0} {F : X → Type 0} (held : O → Option (List ℕ)) (p
       pub from : HasText form (left input) (left input') text
       pub program : Program form
       pub is : IsRunAs form text (Ok program)
-      pub carried : CarriedPart (meaning_as form program) turns out out' err err' rack rack'
+      pub carried : CarriedPart (shown_over form (program_meaning form program) turns rack rack')
+          out out' err err' rack rack'
 
     -- nothing was run, or a part
     abbrev pub MayExecute : Form → ℕ → I → I → O → O → E → E → Rack X F → Rack X F → Type 0
@@ -269,6 +283,7 @@ module _ {O E X : Type 0} {F : X → Type 0} (held : O → Option (List ℕ)) (p
       pub numbered : ComesWhere (Limit L8) ending (IsLarge form × (IsCrowded rack → ⊥))
       pub unread : ending ≡ Limit L7 → input' ≡ input
       pub made : (number : ℕ) → form ≡ Generated number → input' ≡ input
+      pub recorded : RecordsAs told tells form err err' rack rack'
       pub talks : KeepsTalks (talk_at talk (slots_of rack))
           (talk_at talk (slots_of rack')) (grown rack rack')
       pub links : KeepsLinks talk faults (link_at (slots_of rack))

@@ -3,6 +3,8 @@ pub mod Ending
 pub mod Executing
 pub mod Forms
 pub mod Racks
+pub mod Recording
+pub mod Recordings
 pub mod Reporting
 pub mod Reports
 pub mod Taking

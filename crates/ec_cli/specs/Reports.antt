@@ -6,8 +6,6 @@ use Rattle.ec_base.specs.Texts.{trap_text}
 use Rattle.ec_generate.specs.Generated.{generated}
 use Rattle.ec_meaning_defs.specs.evaluation.State as evaluation
 use Rattle.ec_meaning_defs.specs.evaluation.Whole.{Observed}
-use Rattle.ec_cli.specs.declared.form.Form.{Form}
-use Rattle.ec_cli.specs.declared.form.Form.TheVariants.{Source, Written, Generated}
 
 -- how a program ended, if it came to its end
 abbrev pub exited_text : ℕ → List ℕ
@@ -44,9 +42,3 @@ with_report number o = record o {
   output = o.output ++ report_line number (length (generated number))
       (length o.conversation) (outcome o.ending);
 }
-
--- of any other run nothing is told
-abbrev pub reported : Form → Observed → Observed
-reported Source o = o
-reported Written o = o
-reported (Generated number) o = with_report number o

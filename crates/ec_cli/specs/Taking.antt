@@ -11,7 +11,7 @@ use Rattle.ec_meaning_defs.specs.observed.Headline.{IsRead, IsTooLong, ReadsWith
 use Rattle.ec_cli.specs.declared.ending.Ending.{Ending}
 use Rattle.ec_cli.specs.declared.ending.Ending.TheVariants.{Limit, ReadFault, OutOfMemory}
 use Rattle.ec_cli.specs.declared.form.Form.{Form}
-use Rattle.ec_cli.specs.declared.form.Form.TheVariants.{Source, Written, Generated}
+use Rattle.ec_cli.specs.declared.form.Form.TheVariants.{Source, Written, Recorded, Generated}
 
 -- the greatest number of a program that is made
 abbrev pub most_generated : ℕ
@@ -21,47 +21,55 @@ most_generated = 10000
 abbrev pub HasText : Form → Option (List ℕ) → Option (List ℕ) → List ℕ → Type 0
 HasText Source input input' text = IsRead input input' text
 HasText Written input input' text = IsRead input input' text
+HasText Recorded input input' text = IsRead input input' text
 HasText (Generated number) input input' text = (text ≡ generated number) × (input' ≡ input)
 
 -- an input that tells its bytes gives the text, or it is made
 abbrev pub Gives : Form → Option (List ℕ) → List ℕ → Type 0
 Gives Source input text = input ≡ Some text
 Gives Written input text = input ≡ Some text
+Gives Recorded input text = input ≡ Some text
 Gives (Generated number) input text = text ≡ generated number
 
 -- the limit on what is run: on its bytes, or on the number of a generated program
 abbrev pub limit_on : Form → LimitKind
 limit_on Source = L6
 limit_on Written = L6
+limit_on Recorded = L6
 limit_on (Generated number) = L8
 
 -- the text is within it, or beyond
 abbrev pub IsWithin : Form → List ℕ → Type 0
 IsWithin Source text = length text ≤ 2 ^ 24
 IsWithin Written text = length text ≤ 2 ^ 24
+IsWithin Recorded text = length text ≤ 2 ^ 24
 IsWithin (Generated number) text = number ≤ most_generated
 
 abbrev pub IsBeyond : Form → List ℕ → Type 0
 IsBeyond Source text = 2 ^ 24 < length text
 IsBeyond Written text = 2 ^ 24 < length text
+IsBeyond Recorded text = 2 ^ 24 < length text
 IsBeyond (Generated number) text = most_generated < number
 
 -- the number of a generated program is too large
 abbrev pub IsLarge : Form → Type 0
 IsLarge Source = ⊥
 IsLarge Written = ⊥
+IsLarge Recorded = ⊥
 IsLarge (Generated number) = most_generated < number
 
 -- more bytes came than the limit, or the number is too large
 abbrev pub IsPassed : Form → Option (List ℕ) → Option (List ℕ) → Type 0
 IsPassed Source input input' = IsTooLong input input'
 IsPassed Written input input' = IsTooLong input input'
+IsPassed Recorded input input' = IsTooLong input input'
 IsPassed (Generated number) input input' = most_generated < number
 
 -- a text is the one that is made, if it is to be
 abbrev pub IsMadeFor : Form → List ℕ → Type 0
 IsMadeFor Source text = Unit {0}
 IsMadeFor Written text = Unit {0}
+IsMadeFor Recorded text = Unit {0}
 IsMadeFor (Generated number) text = text ≡ generated number
 
 -- the ending where reading the input stopped

@@ -1,5 +1,6 @@
-ghost use Rattle.std.specs.Prelude.{◌≡◌};
-ghost use Rattle.ec_cli.specs.Ending.{status_of};
+ghost use Rattle.std.specs.Prelude.{◌≡◌, is_some};
+ghost use Rattle.ec_cli.specs.Ending.{is_whole, status_of};
+ghost use Rattle.ec_cli.specs.Reporting.{outcome_of};
 
 use ec_base::{FaultKind, LimitKind, Line, Trap};
 
@@ -26,6 +27,17 @@ pub enum Ending {
     WriteFault,
     /// There was no memory left.
     OutOfMemory,
+}
+
+/// Whether a program was run to its end.
+pub fn is_whole(ending: &Ending) -> bool
+    ensures whole { result ≡ is_whole ending.now }
+    ensures outcome { result ≡ is_some (outcome_of ending.now) }
+{
+    matches!(
+        ending,
+        Ending::Exited(_) | Ending::Trapped(..) | Ending::TurnsSpent
+    )
 }
 
 /// The exit status of the program for an ending: that of the program that ran, or one of 64 to 71, near to those of

@@ -1,23 +1,28 @@
-//! The commands that run a program: `run` a source, `exec` written C, and `gen` a generated source.
-ghost use Rattle.std.specs.Prelude.{◌≡◌, length};
+//! The commands that run a program: `run` and `record` a source, `exec` written C, and `gen` a generated source.
+ghost use Rattle.std.specs.Prelude.{◌≡◌, ◌≤◌, drop, length};
+ghost use Rattle.ec_link.specs.Rack.{log_of, slots_of};
+ghost use Rattle.ec_link.specs.Slot.{states};
 ghost use Rattle.ec_execute.specs.Executables.{executable_view};
 ghost use Rattle.ec_link.specs.Links.{talk_by, faults_by};
 ghost use Rattle.ec_cli.specs.Answers.{IsCrowded};
 ghost use Rattle.ec_execution_defs.specs.Programs.{meaning};
-ghost use Rattle.ec_cli.specs.Executing.{ending_of_program, text_refusal, Carries, ExecutesText, Executes};
-ghost use Rattle.ec_cli.specs.Forms.{TellsRun, reports};
+ghost use Rattle.ec_cli.specs.Executing.{ending_of_program, text_refusal, meaning_over, shown_over, Carries, MayCarry, ExecutesText, Executes};
+ghost use Rattle.ec_cli.specs.Forms.{TellsRun};
+ghost use Rattle.ec_cli.specs.Recordings.{marks_of, RecordsAs};
 ghost use Rattle.ec_cli.specs.Taking.{IsMadeFor};
 ghost use Rattle.ec_generate.specs.Generated.{generated};
 
 use crate::ending::Ending;
 use crate::form::Form;
 use crate::limits::is_crowded;
+use crate::recording::{marks_of, put_transcript};
 use crate::report::{Summary, report};
 use crate::text::take_text;
-use ec_base::{Bytes, LimitKind, Sink, Source as Input, Stop};
+use crate::unseen::Unseen;
+use ec_base::{Bytes, LimitKind, List, Name, OutOfMemory, Sink, Source as Input, Stop};
 use ec_execute::source::read_source;
 use ec_execute::{Executable, RunEnd, read_program, run};
-use ec_link::{Link, Rack};
+use ec_link::{Link, Logged, Rack};
 use std::alloc::Global;
 
 // The ending of a run.
@@ -57,7 +62,7 @@ fn run_over<O: Sink, E: Sink>(
     requires { IsCrowded rack.old → ⊥ }
     ensures { Carries O.held O.faults E.held E.faults
         (talk_by ⟦<dyn Link as Link>⟧) (faults_by ⟦<dyn Link as Link>⟧)
-        (meaning (executable_view executable.now)) turns
+        (meaning_over (meaning (executable_view executable.now)) turns rack.old rack.new)
         out.old out.new err.old err.new rack.old rack.new result }
 {
     ended(run(alloc, executable, turns, rack, out, err))
@@ -70,6 +75,7 @@ fn read_text(alloc: Global, form: Form, text: &[u8]) -> Result<Executable, Stop>
     match form {
         Form::Source => read_source(alloc, text),
         Form::Written => read_program(alloc, text),
+        Form::Recorded => read_source(alloc, text),
         Form::Generated(_) => read_source(alloc, text),
     }
 }
@@ -89,8 +95,8 @@ fn run_told<O: Sink, E: Sink>(
     requires made { text.now ≡ generated number }
     ensures { Carries O.held O.faults E.held E.faults
         (talk_by ⟦<dyn Link as Link>⟧) (faults_by ⟦<dyn Link as Link>⟧)
-        (reports (Form.Generated number) (meaning (executable_view executable.now))) turns
-        out.old out.new err.old err.new rack.old rack.new result }
+        (shown_over (Form.Generated number) (meaning (executable_view executable.now)) turns
+        rack.old rack.new) out.old out.new err.old err.new rack.old rack.new result }
 {
     let before = rack.log().len();
     let ending = run_over(alloc, executable, turns, out, err, rack);
@@ -100,6 +106,60 @@ fn run_told<O: Sink, E: Sink>(
         requests: rack.log().len() - before,
     };
     report(out, &told, ending)
+}
+
+// What was said since there were so many exchanges.
+fn logged_since(rack: &Rack, before: usize) -> &[Logged]
+    requires { before ≤ length (log_of rack.now) }
+    ensures { result.now ≡ drop before (log_of rack.now) }
+{
+    &rack.log().as_slice()[before..]
+}
+
+// Runs a program over slots with these marks, and records what was said. What it puts on standard error isn't shown.
+fn run_marked<O: Sink, E: Sink>(
+    alloc: Global,
+    marks: &List<(bool, Name)>,
+    executable: &Executable,
+    turns: u64,
+    out: &mut O,
+    err: &mut E,
+    rack: &mut Rack,
+) -> Ending
+    requires room { IsCrowded rack.old → ⊥ }
+    requires marked { marks.now ≡ marks_of (states (slots_of rack.old)) }
+    ensures carried { Carries O.held O.faults E.held E.faults
+        (talk_by ⟦<dyn Link as Link>⟧) (faults_by ⟦<dyn Link as Link>⟧)
+        (shown_over Form.Recorded (meaning (executable_view executable.now)) turns
+        rack.old rack.new) out.old out.new err.old err.new rack.old rack.new result }
+    ensures recorded { RecordsAs E.held E.faults Form.Recorded err.old err.new rack.old rack.new }
+{
+    let before = rack.log().len();
+    let mut unseen = Unseen;
+    let ending = run_over(alloc, executable, turns, out, &mut unseen, rack);
+    put_transcript(alloc, marks, logged_since(rack, before), ending, err)
+}
+
+// Runs a program and records what was said, if there is memory to begin.
+fn run_recorded<O: Sink, E: Sink>(
+    alloc: Global,
+    executable: &Executable,
+    turns: u64,
+    out: &mut O,
+    err: &mut E,
+    rack: &mut Rack,
+) -> Ending
+    requires { IsCrowded rack.old → ⊥ }
+    ensures carried { MayCarry O.held O.faults E.held E.faults
+        (talk_by ⟦<dyn Link as Link>⟧) (faults_by ⟦<dyn Link as Link>⟧)
+        (shown_over Form.Recorded (meaning (executable_view executable.now)) turns
+        rack.old rack.new) out.old out.new err.old err.new rack.old rack.new result }
+    ensures recorded { RecordsAs E.held E.faults Form.Recorded err.old err.new rack.old rack.new }
+{
+    match marks_of(alloc, rack.slots().as_slice()) {
+        Ok(marks) => run_marked(alloc, &marks, executable, turns, out, err, rack),
+        Err(OutOfMemory) => Ending::OutOfMemory,
+    }
 }
 
 // Runs the program of a text of that form.
@@ -115,14 +175,16 @@ fn run_as<O: Sink, E: Sink>(
 ) -> Ending
     requires room { IsCrowded rack.old → ⊥ }
     requires made { IsMadeFor form text.now }
-    ensures { Carries O.held O.faults E.held E.faults
+    ensures carried { MayCarry O.held O.faults E.held E.faults
         (talk_by ⟦<dyn Link as Link>⟧) (faults_by ⟦<dyn Link as Link>⟧)
-        (reports form (meaning (executable_view executable.now))) turns
+        (shown_over form (meaning (executable_view executable.now)) turns rack.old rack.new)
         out.old out.new err.old err.new rack.old rack.new result }
+    ensures recorded { RecordsAs E.held E.faults form err.old err.new rack.old rack.new }
 {
     match form {
         Form::Source => run_over(alloc, executable, turns, out, err, rack),
         Form::Written => run_over(alloc, executable, turns, out, err, rack),
+        Form::Recorded => run_recorded(alloc, executable, turns, out, err, rack),
         Form::Generated(number) => {
             run_told(alloc, number, text, executable, turns, out, err, rack)
         }

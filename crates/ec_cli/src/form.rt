@@ -5,6 +5,8 @@ pub enum Form {
     Source,
     /// Written C, by `exec`.
     Written,
+    /// A source whose run is recorded, by `record`.
+    Recorded,
     /// The source of the generated program of this number, by `gen`.
     Generated(u32),
 }

@@ -7,11 +7,13 @@ mod form;
 mod limits;
 mod message;
 mod putting;
+mod recording;
 mod report;
 mod task;
 mod text;
 mod tool;
 mod translation;
+mod unseen;
 
 pub use ending::{Ending, status};
 pub use form::Form;

@@ -1,4 +1,4 @@
-ghost use Rattle.std.specs.Prelude.{OnOk, OnErr};
+ghost use Rattle.std.specs.Prelude.{◌≡◌, false, [], if◌then◌else◌, OnOk, OnErr};
 ghost use Rattle.ec_base.specs.Putting.{Puts, PutsPart};
 ghost use Rattle.ec_cli.specs.Ending.{message, last_line, place_text};
 
@@ -39,8 +39,8 @@ fn put_message<E: Sink>(
     put_all(err, b"\n")
 }
 
-/// Puts the last line of an ending, if it has one. It takes no memory.
-pub fn put_last_line<E: Sink>(err: &mut E, ending: &Ending) -> Result<(), Failed>
+// Puts the last line of an ending, if it has one.
+fn put_last_line<E: Sink>(err: &mut E, ending: &Ending) -> Result<(), Failed>
     ensures ok { OnOk result (Puts E.held E.faults err.old err.new (last_line ending.now)) }
     ensures part { OnErr result (PutsPart E.held E.faults err.old err.new (last_line ending.now)) }
 {
@@ -54,5 +54,20 @@ pub fn put_last_line<E: Sink>(err: &mut E, ending: &Ending) -> Result<(), Failed
         Ending::OutOfMemory => put_message(err, "", "out of memory", None),
         Ending::WriteFault => put_message(err, "", "write fault", None),
         Ending::Limit(kind) => put_message(err, "limit ", kind.text(), None),
+    }
+}
+
+/// Puts the last line of an ending, if it is told and has one. It takes no memory.
+pub fn put_line<E: Sink>(err: &mut E, is_told: bool, ending: &Ending) -> Result<(), Failed>
+    ensures ok { OnOk result
+        (Puts E.held E.faults err.old err.new (if is_told then last_line ending.now else [])) }
+    ensures part { OnErr result
+        (PutsPart E.held E.faults err.old err.new (if is_told then last_line ending.now else [])) }
+    ensures untold { is_told ≡ false → err.new ≡ err.old }
+{
+    if is_told {
+        put_last_line(err, ending)
+    } else {
+        Ok(())
     }
 }

@@ -1,10 +1,10 @@
 //! The line that tells how the run of a generated program went.
-ghost use Rattle.std.specs.Prelude.{◌≡◌, is_some, OnOk, OnErr};
+ghost use Rattle.std.specs.Prelude.{OnOk, OnErr};
 ghost use Rattle.ec_base.specs.Putting.{Puts, PutsPart};
 ghost use Rattle.ec_cli.specs.Reporting.{Reports, line_of, outcome_of, text_of};
 ghost use Rattle.ec_cli.specs.Reports.{count, exited_text, heading, trapped_text};
 
-use crate::ending::Ending;
+use crate::ending::{Ending, is_whole};
 use crate::putting::put_text;
 use ec_base::{Failed, Line, Sink, Trap, put_all};
 use itoa::Buffer;
@@ -107,16 +107,6 @@ fn put_report<O: Sink>(out: &mut O, it: &Summary, ending: &Ending) -> Result<(),
     put_heading(out, it.number, it.bytes, it.requests)?;
     put_outcome(out, ending)?;
     put_text(out, b"\n")
-}
-
-// Whether the program came to its end.
-fn is_whole(ending: &Ending) -> bool
-    ensures { result ≡ is_some (outcome_of ending.now) }
-{
-    matches!(
-        ending,
-        Ending::Exited(_) | Ending::Trapped(..) | Ending::TurnsSpent
-    )
 }
 
 /// Puts the line behind what a program printed that came to its end, and passes it on. The ending stays, or is that the

@@ -4,7 +4,7 @@ ghost use Rattle.ec_cli.specs.Tasks.{task, task_of};
 
 use crate::form::Form;
 use ec_base::OutOfMemory;
-use ec_words::{Command, USUAL_TURNS, command_named};
+use ec_words::{Command, USUAL_TURNS, read_words};
 use std::alloc::Global;
 
 /// What the tool is asked for.
@@ -23,16 +23,17 @@ fn task_of(command: &Command) -> Task
     match command {
         Command::Translate => Task::Translate,
         Command::Exec(run) => Task::Run(Form::Written, run.turns),
-        Command::Run(run) | Command::Record(run) => Task::Run(Form::Source, run.turns),
+        Command::Run(run) => Task::Run(Form::Source, run.turns),
+        Command::Record(run) => Task::Run(Form::Recorded, run.turns),
         Command::Gen(program) => Task::Run(Form::Generated(program.number), USUAL_TURNS),
     }
 }
 
-/// What the words ask for, or none exactly where they name no command that the tool does.
+/// What the words ask for, or none exactly where they name no command.
 pub fn read_task(alloc: Global, words: &[String]) -> Result<Option<Task>, OutOfMemory>
     ensures { IfOk result (λ it. it ≡ task words.now) }
 {
-    match command_named(alloc, words)? {
+    match read_words(alloc, words)? {
         Some(command) => Ok(Some(task_of(&command))),
         None => Ok(None),
     }

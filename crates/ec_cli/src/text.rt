@@ -58,6 +58,7 @@ pub fn take_text<I: Input>(alloc: Global, form: Form, input: &mut I) -> Result<B
     match form {
         Form::Source => read_text(alloc, input),
         Form::Written => read_text(alloc, input),
+        Form::Recorded => read_text(alloc, input),
         Form::Generated(number) => make_text(alloc, number),
     }
 }

@@ -1,5 +1,6 @@
 //! The top call.
-ghost use Rattle.std.specs.Prelude.{◌≡◌, ◌⊎◌, ◌++◌, ℕ, List, Some};
+ghost use Rattle.std.specs.Prelude.{◌≡◌, ◌⊎◌, ◌++◌, ◌&&◌, not, true, ℕ, List, Some};
+ghost use Rattle.ec_base.specs.Putting.{Puts};
 ghost use Rattle.ec_base.specs.declared.fault.FaultKind.{FaultKind};
 ghost use Rattle.ec_base.specs.declared.fault.LimitKind.{LimitKind};
 ghost use Rattle.ec_base.specs.declared.fault.LimitKind.TheVariants.{L7, L8};
@@ -14,22 +15,61 @@ ghost use Rattle.ec_runtime.specs.Racks.{KeepsLinks};
 ghost use Rattle.ec_meaning_defs.specs.observed.Headline.{RefusesAt, ReadsWithin};
 ghost use Rattle.ec_cli.specs.declared.form.Form.{Form};
 ghost use Rattle.ec_cli.specs.Answers.{IsCrowded, IsRefusal, Announces, ComesWhere, grown};
-ghost use Rattle.ec_cli.specs.Ending.{last_line};
+ghost use Rattle.ec_cli.specs.Ending.{is_whole, last_line};
 ghost use Rattle.ec_cli.specs.Executing.{IsOfProgram, IsOfExecution, RefusesRun, PassesAs, DecidesExecution, BeforeLine, ExecutesWhole, ExecutesPart, MayExecute};
+ghost use Rattle.ec_cli.specs.Recordings.{transcript, RecordsPart};
 ghost use Rattle.ec_cli.specs.Taking.{Gives, IsLarge};
-ghost use Rattle.ec_cli.specs.Tasks.{IsUnnamed, IsTranslating, HasTurns};
+ghost use Rattle.ec_cli.specs.Tasks.{is_recorded, is_told, line_for, IsUnnamed, IsTranslating, HasTurns};
 ghost use Rattle.ec_cli.specs.Tools.{Does};
 ghost use Rattle.ec_cli.specs.Translating.{IsOfTranslation, IsRefused, PassesLimit, WritesWhole, WritesPart, DecidesTranslation};
 ghost use Rattle.ec_link.specs.Links.{talk_by, faults_by};
 
-use crate::ending::Ending;
+use crate::ending::{Ending, is_whole};
 use crate::execution::execute;
-use crate::message::put_last_line;
+use crate::form::Form;
+use crate::message::put_line;
 use crate::task::{Task, read_task};
 use crate::translation::translate_input;
 use ec_base::{OutOfMemory, Sink, Source};
 use ec_link::{Link, Rack};
 use std::alloc::Global;
+
+// How a call ends, and whether its last line tells it.
+#[derive(Clone, Copy, Debug)]
+struct Performed {
+    ending: Ending,
+    is_told: bool,
+}
+
+// An ending that the last line tells.
+fn told(ending: Ending) -> Performed
+    ensures { result ≡ record { ending = ending; is_told = true } }
+{
+    Performed {
+        ending,
+        is_told: true,
+    }
+}
+
+// Whether a form is that of a recording.
+fn is_recorded(form: Form) -> bool
+    ensures { result ≡ is_recorded form }
+{
+    matches!(form, Form::Recorded)
+}
+
+// The ending of a run of that form. A recording that came to its end has its transcript in place of a last line.
+fn told_as(form: Form, ending: Ending) -> Performed
+    ensures { result ≡ record {
+      ending = ending;
+      is_told = not (is_whole ending && is_recorded form);
+    } }
+{
+    Performed {
+        ending,
+        is_told: !(is_whole(&ending) && is_recorded(form)),
+    }
+}
 
 // Does what the words name, but for the last line on standard error.
 fn perform<I: Source, O: Sink, E: Sink>(
@@ -39,16 +79,20 @@ fn perform<I: Source, O: Sink, E: Sink>(
     out: &mut O,
     err: &mut E,
     rack: &mut Rack,
-) -> Ending
-    ensures { Does I.left I.faults O.held O.faults E.held E.faults
+) -> Performed
+    ensures does { Does I.left I.faults O.held O.faults E.held E.faults
         (talk_by ⟦<dyn Link as Link>⟧) (faults_by ⟦<dyn Link as Link>⟧)
-        words.now input.old input.new out.old out.new err.old err.new rack.old rack.new result }
+        words.now input.old input.new out.old out.new err.old err.new rack.old rack.new
+        result.ending }
+    ensures told { result.is_told ≡ is_told words.now result.ending }
 {
     match read_task(alloc, words) {
-        Ok(Some(Task::Translate)) => translate_input(alloc, input, out),
-        Ok(Some(Task::Run(form, turns))) => execute(alloc, form, turns, input, out, err, rack),
-        Ok(None) => Ending::Usage,
-        Err(OutOfMemory) => Ending::OutOfMemory,
+        Ok(Some(Task::Translate)) => told(translate_input(alloc, input, out)),
+        Ok(Some(Task::Run(form, turns))) => {
+            told_as(form, execute(alloc, form, turns, input, out, err, rack))
+        }
+        Ok(None) => told(Ending::Usage),
+        Err(OutOfMemory) => told(Ending::OutOfMemory),
     }
 }
 
@@ -61,6 +105,9 @@ fn perform<I: Source, O: Sink, E: Sink>(
 /// `out` and `err`, which are flushed at its end, before the ending is decided. It begins connected to the first ready slot
 /// of the rack, if it has one, and may open, choose and close connections. The slots of those that are open at the end are
 /// free again. More than 64 slots are a limit, which is tested before the input is read.
+///
+/// `record` runs a source as `run` does, but what the program prints on its standard error isn't shown. Behind a run that
+/// came to its end the transcript of what was said is put on `err`, in version 2, and nothing else: there is no last line.
 ///
 /// `gen` makes the program of a number, and runs it as `run` does; the input isn't read. Behind what the program prints it
 /// puts one line on `out`: the number, the length of the source in bytes, how many requests were made, and how it ended. A
@@ -87,10 +134,11 @@ pub fn ec_main<I: Source, O: Sink, E: Sink>(
 
     // A run to its end is the whole of what the source means, or of what the written C means, over the answers that the log
     // got in this call: what is said is in the log, what is printed is on the two outputs, and the last line stands behind it.
-    // What a generated program prints ends with the line that tells of its run (`reported`). The first ready slot is taken,
-    // each exchange does to the slots what it says, and the connections are given back at the end (`RunsOver`).
+    // What a generated program prints ends with the line that tells of its run, and a recording has the transcript in place of
+    // what its program puts on standard error (`shown`). The first ready slot is taken, each exchange does to the slots what it
+    // says, and the connections are given back at the end (`RunsOver`).
     ensures whole { (form : Form) (turns : ℕ) → HasTurns words.now form turns → IsOfProgram result →
-        BeforeLine E.held E.faults err.new (last_line result) (λ between.
+        BeforeLine E.held E.faults err.new (line_for words.now result) (λ between.
         ExecutesWhole O.held O.faults E.held E.faults
         (talk_by ⟦<dyn Link as Link>⟧) (faults_by ⟦<dyn Link as Link>⟧) I.left
         form turns input.old input.new out.old out.new err.old between rack.old rack.new result) }
@@ -108,6 +156,16 @@ pub fn ec_main<I: Source, O: Sink, E: Sink>(
         MayExecute O.held O.faults E.held E.faults
         (talk_by ⟦<dyn Link as Link>⟧) (faults_by ⟦<dyn Link as Link>⟧) I.left
         form turns input.old input.new out.old out.new err.old between rack.old rack.new) }
+
+    // A recording to its end puts the transcript on `err`, and nothing else: of the slots as they were at entry, and of what was
+    // said in this call. One that stopped puts a front of it, and its last line.
+    ensures recorded { (turns : ℕ) → HasTurns words.now Form.Recorded turns → IsOfProgram result →
+        Puts E.held E.faults err.old err.new
+        (transcript (states (slots_of rack.old)) (grown rack.old rack.new)) }
+    ensures recorded_part { (turns : ℕ) → HasTurns words.now Form.Recorded turns →
+        BeforeLine E.held E.faults err.new (line_for words.now result) (λ between.
+        RecordsPart E.held E.faults (states (slots_of rack.old)) (grown rack.old rack.new)
+        err.old between) }
 
     // A link that tells its talk says what the log says of its slot.
     ensures talks { KeepsTalks
@@ -174,15 +232,15 @@ pub fn ec_main<I: Source, O: Sink, E: Sink>(
         I.faults input.new ≡ I.faults input.old }
     ensures write_steady { (result ≡ Ending.WriteFault → ⊥) → O.faults out.new ≡ O.faults out.old }
     ensures errors_steady { (result ≡ Ending.WriteFault → ⊥) →
-        BeforeLine E.held E.faults err.new (last_line result) (λ between.
+        BeforeLine E.held E.faults err.new (line_for words.now result) (λ between.
         E.faults between ≡ E.faults err.old) }
 
-    // The last line, whole, or in part where the count of `err` rose.
-    // Only a program that runs puts something before it.
+    // The last line, whole, or in part where the count of `err` rose. A recording that came to its end has none (`line_for`).
+    // Only a program that runs, or its recording, puts something before it.
     ensures last_line { IsTranslating words.now ⊎ IsUnnamed words.now ⊎ IsRefusal result →
         Announces E.held E.faults err.old err.new (last_line result) }
 {
-    let ending = perform(alloc, words, input, out, err, rack);
-    let _ = put_last_line(err, &ending);
-    ending
+    let done = perform(alloc, words, input, out, err, rack);
+    let _ = put_line(err, done.is_told, &done.ending);
+    done.ending
 }

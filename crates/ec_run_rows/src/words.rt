@@ -1,10 +1,10 @@
-//! What words of the command line name. Each line is a list of words, and is printed with the command that they ask for, in
-//! parentheses where the tool doesn't do it yet. `docs/rows/ROWS.md` has the form of the lines.
+//! What words of the command line name. Each line is a list of words, and is printed with the command that they ask for.
+//! `docs/rows/ROWS.md` has the form of the lines.
 
 use crate::runs::line::unescaped;
 use crate::runs::show::{put_number, put_quoted};
 use ec_base::{Bytes, List, OutOfMemory};
-use ec_words::{Command, LinkSpec, RunWords, command_named, read_words};
+use ec_words::{Command, LinkSpec, RunWords, read_words};
 use std::alloc::Global;
 use std::str;
 
@@ -90,12 +90,7 @@ fn put_command(shown: &mut Bytes, command: &Command) -> Result<(), OutOfMemory> 
 // Shows what words ask for.
 fn put_answer(alloc: Global, shown: &mut Bytes, words: &[String]) -> Result<(), OutOfMemory> {
     match read_words(alloc, words)? {
-        Some(command) if command_named(alloc, words)?.is_some() => put_command(shown, &command),
-        Some(command) => {
-            shown.push(b'(')?;
-            put_command(shown, &command)?;
-            shown.push(b')')
-        }
+        Some(command) => put_command(shown, &command),
         None => shown.extend_from_slice(b"none"),
     }
 }

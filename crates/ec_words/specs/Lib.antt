@@ -1,5 +1,5 @@
 pub mod Words
-pub mod Served
+pub mod Links
 pub mod Line
 pub mod Reading
 pub mod Examples

@@ -1,12 +1,12 @@
 //! Worked examples of what words name.
 ghost use Rattle.std.specs.Prelude.{◌≡◌, codes, true, false, [], ◌∷◌, None, Some};
-ghost use Rattle.ec_words.specs.Served.{named, links_of};
+ghost use Rattle.ec_words.specs.Links.{links_of};
 ghost use Rattle.ec_words.specs.Words.{asked};
 ghost use Rattle.ec_words.specs.Examples.{run, gen};
 ghost use Rattle.ec_words.specs.declared.links.LinkSpec.TheVariants.{Memory, File, Replay};
-ghost use Rattle.ec_words.specs.declared.words.Command.TheVariants.{Translate, Exec};
+ghost use Rattle.ec_words.specs.declared.words.Command.TheVariants.{Translate, Exec, Record};
 
-/// What lists of words name, and which of it the tool does, computed.
+/// What lists of words name, computed.
 pub fn word_examples()
     ensures plain { asked (codes "run" ∷ []) ≡ run 1000000 [] }
     ensures none { asked [] ≡ None }
@@ -43,9 +43,9 @@ pub fn word_examples()
     ensures no_turns { asked (codes "gen" ∷ codes "7" ∷ codes "--turns=5" ∷ []) ≡ None }
     ensures translation { asked (codes "translate" ∷ codes "--" ∷ []) ≡ Some Translate }
     ensures no_link { asked (codes "translate" ∷ codes "a=memory" ∷ []) ≡ None }
-    ensures recording { named (codes "record" ∷ []) ≡ None }
-    ensures transcript { named (codes "run" ∷ codes "--replay=t" ∷ []) ≡ None }
-    ensures links { links_of (named (codes "exec" ∷ codes "a=memory" ∷ []))
-        ≡ Memory false (codes "a") ∷ [] }
-    ensures no_links { links_of (named (codes "run" ∷ codes "a=memory" ∷ codes "b" ∷ [])) ≡ [] }
+    ensures recording { asked (codes "record" ∷ codes "--turns=9" ∷ codes "--replay=t" ∷ [])
+        ≡ Some (Record (record { turns = 9; links = Replay (codes "t") ∷ [] })) }
+    ensures links { links_of (asked (codes "record" ∷ codes "--replay=t" ∷ codes "a=memory" ∷ []))
+        ≡ Replay (codes "t") ∷ Memory false (codes "a") ∷ [] }
+    ensures no_links { links_of (asked (codes "run" ∷ codes "a=memory" ∷ codes "b" ∷ [])) ≡ [] }
 {}

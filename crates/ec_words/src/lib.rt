@@ -4,10 +4,10 @@
 mod examples;
 mod line;
 mod links;
-mod served;
+mod named;
 mod words;
 
 pub use examples::word_examples;
 pub use links::LinkSpec;
-pub use served::{command_named, links_named};
+pub use named::links_named;
 pub use words::{Command, GenWords, RunWords, USUAL_TURNS, read_words};

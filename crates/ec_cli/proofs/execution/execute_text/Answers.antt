@@ -7,7 +7,7 @@ use Rattle.ec_cli.proofs.execution.execute_text.Goals as goal
 pub returns-in-Ok : goal.returns-in-Ok
 returns-in-Ok g c =
     let text : c.as_slice.result.now ≡ c.args.text = cc (c.as_slice.ensures) in
-    text_carried _ _ _ _ _ _ c.args.form c.args.text c.in-Ok.executable c.args.turns _ _ _ _ _ _ _ (subst (λ t. RunsText c.args.form t c.in-Ok.executable) text c.in-Ok.ensures) c.run_as.ensures
+    text_carried _ _ _ _ _ _ c.args.form c.args.text c.in-Ok.executable c.args.turns _ _ _ _ _ _ _ (subst (λ t. RunsText c.args.form t c.in-Ok.executable) text c.in-Ok.ensures) c.run_as.ensures.carried c.run_as.ensures.recorded
 
 pub returns : goal.returns
 returns g c =

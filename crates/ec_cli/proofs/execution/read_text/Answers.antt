@@ -1,6 +1,6 @@
 use Rattle.std.proofs.Common.{subst, sym}
 use Rattle.ec_cli.specs.Forms.{TellsRun}
-use Rattle.ec_cli.proofs.Executions.{source_told, written_told, generated_told}
+use Rattle.ec_cli.proofs.Executions.{source_told, written_told, recorded_told, generated_told}
 use Rattle.ec_cli.proofs.execution.read_text.Goals as goal
 
 pub returns-in-Source : goal.returns-in-Source
@@ -10,6 +10,10 @@ returns-in-Source c =
 pub returns-in-Written : goal.returns-in-Written
 returns-in-Written c =
     subst (λ f. TellsRun f c.args.text.now c.read_program.result) (sym c.in-Written.is) (written_told c.args.text.now c.read_program.result c.read_program.ensures.answer)
+
+pub returns-in-Recorded : goal.returns-in-Recorded
+returns-in-Recorded c =
+    subst (λ f. TellsRun f c.args.text.now c.read_source-in-Recorded.result) (sym c.in-Recorded.is) (recorded_told c.args.text.now c.read_source-in-Recorded.result c.read_source-in-Recorded.ensures)
 
 pub returns-in-Generated : goal.returns-in-Generated
 returns-in-Generated c =
