@@ -1,0 +1,5 @@
+mod Calls
+mod Exact
+mod Parting
+mod Reading
+mod Steps

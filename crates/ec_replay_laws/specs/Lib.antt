@@ -1,0 +1,4 @@
+pub mod Parts
+pub mod Runs
+pub mod Taking
+pub mod Texts
