@@ -39,6 +39,23 @@ front_unchanged {told} {tells} slots log err err' same = record {
   took = subst (λ l. Took told tells err l []) (sym same) (Took-puts (Puts-none err));
 }
 
+front_whole : {E : Type 0} {told : E → Option (List ℕ)} {tells : E → ℕ} (slots : List SlotState) (log : List Logged) (err err' : E) → Puts told tells err err' (transcript slots log) → RecordsPart told tells slots log err err'
+front_whole slots log err err' p = record { front = transcript slots log; is_front = front_all (transcript slots log); took = Took-puts p }
+
+front_part : {E : Type 0} {told : E → Option (List ℕ)} {tells : E → ℕ} (slots : List SlotState) (log : List Logged) (err err' : E) → PutsPart told tells err err' (transcript slots log) → RecordsPart told tells slots log err err'
+front_part slots log err err' p = record { front = p.front; is_front = record { rest = p.rest; same = p.split }; took = p.took }
+
+module _ {E : Type 0} (told : E → Option (List ℕ)) (tells : E → ℕ) (slots : List SlotState) (log : List Logged) (err err' : E) (ending ending' : Ending) where
+  front_any : (b : Bool) → Records told tells b (transcript slots log) err err' ending ending' → RecordsPart told tells slots log err err'
+  front_any false r = front_unchanged slots log err err' r.0
+  front_any true (inl p) = front_whole slots log err err' p.0
+  front_any true (inr (inl p)) = front_part slots log err err' p.0
+  front_any true (inr (inr p)) = front_unchanged slots log err err' p.0
+
+  -- however the run ended
+  pub front_recorded : (written : List ℕ) → written ≡ transcript slots log → Records told tells (is_whole ending) written err err' ending ending' → RecordsPart told tells slots log err err'
+  front_recorded written is r = front_any (is_whole ending) (subst (λ t. Records told tells (is_whole ending) t err err' ending ending') is r)
+
 -- a count that is always the same never rose
 pub never_rose : Rose 0 0 → ⊥
 never_rose r = omega (arith, r)
@@ -67,17 +84,6 @@ module _ {O U E X : Type 0} {F : X → Type 0} (held : O → Option (List ℕ)) 
 
   abbrev PutFront : Type 0
   PutFront = RecordsPart told tells (states (slots_of rack)) (grown rack rack') err err'
-
-  -- ---- a front of the transcript
-
-  front_whole : Puts told tells err err' text → PutFront
-  front_whole p = record { front = text; is_front = front_all text; took = Took-puts p }
-
-  front_part : PutsPart told tells err err' text → PutFront
-  front_part p = record { front = p.front; is_front = record { rest = p.rest; same = p.split }; took = p.took }
-
-  front_none : err' ≡ err → PutFront
-  front_none same = front_unchanged (states (slots_of rack)) (grown rack rack') err err' same
 
   -- ---- the run and its transcript
 
@@ -146,7 +152,7 @@ module _ {O U E X : Type 0} {F : X → Type 0} (held : O → Option (List ℕ)) 
   told_failed : (ending : Ending) → IsOfProgram ending → (ending ≡ WriteFault → ⊥) → Ran ending → PutsPart told tells err err' text → RanTold WriteFault
   told_failed ending own steady c p = record {
     whole = λ e. absurd e;
-    part = λ _. cut_told ending (c.whole own) (front_part p);
+    part = λ _. cut_told ending (c.whole own) (front_part (states (slots_of rack)) (grown rack rack') err err' p);
     ends = tt;
     talks = c.talks;
     links = c.links;
@@ -159,7 +165,7 @@ module _ {O U E X : Type 0} {F : X → Type 0} (held : O → Option (List ℕ)) 
   told_wanting : (ending : Ending) → IsOfProgram ending → (ending ≡ WriteFault → ⊥) → Ran ending → err' ≡ err → RanTold OutOfMemory
   told_wanting ending own steady c same = record {
     whole = λ e. absurd e;
-    part = λ _. cut_told ending (c.whole own) (front_none same);
+    part = λ _. cut_told ending (c.whole own) (front_unchanged (states (slots_of rack)) (grown rack rack') err err' same);
     ends = tt;
     talks = c.talks;
     links = c.links;
@@ -203,13 +209,3 @@ module _ {O U E X : Type 0} {F : X → Type 0} (held : O → Option (List ℕ)) 
 
   pub carries_recorded : (ending ending' : Ending) (written : List ℕ) → written ≡ text → Ran ending → Records told tells (is_whole ending) written err err' ending ending' → RanTold ending'
   carries_recorded ending ending' written is c r = told_by ending ending' c (subst (λ t. Records told tells (is_whole ending) t err err' ending ending') is r)
-
-  -- however it ended
-  front_any : (ending ending' : Ending) (b : Bool) → Records told tells b text err err' ending ending' → PutFront
-  front_any ending ending' false r = front_none r.0
-  front_any ending ending' true (inl p) = front_whole p.0
-  front_any ending ending' true (inr (inl p)) = front_part p.0
-  front_any ending ending' true (inr (inr p)) = front_none p.0
-
-  pub front_recorded : (ending ending' : Ending) (written : List ℕ) → written ≡ text → Records told tells (is_whole ending) written err err' ending ending' → PutFront
-  front_recorded ending ending' written is r = front_any ending ending' (is_whole ending) (subst (λ t. Records told tells (is_whole ending) t err err' ending ending') is r)

@@ -215,20 +215,17 @@ module _ {I O E X : Type 0} {F : X → Type 0} {left : I → Option (List ℕ)} 
   limit d form turns kind h = (executes d form turns h).limit kind
 
   module _ (last : E) (a : Announces told tells err' last (line_for words ending)) where
-    stopped : is_whole ending ≡ false → Announces told tells err' last (last_line ending)
-    stopped e = subst (λ l. Announces told tells err' last l) (line_of_stopped words ending e) a
-
     pub whole : Does left reads held puts told tells talk faults words input input' out out' err err' rack rack' ending → (form : Form) (turns : ℕ) → HasTurns words form turns → IsOfProgram ending
         → BeforeLine told tells last (line_for words ending) (λ between. ExecutesWhole held puts told tells talk faults left form turns input input' out out' err between rack rack' ending)
     whole d form turns h e = record { between = err'; done = (executes d form turns h).whole e; announced = a }
 
     pub part : Does left reads held puts told tells talk faults words input input' out out' err err' rack rack' ending → (form : Form) (turns : ℕ) → HasTurns words form turns → ending ≡ WriteFault
         → BeforeLine told tells last (last_line ending) (λ between. ExecutesPart held puts told tells talk faults left form turns input input' out out' err between rack rack')
-    part d form turns h e = record { between = err'; done = (executes d form turns h).part e; announced = stopped (ap is_whole e) }
+    part d form turns h e = record { between = err'; done = (executes d form turns h).part e; announced = subst (λ l. Announces told tells err' last l) (line_of_stopped words ending (ap is_whole e)) a }
 
     pub want : Does left reads held puts told tells talk faults words input input' out out' err err' rack rack' ending → (form : Form) (turns : ℕ) → HasTurns words form turns → ending ≡ OutOfMemory
         → BeforeLine told tells last (last_line ending) (λ between. MayExecute held puts told tells talk faults left form turns input input' out out' err between rack rack')
-    want d form turns h e = record { between = err'; done = (executes d form turns h).want e; announced = stopped (ap is_whole e) }
+    want d form turns h e = record { between = err'; done = (executes d form turns h).want e; announced = subst (λ l. Announces told tells err' last l) (line_of_stopped words ending (ap is_whole e)) a }
 
     -- a recording to its end puts its transcript alone
     pub recorded : Does left reads held puts told tells talk faults words input input' out out' err err' rack rack' ending → (is_told words ending ≡ false → last ≡ err') → (turns : ℕ) → HasTurns words Recorded turns → IsOfProgram ending
@@ -336,9 +333,16 @@ module _ {I O E X : Type 0} {F : X → Type 0} {left : I → Option (List ℕ)} 
 -- ---- what is done
 
 module _ {I O E X : Type 0} {F : X → Type 0} (left : I → Option (List ℕ)) (reads : I → ℕ) (held : O → Option (List ℕ)) (puts : O → ℕ) (told : E → Option (List ℕ)) (tells : E → ℕ) (talk : DynBox X Allocator F → Option Talk) (faults : DynBox X Allocator F → ℕ) (words : List (String Allocator)) where
+  -- a text was run, and the call ends so
+  pub has_run : (form : Form) (turns : ℕ) (input input' : I) (out out' : O) (err err' : E) (rack rack' : Rack X F) (ending ended : Ending) → HasTurns words form turns → ended ≡ ending
+      → Executes held puts told tells talk faults left reads form turns input input' out out' err err' rack rack' ending
+      → Does left reads held puts told tells talk faults words input input' out out' err err' rack rack' ended
+  has_run form turns input input' out out' err err' rack rack' ending ended named e x =
+      subst (λ w. Does left reads held puts told tells talk faults words input input' out out' err err' rack rack' w) (sym e) (inr (inl (record { form = form; turns = turns; named = named; executes = x })))
+
   -- there was no memory to read the words
-  pub wants : (input : I) (out : O) (err : E) (rack : Rack X F) → Does left reads held puts told tells talk faults words input input out out err err rack rack OutOfMemory
-  wants input out err rack = go (task words) refl
+  pub wants : (input : I) (out : O) (err : E) (rack : Rack X F) (ended : Ending) → ended ≡ OutOfMemory → Does left reads held puts told tells talk faults words input input out out err err rack rack ended
+  wants input out err rack ended is = subst (λ w. Does left reads held puts told tells talk faults words input input out out err err rack rack w) (sym is) (go (task words) refl)
     where
       go : (it : Option Task) → task words ≡ it → Does left reads held puts told tells talk faults words input input out out err err rack rack OutOfMemory
       go None e = inr (inr (record { unnamed = e; declines = inr refl; unread = refl; untouched = record { output = refl; errors = refl; links = refl } }))

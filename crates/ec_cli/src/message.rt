@@ -58,6 +58,7 @@ fn put_last_line<E: Sink>(err: &mut E, ending: &Ending) -> Result<(), Failed>
 }
 
 /// Puts the last line of an ending, if it is told and has one. It takes no memory.
+#[tactic(auto, using(ec_base::proofs::Transfers::putting))]
 pub fn put_line<E: Sink>(err: &mut E, is_told: bool, ending: &Ending) -> Result<(), Failed>
     ensures ok { OnOk result
         (Puts E.held E.faults err.old err.new (if is_told then last_line ending.now else [])) }

@@ -25,7 +25,6 @@ returns-clause-carried g c =
 pub returns-clause-recorded : goal.returns-clause-recorded
 returns-clause-recorded g c =
     let was : c.len-before.result ≡ length (log_of c.args.rack.now) = c.len-before.ensures ∙ ap length c.log.ensures in
-    λ e. front_recorded _ _ _ _ _ _ _ _ (meaning_over (meaning (executable_view c.args.executable.now)) c.args.turns c.args.rack.now c.run_over-ending.new.rack) _ _ _ _ _ _ c.args.rack.now c.run_over-ending.new.rack never_rose
-    c.run_over-ending.result c.put_transcript.result _
+    λ e. front_recorded _ _ (states (slots_of c.args.rack.now)) (grown c.args.rack.now c.run_over-ending.new.rack) _ _ c.run_over-ending.result c.put_transcript.result _
     (text_same c.args.marks.now (states (slots_of c.args.rack.now)) c.logged_since.result.now (log_of c.args.rack.now) (log_of c.run_over-ending.new.rack) c.len-before.result c.requires.marked c.logged_since.ensures was)
     c.put_transcript.ensures
