@@ -1,6 +1,6 @@
 -- From the run of a program to what is promised of a call that runs a text.
-use Rattle.std.proofs.Common.{◌≡◌, ℕ, ◌≤◌, ◌^◌, List, [], ◌++◌, length, refl, ap, sym, ◌∙◌, subst, arith, Option, Some, inl, inr, Result, Ok, Err}
-use Rattle.std.specs.Prelude.{◌⊎◌}
+use Rattle.std.proofs.Common.{◌≡◌, ℕ, ◌≤◌, ◌^◌, List, [], ◌++◌, length, refl, ap, sym, ◌∙◌, subst, arith, Option, Some, None, inl, inr, Result, Ok, Err}
+use Rattle.std.specs.Prelude.{◌≢◌, ◌⊎◌}
 use Rattle.std.specs.declared.alloc.Global.{Global as Allocator}
 use Rattle.std.specs.declared.dyn_box.DynBox.{DynBox}
 use Rattle.ec_base.specs.declared.fault.FaultKind.{FaultKind}
@@ -13,10 +13,11 @@ use Rattle.ec_base.specs.Causes.{Rose}
 use Rattle.ec_link.proofs.Runs.{growth_of-grown}
 use Rattle.ec_link.specs.declared.logged.Logged.{Logged}
 use Rattle.ec_link.specs.declared.rack.Rack.{Rack}
+use Rattle.ec_link.specs.declared.request.Request.{Request}
 use Rattle.ec_link.specs.Logged.{Talk}
 use Rattle.ec_link.specs.Rack.{slots_of, log_of}
 use Rattle.ec_link.specs.Slot.{states, link_at, talk_at}
-use Rattle.ec_link.specs.SlotState.{SlotState, ready_slot}
+use Rattle.ec_link.specs.SlotState.{SlotState, Slots, ready_slot}
 use Rattle.ec_link.specs.Told.{KeepsTalks, SparesDropped}
 use Rattle.ec_meaning_defs.specs.observed.Headline.{ReadsWithin}
 use Rattle.ec_meaning_defs.specs.observed.Observed.{answers_in}
@@ -34,9 +35,9 @@ use Rattle.ec_execute.specs.Ends.{Performs}
 use Rattle.ec_execute.specs.Executables.{executable_view}
 use Rattle.ec_execute.specs.Runs.{Connects, Ran}
 use Rattle.ec_cli.specs.Answers.{IsCrowded, ComesWhere, grown}
-use Rattle.ec_cli.specs.Executing.{IsOfProgram, IsOfCarried, IsOfExecution, EndsAs, ending_of_program, limit_of, text_refusal, RefusesRun, PassesAs, DecidesExecution, meaning_over, shown_over, Untouched, CarriedOut, CarriedPart, Carries, MayCarry, RefusesText, ExecutesText, Executes}
+use Rattle.ec_cli.specs.Executing.{IsOfProgram, IsOfCarried, IsOfExecution, EndsAs, ending_of_program, limit_of, text_refusal, RefusesRun, PassesAs, DecidesExecution, meaning_over, SaysAgain, shown_over, Untouched, CarriedOut, CarriedPart, Carries, MayCarry, RefusesText, ExecutesText, Executes}
 use Rattle.ec_cli.specs.Forms.{Program, IsRunAs, Meaning, program_meaning, shown, RunsText, TellsRun}
-use Rattle.ec_cli.specs.Racks.{RunsOver}
+use Rattle.ec_cli.specs.Racks.{RunsOver, taken_first}
 use Rattle.ec_cli.specs.Recordings.{RecordsAs}
 use Rattle.ec_cli.specs.Taking.{Gives, limit_on, IsWithin, IsLarge, IsPassed, Takes, Lacks}
 use Rattle.ec_cli.specs.declared.form.Form.{Form}
@@ -44,6 +45,7 @@ use Rattle.ec_cli.specs.declared.form.Form.TheVariants.{Source, Written, Recorde
 use Rattle.ec_execute.specs.source.Answers.{TellsRunnable}
 use Rattle.ec_cli.specs.declared.ending.Ending.{Ending}
 use Rattle.ec_cli.specs.declared.ending.Ending.TheVariants.{Wrote, Exited, Trapped, TurnsSpent, Usage, Refused, Limit, ReadFault, WriteFault, OutOfMemory}
+use Rattle.ec_replay_laws.specs.Runs.{Ran as ReplayRan, SaysTheSame, taken_first as replay_first}
 use Rattle.ec_cli.proofs.Recordings.{front_unchanged}
 use Rattle.ec_cli.proofs.SameRack.{same_log, same_talks, same_links, same_dropped}
 use Rattle.ec_cli.proofs.Sessions as session
@@ -201,12 +203,27 @@ no_slots Written e = cc (e)
 no_slots Recorded e = cc (e)
 no_slots (Generated number) e = cc (e)
 
--- what is shown of a run ends as the run does
+-- what is shown of a run says and ends as the run does
+shown_conversation : (form : Form) (slots : List SlotState) (o : Observed) → (shown form slots o).conversation ≡ o.conversation
+shown_conversation Source slots o = refl
+shown_conversation Written slots o = refl
+shown_conversation Recorded slots o = refl
+shown_conversation (Generated number) slots o = refl
+
 shown_ending : (form : Form) (slots : List SlotState) (o : Observed) → (shown form slots o).ending ≡ o.ending
 shown_ending Source slots o = refl
 shown_ending Written slots o = refl
 shown_ending Recorded slots o = refl
 shown_ending (Generated number) slots o = refl
+
+-- a call that ends as a program does waits for no answer
+ended_own : (e : evaluation.Ending) (ending : Ending) → EndsAs e ending → (slot : Option ℕ) (request : Request) → e ≢ evaluation.waits slot request
+ended_own e ending h slot request w = subst (λ a. EndsAs a ending) w h
+
+-- the slots, of which the first ready one is taken
+taken_alike : (first : Option (ℕ × List ℕ)) (slots : List SlotState) → taken_first first slots ≡ replay_first first slots
+taken_alike None slots = refl
+taken_alike (Some found) slots = refl
 
 limit_name : (a b : LimitKind) → Limit a ≡ Limit b → a ≡ b
 limit_name a b e = cc (e)
@@ -315,17 +332,18 @@ module _ {O E X : Type 0} {F : X → Type 0} (held : O → Option (List ℕ)) (p
   -- the executable of a text was run, or there was no memory to begin
   pub text_carried : (form : Form) (text : List ℕ) (executable : execute.Executable) (turns : ℕ) (out out' : O) (err err' : E) (rack rack' : Rack X F) (ending : Ending)
       → RunsText form text executable → MayCarry held puts told tells talk faults (shown_over form (meaning (executable_view executable)) turns rack rack') out out' err err' rack rack' ending
-      → RecordsAs told tells form err err' rack rack'
+      → RecordsAs told tells form err err' rack rack' → SaysTheSame (meaning (executable_view executable) turns)
       → ExecutesText held puts told tells talk faults form turns text out out' err err' rack rack' ending
-  text_carried form text executable turns out out' err err' rack rack' ending r (inl c) told_as =
+  text_carried form text executable turns out out' err err' rack rack' ending r (inl c) told_as again =
       inl (
         r.program,
         r.is,
         subst (λ o. Carries held puts told tells talk faults (shown form (states (slots_of rack)) o) out out' err err' rack rack' ending)
             (r.means turns (ready_slot (states (slots_of rack))) (answers_in (grown rack rack'))) c,
         told_as,
+        subst SaysTheSame (λ i ready answers. r.means turns ready answers i) again,
       )
-  text_carried form text executable turns out out' err err' rack rack' ending r (inr w) told_as = inr (subst (RefusesText form text) (sym w.0) tt, w.1)
+  text_carried form text executable turns out out' err err' rack rack' ending r (inr w) told_as again = inr (subst (RefusesText form text) (sym w.0) tt, w.1)
 
   -- ---- a call
 
@@ -413,12 +431,32 @@ module _ {O E X : Type 0} {F : X → Type 0} (held : O → Option (List ℕ)) (p
     other_of ending (inr (inl e)) = inr (inl e)
     other_of ending (inr (inr e)) = inr (inr (inl e))
 
+    -- a program that was carried out to its end ran over the slots of the rack
+    ran_of : (ending : Ending) (p : Program form) → CarriedOut held puts told tells talk faults (shown_over form (program_meaning form p) turns rack rack') out out' err err' rack rack' ending
+        → ReplayRan (program_meaning form p turns) (states (slots_of rack)) (grown rack rack') (meaning_over (program_meaning form p) turns rack rack')
+    ran_of ending p w =
+        let slots : List SlotState = states (slots_of rack) in
+        let o : Observed = meaning_over (program_meaning form p) turns rack rack' in
+        record {
+          means = refl;
+          said = sym (shown_conversation form slots o) ∙ w.runs.conversation;
+          ended = λ slot request e. ended_own w.ended ending w.ends slot request (sym w.runs.ends ∙ shown_ending form slots o ∙ e);
+          after = w.slots.ended;
+          exchanged = subst (λ s. Slots s (grown rack rack') w.slots.ended) (taken_alike (ready_slot slots) slots) w.slots.exchanged;
+        }
+
+    -- so it is that of a recorded run, where its links replay one
+    says_again : (ending : Ending) (p : Program form) → CarriedOut held puts told tells talk faults (shown_over form (program_meaning form p) turns rack rack') out out' err err' rack rack' ending
+        → SaysTheSame (program_meaning form p turns) → SaysAgain (program_meaning form p) turns rack rack'
+    says_again ending p w r recorded seen a h =
+        r (states (slots_of rack)) recorded (grown rack rack') seen (meaning_over (program_meaning form p) turns rack rack') a (ran_of ending p w) h
+
     -- its program was run
     text_run : (ending : Ending) (text : List ℕ) (p : Program form) → (IsCrowded rack → ⊥) → Takes left reads form input input' text → IsRunAs form text (Ok p)
         → Carries held puts told tells talk faults (shown_over form (program_meaning form p) turns rack rack') out out' err err' rack rack' ending
-        → RecordsAs told tells form err err' rack rack' → Done ending
-    text_run ending text p room t is c told_as = record {
-      whole = λ h. record { text = text; from = t.from; program = p; is = is; carried = c.whole h };
+        → RecordsAs told tells form err err' rack rack' → SaysTheSame (program_meaning form p turns) → Done ending
+    text_run ending text p room t is c told_as r = record {
+      whole = λ h. record { text = text; from = t.from; program = p; is = is; carried = c.whole h; again = says_again ending p (c.whole h) r };
       part = λ h. record { text = text; from = t.from; program = p; is = is; carried = c.part (inl h) };
       want = λ h. inr (record { text = text; from = t.from; program = p; is = is; carried = c.part (inr h) });
       other = other_of ending (sorted ending c.ends);
@@ -447,7 +485,7 @@ module _ {O E X : Type 0} {F : X → Type 0} (held : O → Option (List ℕ)) (p
     -- the text was taken
     pub executes : (ending : Ending) (text : List ℕ) → (IsCrowded rack → ⊥) → Takes left reads form input input' text
         → ExecutesText held puts told tells talk faults form turns text out out' err err' rack rack' ending → Done ending
-    executes ending text room t (inl ran) = text_run ending text ran.0 room t ran.1 ran.2 ran.3
+    executes ending text room t (inl ran) = text_run ending text ran.0 room t ran.1 ran.2 ran.3 ran.4
     executes ending text room t (inr h) = text_refused ending text room t h.0 h.1
 
     -- there is no text

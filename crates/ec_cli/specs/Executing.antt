@@ -10,6 +10,7 @@ use Rattle.ec_base.specs.declared.stop.Stop.{Stop}
 use Rattle.ec_base.specs.declared.stop.Stop.TheVariants as stops
 use Rattle.ec_base.specs.Causes.{Rose}
 use Rattle.ec_link.specs.declared.rack.Rack.{Rack}
+use Rattle.ec_link.specs.declared.logged.Logged.{Logged}
 use Rattle.ec_link.specs.Logged.{Talk}
 use Rattle.ec_link.specs.Rack.{slots_of, log_of}
 use Rattle.ec_link.specs.Slot.{states, link_at, talk_at}
@@ -31,6 +32,8 @@ use Rattle.ec_cli.specs.Recordings.{RecordsAs}
 use Rattle.ec_cli.specs.Taking.{HasText, Gives, limit_on, IsWithin, IsBeyond, IsLarge, IsPassed}
 use Rattle.ec_cli.specs.declared.form.Form.{Form}
 use Rattle.ec_cli.specs.declared.form.Form.TheVariants.{Generated}
+use Rattle.ec_replay_laws.specs.Parts.{RepliesAsRecorded}
+use Rattle.ec_replay_laws.specs.Runs.{Ran, IsSameRun, SaysTheSame}
 use Rattle.ec_cli.specs.declared.ending.Ending.{Ending}
 use Rattle.ec_cli.specs.declared.ending.Ending.TheVariants.{Wrote, Exited, Trapped, TurnsSpent, Usage, Refused, Limit, ReadFault, WriteFault, OutOfMemory}
 
@@ -172,6 +175,16 @@ abbrev pub meaning_over : {X : Type 0} {F : X → Type 0} →
 meaning_over meaning turns rack rack' =
     meaning turns (ready_slot (states (slots_of rack))) (answers_in (grown rack rack'))
 
+-- Where the links say what they would say that replay a recorded run of the program, over slots that stood alike, the run
+-- is that one: the same is said, and the same is seen of it.
+abbrev pub SaysAgain : {X : Type 0} {F : X → Type 0} →
+    Meaning → ℕ → Rack X F → Rack X F → Type 0
+SaysAgain meaning turns rack rack' =
+    (recorded : List Logged) (seen : Observed)
+    → Ran (meaning turns) (states (slots_of rack)) recorded seen
+    → RepliesAsRecorded recorded (grown rack rack')
+    → IsSameRun recorded (grown rack rack') seen (meaning_over meaning turns rack rack')
+
 -- what is shown of it
 abbrev pub shown_over : {X : Type 0} {F : X → Type 0} →
     Form → Meaning → ℕ → Rack X F → Rack X F → Observed
@@ -237,7 +250,8 @@ module _ {O E X : Type 0} {F : X → Type 0} (held : O → Option (List ℕ)) (p
   ExecutesText form turns text out out' err err' rack rack' ending =
       ((program : Program form) × IsRunAs form text (Ok program)
       × Carries (shown_over form (program_meaning form program) turns rack rack')
-      out out' err err' rack rack' ending × RecordsAs told tells form err err' rack rack')
+      out out' err err' rack rack' ending × RecordsAs told tells form err err' rack rack'
+      × SaysTheSame (program_meaning form program turns))
       ⊎ (RefusesText form text ending × Untouched out out' err err' rack rack')
 
   module _ {I : Type 0} (left : I → Option (List ℕ)) where
@@ -250,6 +264,7 @@ module _ {O E X : Type 0} {F : X → Type 0} (held : O → Option (List ℕ)) (p
       pub is : IsRunAs form text (Ok program)
       pub carried : CarriedOut (shown_over form (program_meaning form program) turns rack rack')
           out out' err err' rack rack' ending
+      pub again : SaysAgain (program_meaning form program) turns rack rack'
 
     -- a part of it was
     pub record ExecutesPart (form : Form) (turns : ℕ) (input input' : I) (out out' : O)

@@ -23,6 +23,7 @@ use ec_base::{Bytes, LimitKind, List, Name, OutOfMemory, Sink, Source as Input, 
 use ec_execute::source::read_source;
 use ec_execute::{Executable, RunEnd, read_program, run};
 use ec_link::{Link, Logged, Rack};
+use ec_replay_laws::runs_are_replayed;
 use std::alloc::Global;
 
 // The ending of a run.
@@ -207,6 +208,7 @@ fn execute_text<O: Sink, E: Sink>(
         (talk_by ⟦<dyn Link as Link>⟧) (faults_by ⟦<dyn Link as Link>⟧)
         form turns text out.old out.new err.old err.new rack.old rack.new result }
 {
+    runs_are_replayed();
     match read_text(alloc, form, text.as_slice()) {
         Ok(executable) => {
             run_as(

@@ -1,5 +1,6 @@
 mod Calls
 mod Exact
+mod Meanings
 mod Parting
 mod Reading
 mod Steps

@@ -1,5 +1,5 @@
 -- Two logs of one program, up to the first exchange in which they differ: there is none, where the second was said over what the first recorded.
-use Rattle.std.proofs.Common.{◌≡◌, ◌⊎◌, ◌∙◌, ℕ, inl, inr, List, [], ◌∷◌, ◌++◌, length, slice_set, true, Option, Some, None, cond, unwrap_or, refl, sym, ap, subst, append_assoc, append-nil, arith}
+use Rattle.std.proofs.Common.{◌≡◌, ◌≢◌, ◌⊎◌, ◌∙◌, ℕ, inl, inr, List, [], ◌∷◌, ◌++◌, length, slice_set, true, Option, Some, None, cond, unwrap_or, refl, sym, ap, subst, append_assoc, append-nil, arith}
 use Rattle.std.proofs.lemmas.Bool.{eq-eqb}
 use Rattle.std.proofs.lemmas.List.{append_cancel_left, length-map, map-append}
 use Rattle.ec_link.specs.declared.logged.Logged.{Logged}
@@ -15,12 +15,12 @@ use Rattle.ec_meaning_defs.specs.evaluation.State.{Answer, Ending, exited, trapp
 use Rattle.ec_meaning_defs.specs.evaluation.Whole.{Observed}
 use Rattle.ec_meaning_defs.specs.observed.Observed.{answers_in}
 use Rattle.ec_meaning_defs.specs.observed.Run.{IsFront}
-use Rattle.ec_replay.specs.Laws.{IsEquality, requests_of}
+use Rattle.ec_replay.specs.Laws.{IsEquality, SaysAgain, requests_of}
 use Rattle.ec_replay.specs.Part.{reply_to, left_after, talk_over}
 use Rattle.ec_replay.specs.Same.{is_same}
-use Rattle.ec_replay_laws.specs.Parts.{IsSaidOver, RepliesAsRecorded}
-use Rattle.ec_replay_laws.specs.Runs.{Ran, SaysTheSame, SaysAFront, AnswersAlike, taken_first}
-use Rattle.ec_replay_laws.specs.Taking.{exchange_with, MayWait, replies_in, GoesOnExactly, RunsExactly, Meaning, TakesExactly}
+use Rattle.ec_replay_laws.specs.Parts.{IsSaidOver, RepliesAsRecorded, SaysItself}
+use Rattle.ec_replay_laws.specs.Runs.{Meaning, Ran, SaysTheSame, SaysAFront, AnswersAlike, taken_first}
+use Rattle.ec_replay_laws.specs.Taking.{exchange_with, MayWait, replies_in, GoesOnExactly, RunsExactly, TakesExactly}
 
 -- ---- lists
 
@@ -153,6 +153,12 @@ module _ (same : IsEquality) where
       (subst (λ z. RepliesAsRecorded z (front ++ y ∷ rest')) r (subst (λ z. RepliesAsRecorded recorded z) l h)) in
       λ i. record { slot = s i; request = q i; reply = t i }
 
+-- what was recorded is said again
+pub says_itself : SaysAgain → SaysItself
+says_itself again recorded i =
+    let part : Talk = talk_of i recorded in
+    sym (subst (λ p. talk_over p (requests_of part) ≡ part) (append-nil part) (again part []).0)
+
 -- ---- an ending
 
 waits_or_ends : (e : Ending) → (IsWaiting e → ⊥) ⊎ ((slot : Option ℕ) × (request : Request) × (e ≡ waits slot request))
@@ -161,6 +167,14 @@ waits_or_ends (trapped trap line) = inl (λ w. w)
 waits_or_ends turns_spent = inl (λ w. w)
 waits_or_ends (waits slot request) = inr (slot, request, refl)
 waits_or_ends stuck = inl (λ w. w)
+
+-- an ending that is none of a run that waits
+settles : (e : Ending) → ((slot : Option ℕ) (request : Request) → e ≢ waits slot request) → IsWaiting e → ⊥
+settles (exited n) h w = w
+settles (trapped trap line) h w = w
+settles turns_spent h w = w
+settles (waits slot request) h w = h slot request refl
+settles stuck h w = w
 
 -- ---- one program
 
@@ -319,7 +333,7 @@ module _ (same : IsEquality) (meaning : Meaning) (exact : TakesExactly meaning) 
       → IsWhole same (meaning (ready_slot slots)) (exact (ready_slot slots)) log
   is_whole slots log seen r = record {
     said = ap (λ (o : Observed). o.conversation) r.means ∙ r.said;
-    ended = subst (λ (o : Observed). IsWaiting o.ending → ⊥) (sym r.means) r.ended;
+    ended = subst (λ (o : Observed). IsWaiting o.ending → ⊥) (sym r.means) (settles seen.ending r.ended);
   }
 
   pub says_the_same : SaysTheSame meaning

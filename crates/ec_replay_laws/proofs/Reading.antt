@@ -8,8 +8,8 @@ use Rattle.ec_transcript.specs.Text.{text_of}
 use Rattle.ec_transcript.specs.Transcripts.{IsTranscript}
 use Rattle.ec_replay.specs.Laws.{IsEquality}
 use Rattle.ec_replay_laws.specs.Parts.{RepliesAsRecorded}
-use Rattle.ec_replay_laws.specs.Runs.{Ran, RanPart}
-use Rattle.ec_replay_laws.specs.Taking.{Meaning, TakesExactly}
+use Rattle.ec_replay_laws.specs.Runs.{Meaning, Ran, RanPart}
+use Rattle.ec_replay_laws.specs.Taking.{TakesExactly}
 use Rattle.ec_replay_laws.specs.Texts.{states_of, IsReplayed, PartIsReplayed, WrittenIsReplayed}
 use Rattle.ec_replay_laws.proofs.Parting.{says_the_same, says_a_front}
 

@@ -12,3 +12,7 @@ IsSaidOver part said = said ≡ talk_over part (requests_of said)
 -- What a log has for each slot was said over a link that replays what the recorded log has for that slot.
 abbrev pub RepliesAsRecorded : List Logged → List Logged → Type 0
 RepliesAsRecorded recorded log = (i : ℕ) → IsSaidOver (talk_of i recorded) (talk_of i log)
+
+-- what was recorded is itself what is said over its links
+abbrev pub SaysItself : Type 0
+SaysItself = (recorded : List Logged) → RepliesAsRecorded recorded recorded

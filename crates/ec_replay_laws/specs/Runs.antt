@@ -1,13 +1,18 @@
 -- Runs over racks, and what it means that a run over links that replay another one says the same.
-use Rattle.std.specs.Prelude.{◌≡◌, ℕ, Option, Some, None, List, ◌∷◌, ◌++◌, slice_set}
+use Rattle.std.specs.Prelude.{◌≡◌, ◌≢◌, ℕ, Option, Some, None, List, ◌∷◌, ◌++◌, slice_set}
 use Rattle.ec_link.specs.declared.logged.Logged.{Logged}
+use Rattle.ec_link.specs.declared.request.Request.{Request}
 use Rattle.ec_link.specs.SlotState.{SlotState, Slots, ready_slot, taken}
-use Rattle.ec_meaning_defs.specs.evaluation.Agree.{IsWaiting}
+use Rattle.ec_meaning_defs.specs.evaluation.State.{Answer, waits}
 use Rattle.ec_meaning_defs.specs.evaluation.Whole.{Observed}
 use Rattle.ec_meaning_defs.specs.observed.Observed.{answers_in}
 use Rattle.ec_meaning_defs.specs.observed.Run.{IsFront}
 use Rattle.ec_replay_laws.specs.Parts.{RepliesAsRecorded}
-use Rattle.ec_replay_laws.specs.Taking.{Meaning}
+
+-- what is seen of a program for a number of turns: by the slot and the name that are connected when it begins, if there
+-- are such, and by the answers that come
+abbrev pub Meaning : Type 0
+Meaning = Option (ℕ × List ℕ) → List Answer → Observed
 
 -- the slots, of which that one is taken
 abbrev pub taken_first : Option (ℕ × List ℕ) → List SlotState → List SlotState
@@ -20,7 +25,7 @@ pub record Ran (meaning : Meaning) (slots : List SlotState) (log : List Logged)
     (seen : Observed) : Type 0 where
   pub means : meaning (ready_slot slots) (answers_in log) ≡ seen
   pub said : seen.conversation ≡ log
-  pub ended : IsWaiting seen.ending → ⊥
+  pub ended : (slot : Option ℕ) (request : Request) → seen.ending ≢ waits slot request
   pub after : List SlotState
   pub exchanged : Slots (taken_first (ready_slot slots) slots) log after
 

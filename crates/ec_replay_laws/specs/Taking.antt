@@ -8,11 +8,7 @@ use Rattle.ec_meaning_defs.specs.evaluation.Agree.{IsWaiting}
 use Rattle.ec_meaning_defs.specs.evaluation.State.{Answer, waits}
 use Rattle.ec_meaning_defs.specs.evaluation.Whole.{Observed}
 use Rattle.ec_meaning_defs.specs.observed.Run.{IsFront}
-
--- what is seen of a program for a number of turns: by the slot and the name that are connected when it begins, if there
--- are such, and by the answers that come
-abbrev pub Meaning : Type 0
-Meaning = Option (ℕ × List ℕ) → List Answer → Observed
+use Rattle.ec_replay_laws.specs.Runs.{Meaning}
 
 -- the slot of an exchange: that of the connection that it is made over, or, where there is none yet, that of the answer
 abbrev pub slot_with : Option ℕ → Answer → Option ℕ

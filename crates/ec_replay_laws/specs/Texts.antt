@@ -11,8 +11,7 @@ use Rattle.ec_transcript.specs.States.{Slots, FitsTranscript}
 use Rattle.ec_transcript.specs.Text.{Bytes, text_of}
 use Rattle.ec_transcript.specs.Transcripts.{IsTranscript, IsRead}
 use Rattle.ec_replay_laws.specs.Parts.{RepliesAsRecorded}
-use Rattle.ec_replay_laws.specs.Runs.{Ran, RanPart, IsSameRun, IsFrontOfRun, SaysTheSame, SaysAFront}
-use Rattle.ec_replay_laws.specs.Taking.{Meaning}
+use Rattle.ec_replay_laws.specs.Runs.{Meaning, Ran, RanPart, IsSameRun, IsFrontOfRun, SaysTheSame, SaysAFront}
 
 -- how a slot of a transcript stands before the run
 abbrev pub state_of : Bool × Bytes → SlotState

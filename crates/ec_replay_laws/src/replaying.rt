@@ -1,7 +1,8 @@
 //! What a run over the links of a recorded one says, as the contracts of functions that do nothing.
 
-ghost use Rattle.ec_replay_laws.specs.Runs.{SaysTheSame, SaysAFront, AnswersAlike};
-ghost use Rattle.ec_replay_laws.specs.Taking.{Meaning, TakesExactly};
+ghost use Rattle.ec_replay_laws.specs.Parts.{SaysItself};
+ghost use Rattle.ec_replay_laws.specs.Runs.{Meaning, SaysTheSame, SaysAFront, AnswersAlike};
+ghost use Rattle.ec_replay_laws.specs.Taking.{TakesExactly};
 ghost use Rattle.ec_replay_laws.specs.Texts.{IsReplayed, PartIsReplayed, WrittenIsReplayed};
 
 use ec_replay::links_replay;
@@ -9,10 +10,11 @@ use ec_transcript::transcripts_are_exact;
 
 /// Over links that replay a log every program gets the recorded answers as long as it asks what was recorded, over the same
 /// slots: where what it says first differs from the recorded log, it asked for something else or over another slot, or
-/// ended.
+/// ended. What was recorded is itself what is said over such links.
 #[tactic(none)]
 pub fn recorded_links_answer_alike()
-    ensures { AnswersAlike }
+    ensures alike { AnswersAlike }
+    ensures itself { SaysItself }
 {
     links_replay();
 }

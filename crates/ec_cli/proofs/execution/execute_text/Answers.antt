@@ -1,4 +1,5 @@
 use Rattle.std.proofs.Common.{◌≡◌, subst, sym, refl, inr, Err}
+use Rattle.ec_execute.specs.Executables.{executable_view}
 use Rattle.ec_cli.specs.Executing.{RefusesText}
 use Rattle.ec_cli.specs.Forms.{RunsText, TellsRun}
 use Rattle.ec_cli.proofs.Executions.{refuses, text_carried}
@@ -7,7 +8,7 @@ use Rattle.ec_cli.proofs.execution.execute_text.Goals as goal
 pub returns-in-Ok : goal.returns-in-Ok
 returns-in-Ok g c =
     let text : c.as_slice.result.now ≡ c.args.text = cc (c.as_slice.ensures) in
-    text_carried _ _ _ _ _ _ c.args.form c.args.text c.in-Ok.executable c.args.turns _ _ _ _ _ _ _ (subst (λ t. RunsText c.args.form t c.in-Ok.executable) text c.in-Ok.ensures) c.run_as.ensures.carried c.run_as.ensures.recorded
+    text_carried _ _ _ _ _ _ c.args.form c.args.text c.in-Ok.executable c.args.turns _ _ _ _ _ _ _ (subst (λ t. RunsText c.args.form t c.in-Ok.executable) text c.in-Ok.ensures) c.run_as.ensures.carried c.run_as.ensures.recorded (c.runs_are_replayed.ensures.programs (executable_view c.in-Ok.executable) c.args.turns).whole
 
 pub returns : goal.returns
 returns g c =
