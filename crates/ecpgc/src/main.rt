@@ -4,7 +4,7 @@
 use ec_base::{Line, List, Name, OutOfMemory, StdSink, StdSource};
 use ec_cli::{Ending, ec_main, status};
 use ec_link::{Link, Rack};
-use ec_replay::{ReplayStop, Replayed, replay};
+use ec_replay::{ReplayStop, Replayed, TranscriptLink, replay};
 use ec_sqlitelink::SqliteLink;
 use ec_words::{LinkSpec, links_named};
 use std::env;
@@ -26,20 +26,19 @@ fn words(rt: &HostRuntime) -> Result<Vec<String>, OutOfMemory> {
     Ok(words)
 }
 
-// Adds a link to a rack, unless there are enough. A second one that is ready is added as a free one.
-fn add(rack: &mut Rack, ready: bool, target: Name, link: Box<dyn Link>) -> Result<(), OutOfMemory> {
-    if rack.slots().len() >= ENOUGH_SLOTS {
-        return Ok(());
-    }
-    let added = if ready && !rack.has_ready() {
-        rack.add_ready(target, link)
-    } else {
-        rack.add(target, link)
-    };
-    match added {
-        Ok(()) => Ok(()),
-        Err(_) => Err(OutOfMemory),
-    }
+// A link of one of the kinds that there are.
+#[derive(Drop)]
+enum AnyLink {
+    Database(SqliteLink),
+    Transcript(TranscriptLink),
+}
+
+// A link with its name, and whether its connection is ready at the start.
+#[derive(Drop)]
+struct NamedLink {
+    target: Name,
+    ready: bool,
+    link: AnyLink,
 }
 
 // The links of the transcript in a file. One that can't be opened is one that can't be read.
@@ -53,44 +52,47 @@ fn links_at(rt: &HostRuntime, path: &[u8]) -> Result<List<Replayed>, ReplayStop>
     }
 }
 
-// Adds a link to a database.
-fn add_database(
+// Puts the links of the transcript in a file behind those that are there.
+fn push_replayed(
     rt: &HostRuntime,
-    rack: &mut Rack,
+    links: &mut List<NamedLink>,
+    path: &[u8],
+) -> Result<(), ReplayStop> {
+    for slot in links_at(rt, path)? {
+        links.push(NamedLink {
+            target: slot.target,
+            ready: slot.ready,
+            link: AnyLink::Transcript(slot.link),
+        })?;
+    }
+    Ok(())
+}
+
+// Puts a link to a database behind those that are there.
+fn push_database(
+    links: &mut List<NamedLink>,
     ready: bool,
     target: &Name,
     link: SqliteLink,
 ) -> Result<(), OutOfMemory> {
     let target = target.clone()?;
-    let link = Box::new(rt.alloc(), link)?;
-    add(rack, ready, target, link)
-}
-
-// Adds the link of a slot of a transcript.
-fn add_slot(rt: &HostRuntime, rack: &mut Rack, slot: Replayed) -> Result<(), OutOfMemory> {
-    let Replayed {
-        ready,
+    links.push(NamedLink {
         target,
-        link,
-    } = slot;
-    let link = Box::new(rt.alloc(), link)?;
-    add(rack, ready, target, link)
+        ready,
+        link: AnyLink::Database(link),
+    })
 }
 
-// Adds the links of the transcript in a file.
-fn add_replayed(rt: &HostRuntime, rack: &mut Rack, path: &[u8]) -> Result<(), ReplayStop> {
-    for slot in links_at(rt, path)? {
-        add_slot(rt, rack, slot)?;
-    }
-    Ok(())
-}
-
-// Adds the link or the links that words name.
-fn add_links(rt: &HostRuntime, rack: &mut Rack, spec: &LinkSpec) -> Result<(), ReplayStop> {
+// Puts the link or the links that words name behind those that are there.
+fn push_links(
+    rt: &HostRuntime,
+    links: &mut List<NamedLink>,
+    spec: &LinkSpec,
+) -> Result<(), ReplayStop> {
     match spec {
         LinkSpec::Memory { ready, target } => {
             let link = SqliteLink::memory(rt.alloc())?;
-            add_database(rt, rack, *ready, target, link)?;
+            push_database(links, *ready, target, link)?;
         }
         LinkSpec::File {
             ready,
@@ -98,11 +100,23 @@ fn add_links(rt: &HostRuntime, rack: &mut Rack, spec: &LinkSpec) -> Result<(), R
             path,
         } => {
             let link = SqliteLink::file(rt, rt.alloc(), path.as_slice())?;
-            add_database(rt, rack, *ready, target, link)?;
+            push_database(links, *ready, target, link)?;
         }
-        LinkSpec::Replay(path) => add_replayed(rt, rack, path.as_slice())?,
+        LinkSpec::Replay(path) => push_replayed(rt, links, path.as_slice())?,
     }
     Ok(())
+}
+
+// The links that words name, in order, and none behind those that are enough.
+fn links_of(rt: &HostRuntime, words: &[String]) -> Result<List<NamedLink>, ReplayStop> {
+    let mut links = List::new(rt.alloc());
+    for spec in links_named(rt.alloc(), words)?.as_slice() {
+        if links.len() >= ENOUGH_SLOTS {
+            break;
+        }
+        push_links(rt, &mut links, spec)?;
+    }
+    Ok(links)
 }
 
 // Standard output behind a buffer, so that many small pieces are few writes. The tool flushes it.
@@ -113,28 +127,47 @@ fn output(rt: &HostRuntime) -> Result<StdSink<BufWriter<Stdout>>, OutOfMemory> {
     }
 }
 
-// Runs the tool over the links that the words name.
-fn run(rt: &HostRuntime) -> Result<Ending, ReplayStop> {
-    let words = words(rt)?;
-    let specs = links_named(rt.alloc(), words.as_slice())?;
+// Runs the tool over links. They are boxed here, since no function may hand out what a box hides.
+fn run_over(
+    rt: &HostRuntime,
+    words: &[String],
+    links: List<NamedLink>,
+) -> Result<Ending, OutOfMemory> {
     let mut rack = Rack::new(rt.alloc());
-    for spec in specs.as_slice() {
+    for named in links {
         if rack.slots().len() >= ENOUGH_SLOTS {
             break;
         }
-        add_links(rt, &mut rack, spec)?;
+        let NamedLink {
+            target,
+            ready,
+            link,
+        } = named;
+        let link: Box<dyn Link> = match link {
+            AnyLink::Database(link) => Box::new(rt.alloc(), link)?,
+            AnyLink::Transcript(link) => Box::new(rt.alloc(), link)?,
+        };
+        // A second ready one is added as a free one.
+        let added = if ready && !rack.has_ready() {
+            rack.add_ready(target, link)
+        } else {
+            rack.add(target, link)
+        };
+        if added.is_err() {
+            return Err(OutOfMemory);
+        }
     }
     let mut input = StdSource::new(rt.stdin());
     let mut out = output(rt)?;
     let mut err = StdSink::new(rt.stderr());
-    Ok(ec_main(
-        rt.alloc(),
-        words.as_slice(),
-        &mut input,
-        &mut out,
-        &mut err,
-        &mut rack,
-    ))
+    Ok(ec_main(rt.alloc(), words, &mut input, &mut out, &mut err, &mut rack))
+}
+
+// Runs the tool over the links that the words name.
+fn run(rt: &HostRuntime) -> Result<Ending, ReplayStop> {
+    let words = words(rt)?;
+    let links = links_of(rt, words.as_slice())?;
+    Ok(run_over(rt, words.as_slice(), links)?)
 }
 
 // Says why the tool was not run, and gives the status.
