@@ -1,0 +1,6 @@
+pub mod Answered
+pub mod Formats
+pub mod Forms
+pub mod Found
+pub mod Known
+pub mod Lists

@@ -1,0 +1,5 @@
+pub mod Examples
+pub mod Fits
+pub mod Formats
+pub mod Laws
+pub mod Operands
