@@ -63,17 +63,11 @@ fn memory(alloc: Global) -> Option<Store>
     Some(store)
 }
 
-// A rack with a link that gives this answer, under the empty name.
-fn rack_of(alloc: Global, reply: Reply) -> Result<Rack, OutOfMemory> {
+// A link that gives this answer.
+fn link_of(alloc: Global, reply: Reply) -> Result<MemLink, OutOfMemory> {
     let mut replies = List::new(alloc);
     replies.push(reply)?;
-    let link = MemLink::new(alloc, replies, &[])?;
-    let link = Box::new(alloc, link)?;
-    let mut rack = Rack::new(alloc);
-    match rack.add_ready(Name::new(), link) {
-        Ok(()) => Ok(rack),
-        Err(_) => Err(OutOfMemory),
-    }
+    MemLink::new(alloc, replies, &[])
 }
 
 // Carries the call out over the link that is ready.
@@ -93,13 +87,31 @@ fn carry_out(
     Ok(done)
 }
 
+// Carries the call out over a link under the empty name, and shows what is left.
+fn run_over(
+    alloc: Global,
+    store: &mut Store,
+    link: MemLink,
+    call: &Call,
+    shown: &mut Bytes,
+) -> Result<(), OutOfMemory>
+    requires { IsArea store.old }
+{
+    let link = Box::new(alloc, link)?;
+    let mut rack = Rack::new(alloc);
+    if rack.add_ready(Name::new(), link).is_err() {
+        return Err(OutOfMemory);
+    }
+    let done = carry_out(alloc, store, &mut rack, call)?;
+    show(done, store, rack.log().len(), shown)
+}
+
 /// Runs the call over a link with this answer, and shows what is left.
 pub fn run(alloc: Global, reply: Reply, shown: &mut Bytes) -> Result<(), OutOfMemory> {
     let call = select(alloc)?;
     let Some(mut store) = memory(alloc) else {
         return Err(OutOfMemory);
     };
-    let mut rack = rack_of(alloc, reply)?;
-    let done = carry_out(alloc, &mut store, &mut rack, &call)?;
-    show(done, &store, rack.log().len(), shown)
+    let link = link_of(alloc, reply)?;
+    run_over(alloc, &mut store, link, &call, shown)
 }
