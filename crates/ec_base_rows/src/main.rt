@@ -1,5 +1,5 @@
 //! Rows of what stands at the bottom: lists, streams and links, layout and memory, values, the functions that programs
-//! call, SQLite, and transcripts. Each subject has its section (`ec_rows`).
+//! call, and SQLite. Each subject has its section (`ec_rows`).
 #![tactic(auto)]
 
 mod answers;
@@ -7,7 +7,6 @@ mod ground;
 mod memory;
 mod sqlite;
 mod stdlib;
-mod transcripts;
 mod values;
 
 use crate::memory::State;
@@ -25,17 +24,15 @@ enum Subject {
     Values,
     Stdlib,
     Sqlite,
-    Transcripts,
 }
 
 /// The name of each section.
-const SUBJECTS: [(&str, Subject); 6] = [
+const SUBJECTS: [(&str, Subject); 5] = [
     ("ground", Subject::Ground),
     ("memory", Subject::Memory),
     ("values", Subject::Values),
     ("stdlib", Subject::Stdlib),
     ("sqlite", Subject::Sqlite),
-    ("transcripts", Subject::Transcripts),
 ];
 
 // The subject of this name.
@@ -68,7 +65,6 @@ impl Sections for Rows {
             Subject::Values => answers::show(alloc, &mut Values::new(alloc), rows, out)?,
             Subject::Stdlib => answers::show(alloc, &mut Calls::new(alloc), rows, out)?,
             Subject::Sqlite => sqlite::show(rt, rows, out)?,
-            Subject::Transcripts => transcripts::show(alloc, rows, out)?,
         }
         Ok(())
     }
