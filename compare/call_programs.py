@@ -479,7 +479,11 @@ class Programs:
 
     def on_descriptors(self):
         """A call on a descriptor."""
-        front = f"{self.line_told()}, {self.given(self.pick(DESCRIPTORS), 'named') if self.chance(0.1) else self.pick(DESCRIPTORS)}"
+        name = self.pick(DESCRIPTORS)
+        # a function of the program takes no unsigned characters
+        if name[0] != "(" and self.chance(0.1):
+            name = self.given(name, "named")
+        front = f"{self.line_told()}, {name}"
         name = self.pick(["allocate_desc"] * 3 + ["deallocate_desc"] + ["get_desc_header", "set_desc_header"] * 2 + ["get_desc", "set_desc"] * 4)
         if name.endswith("allocate_desc"):
             return f"ECPG{name}({front})"

@@ -428,6 +428,7 @@ EXEC SQL GET DESCRIPTOR d :n = COUNT;
 printf("%d;", n);
 EXEC SQL SET DESCRIPTOR d VALUE 2 DATA = 'yes', TYPE = 'x', DATA = 'no';
 SHOWN
+EXEC SQL SET DESCRIPTOR d VALUE 1 DATA = 'one';
 EXEC SQL GET DESCRIPTOR d :n = COUNT;
 EXEC SQL GET DESCRIPTOR d VALUE 2 :c = DATA, :x = TYPE;
 printf("%d %.3s %d", n, c, x);
@@ -458,6 +459,12 @@ EXEC SQL OPEN c USING 1, 'x', :q;
 EXEC SQL EXECUTE IMMEDIATE :q;
 EXEC SQL DEALLOCATE PREPARE P;
 SHOWN
+}
+"""),
+    ("escapes of a text that is prepared", 20, [done()], r"""
+EXEC SQL char q[60] = "e'\\'?' ? xE'\\' ? 1E'\\' ? E '\\' ? E\"\\\" ?";
+int main(void) {
+EXEC SQL PREPARE p FROM :q;
 }
 """),
 ]
