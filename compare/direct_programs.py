@@ -548,15 +548,22 @@ class Made:
     run: Run
 
 
+def run_if_read(source, turns, there):
+    """A run, or None where a name means something else where a cursor is opened, or a handler leads to no label: then the source
+    has to be refused."""
+    try:
+        return Run(source, turns, there)
+    except (AttributeError, KeyError, TypeError, ValueError, SyntaxError, IndexError, RecursionError):
+        return None
+
+
 def tried(rng, title):
     source = Programs(rng).source().encode().decode("latin-1")
     turns = given = rng.choice([20, 40, 60, 60, 100, 100, 200] * 3 + [10, 5, 3, 2, 1, 0])
     there = slots(rng, source)
     made = linked(rng, there, Replies)
-    try:
-        first = Run(source, turns, made)
-    except (AttributeError, KeyError, TypeError, ValueError, SyntaxError, IndexError, RecursionError):
-        # a name means something else where a cursor is opened, so that the source has to be refused
+    first = run_if_read(source, turns, made)
+    if first is None:
         return Made(title, source, turns, [], None)
     if rng.random() < 0.25:
         turns = max(first.used - rng.choice([0, 0, 1]), 0)
@@ -565,7 +572,7 @@ def tried(rng, title):
         source = source.replace(MARK, "".join(line + "\n" for line in more))
     found = places(rng, there, made)
     is_done = not more and turns == given and all(len(p.replies) >= len(slot.link.made) for p, slot in zip(found, made))
-    return Made(title, source, turns, found, first if is_done else Run(source, turns, [p.slot() for p in found]))
+    return Made(title, source, turns, found, first if is_done else run_if_read(source, turns, [p.slot() for p in found]))
 
 
 def made(seed):
