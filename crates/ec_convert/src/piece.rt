@@ -10,12 +10,12 @@ ghost use Rattle.ec_memory_defs.specs.Memory.{put};
 ghost use Rattle.ec_transfer_defs.specs.Conversion.{field_bytes, is_cut, integer_bytes, number_bytes, truth_bytes, field_number};
 ghost use Rattle.ec_transfer_defs.specs.Hosts.{characters, counted};
 
-use crate::element::{Element, kind_of};
+use crate::element::Element;
 use crate::numbers::number_in;
 use ec_base::Trap;
-use ec_bytes::Ptr;
+use ec_bytes::{Flag, I8, I16, I32, I64, Ptr, Scalar, U8, U16, U32, U64};
 use ec_ctypes::Arith;
-use ec_memory::{Store, Value};
+use ec_memory::Store;
 use ec_transfer_defs::Finding;
 
 /// The bytes that a field stores, by what is taken of the field.
@@ -128,7 +128,27 @@ pub(crate) fn put_number(store: &mut Store, at: Ptr, ty: Arith, number: i128) ->
     ensures outcome { outcome result store.new ≡ put store.old at.0 (integer_bytes ty number) }
     ensures unchanged { OnErr result (store.new ≡ store.old) }
 {
-    store.store_kind(at, kind_of(ty), Value::Int(number))
+    match ty {
+        Arith::Bool => set_element(store, at, Flag(number != 0)),
+        Arith::Char => set_element(store, at, I8(number as i8)),
+        Arith::UChar => set_element(store, at, U8(number as u8)),
+        Arith::Short => set_element(store, at, I16(number as i16)),
+        Arith::UShort => set_element(store, at, U16(number as u16)),
+        Arith::Int => set_element(store, at, I32(number as i32)),
+        Arith::UInt => set_element(store, at, U32(number as u32)),
+        Arith::Long | Arith::LLong => set_element(store, at, I64(number as i64)),
+        Arith::ULong | Arith::ULLong => set_element(store, at, U64(number as u64)),
+    }
+}
+
+/// Sets the element at a pointer. It alone is tested, and none of its neighbours.
+fn set_element<T: Scalar>(store: &mut Store, at: Ptr, value: T) -> Result<(), Trap>
+    ensures outcome { outcome result store.new ≡ put store.old at.0 (T.encode value) }
+    ensures unchanged { OnErr result (store.new ≡ store.old) }
+{
+    let mut element = store.elements::<T>(at, 1, T::SIZE as u64)?;
+    element.set(0, value);
+    Ok(())
 }
 
 /// The bytes of a length as an `int`.
