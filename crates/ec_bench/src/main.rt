@@ -18,6 +18,7 @@ use ec_memory::MakeStop;
 use ec_transcript::ReadStop;
 use std::alloc::Global;
 use std::env;
+use std::io::ErrorKind;
 use std::process::ExitCode;
 
 /// The most bytes of a text.
@@ -122,16 +123,19 @@ fn measured_by(word: &str) -> Option<Measured> {
 }
 
 // What the words behind the program's name ask for.
-fn asked_for(rt: &HostRuntime) -> Option<Measured> {
+fn asked_for(rt: &HostRuntime) -> Result<Option<Measured>, OutOfMemory> {
     match env::args(rt) {
         Ok(all) => {
             let mut words = all.skip(1);
             match (words.next(), words.next()) {
-                (Some(word), None) => measured_by(word.as_str()),
-                _ => None,
+                (Some(word), None) => Ok(measured_by(word.as_str())),
+                _ => Ok(None),
             }
         }
-        Err(_) => None,
+        Err(error) => match error.kind() {
+            ErrorKind::OutOfMemory => Err(OutOfMemory),
+            _ => Ok(None),
+        },
     }
 }
 
@@ -160,7 +164,7 @@ fn count_read(rt: &HostRuntime, part: Part) -> Result<u64, Failure> {
 }
 
 fn run(rt: &HostRuntime) -> Result<u64, Failure> {
-    match asked_for(rt) {
+    match asked_for(rt)? {
         Some(Measured::Text(part)) => count_read(rt, part),
         Some(Measured::Memory(work)) => Ok(count_done(rt.alloc(), work)?),
         None => Err(Failure::Usage),

@@ -6,6 +6,7 @@
 
 use crate::failure::Failure;
 use ec_base::{Bytes, OutOfMemory, StdSink, StdSource, put_all, read_all};
+use std::io::ErrorKind;
 use std::process::ExitCode;
 use std::{env, str};
 
@@ -35,18 +36,24 @@ pub fn text_of(rows: &[u8]) -> Result<&str, Failure> {
     }
 }
 
-// The words behind the program's name, with blanks between them.
+// The words behind the program's name, with blanks between them, or nothing where one of them is no text.
 fn given_name(rt: &HostRuntime) -> Result<Bytes, OutOfMemory> {
     let mut name = Bytes::new(rt.alloc());
-    if let Ok(words) = env::args(rt) {
-        for word in words.skip(1) {
-            if !name.is_empty() {
-                name.push(b' ')?;
+    match env::args(rt) {
+        Ok(words) => {
+            for word in words.skip(1) {
+                if !name.is_empty() {
+                    name.push(b' ')?;
+                }
+                name.extend_from_slice(word.as_bytes())?;
             }
-            name.extend_from_slice(word.as_bytes())?;
+            Ok(name)
         }
+        Err(error) => match error.kind() {
+            ErrorKind::OutOfMemory => Err(OutOfMemory),
+            _ => Ok(name),
+        },
     }
-    Ok(name)
 }
 
 // Shows the line that begins a section, and the section.

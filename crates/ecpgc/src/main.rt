@@ -9,7 +9,7 @@ use ec_sqlitelink::SqliteLink;
 use ec_words::{LinkSpec, links_named};
 use std::env;
 use std::fs::File;
-use std::io::{BufWriter, Stdout};
+use std::io::{BufWriter, ErrorKind, Stdout};
 use std::process::ExitCode;
 
 /// So many slots are more than the tool takes, so no link beyond them is made.
@@ -18,12 +18,18 @@ const ENOUGH_SLOTS: usize = 65;
 // The words behind the program's name. Where one of them is no text there are none, so that they name no command.
 fn words(rt: &HostRuntime) -> Result<Vec<String>, OutOfMemory> {
     let mut words = Vec::new(rt.alloc());
-    if let Ok(all) = env::args(rt) {
-        for word in all.skip(1) {
-            words.push(word)?;
+    match env::args(rt) {
+        Ok(all) => {
+            for word in all.skip(1) {
+                words.push(word)?;
+            }
+            Ok(words)
         }
+        Err(error) => match error.kind() {
+            ErrorKind::OutOfMemory => Err(OutOfMemory),
+            _ => Ok(words),
+        },
     }
-    Ok(words)
 }
 
 // A link of one of the kinds that there are.
