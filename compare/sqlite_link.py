@@ -6,6 +6,7 @@ import sqlite3
 SKIPPED = re.compile(r"('[^']*'|\"[^\"]*\"|/\*.*?\*/|--[^\n]*)|\$(\d)")
 FIRST_WORD = re.compile(r"(?is)(\s|/\*.*?\*/|--[^\n]*\n?)*(\w*)")
 COUNTED = ("INSERT", "UPDATE", "DELETE", "REPLACE")
+OF_CURSORS = ("DECLARE", "FETCH", "CLOSE")
 GAPS = re.compile(r"(\s|/\*.*?\*/|--[^\n]*|;\s*$)+")
 WORK, CHAIN = r"( (?:WORK|TRANSACTION))?", r"( AND(?: NO)? CHAIN)?"
 MODE = (r"(?:ISOLATION LEVEL (?:SERIALIZABLE|REPEATABLE READ|READ COMMITTED|READ UNCOMMITTED)|READ (?:ONLY|WRITE)"
@@ -30,6 +31,10 @@ def new_connection():
 def with_marks(text):
     """The text with ?n for each $n that stands in no quote and no comment."""
     return SKIPPED.sub(lambda match: match.group(1) or "?" + match.group(2), text)
+
+
+def first_word(text):
+    return FIRST_WORD.match(text).group(2).upper()
 
 
 def code(values):
@@ -79,6 +84,10 @@ class SqliteLink:
         return ("done", state(self.there), count, False)
 
     def prepare(self, name, text):
+        """SQLite looks at what is its own."""
+        words = text.decode()
+        if first_word(words) not in OF_CURSORS and controls(self.there, words) is None:
+            self.is_query(words)
         self.prepared[name] = text
         return self.done()
 
@@ -93,7 +102,7 @@ class SqliteLink:
         """Of a cursor the whole answer is kept."""
         words = text.decode()
         if found := DECLARE.match(words):
-            return self.declared(found[1].lower(), "WITH HOLD" in found[2].upper(), self.asked(found[3], params))
+            return self.declared(found[1].lower(), "WITH HOLD" in found[2].upper(), found[3], params)
         if found := FETCH.match(words):
             return self.fetch(found[2].lower(), found[1] or "1")
         if found := CLOSE.match(words):
@@ -102,11 +111,11 @@ class SqliteLink:
             return self.done()
         return self.asked(words, params)
 
-    def declared(self, name, is_held, answer):
-        """A cursor ends with the transaction in which it is declared, where it isn't held."""
-        if name in self.cursors or answer[0] != "rows":
+    def declared(self, name, is_held, query, params):
+        """A cursor ends with the transaction in which it is declared, where it isn't held. What is no query isn't run."""
+        if name in self.cursors or not self.is_query(query):
             raise Refused(b"XX000")
-        self.cursors[name] = self.there.in_transaction and not is_held, answer
+        self.cursors[name] = self.there.in_transaction and not is_held, self.asked(query, params)
         return self.done()
 
     def cursor(self, name):
@@ -119,6 +128,15 @@ class SqliteLink:
         most = len(rows) if how_many.upper() == "ALL" else 1 if how_many.upper() == "NEXT" else int(how_many)
         taken, rows[:most] = rows[:most], []
         return ("rows", state(self.there), columns, taken, False)
+
+    def is_query(self, text):
+        """Whether a statement answers with rows. SQLite looks at it, and doesn't run it."""
+        count = max((int(number) for _, number in SKIPPED.findall(text) if number), default=0)
+        try:
+            steps = self.there.execute("EXPLAIN " + with_marks(text), [None] * count).fetchall()
+        except (sqlite3.Error, sqlite3.Warning):
+            raise Refused(b"XX000") from None
+        return any(step[1] == "ResultRow" for step in steps)
 
     def asked(self, text, params):
         """Rows of texts, or how many there are of what was changed."""
@@ -137,7 +155,7 @@ class SqliteLink:
         except (sqlite3.Error, sqlite3.Warning):
             raise Refused(b"XX000") from None
         if found.description is None:
-            return self.done(found.rowcount if FIRST_WORD.match(text).group(2).upper() in COUNTED else None)
+            return self.done(found.rowcount if first_word(text) in COUNTED else None)
         if any(isinstance(value, float) for row in rows for value in row):
             raise Refused(b"XX000")
         columns = [(column[0].encode(), code([row[at] for row in rows])) for at, column in enumerate(found.description)]

@@ -12,7 +12,7 @@ import sqlite3
 import sys
 from pathlib import Path
 
-from sqlite_link import COUNTED, FIRST_WORD, code, controls, new_connection, state, with_marks
+from sqlite_link import COUNTED, code, controls, first_word, new_connection, state, with_marks
 
 ROWS = Path(__file__).resolve().parent.parent / "crates" / "ec_base_rows"
 LINK_ONLY = re.compile(r"(?i)^(prepare|deallocate|connect|close)\b|^text (declare|fetch|close)\b")
@@ -45,7 +45,7 @@ def answer(connection, text, params):
     except (sqlite3.Error, sqlite3.Warning):
         return f" refused {state(connection)} XX000"
     if cursor.description is None:
-        is_counted = FIRST_WORD.match(text).group(2).upper() in COUNTED
+        is_counted = first_word(text) in COUNTED
         return f" done {state(connection)}" + (f" {cursor.rowcount}" if is_counted else "")
     if any(isinstance(value, float) for row in rows for value in row):
         return f" refused {state(connection)} XX000"
