@@ -62,10 +62,10 @@ fn run(
     rack: &mut Rack,
     library: &mut Library,
     line: Line,
-    call: &Served,
+    call: Served,
 ) -> Result<(), Stop>
     requires { Holds library.old.connections rack.old }
-    ensures made { (turns : ℕ) → Made (λ w first s. settled line.0 (call_action call.now s))
+    ensures made { (turns : ℕ) → Made (λ w first s. settled line.0 (call_action call s))
         (position_of store.old turns rack.old library.old)
         (position_of store.new turns rack.new library.new) result }
     ensures moved { Moved (talk_by ⟦<dyn Link as Link>⟧) (faults_by ⟦<dyn Link as Link>⟧)
@@ -106,7 +106,7 @@ fn carry(
         Err(_) => Err(Stop::OutOfMemory),
         Ok(None) => Err(Stop::Over(End::Stuck)),
         Ok(Some(found)) => match served(alloc, &found) {
-            Some(call) => run(alloc, store, rack, library, line, &call),
+            Some(call) => run(alloc, store, rack, library, line, call),
             // Where there is memory each call is served, which isn't proved.
             None => Err(Stop::OutOfMemory),
         },

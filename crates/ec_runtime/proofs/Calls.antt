@@ -1,172 +1,158 @@
 -- A whole call, from its parts.
-use Rattle.std.proofs.Common.{◌≡◌, ℕ, Bool, List, [], ◌++◌, Option, Some, None, Result, Ok, Err, refl, sym, subst, ap, ◌∙◌, ◌∷◌}
-use Rattle.std.specs.Prelude.{option_map, slice_get, slice_set}
-use Rattle.std.proofs.lemmas.Option.{slice_get-map}
+use Rattle.std.proofs.Common.{◌≡◌, ◌<◌, ◌+◌, ℕ, zero, suc, List, [], ◌∷◌, ◌++◌, length, map, Option, Some, None, Result, Ok, Err, refl, sym, subst, ap, ◌∙◌, append-nil, append_assoc, arith}
+use Rattle.std.specs.Prelude.{reverse, slice_get, slice_set, IfOk, IsSome}
 use Rattle.std.specs.declared.alloc.Global.{Global}
 use Rattle.std.specs.declared.dyn_box.DynBox.{DynBox}
-use Rattle.ec_arguments.specs.Arguments.{TextArg as TextData}
-use Rattle.ec_base.specs.declared.stop.Trap.{Trap}
+use Rattle.ec_base.specs.declared.line.Line.{Line}
+use Rattle.ec_link.specs.declared.connection.Conn.{Conn}
 use Rattle.ec_link.specs.declared.logged.Logged.{Logged}
 use Rattle.ec_link.specs.declared.rack.Rack.{Rack}
 use Rattle.ec_link.specs.Logged.{Talk}
-use Rattle.ec_link.specs.Rack.{slots_of}
+use Rattle.ec_link.specs.Rack.{log_of, slots_of}
 use Rattle.ec_link.specs.Slot.{states}
-use Rattle.ec_link.specs.SlotState.{TakenAt}
+use Rattle.ec_link.specs.SlotState.{SlotState, TakenAt}
 use Rattle.ec_link.specs.Conn.{slot_of}
 use Rattle.ec_memory_defs.specs.Memory.{Memory}
 use Rattle.ec_meaning_defs.specs.observed.Observed.{answers_in}
-use Rattle.ec_meaning_defs.specs.evaluation.State.{Connection, State}
-use Rattle.ec_call_defs.specs.Autocommit.{autocommit_set}
-use Rattle.ec_call_defs.specs.Connections.{control_sent}
-use Rattle.ec_call_defs.specs.Inputs.{text_read}
+use Rattle.ec_meaning_defs.specs.observed.Run.{IsFront}
+use Rattle.ec_meaning_defs.specs.evaluation.State.{Answer, Connection, State}
 use Rattle.ec_arguments.specs.Arguments.{Cut}
-use Rattle.ec_meaning_defs.specs.evaluation.Agree.{state_of as state_of_run}
 use Rattle.ec_call_defs.specs.Areas.{Areas}
-use Rattle.ec_call_defs.specs.Growth.{Grows, state_of as outcome_state}
-use Rattle.ec_call_defs.specs.Library.{call_done, cut_done}
-use Rattle.ec_call_defs.proofs.library_step_lemmas.Keeping.{cut_grows}
-use Rattle.ec_call_defs.specs.Outcomes.{Text, Outcome, finished, gives, over, trapped, with_memory}
-use Rattle.ec_call_defs.specs.Steps.{settled}
-use Rattle.ec_runtime.specs.declared.call.Act.{Act}
-use Rattle.ec_runtime.specs.declared.call.Act.TheVariants as acts
-use Rattle.ec_runtime.specs.declared.call.Statement.{Statement}
-use Rattle.ec_runtime.specs.declared.call.Call.{Call}
-use Rattle.ec_runtime.specs.declared.call.Describe.{Describe}
-use Rattle.ec_runtime.specs.declared.call.Kind.{Kind}
-use Rattle.ec_runtime.specs.declared.call.Kind.TheVariants as kinds
+use Rattle.ec_call_defs.specs.Growth.{Grows, state_of}
+use Rattle.ec_call_defs.specs.Outcomes.{Outcome, finished, gives, next, over, trapped}
+use Rattle.ec_link.specs.declared.request.Request.{Request}
+use Rattle.ec_link.specs.declared.request.Request.TheVariants as request
+use Rattle.ec_stopping_defs.specs.Resuming.{Asking, asks_for, call_started, is_asked_over, started, stepped}
+use Rattle.ec_stopping_defs.specs.Saying.{requests_left, IsNearer}
+use Rattle.ec_stopping_defs.proofs.Once.{stepped_nearer}
 use Rattle.ec_runtime.specs.declared.library.Library.{Library}
+use Rattle.ec_runtime.specs.declared.library.Progress.{Progress}
+use Rattle.ec_runtime.specs.declared.library.Progress.TheVariants as progress
 use Rattle.ec_runtime.specs.declared.sessions.Sessions.{Sessions}
 use Rattle.ec_runtime.specs.declared.open.Open.{Open}
 use Rattle.ec_runtime.specs.declared.stop.Stop.{Stop}
 use Rattle.ec_runtime.specs.declared.stop.Stop.TheVariants as stops
 use Rattle.ec_runtime.specs.declared.stop.CallStop.{CallStop}
-use Rattle.ec_runtime.specs.Calling.{called_by, AllNamed, Answers, Stopped, Carries, Changes, ChangesWith, Closed, Called, Holds, connections_of, conns_of, placed_by, seen_by}
-use Rattle.ec_runtime.specs.Closing.{at_place}
-use Rattle.ec_runtime.specs.Does.{Does, DoesFrom, LeftFrom, NamedWith, Placing, saying}
+use Rattle.ec_runtime.specs.declared.stop.CallStop.TheVariants as calls
+use Rattle.ec_runtime.specs.declared.waiting.UnderWay.{UnderWay}
+use Rattle.ec_runtime.specs.declared.waiting.Waiting.{Waiting}
+use Rattle.ec_runtime.specs.declared.waiting.Waits.{Waits}
+use Rattle.ec_runtime.specs.declared.waiting.Waits.TheVariants as waits
+use Rattle.ec_runtime.specs.Calling.{AllBeside, AllNamed, Answers, Stopped, Carries, Changes, ChangesWith, Called, Holds, Stays, connections_of, conns_of, placed_by, seen_by}
+use Rattle.ec_runtime.specs.Does.{DoesFrom, LeftFrom, Placing, saying}
 use Rattle.ec_runtime.specs.Opening.{open_view}
-use Rattle.ec_runtime.specs.Racks.{AllTaken}
-use Rattle.ec_runtime.specs.Reading.{TextIs, given_view}
-use Rattle.ec_runtime.specs.Says.{Changed, Says}
-use Rattle.ec_runtime.specs.Seeking.{place_sought, sought}
-use Rattle.ec_runtime.specs.declared.inputs.GivenText.{GivenText}
-use Rattle.ec_runtime.specs.Statements.{act_done, act_view, call_action, describe_view, kind_view, reached, deallocated, preparing, ran}
+use Rattle.ec_runtime.specs.Proceeding.{asked_of, kept_of, left_of, progress_of, waiting_in, waiting_of, IsEnd, IsFit, Nears, Proceeds, Resumes, Starts, StoppedAt, UnderWayFits}
+use Rattle.ec_runtime.specs.Racks.{AllTaken, Moves}
+use Rattle.ec_runtime.specs.Says.{Says, giving}
+use Rattle.ec_runtime.specs.Starts.{Leads}
+use Rattle.ec_runtime.specs.Waiting.{asking_in, asking_of, asking_seen, closing_first, closing_with, waits_view, Fits, WaitsFit}
 use Rattle.ec_runtime.proofs.Connections.{taken_here}
-use Rattle.ec_runtime.proofs.Grows.{control_grows}
-use Rattle.ec_runtime.proofs.Joining.{and_stop, changed, lifted}
-use Rattle.ec_runtime.proofs.Making.{MadeWith, changes_from, links, with_along, with_from, with_over, held_same, links_among, made_still, named_same, split_at, views, views_among}
-use Rattle.ec_runtime.proofs.Seeking.{sought_at}
-use Rattle.ec_runtime.proofs.Moving.{moves_not}
-use Rattle.ec_runtime.proofs.Starting.{does_named, does_trapped, named_does, only}
-use Rattle.ec_runtime.proofs.Switching.{set_grows}
-use Rattle.ec_runtime.proofs.Takes.{deallocated_grows}
-
--- what a call answers, by how its parts end
-answers_as : (r : Result (Unit {0}) Stop) (o : Outcome (Unit {0})) (s : State) → Says r o s → Answers (called_by r) o s
-answers_as (Ok x) o s h = λ line j. settled line (h j)
-answers_as (Err stops.Finished) o s h = λ line j. settled line (h j)
-answers_as (Err (stops.Trapped trap)) o s h = λ line j. settled line (h j)
-answers_as (Err stops.OutOfMemory) o s h = tt
-
-stopped_as : (action : State → Outcome (Unit {0})) (from : Placing) (growth : List Logged) (r : Result (Unit {0}) Stop) → LeftFrom action from growth r → Stopped action from growth (called_by r)
-stopped_as action from growth (Ok y) l = tt
-stopped_as action from growth (Err stops.Finished) l = tt
-stopped_as action from growth (Err (stops.Trapped trap)) l = tt
-stopped_as action from growth (Err stops.OutOfMemory) l = l
-
-carries_as : (action : State → Outcome (Unit {0})) (from to : Placing) (growth : List Logged) (r : Result (Unit {0}) Stop) → DoesFrom action from to growth r → Carries action from to growth (called_by r)
-carries_as action from to growth r p = record {
-  says = λ s rest. answers_as r (action (from (answers_in growth ++ rest) s)) (to rest (saying growth s)) (p.says s rest);
-  left = stopped_as action from growth r p.left;
-}
-
--- a part of a call is the call
-pub called_as : {X : Type 0} {F : X → Type 0} (talk : DynBox X Global F → Option Talk) (faults : DynBox X Global F → ℕ) (action : State → Outcome (Unit {0})) (m m' : Memory) (old new : Rack X F) (was now : Library X F) (r : Result (Unit {0}) Stop) (answer : Result (Unit {0}) CallStop)
-    → answer ≡ called_by r → ChangesWith talk faults action m was.areas old was.connections m' now.areas new now.connections r → Called talk faults action m old was m' new now answer
-called_as talk faults action m m' old new was now r answer e p =
-    subst (λ x. Called talk faults action m old was m' new now x) (sym e)
-    (record { growth = p.growth; moves = p.moves; carries = carries_as action (placed_by m was) (placed_by m' now) p.growth r p.does })
+use Rattle.ec_runtime.proofs.Joining.{lifted}
+use Rattle.ec_runtime.proofs.Making.{held_same, links, links_among, named_same, split_at, views}
 
 -- a part that leaves the descriptors
-pub changes_with : {X : Type 0} {F : X → Type 0} (talk : DynBox X Global F → Option Talk) (faults : DynBox X Global F → ℕ) (action : State → Outcome (Unit {0})) (m m' : Memory) (a : Areas) (old new : Rack X F) (was now : Sessions X F) (r : Result (Unit {0}) Stop)
+pub changes_with : {A : Type 0} {X : Type 0} {F : X → Type 0} (talk : DynBox X Global F → Option Talk) (faults : DynBox X Global F → ℕ) (action : State → Outcome A) (m m' : Memory) (a : Areas) (old new : Rack X F) (was now : Sessions X F) (r : Result A Stop)
     → Changes talk faults action m old was m' new now r → ChangesWith talk faults action m a old was m' a new now r
 changes_with talk faults action m m' a old new was now r p =
     record { growth = p.growth; moves = p.moves; does = lifted action (seen_by m was) (seen_by m' now) a p.growth r p.does }
 
--- ---- what each kind of call does
+-- ---- what is under way fits
 
-module _ {X : Type 0} {F : X → Type 0} (talk : DynBox X Global F → Option Talk) (faults : DynBox X Global F → ℕ) (it : Call) (m m' : Memory) (a b : Areas) (old new : Rack X F) (was now : Sessions X F) (r : Result (Unit {0}) Stop) where
-  abbrev Carried : Kind → Areas → Type 0
-  Carried k c = ChangesWith talk faults (λ s. call_done it.line.0 (kind_view k) s) m a old was m' c new now r
+pub views_within : {X : Type 0} {F : X → Type 0} (items : List (Open X F)) (at : ℕ) → at < length (views items) → at < length items
+views_within [] at h = absurd (omega (arith, h))
+views_within (x ∷ items) zero h = omega arith
+views_within (x ∷ items) (suc at) h = let k = views_within items at (omega (arith, h)) in omega (arith, k)
 
-  pub kind_carried : (k : Kind) → it.kind ≡ k → Carried k b → ChangesWith talk faults (call_action it) m a old was m' b new now r
-  kind_carried k e p = subst (λ x. Carried x b) (sym e) p
+abbrev no_more : Option Waiting
+no_more = None
 
-  pub kind_changed : (k : Kind) → it.kind ≡ k → Changes talk faults (λ s. call_done it.line.0 (kind_view k) s) m old was m' new now r → ChangesWith talk faults (call_action it) m a old was m' a new now r
-  kind_changed k e p = subst (λ x. Carried x a) (sym e) (changes_with talk faults (λ s. call_done it.line.0 (kind_view k) s) m m' a old new was now r p)
+pub fits_giving : (cs : List Connection) (areas : Areas) (r : Result (Unit {0}) Stop) (result : Result (Option Waiting) Stop) → result ≡ giving None r → IfOk result (λ it. Fits cs areas it)
+fits_giving cs areas r result e = subst (λ x. IfOk x (λ it. Fits cs areas it)) (sym e) (go r)
+  where
+    go : (r : Result (Unit {0}) Stop) → IfOk (giving no_more r) (λ it. Fits cs areas it)
+    go (Ok u) = tt
+    go (Err stop) = tt
 
--- a call only adds to what was said
-settled_state : (o : Outcome (Unit {0})) → outcome_state o ≡ state_of_run (settled 0 o)
-settled_state (gives x s) = refl
-settled_state (finished s) = refl
-settled_state (over halt s) = refl
+pub kept_fits : (cs : List Connection) (areas : Areas) (line : Line) (part : Result (Option Waiting) Stop) (kept : Option UnderWay) → kept ≡ kept_of line part → IfOk part (λ it. Fits cs areas it) → UnderWayFits cs areas kept
+kept_fits cs areas line part kept e h = subst (λ x. UnderWayFits cs areas x) (sym e) (go part h)
+  where
+    go : (part : Result (Option Waiting) Stop) → IfOk part (λ it. Fits cs areas it) → UnderWayFits cs areas (kept_of line part)
+    go (Ok None) h = tt
+    go (Ok (Some it)) h = h
+    go (Err stop) h = tt
 
-call_grows : (c : Cut ℕ) → Grows (cut_done c)
-call_grows c s = let g = (cut_grows 0 c s).said in record { rest = g.0; same = ap (λ (t : State). t.conversation) (settled_state (cut_done c s)) ∙ g.1 }
+-- ---- how far it is
 
--- a call on a descriptor asks nothing
-pub described_carried : {X : Type 0} {F : X → Type 0} (talk : DynBox X Global F → Option Talk) (faults : DynBox X Global F → ℕ) (it : Call) (name : GivenText) (what : Describe) (m m' : Memory) (a b : Areas) (rack : Rack X F) (was : Sessions X F) (r : Result (Unit {0}) Stop)
-    → it.kind ≡ kinds.Describe name what → Changed r (λ s. call_done it.line.0 (describe_view (given_view name) what) s) m a m' b → ChangesWith talk faults (call_action it) m a rack was m' b rack was r
-described_carried talk faults it name what m m' a b rack was r e p =
-    kind_carried talk faults it m m' a b rack rack was was r (kinds.Describe name what) e (record {
-      growth = [];
-      moves = moves_not talk faults rack rack (conns_of was) refl refl;
-      does = changed (λ s. call_done it.line.0 (describe_view (given_view name) what) s) (seen_by m was) a b m' r (call_grows (record { line = it.line.0; call = describe_view (given_view name) what })) p;
-    })
+proceeds : (cs : List Connection) (line : Line) (part : Result (Option Waiting) Stop) (o : Outcome (Option Asking)) (s : State) → Says (asking_seen cs part) o s → Proceeds (progress_of part) (waiting_in cs (kept_of line part)) line.0 o s
+proceeds cs line (Ok None) o s h = (refl, subst (λ p. IsEnd p s) (sym h) refl)
+proceeds cs line (Ok (Some it)) o s h = (asking_of cs it, refl, h)
+proceeds cs line (Err stops.Finished) o s h = (refl, subst (λ p. IsEnd p s) (sym h) refl)
+proceeds cs line (Err (stops.Trapped trap)) o s h = (refl, h)
+proceeds cs line (Err stops.OutOfMemory) o s h = refl
 
--- ---- over a connection
+proceeds_kept : (cs : List Connection) (line : Line) (part : Result (Option Waiting) Stop) (kept : Option UnderWay) (result : Result Progress CallStop) (o : Outcome (Option Asking)) (s : State) → kept ≡ kept_of line part → result ≡ progress_of part
+    → Says (asking_seen cs part) o s → Proceeds result (waiting_in cs kept) line.0 o s
+proceeds_kept cs line part kept result o s e is h =
+    subst (λ r. Proceeds r (waiting_in cs kept) line.0 o s) (sym is) (subst (λ k. Proceeds (progress_of part) (waiting_in cs k) line.0 o s) (sym e) (proceeds cs line part o s h))
 
-place_there : {X : Type 0} {F : X → Type 0} (items : List (Open X F)) (at : ℕ) (o : Open X F) → slice_get items at ≡ Some o → slice_get (views items) at ≡ Some (open_view o)
-place_there items at o e = slice_get-map open_view items at ∙ ap (option_map open_view) e
+stopped_at : (action : State → Outcome (Option Asking)) (from : Placing) (growth : List Logged) (cs : List Connection) (part : Result (Option Waiting) Stop) → LeftFrom action from growth (asking_seen cs part) → StoppedAt action from growth (progress_of part)
+stopped_at action from growth cs (Ok None) l = tt
+stopped_at action from growth cs (Ok (Some it)) l = tt
+stopped_at action from growth cs (Err stops.Finished) l = tt
+stopped_at action from growth cs (Err (stops.Trapped trap)) l = tt
+stopped_at action from growth cs (Err stops.OutOfMemory) l = l
 
-module _ {X : Type 0} {F : X → Type 0} (talk : DynBox X Global F → Option Talk) (faults : DynBox X Global F → ℕ) (line : ℕ) (named : TextData ℕ) (act : Act) (m : Memory) (a : Areas) (old : Rack X F) (was : Sessions X F) where
-  abbrev Acts : Memory → Areas → Rack X F → Sessions X F → Result (Unit {0}) Stop → Type 0
-  Acts m' b new now r = ChangesWith talk faults (λ s. call_done line (act_view named act) s) m a old was m' b new now r
+-- some state
+abbrev pub nowhere_yet : State
+nowhere_yet = record { memory = []; output = []; errors = []; connections = []; current = None; descriptors = []; conversation = []; answers = []; turns = 0 }
 
-  pub act_trapped : (trap : Trap) → ((s : State) → text_read named (with_memory m s) ≡ over (trapped trap) (with_memory m s)) → Acts m a old was (Err (stops.Trapped trap))
-  act_trapped trap is =
-      changes_with talk faults (λ s. call_done line (act_view named act) s) m m a old old was was (Err (stops.Trapped trap))
-      (changes_from talk faults (made_still talk faults (λ s. call_done line (act_view named act) s) m m old was.sessions.items was.current was.current (Err (stops.Trapped trap))
-      (does_trapped line named act trap (only m (connections_of was) was.current) is)))
+nearer_by : (n : ℕ) (o : Outcome (Option Asking)) (cs : List Connection) (line : Line) (part : Result (Option Waiting) Stop) (s : State) → IsNearer n o → Says (asking_seen cs part) o s → Nears (progress_of part) n (left_of (waiting_in cs (kept_of line part)))
+nearer_by n o cs line (Ok None) s h e = tt
+nearer_by n o cs line (Ok (Some it)) s h e = subst (λ p. IsNearer n p) e h
+nearer_by n o cs line (Err stops.Finished) s h e = tt
+nearer_by n o cs line (Err (stops.Trapped trap)) s h e = tt
+nearer_by n o cs line (Err stops.OutOfMemory) s h e = tt
 
-  -- the name leads to none
-  pub act_missing : (read : Option Text) (m' : Memory) (r : Result (Unit {0}) Stop) → TextIs named m read → None ≡ place_sought read was.current (connections_of was) → Closed read (act_done line act read) m m' r → Acts m' a old was r
-  act_missing read m' r is e p =
-      changes_with talk faults (λ s. call_done line (act_view named act) s) m m' a old old was was r
-      (changes_from talk faults (made_still talk faults (λ s. call_done line (act_view named act) s) m m' old was.sessions.items was.current was.current r
-      (does_named line named act read (only m (connections_of was) was.current) (only m' (connections_of was) was.current) [] r is
-      (p (connections_of was) was.current (sought_at read was.current (connections_of was) ∙ ap (at_place (connections_of was)) (sym e))))))
+module _ {X : Type 0} {F : X → Type 0} where
+  -- a call was begun
+  pub starts_so : (c : Cut ℕ) (line : Line) (m m' : Memory) (was now : Library X F) (part : Result (Option Waiting) Stop) (result : Result Progress CallStop) → c.line ≡ line.0 → now.under_way ≡ kept_of line part → result ≡ progress_of part
+      → Leads (asking_seen (connections_of now.connections) part) (started c) (seen_by m was.connections) was.areas (seen_by m' now.connections) now.areas → Starts c m was m' now result
+  starts_so c line m m' was now part result lines e is p = λ s rest.
+      subst (λ l. Proceeds result (waiting_of now) l (started c (placed_by m was rest s)) (placed_by m' now rest s)) (sym lines)
+      (proceeds_kept (connections_of now.connections) line part now.under_way result (started c (placed_by m was rest s)) (placed_by m' now rest s) e is (p (record s { answers = rest })))
 
-  -- it leads to this one
-  pub act_found : (read : Option Text) (at : ℕ) (o o' : Open X F) (m' : Memory) (b : Areas) (new : Rack X F) (now : Sessions X F) (r : Result (Unit {0}) Stop) → TextIs named m read → Some at ≡ place_sought read was.current (connections_of was)
-      → slice_get was.sessions.items at ≡ Some o → now.sessions.items ≡ slice_set was.sessions.items at o' → now.current ≡ was.current → Holds was old → NamedWith talk faults read (act_done line act read) m a old o m' b new o' r → Acts m' b new now r
-  act_found read at o o' m' b new now r is e there set same holds p =
-      let s = split_at was.sessions.items at o there in
-      let leads : sought read was.current (connections_of was) ≡ Some (open_view o) =
-      sought_at read was.current (connections_of was) ∙ ap (at_place (connections_of was)) (sym e) ∙ place_there was.sessions.items at o there in
-      with_from talk faults
-      (with_along talk faults s.is refl (set ∙ s.set o') same
-      (named_made s.before s.behind (subst (λ xs. AllTaken (states (slots_of old)) (links xs)) s.is holds.taken)
-      (subst (λ xs. sought read was.current (views xs) ≡ Some (open_view o)) s.is leads) p))
-    where
-      named_made : (before behind : List (Open X F)) → AllTaken (states (slots_of old)) (links (before ++ o ∷ behind)) → sought read was.current (views (before ++ o ∷ behind)) ≡ Some (open_view o) → NamedWith talk faults read (act_done line act read) m a old o m' b new o' r
-          → MadeWith talk faults (λ s. call_done line (act_view named act) s) m a old (before ++ o ∷ behind) was.current m' b new (before ++ o' ∷ behind) was.current r
-      named_made before behind held leads p =
-          let made = with_over talk faults read was.current (act_done line act read) m m' a b old new before behind o o' r held (subst (λ cs. sought read was.current cs ≡ Some (open_view o)) (views_among before behind o) leads) p in
-          record {
-            growth = made.growth;
-            moves = made.moves;
-            does = named_does line named act read (only m (views (before ++ o ∷ behind)) was.current) (only m' (views (before ++ o' ∷ behind)) was.current) a b made.growth r is made.does;
-          }
+  module _ (talk : DynBox X Global F → Option Talk) (faults : DynBox X Global F → ℕ) where
+    -- a request was made
+    pub resumes_so : (line : Line) (u : Asking) (m m' : Memory) (old new : Rack X F) (was now : Library X F) (part : Result (Option Waiting) Stop) (result : Result Progress CallStop) → now.under_way ≡ kept_of line part → result ≡ progress_of part
+        → ChangesWith talk faults (stepped line.0 u) m was.areas old was.connections m' now.areas new now.connections (asking_seen (connections_of now.connections) part)
+        → Resumes talk faults line.0 u m old was m' new now result
+    resumes_so line u m m' old new was now part result e is p = record {
+      growth = p.growth;
+      moves = p.moves;
+      proceeds = λ s rest. proceeds_kept (connections_of now.connections) line part now.under_way result (stepped line.0 u (placed_by m was (answers_in p.growth ++ rest) s)) (placed_by m' now rest (saying p.growth s)) e is (p.does.says s rest);
+      left = subst (λ r. StoppedAt (stepped line.0 u) (placed_by m was) p.growth r) (sym is) (stopped_at (stepped line.0 u) (placed_by m was) p.growth (connections_of now.connections) part p.does.left);
+    }
+
+    pub nears_so : (line : Line) (u : Asking) (m m' : Memory) (old new : Rack X F) (was now : Library X F) (part : Result (Option Waiting) Stop) (result : Result Progress CallStop) → now.under_way ≡ kept_of line part → result ≡ progress_of part
+        → ChangesWith talk faults (stepped line.0 u) m was.areas old was.connections m' now.areas new now.connections (asking_seen (connections_of now.connections) part)
+        → Nears result (requests_left u) (left_of (waiting_of now))
+    nears_so line u m m' old new was now part result e is p =
+        subst (λ r. Nears r (requests_left u) (left_of (waiting_of now))) (sym is)
+        (subst (λ k. Nears (progress_of part) (requests_left u) (left_of (waiting_in (connections_of now.connections) k))) (sym e)
+        (nearer_by (requests_left u) (stepped line.0 u (placed_by m was (answers_in p.growth ++ []) nowhere_yet)) (connections_of now.connections) line part (placed_by m' now [] (saying p.growth nowhere_yet))
+        (stepped_nearer line.0 u (placed_by m was (answers_in p.growth ++ []) nowhere_yet)) (p.does.says nowhere_yet [])))
+
+  -- ---- the links stay
+
+  pub beside_held : (slots : List SlotState) (conns : List (Conn X F)) → AllTaken slots conns → AllBeside conns
+  beside_held slots [] h = tt
+  beside_held slots (conn ∷ conns) h = (h.1, beside_held slots conns h.2)
+
+  pub set_stays : (was now : Sessions X F) → now.sessions.items ≡ was.sessions.items → Stays was now
+  set_stays was now e = record { links = ap links e; named = λ h. subst (λ xs. AllNamed (views xs)) (sym e) h }
+
+  pub stays_held : (rack : Rack X F) (was now : Sessions X F) → Stays was now → Holds was rack → Holds now rack
+  stays_held rack was now stays holds = record { taken = subst (λ cs. AllTaken (states (slots_of rack)) cs) (sym stays.links) holds.taken; named = stays.named holds.named }
 
 module _ {X : Type 0} {F : X → Type 0} (old : Rack X F) (was : Sessions X F) (at : ℕ) (o : Open X F) (there : slice_get was.sessions.items at ≡ Some o) (holds : Holds was old) where
   -- its slot is taken
@@ -185,32 +171,74 @@ module _ {X : Type 0} {F : X → Type 0} (old : Rack X F) (was : Sessions X F) (
         named = subst (λ xs. AllNamed (views xs)) (sym is) (named_same s.before s.behind o o' name (subst (λ xs. AllNamed (views xs)) s.is holds.named));
       }
 
--- ---- where the name leads to no connection
+-- ---- with what is under way
 
-module _ (line : ℕ) (act : Act) (name : Option Text) (m : Memory) where
-  abbrev Reached : Memory → Stop → Type 0
-  Reached m' stop = (cs : List Connection) (current : Option Text) → sought name current cs ≡ None → Does {A = Connection} (reached line name) (only m cs current) (only m' cs current) [] (Err stop)
+-- the line and the request of what waits
+abbrev pub line_or : ℕ → Option (ℕ × Asking) → ℕ
+line_or line None = line
+line_or line (Some it) = it.0
 
-  abbrev Ends : Act → Memory → Stop → Type 0
-  Ends k m' stop = Closed name (act_done line k name) m m' (Err stop)
+abbrev pub asking_or : Asking → Option (ℕ × Asking) → Asking
+asking_or u None = u
+asking_or u (Some it) = it.1
 
-  pub run_closed : (it : Statement) (m' : Memory) (r : Result (Unit {0}) Stop) → act ≡ acts.Run it → Closed name (ran line it name) m m' r → Closed name (act_done line act name) m m' r
-  run_closed it m' r e p = subst (λ k. Closed name (act_done line k name) m m' r) (sym e) p
+closing_request : (cs : List Connection) (o : Option Connection) → request.Close ≡ asks_for (closing_with cs o)
+closing_request cs None = refl
+closing_request cs (Some c) = refl
 
-  pub control_closed : (text : Text) (m' : Memory) (stop : Stop) → act ≡ acts.Control text → Reached m' stop → Ends act m' stop
-  control_closed text m' stop e p =
-      subst (λ k. Ends k m' stop) (sym e)
-      (λ cs current none. and_stop (reached line name) (λ c t. control_sent line c text t) (only m cs current) (only m' cs current) [] stop (λ c. control_grows line c text) (p cs current none))
+first_request : (cs : List Connection) → request.Close ≡ asks_for (closing_first cs)
+first_request [] = refl
+first_request (c ∷ cs) = refl
 
-  pub autocommit_closed : (on : Bool) (m' : Memory) (stop : Stop) → act ≡ acts.Autocommit on → Reached m' stop → Ends act m' stop
-  autocommit_closed on m' stop e p =
-      subst (λ k. Ends k m' stop) (sym e)
-      (λ cs current none. and_stop (reached line name) (λ c t. autocommit_set line on c t) (only m cs current) (only m' cs current) [] stop (λ c. set_grows line on c) (p cs current none))
+pub pending_so : (cs : List Connection) (areas : Areas) (it : UnderWay) (o : Option UnderWay) (slot : Option ℕ) → o ≡ Some it → UnderWayFits cs areas o → slot ≡ is_asked_over (waits_view cs it.waiting.request it.waiting.waits)
+    → Some (slot, it.waiting.request) ≡ asked_of (waiting_in cs o)
+pending_so cs areas it o slot e fits is = (λ j. Some (is j, requested j)) ∙ (λ j. asked_of (waiting_in cs (sym e j)))
+  where
+    requests_same : (r : Request) (w : Waits) → WaitsFit cs areas r w → r ≡ asks_for (waits_view cs r w)
+    requests_same r (waits.Over at behind) h = refl
+    requests_same r (waits.Connecting name) h = refl
+    requests_same r (waits.ClosingOne at) h = h.1 ∙ closing_request [] (slice_get cs at)
+    requests_same r waits.ClosingAll h = h.1 ∙ first_request (reverse cs)
 
-  pub prepare_closed : (own : Text) (given : GivenText) (m' : Memory) (r : Result (Unit {0}) Stop) → act ≡ acts.Prepare own given → Closed name (preparing line own given name) m m' r → Closed name (act_done line act name) m m' r
-  prepare_closed own given m' r e p = subst (λ k. Closed name (act_done line k name) m m' r) (sym e) p
+    requested : it.waiting.request ≡ asks_for (waits_view cs it.waiting.request it.waiting.waits)
+    requested = requests_same it.waiting.request it.waiting.waits (subst (λ u. UnderWayFits cs areas u) e fits)
 
-  pub deallocate_closed : (own : Text) (m' : Memory) (stop : Stop) → act ≡ acts.Deallocate own → Reached m' stop → Ends act m' stop
-  deallocate_closed own m' stop e p =
-      subst (λ k. Ends k m' stop) (sym e)
-      (λ cs current none. and_stop (reached line name) (λ c t. deallocated line own c t) (only m cs current) (only m' cs current) [] stop (λ c. deallocated_grows line own c) (p cs current none))
+module _ {X : Type 0} {F : X → Type 0} where
+  pub settled_fits : (line : Line) (now : Library X F) (it : Sessions X F) (areas : Areas) (part : Result (Option Waiting) Stop) → now.under_way ≡ kept_of line part → now.connections ≡ it → now.areas ≡ areas
+      → IfOk part (λ w. Fits (connections_of it) areas w) → IsFit now
+  settled_fits line now it areas part e cs ds h =
+      subst (λ x. UnderWayFits (connections_of x) now.areas now.under_way) (sym cs) (subst (λ x. UnderWayFits (connections_of it) x now.under_way) (sym ds) (kept_fits (connections_of it) areas line part now.under_way e h))
+
+  pub settled_starts : (c : Cut ℕ) (line : Line) (m m' : Memory) (was now : Library X F) (it : Sessions X F) (areas : Areas) (part : Result (Option Waiting) Stop) (result : Result Progress CallStop) → c.line ≡ line.0 → now.under_way ≡ kept_of line part → result ≡ progress_of part
+      → now.connections ≡ it → now.areas ≡ areas → Leads (asking_seen (connections_of it) part) (λ s. call_started line.0 c.call s) (seen_by m was.connections) was.areas (seen_by m' it) areas → Starts c m was m' now result
+  settled_starts c line m m' was now it areas part result lines e is cs ds p =
+      starts_so c line m m' was now part result lines e is
+      (subst (λ x. Leads (asking_seen (connections_of x) part) (started c) (seen_by m was.connections) was.areas (seen_by m' x) now.areas) (sym cs)
+      (subst (λ x. Leads (asking_seen (connections_of it) part) (started c) (seen_by m was.connections) was.areas (seen_by m' it) x) (sym ds)
+      (subst (λ l. Leads (asking_seen (connections_of it) part) (λ s. call_started l c.call s) (seen_by m was.connections) was.areas (seen_by m' it) areas) (sym lines) p)))
+
+  module _ (talk : DynBox X Global F → Option Talk) (faults : DynBox X Global F → ℕ) (own : Line) (w : Waiting) where
+    abbrev Steps : Memory → Areas → Rack X F → Sessions X F → Memory → Areas → Rack X F → Sessions X F → Result (Option Waiting) Stop → Type 0
+    Steps m a old was m' b new now part = ChangesWith talk faults (stepped own.0 (asking_of (connections_of was) w)) m a old was m' b new now (asking_seen (connections_of now) part)
+
+    module _ (m m' : Memory) (old new : Rack X F) (was now : Library X F) (it : Sessions X F) (areas : Areas) (part : Result (Option Waiting) Stop) (result : Result Progress CallStop) where
+      step_there : now.connections ≡ it → now.areas ≡ areas → Steps m was.areas old was.connections m' areas new it part → Steps m was.areas old was.connections m' now.areas new now.connections part
+      step_there cs ds p = subst (λ x. Steps m was.areas old was.connections m' now.areas new x part) (sym cs) (subst (λ x. Steps m was.areas old was.connections m' x new it part) (sym ds) p)
+
+    pub settled_resumes : (line : ℕ) (u : Asking) (m m' : Memory) (old new : Rack X F) (was now : Library X F) (it : Sessions X F) (areas : Areas) (part : Result (Option Waiting) Stop) (result : Result Progress CallStop)
+        → was.under_way ≡ Some (record { line = own; waiting = w }) → waiting_of was ≡ Some (line, u) → now.under_way ≡ kept_of own part → result ≡ progress_of part → now.connections ≡ it → now.areas ≡ areas
+        → Steps m was.areas old was.connections m' areas new it part → Resumes talk faults line u m old was m' new now result
+    settled_resumes line u m m' old new was now it areas part result waits is e says cs ds p =
+        let both : Some (line, u) ≡ Some (own.0, asking_of (connections_of was.connections) w) = sym is ∙ ap (waiting_in (connections_of was.connections)) waits in
+        let lines : own.0 ≡ line = sym (ap (line_or line) both) in
+        let asks : asking_of (connections_of was.connections) w ≡ u = sym (ap (asking_or u) both) in
+        subst (λ l. Resumes talk faults l u m old was m' new now result) lines
+        (subst (λ v. Resumes talk faults own.0 v m old was m' new now result) asks
+        (resumes_so talk faults own (asking_of (connections_of was.connections) w) m m' old new was now part result e says (step_there m m' old new was now it areas part result cs ds p)))
+
+    pub settled_nears : (m m' : Memory) (old new : Rack X F) (was now : Library X F) (it : Sessions X F) (areas : Areas) (part : Result (Option Waiting) Stop) (result : Result Progress CallStop)
+        → was.under_way ≡ Some (record { line = own; waiting = w }) → now.under_way ≡ kept_of own part → result ≡ progress_of part → now.connections ≡ it → now.areas ≡ areas
+        → Steps m was.areas old was.connections m' areas new it part → Nears result (left_of (waiting_of was)) (left_of (waiting_of now))
+    settled_nears m m' old new was now it areas part result waits e says cs ds p =
+        subst (λ o. Nears result (left_of (waiting_in (connections_of was.connections) o)) (left_of (waiting_of now))) (sym waits)
+        (nears_so talk faults own (asking_of (connections_of was.connections) w) m m' old new was now part result e says (step_there m m' old new was now it areas part result cs ds p))

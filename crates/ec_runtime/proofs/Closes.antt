@@ -28,7 +28,7 @@ use Rattle.ec_call_defs.specs.Connecting.{set_connection_call}
 use Rattle.ec_call_defs.specs.Inputs.{given_read}
 use Rattle.ec_call_defs.specs.Library.{call_done}
 use Rattle.ec_meaning_defs.specs.evaluation.State.{Connection, State}
-use Rattle.ec_call_defs.specs.Disconnecting.{all_closed, closed, current_without, disconnect_call, last_name}
+use Rattle.ec_call_defs.specs.Disconnecting.{closed, current_without, last_name}
 use Rattle.ec_call_defs.specs.Outcomes.{Text, fresh_area, gives, over, told_area, trapped, with_memory}
 use Rattle.ec_runtime.specs.declared.call.Call.{Call}
 use Rattle.ec_runtime.specs.declared.call.Kind.TheVariants as kinds
@@ -40,13 +40,11 @@ use Rattle.ec_runtime.specs.declared.open.Open.{Open}
 use Rattle.ec_runtime.specs.declared.stop.Stop.{Stop}
 use Rattle.ec_runtime.specs.declared.stop.Stop.TheVariants as stops
 use Rattle.ec_runtime.specs.Calling.{AllNamed, Changes, Holds, Opens, TakesFirst, connections_of, conns_of, seen_by}
-use Rattle.ec_runtime.specs.Closing.{IsWithin, which_closed, which_of}
 use Rattle.ec_runtime.specs.Does.{Does}
 use Rattle.ec_runtime.specs.Opening.{open_view}
 use Rattle.ec_runtime.specs.Racks.{AllTaken, GivesAll}
 use Rattle.ec_runtime.specs.Reading.{given_view}
-use Rattle.ec_runtime.specs.Statements.{call_action, kind_view}
-use Rattle.ec_runtime.proofs.Closing.{all_go_on, all_named_less, all_stop, none_closed, close_ended, close_every, close_none, close_one, close_taken, close_unasked, disconnect_read, disconnect_trapped}
+use Rattle.ec_runtime.proofs.Closing.{all_named_less, close_ended, close_taken, close_unasked}
 use Rattle.ec_runtime.proofs.Connections.{apart_before, taken_here, taken_less}
 use Rattle.ec_runtime.proofs.Making.{changes_from, held_same, links, links_among, made_along, made_from, made_still, named_same, split_at, views, views_among}
 use Rattle.ec_runtime.proofs.Starting.{only}
@@ -89,7 +87,7 @@ module _ {X : Type 0} {F : X → Type 0} where
       let place : length (x ∷ y ∷ ys) - 1 ≡ suc (length (y ∷ ys) - 1) = omega arith in
       last_there (y ∷ ys) o (sym (ap (slice_get (x ∷ y ∷ ys)) place) ∙ e)
 
-  views_without : (items : List (Open X F)) (at : ℕ) → views (remove items at) ≡ remove (views items) at
+  pub views_without : (items : List (Open X F)) (at : ℕ) → views (remove items at) ≡ remove (views items) at
   views_without [] zero = refl
   views_without [] (suc at) = refl
   views_without (x ∷ items) zero = refl
@@ -157,48 +155,6 @@ module _ {X : Type 0} {F : X → Type 0} where
             named = subst (λ xs. AllNamed (views xs)) (sym back_there) (named_same s.before s.behind o o' name (subst (λ xs. AllNamed (views xs)) s.is holds.named));
           }
 
-module _ {X : Type 0} {F : X → Type 0} (talk : DynBox X Global F → Option Talk) (faults : DynBox X Global F → ℕ) (line : ℕ) where
-  -- ---- what is closed
-
-  module _ (which : Which) (m : Memory) (old new : Rack X F) (was now : Sessions X F) (r : Result (Unit {0}) Stop) where
-    pub closed_one : (at : ℕ) → which ≡ One (Some at) → IsWithin which (length was.sessions.items) → ((c : Connection) → slice_get (connections_of was) at ≡ Some c → Changes talk faults (closed c) m old was m new now r)
-        → Changes talk faults (which_closed line which) m old was m new now r
-    closed_one at e within go =
-        let inside : at < length was.sessions.items = subst (λ x. IsWithin x (length was.sessions.items)) e within in
-        let o = element was.sessions.items at inside in
-        let there = view_there was.sessions.items at o.0 o.1 in
-        let p = go (open_view o.0) there in
-        record { growth = p.growth; moves = p.moves; does = close_one line which m (connections_of was) was.current at (open_view o.0) (only m (connections_of now) now.current) p.growth r e there p.does }
-
-    pub closed_every : which ≡ All → Changes talk faults (λ s. all_closed (reverse (connections_of was)) s) m old was m new now r → Changes talk faults (which_closed line which) m old was m new now r
-    closed_every e p = record { growth = p.growth; moves = p.moves; does = close_every line which m (connections_of was) was.current (only m (connections_of now) now.current) p.growth r e p.does }
-
-  pub closed_none : (which : Which) (m m' : Memory) (rack : Rack X F) (was : Sessions X F) (stop : Stop) → which ≡ One None → m' ≡ told_area (code_of found.NoConnection) (state_of found.NoConnection) (text_of_finding found.NoConnection) line m → stop ≡ stops.Finished
-      → Changes talk faults (which_closed line which) m rack was m' rack was (Err stop)
-  closed_none which m m' rack was stop e told is =
-      changes_from talk faults (made_still talk faults (which_closed line which) m m' rack was.sessions.items was.current was.current (Err stop) (close_none line which m (connections_of was) was.current m' stop e told is))
-
-  -- ---- by a text
-
-  module _ (text : TextData ℕ) (m : Memory) (old : Rack X F) (was : Sessions X F) where
-    pub text_traps : (trap : Trap) → ((s : State) → given_read text (with_memory m s) ≡ over (trapped trap) (with_memory m s)) → Changes talk faults (disconnect_call line text) m old was m old was (Err (stops.Trapped trap))
-    text_traps trap is =
-        changes_from talk faults (made_still talk faults (disconnect_call line text) m m old was.sessions.items was.current was.current (Err (stops.Trapped trap)) (disconnect_trapped line text m m (connections_of was) was.current trap is))
-
-    pub text_names : (m1 m' : Memory) (new : Rack X F) (now : Sessions X F) (name : Text) (which : Which) (r : Result (Unit {0}) Stop) → ((s : State) → given_read text (with_memory m s) ≡ gives name (with_memory m s)) → which ≡ which_of name was.current (connections_of was) → m1 ≡ fresh_area m
-        → Changes talk faults (which_closed line which) m1 old was m' new now r → Changes talk faults (disconnect_call line text) m old was m' new now r
-    text_names m1 m' new now name which r is e area p =
-        record { growth = p.growth; moves = p.moves; does = disconnect_read line text m m1 (connections_of was) was.current name which (only m' (connections_of now) now.current) p.growth r is e area p.does }
-
--- SET CONNECTION asks nothing
-pub set_carried : {X : Type 0} {F : X → Type 0} (talk : DynBox X Global F → Option Talk) (faults : DynBox X Global F → ℕ) (it : Call) (text : GivenText) (m m' : Memory) (rack : Rack X F) (was now : Sessions X F) (r : Result (Unit {0}) Stop)
-    → it.kind ≡ kinds.SetConnection text → Does (set_connection_call it.line.0 (given_view text)) (seen_by m was) (seen_by m' now) [] r → now.sessions.items ≡ was.sessions.items → Changes talk faults (call_action it) m rack was m' rack now r
-set_carried talk faults it text m m' rack was now r e p same =
-    subst (λ k. Changes talk faults (λ s. call_done it.line.0 (kind_view k) s) m rack was m' rack now r) (sym e)
-    (changes_from talk faults (made_along talk faults refl refl same refl
-    (made_still talk faults (set_connection_call it.line.0 (given_view text)) m m' rack was.sessions.items was.current now.current r
-    (subst (λ xs. Does (set_connection_call it.line.0 (given_view text)) (seen_by m was) (only m' (views xs) now.current) [] r) same p))))
-
 -- ---- the ready connection, where there is none
 
 opens_items : {X : Type 0} {F : X → Type 0} (slots : List (Slot X F)) (it : Sessions X F) → it.sessions.items ≡ [] → it.current ≡ None → ready_slot (states slots) ≡ None → Opens slots it slots
@@ -264,17 +220,8 @@ module _ {X : Type 0} {F : X → Type 0} (items : List (Open X F)) (at : ℕ) (o
       ∙ reverse-append (views s.before) (open_view o ∷ [])
       ∙ ap (λ xs. open_view o ∷ reverse (views xs)) (sym (s.left ∙ ap (λ xs. s.before ++ xs) none_behind ∙ append-nil s.before))
 
-module _ {X : Type 0} {F : X → Type 0} (talk : DynBox X Global F → Option Talk) (faults : DynBox X Global F → ℕ) (m : Memory) (was : Sessions X F) where
-  pub shut_none : (rack : Rack X F) → was.sessions.items ≡ [] → Changes talk faults (λ s. all_closed (reverse (connections_of was)) s) m rack was m rack was (Ok tt)
-  shut_none rack e = changes_from talk faults (none_closed talk faults m rack was.sessions.items was.current e)
-
-  module _ (at : ℕ) (o : Open X F) (there : slice_get was.sessions.items at ≡ Some o) (last : at + 1 ≡ length was.sessions.items) where
-    pub shut_stop : (old new : Rack X F) (now : Sessions X F) (stop : Stop) → Changes talk faults (closed (open_view o)) m old was m new now (Err stop) → Changes talk faults (λ s. all_closed (reverse (connections_of was)) s) m old was m new now (Err stop)
-    shut_stop old new now stop p =
-        changes_from talk faults (all_stop talk faults m old old new was.sessions.items (remove was.sessions.items at) now.sessions.items was.current was.current now.current (open_view o) (reversed_at was.sessions.items at o there last) stop (made_from talk faults p))
-
-    pub shut_on : (old mid new : Rack X F) (between now : Sessions X F) (r : Result (Unit {0}) Stop) → connections_of between ≡ remove (connections_of was) at → Changes talk faults (closed (open_view o)) m old was m mid between (Ok tt)
-        → Changes talk faults (λ s. all_closed (reverse (connections_of between)) s) m mid between m new now r → Changes talk faults (λ s. all_closed (reverse (connections_of was)) s) m old was m new now r
-    shut_on old mid new between now r left p q =
-        changes_from talk faults (all_go_on talk faults m old mid new was.sessions.items between.sessions.items now.sessions.items was.current between.current now.current (open_view o)
-        (reversed_at was.sessions.items at o there last ∙ ap (λ cs. open_view o ∷ reverse cs) (views_without was.sessions.items at ∙ sym left)) r (made_from talk faults p) (made_from talk faults q))
+-- a place of one is a place of its view
+pub views_inside : {X : Type 0} {F : X → Type 0} (items : List (Open X F)) (at : ℕ) → at < length items → at < length (views items)
+views_inside [] at h = absurd (omega (arith, h))
+views_inside (x ∷ items) zero h = omega arith
+views_inside (x ∷ items) (suc at) h = let k = views_inside items at (omega (arith, h)) in omega (arith, k)

@@ -5,7 +5,8 @@ use Rattle.std.specs.Prelude.{IfErr, OnOk, slice_get}
 use Rattle.std.proofs.lemmas.List.{map-append}
 use Rattle.std.specs.declared.alloc.Global.{Global}
 use Rattle.std.specs.declared.dyn_box.DynBox.{DynBox}
-use Rattle.ec_arguments.specs.Arguments.{TextArg as TextData}
+use Rattle.ec_arguments.specs.Arguments.{TextArg as TextData, disconnect}
+use Rattle.ec_call_defs.specs.Areas.{Areas}
 use Rattle.ec_base.specs.declared.stop.Trap.{Trap}
 use Rattle.ec_link.specs.declared.logged.Logged.{Logged}
 use Rattle.ec_link.specs.declared.rack.Rack.{Rack}
@@ -23,21 +24,26 @@ use Rattle.ec_transfer_defs.specs.declared.finding.Finding.TheVariants as found
 use Rattle.ec_transfer_defs.specs.Codes.{code_of, state_of, text_of_finding}
 use Rattle.ec_meaning_defs.specs.evaluation.State.{Connection, State}
 use Rattle.ec_call_defs.specs.Connections.{asked, exchange, found_connection, same_name, told_by, with_told}
-use Rattle.ec_call_defs.specs.Disconnecting.{all_closed, closed, current_without, disconnect_call, disconnected, one_closed, removed, without_connection}
+use Rattle.ec_call_defs.specs.Disconnecting.{closed, current_without, removed, without_connection}
 use Rattle.ec_call_defs.specs.Growth.{Grows}
 use Rattle.ec_call_defs.specs.Inputs.{given_read}
-use Rattle.ec_call_defs.specs.Outcomes.{Text, Outcome, trapped, gives, over, next, with_memory, fresh_area, told_area}
+use Rattle.ec_call_defs.specs.Outcomes.{Text, Outcome, trapped, gives, finished, over, next, with_memory, fresh_area, told_area}
 use Rattle.ec_runtime.specs.declared.disconnecting.Which.{Which}
 use Rattle.ec_runtime.specs.declared.disconnecting.Which.TheVariants.{All, One}
 use Rattle.ec_runtime.specs.declared.open.Open.{Open}
 use Rattle.ec_runtime.specs.declared.stop.Stop.{Stop}
 use Rattle.ec_runtime.specs.declared.stop.Stop.TheVariants as stops
 use Rattle.ec_runtime.specs.Calling.{AllNamed, NoneNamed}
-use Rattle.ec_runtime.specs.Closing.{at_place, which_closed, which_of}
+use Rattle.ec_runtime.specs.Closing.{at_place, which_of}
 use Rattle.ec_runtime.specs.Does.{Around, NoneAt, Seen, among, placed, Does}
 use Rattle.ec_runtime.specs.Opening.{open_view}
 use Rattle.ec_runtime.specs.Racks.{AllTaken, Moves}
+use Rattle.ec_runtime.specs.Resuming.{closing_asks}
+use Rattle.ec_runtime.specs.Says.{Says}
 use Rattle.ec_runtime.specs.Seeking.{place_named, place_sought}
+use Rattle.ec_runtime.specs.Starts.{standing, which_first, Leads}
+use Rattle.ec_runtime.specs.Waiting.{closing_with}
+use Rattle.ec_stopping_defs.specs.Resuming.{Asking, asks_with, call_started, closes, closing, disconnecting, one_closing}
 use Rattle.ec_runtime.proofs.Connections.{apart_before, moves_closed, taken_closed, taken_here}
 use Rattle.ec_runtime.proofs.Grows.{same_front, next_grows, asked_grows}
 use Rattle.ec_runtime.proofs.Joining.{quiet, same_action, and_next, and_stop, asked_does, no_memory, there}
@@ -48,12 +54,8 @@ use Rattle.ec_runtime.proofs.Starting.{connection_sought, only}
 
 -- ---- what only adds
 
-closed_grows : (c : Connection) → Grows (closed c)
+pub closed_grows : (c : Connection) → Grows (closed c)
 closed_grows c = next_grows (asked c.slot request.Close) (λ reply t. gives tt (removed c.name t)) (asked_grows c.slot request.Close) (λ reply t. same_front t.conversation)
-
-all_grow : (cs : List Connection) → Grows (all_closed cs)
-all_grow [] s = same_front s.conversation
-all_grow (c ∷ cs) s = next_grows (closed c) (λ _ t. all_closed cs t) (closed_grows c) (λ _. all_grow cs) s
 
 -- ---- a connection of a name is gone
 
@@ -185,83 +187,57 @@ module _ {X : Type 0} {F : X → Type 0} (talk : DynBox X Global F → Option Ta
     does = no_memory (closed (open_view o)) (only m (views (before ++ o ∷ behind)) current) (only m (views (before ++ now ∷ behind)) current) (closed_grows (open_view o));
   }
 
--- ---- all are closed
+-- ---- up to the first request
 
-module _ {X : Type 0} {F : X → Type 0} (talk : DynBox X Global F → Option Talk) (faults : DynBox X Global F → ℕ) (m : Memory) where
-  pub none_closed : (rack : Rack X F) (os : List (Open X F)) (current : Option Text) → os ≡ [] → Made talk faults (λ s. all_closed (reverse (views os)) s) m rack os current m rack os current (Ok tt)
-  none_closed rack os current e =
-      subst (λ xs. Made talk faults (λ s. all_closed (reverse (views xs)) s) m rack xs current m rack xs current (Ok tt)) (sym e)
-      (made_still talk faults (λ s. gives tt s) m m rack [] current current (Ok tt) (quiet (λ s. gives tt s) (only m [] current) m (Ok tt) (λ s. same_front s.conversation) (λ s. refl)))
-
-  -- the last one first
-  module _ (old mid new : Rack X F) (os left rest : List (Open X F)) (current between last : Option Text) (c : Connection) (is : reverse (views os) ≡ c ∷ reverse (views left)) where
-    pub all_go_on : (r : Result (Unit {0}) Stop) → Made talk faults (closed c) m old os current m mid left between (Ok tt) → Made talk faults (λ s. all_closed (reverse (views left)) s) m mid left between m new rest last r
-        → Made talk faults (λ s. all_closed (reverse (views os)) s) m old os current m new rest last r
-    all_go_on r p q = record {
-      growth = p.growth ++ q.growth;
-      moves = moves_both talk faults old mid new (links os) (links left) (links rest) p.growth q.growth p.moves q.moves;
-      does = subst (λ cs. Does (λ s. all_closed cs s) (only m (views os) current) (only m (views rest) last) (p.growth ++ q.growth) r) (sym is)
-          (and_next (closed c) (λ _ t. all_closed (reverse (views left)) t) (only m (views os) current) (only m (views left) between) (only m (views rest) last) tt p.growth q.growth r p.does q.does);
-    }
-
-    pub all_stop : (stop : Stop) → Made talk faults (closed c) m old os current m new rest last (Err stop) → Made talk faults (λ s. all_closed (reverse (views os)) s) m old os current m new rest last (Err stop)
-    all_stop stop p = record {
-      growth = p.growth;
-      moves = p.moves;
-      does = subst (λ cs. Does {A = Unit {0}} (λ s. all_closed cs s) (only m (views os) current) (only m (views rest) last) p.growth (Err stop)) (sym is)
-          (and_stop (closed c) (λ _ t. all_closed (reverse (views left)) t) (only m (views os) current) (only m (views rest) last) p.growth stop (λ _. all_grow (reverse (views left))) p.does);
-    }
-
--- ---- what is closed
-
-module _ (line : ℕ) (which : Which) (m : Memory) (cs : List Connection) (current : Option Text) where
-  pub close_none : (m' : Memory) (stop : Stop) → which ≡ One None → m' ≡ told_area (code_of found.NoConnection) (state_of found.NoConnection) (text_of_finding found.NoConnection) line m → stop ≡ stops.Finished
-      → Does {A = Unit {0}} (which_closed line which) (only m cs current) (only m' cs current) [] (Err stop)
-  close_none m' stop e told is =
-      subst (λ w. Does {A = Unit {0}} (which_closed line w) (only m cs current) (only m' cs current) [] (Err stop)) (sym e)
-      (subst (λ x. Does {A = Unit {0}} (which_closed line (One None)) (only m cs current) (only m' cs current) [] (Err x)) (sym is)
-      (subst (λ a. Does {A = Unit {0}} (which_closed line (One None)) (only m cs current) (only a cs current) [] (Err stops.Finished)) (sym told)
-      (quiet (which_closed line (One None)) (only m cs current) _ (Err stops.Finished) (λ s. same_front s.conversation) (λ s. refl))))
-
-  pub close_one : (at : ℕ) (c : Connection) (y : Seen) (g : List Logged) (r : Result (Unit {0}) Stop) → which ≡ One (Some at) → slice_get cs at ≡ Some c → Does (closed c) (only m cs current) y g r → Does (which_closed line which) (only m cs current) y g r
-  close_one at c y g r e there p =
-      subst (λ w. Does (which_closed line w) (only m cs current) y g r) (sym e)
-      (same_action (which_closed line (One (Some at))) (closed c) (only m cs current) (only m cs current) y g r
-      (λ s answers j. next (found_connection line (there j) (placed (only m cs current) answers s)) (λ d t. closed d t)) p)
-
-  pub close_every : (y : Seen) (g : List Logged) (r : Result (Unit {0}) Stop) → which ≡ All → Does (λ s. all_closed (reverse cs) s) (only m cs current) y g r → Does (which_closed line which) (only m cs current) y g r
-  close_every y g r e p =
-      subst (λ w. Does (which_closed line w) (only m cs current) y g r) (sym e)
-      (same_action (which_closed line All) (λ s. all_closed (reverse cs) s) (only m cs current) (only m cs current) y g r (λ s answers. refl) p)
-
--- by a text
-module _ (line : ℕ) (text : TextData ℕ) (m m1 : Memory) (cs : List Connection) (current : Option Text) where
-  pub disconnect_trapped : (trap : Trap) → ((s : State) → given_read text (with_memory m s) ≡ over (trapped trap) (with_memory m s)) → Does {A = Unit {0}} (disconnect_call line text) (only m cs current) (only m cs current) [] (Err (stops.Trapped trap))
-  disconnect_trapped trap is =
-      same_action (disconnect_call line text) (λ s. over (trapped trap) s) (only m cs current) (only m cs current) (only m cs current) [] (Err (stops.Trapped trap))
-      (λ s answers j. next (is (placed (only m cs current) answers s) j) (λ called t. disconnected line called (with_memory (fresh_area t.memory) t)))
-      (quiet (λ s. over (trapped trap) s) (only m cs current) m (Err (stops.Trapped trap)) (λ s. same_front s.conversation) (λ s. refl))
-
-  one_at : (name : Option Text) (s : State) → s.connections ≡ cs → s.current ≡ current → one_closed line name s ≡ which_closed line (One (place_sought name current cs)) s
+module _ (line : ℕ) (cs : List Connection) (current : Option Text) where
+  one_at : (name : Option Text) (s : State) → s.connections ≡ cs → s.current ≡ current → one_closing line name s ≡ which_first line (One (place_sought name current cs)) s
   one_at name s e f =
-      (λ j. next (connection_sought line name s j) (λ c t. closed c t))
-      ∙ (λ j. next (found_connection line (sought_at name s.current s.connections j) s) (λ c t. closed c t))
-      ∙ (λ j. next (found_connection line (at_place s.connections (place_sought name (f j) (e j))) s) (λ c t. closed c t))
+      (λ j. next (connection_sought line name s j) (λ c t. asks_with c.slot request.Close (closes c.name []) t))
+      ∙ (λ j. next (found_connection line (sought_at name s.current s.connections j) s) (λ c t. asks_with c.slot request.Close (closes c.name []) t))
+      ∙ (λ j. next (found_connection line (at_place s.connections (place_sought name (f j) (e j))) s) (λ c t. asks_with c.slot request.Close (closes c.name []) t))
 
-  by_text : (name : Text) (s : State) → s.connections ≡ cs → s.current ≡ current → disconnected line name s ≡ which_closed line (which_of name current cs) s
+  by_text : (name : Text) (s : State) → s.connections ≡ cs → s.current ≡ current → disconnecting line name s ≡ which_first line (which_of name current cs) s
   by_text name s e f = go (same_name name (codes "CURRENT")) (same_name name (codes "ALL"))
     where
-      go : (a b : Bool) → elim a [ true ↦ one_closed line None s | false ↦ elim b [ true ↦ all_closed (reverse s.connections) s | false ↦ one_closed line (Some name) s ] ]
-          ≡ which_closed line (elim a [ true ↦ One (place_sought None current cs) | false ↦ elim b [ true ↦ All | false ↦ One (place_named name cs) ] ]) s
+      go : (a b : Bool) → elim a [ true ↦ one_closing line None s | false ↦ elim b [ true ↦ closing (reverse s.connections) s | false ↦ one_closing line (Some name) s ] ]
+          ≡ which_first line (elim a [ true ↦ One (place_sought None current cs) | false ↦ elim b [ true ↦ All | false ↦ One (place_named name cs) ] ]) s
       go true b = one_at None s e f
       go false true = refl
       go false false = one_at (Some name) s e f
 
-  pub disconnect_read : (name : Text) (which : Which) (y : Seen) (g : List Logged) (r : Result (Unit {0}) Stop) → ((s : State) → given_read text (with_memory m s) ≡ gives name (with_memory m s)) → which ≡ which_of name current cs → m1 ≡ fresh_area m
-      → Does (which_closed line which) (only m1 cs current) y g r → Does (disconnect_call line text) (only m cs current) y g r
-  disconnect_read name which y g r is e area p =
-      same_action (disconnect_call line text) (which_closed line which) (only m cs current) (only (fresh_area m) cs current) y g r
-      (λ s answers. (λ j. next (is (placed (only m cs current) answers s) j) (λ called t. disconnected line called (with_memory (fresh_area t.memory) t)))
-      ∙ by_text name (placed (only (fresh_area m) cs current) answers s) refl refl
-      ∙ (λ j. which_closed line (sym e j) (placed (only (fresh_area m) cs current) answers s)))
-      (subst (λ a. Does (which_closed line which) (only a cs current) y g r) area p)
+  module _ (text : TextData ℕ) (m : Memory) (a : Areas) where
+    pub disconnect_trapped : (trap : Trap) → ((s : State) → given_read text (with_memory m s) ≡ over (trapped trap) (with_memory m s))
+        → Leads {A = Option Asking} (Err (stops.Trapped trap)) (λ s. call_started line (disconnect text) s) (only m cs current) a (only m cs current) a
+    disconnect_trapped trap is = λ s j. next (is (standing (only m cs current) a s) j) (λ called t. disconnecting line called (with_memory (fresh_area t.memory) t))
+
+    pub disconnect_read : (m1 m' : Memory) (name : Text) (which : Which) (r : Result (Option Asking) Stop) → ((s : State) → given_read text (with_memory m s) ≡ gives name (with_memory m s)) → which ≡ which_of name current cs → m1 ≡ fresh_area m
+        → Leads r (which_first line which) (only m1 cs current) a (only m' cs current) a → Leads r (λ s. call_started line (disconnect text) s) (only m cs current) a (only m' cs current) a
+    disconnect_read m1 m' name which r is e area p = λ s.
+        subst (λ o. Says r o (standing (only m' cs current) a s)) (sym (
+        (λ j. next (is (standing (only m cs current) a s) j) (λ called t. disconnecting line called (with_memory (fresh_area t.memory) t)))
+        ∙ by_text name (standing (only (fresh_area m) cs current) a s) refl refl
+        ∙ (λ j. which_first line (sym e j) (standing (only (sym area j) cs current) a s))))
+        (p s)
+
+  module _ (which : Which) (m : Memory) (a : Areas) where
+    pub close_none : (m' : Memory) (stop : Stop) → which ≡ One None → m' ≡ told_area (code_of found.NoConnection) (state_of found.NoConnection) (text_of_finding found.NoConnection) line m → stop ≡ stops.Finished
+        → Leads {A = Option Asking} (Err stop) (which_first line which) (only m cs current) a (only m' cs current) a
+    close_none m' stop e told is =
+        subst (λ x. Leads {A = Option Asking} (Err x) (which_first line which) (only m cs current) a (only m' cs current) a) (sym is) (λ s.
+        (λ j. which_first line (e j) (standing (only m cs current) a s)) ∙ (λ j. finished (standing (only (sym told j) cs current) a s)))
+
+    pub close_one : (at : ℕ) (c : Connection) → which ≡ One (Some at) → slice_get cs at ≡ Some c → Leads (Ok (Some (closing_with [] (slice_get cs at)))) (which_first line which) (only m cs current) a (only m cs current) a
+    close_one at c e there = λ s.
+        (λ j. which_first line (e j) (standing (only m cs current) a s))
+        ∙ (λ j. next (found_connection line (there j) (standing (only m cs current) a s)) (λ d t. asks_with d.slot request.Close (closes d.name []) t))
+        ∙ (λ j. gives (Some (closing_with [] (sym there j))) (standing (only m cs current) a s))
+
+    closing_so : (ds : List Connection) (s : State) → closing ds s ≡ gives (closing_asks ds) s
+    closing_so [] s = refl
+    closing_so (d ∷ ds) s = refl
+
+    pub close_every : (u : Option Asking) → which ≡ All → u ≡ closing_asks (reverse cs) → Leads (Ok u) (which_first line which) (only m cs current) a (only m cs current) a
+    close_every u e is = λ s.
+        (λ j. which_first line (e j) (standing (only m cs current) a s))
+        ∙ closing_so (reverse cs) (standing (only m cs current) a s)
+        ∙ (λ j. gives (sym is j) (standing (only m cs current) a s))

@@ -23,12 +23,12 @@ use Rattle.ec_memory_defs.specs.Memory.{Memory}
 use Rattle.ec_transfer_defs.specs.declared.finding.Finding.TheVariants as found
 use Rattle.ec_transfer_defs.specs.Codes.{code_of, state_of, text_of_finding}
 use Rattle.ec_meaning_defs.specs.evaluation.State.{Answer, Connection, State}
-use Rattle.ec_call_defs.specs.Connecting.{connecting, opened_by, own_name, set_connection_call, unless_named}
+use Rattle.ec_call_defs.specs.Areas.{Areas}
+use Rattle.ec_call_defs.specs.Connecting.{connecting, opened_by, own_name, set_connection_call}
 use Rattle.ec_call_defs.specs.Connections.{connection_named, exchange, found_connection, same_name}
 use Rattle.ec_meaning_defs.specs.observed.Run.{IsFront}
 use Rattle.ec_call_defs.specs.Growth.{Grows, state_of as reached_state}
 use Rattle.ec_call_defs.specs.Inputs.{given_read, text_read}
-use Rattle.ec_call_defs.specs.Library.{call_done}
 use Rattle.ec_call_defs.specs.Outcomes.{Text, Outcome, gives, finished, next, with_memory, fresh_area, told_area, raised}
 use Rattle.ec_runtime.specs.declared.call.Connect.{Connect}
 use Rattle.ec_runtime.specs.declared.call.Kind.TheVariants as kinds
@@ -45,9 +45,11 @@ use Rattle.ec_runtime.specs.Racks.{AllTaken, Moves}
 use Rattle.ec_runtime.specs.Reading.{given_view, text_view}
 use Rattle.ec_runtime.specs.Says.{Says, Quiet}
 use Rattle.ec_runtime.specs.Seeking.{place_named}
-use Rattle.ec_runtime.specs.Statements.{connect_read, connected, current_set, kind_view, reached}
+use Rattle.ec_runtime.specs.Starts.{connected_first, standing, Leads}
+use Rattle.ec_runtime.specs.Statements.{connect_read, current_set, kind_view, reached}
+use Rattle.ec_stopping_defs.specs.Resuming.{Asking, call_started, connects, unless_used}
 use Rattle.ec_runtime.proofs.Connections.{moves_connected, moves_unopened, moves_unsaid, taken_connected}
-use Rattle.ec_runtime.proofs.Grows.{same_front, next_grows, text_grows}
+use Rattle.ec_runtime.proofs.Grows.{same_front}
 use Rattle.ec_runtime.proofs.Joining.{quiet, same_action, and_next, and_stop, no_memory}
 use Rattle.ec_runtime.proofs.Making.{Made, links, made_still, views}
 use Rattle.ec_runtime.proofs.Seeking.{named_at}
@@ -109,25 +111,15 @@ module _ (it : Connect) (m : Memory) where
             at_word (Ok (own, request.Connect server by word)) (quiet_then (text_read (text_view it.name)) (λ x w. gives (own_name server x, request.Connect server by word) w) m called (Ok (own, request.Connect server by word)) q
             (λ s j. gives (sym e j, request.Connect server by word) (with_memory m s)))
 
-connect_grows : (it : Connect) → Grows (connect_read it)
-connect_grows it =
-    next_grows (given_read (given_view it.target)) (λ server t. at_user it (m0 it) server t) (given_grows it.target) (λ server.
-    next_grows (text_read (text_view it.user)) (λ by u. at_password it (m0 it) server by u) (text_grows (text_view it.user)) (λ by.
-    next_grows (text_read (text_view it.password)) (λ word v. at_name it (m0 it) server by word v) (text_grows (text_view it.password)) (λ word.
-    next_grows (text_read (text_view it.name)) (λ called w. gives (own_name server called, request.Connect server by word) w) (text_grows (text_view it.name)) (λ called w. same_front w.conversation))))
-  where
-    m0 : Connect → Memory
-    m0 x = []
-
 -- the call is what follows what it is given
-connect_is : (line : ℕ) (it : Connect) (s : State) → call_done line (kind_view (kinds.Connect it)) s ≡ next (connect_read it s) (λ read t. connected line read t)
+connect_is : (line : ℕ) (it : Connect) (s : State) → call_started line (kind_view (kinds.Connect it)) s ≡ next (connect_read it s) (λ read t. connected_first line read t)
 connect_is line it s = sym (
-    next_next (given_read (given_view it.target) s) (λ server t. at_user it [] server t) (λ read t. connected line read t)
-    ∙ (λ j. next (given_read (given_view it.target) s) (λ server t. next_next (text_read (text_view it.user) t) (λ by u. at_password it [] server by u) (λ read u. connected line read u) j))
+    next_next (given_read (given_view it.target) s) (λ server t. at_user it [] server t) (λ read t. connected_first line read t)
+    ∙ (λ j. next (given_read (given_view it.target) s) (λ server t. next_next (text_read (text_view it.user) t) (λ by u. at_password it [] server by u) (λ read u. connected_first line read u) j))
     ∙ (λ j. next (given_read (given_view it.target) s) (λ server t. next (text_read (text_view it.user) t) (λ by u.
-    next_next (text_read (text_view it.password) u) (λ word v. at_name it [] server by word v) (λ read v. connected line read v) j)))
+    next_next (text_read (text_view it.password) u) (λ word v. at_name it [] server by word v) (λ read v. connected_first line read v) j)))
     ∙ (λ j. next (given_read (given_view it.target) s) (λ server t. next (text_read (text_view it.user) t) (λ by u. next (text_read (text_view it.password) u) (λ word v.
-    next_next (text_read (text_view it.name) v) (λ called w. gives (own_name server called, request.Connect server by word) w) (λ read w. connected line read w) j)))))
+    next_next (text_read (text_view it.name) v) (λ called w. gives (own_name server called, request.Connect server by word) w) (λ read w. connected_first line read w) j)))))
 
 -- ---- a request to connect
 
@@ -152,13 +144,6 @@ asking_grows line name asks s = go s.answers
       rest = exchange answer.0 asks answer.1 ∷ [];
       same = opened_says line name answer (record s { conversation = s.conversation ++ exchange answer.0 asks answer.1 ∷ []; answers = more });
     }
-
-connected_grows : (line : ℕ) (it : Text × Request) → Grows (connected line it)
-connected_grows line it s = go (connection_named it.0 s.connections)
-  where
-    go : (o : Option Connection) → IsFront s.conversation (reached_state (unless_named line it.0 it.1 o (with_memory (fresh_area s.memory) s))).conversation
-    go (Some c) = same_front s.conversation
-    go None = asking_grows line it.0 it.1 (with_memory (fresh_area s.memory) s)
 
 module _ (line : ℕ) (name : Text) (asks : Request) (m : Memory) (cs : List Connection) (current : Option Text) where
   -- a slot, and the answer that the connection is open
@@ -273,41 +258,33 @@ all_named_more os o h e = subst AllNamed (sym (map-append open_view os (o ∷ []
 
 -- ---- a connection of a name
 
-module _ (line : ℕ) (it : Text × Request) (m m1 : Memory) (cs : List Connection) (current : Option Text) (area : m1 ≡ fresh_area m) where
+module _ (line : ℕ) (it : Text × Request) (m m1 : Memory) (cs : List Connection) (current : Option Text) (a : Areas) (area : m1 ≡ fresh_area m) where
   -- the name is in use
-  pub connect_used : (m' : Memory) (stop : Stop) (at : ℕ) (c : Connection) → connection_named it.0 cs ≡ Some c → m' ≡ told_area (code_of found.NotConnected) (state_of found.NotConnected) (text_of_finding found.NotConnected) line m1 → stop ≡ stops.Finished
-      → Does {A = Unit {0}} (connected line it) (only m cs current) (only m' cs current) [] (Err stop)
-  connect_used m' stop at c e told is =
-      subst (λ x. Does {A = Unit {0}} (connected line it) (only m cs current) (only m' cs current) [] (Err x)) (sym is)
-      (subst (λ a. Does {A = Unit {0}} (connected line it) (only m cs current) (only a cs current) [] (Err stops.Finished)) (sym (told ∙ ap (told_area (code_of found.NotConnected) (state_of found.NotConnected) (text_of_finding found.NotConnected) line) area))
-      (same_action (connected line it) (raised line found.NotConnected) (only m cs current) (only (fresh_area m) cs current) (only _ cs current) [] (Err stops.Finished)
-      (λ s answers j. unless_named line it.0 it.1 (e j) (placed (only (fresh_area m) cs current) answers s))
-      (quiet (raised line found.NotConnected) (only (fresh_area m) cs current) _ (Err stops.Finished) (λ s. same_front s.conversation) (λ s. refl))))
+  pub connect_used : (m' : Memory) (stop : Stop) (c : Connection) → connection_named it.0 cs ≡ Some c → m' ≡ told_area (code_of found.NotConnected) (state_of found.NotConnected) (text_of_finding found.NotConnected) line m1 → stop ≡ stops.Finished
+      → Leads {A = Option Asking} (Err stop) (connected_first line it) (only m cs current) a (only m' cs current) a
+  connect_used m' stop c e told is =
+      subst (λ x. Leads {A = Option Asking} (Err x) (connected_first line it) (only m cs current) a (only m' cs current) a) (sym is) (λ s.
+      (λ j. unless_used line it.0 it.1 (e j) (standing (only (fresh_area m) cs current) a s))
+      ∙ (λ j. finished (standing (only (sym (told ∙ ap (told_area (code_of found.NotConnected) (state_of found.NotConnected) (text_of_finding found.NotConnected) line) area) j) cs current) a s)))
 
   -- it isn't
-  pub connect_unused : (y : Seen) (g : List Logged) (r : Result (Unit {0}) Stop) → connection_named it.0 cs ≡ None → Does (asking line it.0 it.1) (only m1 cs current) y g r → Does (connected line it) (only m cs current) y g r
-  connect_unused y g r e p =
-      same_action (connected line it) (asking line it.0 it.1) (only m cs current) (only (fresh_area m) cs current) y g r
-      (λ s answers j. unless_named line it.0 it.1 (e j) (placed (only (fresh_area m) cs current) answers s))
-      (subst (λ a. Does (asking line it.0 it.1) (only a cs current) y g r) area p)
+  pub connect_unused : connection_named it.0 cs ≡ None → Leads (Ok (Some (connects it.0 it.1))) (connected_first line it) (only m cs current) a (only m1 cs current) a
+  connect_unused e = λ s.
+      (λ j. unless_used line it.0 it.1 (e j) (standing (only (fresh_area m) cs current) a s))
+      ∙ (λ j. gives (Some (connects it.0 it.1)) (standing (only (sym area j) cs current) a s))
 
 -- ---- CONNECT
 
-module _ (line : ℕ) (it : Connect) (m : Memory) (cs : List Connection) (current : Option Text) where
-  abbrev whole : State → Outcome (Unit {0})
-  whole s = call_done line (kind_view (kinds.Connect it)) s
+module _ (line : ℕ) (it : Connect) (m : Memory) (cs : List Connection) (current : Option Text) (a : Areas) where
+  pub connect_unread : (stop : Stop) → Quiet {A = Text × Request} (Err stop) (connect_read it) m m → Leads {A = Option Asking} (Err stop) (λ s. call_started line (kind_view (kinds.Connect it)) s) (only m cs current) a (only m cs current) a
+  connect_unread stop q = λ s.
+      subst (λ o. Says {A = Option Asking} (Err stop) o (standing (only m cs current) a s)) (sym (connect_is line it (standing (only m cs current) a s)))
+      (stopped_next stop (connect_read it (standing (only m cs current) a s)) (standing (only m cs current) a s) (λ read t. connected_first line read t) (q (standing (only m cs current) a s)))
 
-  pub connect_unread : (stop : Stop) → Quiet {A = Text × Request} (Err stop) (connect_read it) m m → Does {A = Unit {0}} whole (only m cs current) (only m cs current) [] (Err stop)
-  connect_unread stop q =
-      same_action whole (λ s. next (connect_read it s) (λ read t. connected line read t)) (only m cs current) (only m cs current) (only m cs current) [] (Err stop) (λ s answers. connect_is line it (placed (only m cs current) answers s))
-      (and_stop (connect_read it) (λ read t. connected line read t) (only m cs current) (only m cs current) [] stop (λ read. connected_grows line read)
-      (quiet (connect_read it) (only m cs current) m (Err stop) (connect_grows it) q))
-
-  pub connect_given : (read : Text × Request) (y : Seen) (g : List Logged) (r : Result (Unit {0}) Stop) → Quiet (Ok read) (connect_read it) m m → Does (connected line read) (only m cs current) y g r → Does whole (only m cs current) y g r
-  connect_given read y g r q p =
-      same_action whole (λ s. next (connect_read it s) (λ x t. connected line x t)) (only m cs current) (only m cs current) y g r (λ s answers. connect_is line it (placed (only m cs current) answers s))
-      (and_next (connect_read it) (λ x t. connected line x t) (only m cs current) (only m cs current) y read [] g r
-      (quiet (connect_read it) (only m cs current) m (Ok read) (connect_grows it) q) p)
+  pub connect_given : (read : Text × Request) (y : Seen) (r : Result (Option Asking) Stop) → Quiet (Ok read) (connect_read it) m m → Leads r (connected_first line read) (only m cs current) a y a
+      → Leads r (λ s. call_started line (kind_view (kinds.Connect it)) s) (only m cs current) a y a
+  connect_given read y r q p = λ s.
+      subst (λ o. Says r o (standing y a s)) (sym (connect_is line it (standing (only m cs current) a s) ∙ (λ j. next (q (standing (only m cs current) a s) j) (λ x t. connected_first line x t)))) (p s)
 
 -- ---- SET CONNECTION
 
@@ -343,26 +320,6 @@ module _ (line : ℕ) (text : GivenText) (m : Memory) (cs : List Connection) (cu
   set_read name y r q p =
       and_next (given_read (given_view text)) (λ n t. current_set line n t) (only m cs current) (only m cs current) y name [] [] r
       (quiet (given_read (given_view text)) (only m cs current) m (Ok name) (given_grows text) q) p
-
--- ---- over the connections of a library
-
-module _ {X : Type 0} {F : X → Type 0} (talk : DynBox X Global F → Option Talk) (faults : DynBox X Global F → ℕ) (line : ℕ) (m m' : Memory) (old new : Rack X F) (was now : Sessions X F) where
-  abbrev Does-it : (State → Outcome (Unit {0})) → Memory → Result (Unit {0}) Stop → Type 0
-  Does-it action from r = Changes talk faults action from old was m' new now r
-
-  pub open_unused : (it : Text × Request) (m1 : Memory) (r : Result (Unit {0}) Stop) → m1 ≡ fresh_area m → connection_named it.0 (connections_of was) ≡ None → Does-it (asking line it.0 it.1) m1 r → Does-it (connected line it) m r
-  open_unused it m1 r area e p = record {
-    growth = p.growth;
-    moves = p.moves;
-    does = connect_unused line it m m1 (connections_of was) was.current area (only m' (connections_of now) now.current) p.growth r e p.does;
-  }
-
-  pub open_given : (it : Connect) (read : Text × Request) (r : Result (Unit {0}) Stop) → Quiet (Ok read) (connect_read it) m m → Does-it (connected line read) m r → Does-it (λ s. call_done line (kind_view (kinds.Connect it)) s) m r
-  open_given it read r q p = record {
-    growth = p.growth;
-    moves = p.moves;
-    does = connect_given line it m (connections_of was) was.current read (only m' (connections_of now) now.current) p.growth r q p.does;
-  }
 
 -- one more connection is held
 pub open_holds : {X : Type 0} {F : X → Type 0} (old new : Rack X F) (was now : Sessions X F) (o : Open X F) → Holds was old → connection_named o.name (connections_of was) ≡ None → AllTaken (states (slots_of new)) (links (was.sessions.items ++ o ∷ []))

@@ -10,8 +10,11 @@ use Rattle.ec_runtime.specs.declared.order.Order.{Order}
 use Rattle.ec_runtime.specs.declared.stop.Stop.{Stop}
 use Rattle.ec_runtime.specs.Says.{Changed, Quiet, Says, holding}
 use Rattle.ec_runtime.specs.Statements.{request_made, what_view}
-use Rattle.ec_runtime.proofs.Orders.{behind_made}
 use Rattle.ec_runtime.proofs.Targets.{stopped_next}
+
+-- with the parameters
+abbrev behind_made : ℕ → Order → (List Field → Request) → State → Outcome Request
+behind_made line order made t = next (params_behind line order.params order.area t) (λ params u. gives (made params) u)
 
 module _ (line : ℕ) (order : Order) (c : Connection) (m m1 : Memory) (areas : Areas) where
   abbrev Sought : State → Outcome (List Field → Request)

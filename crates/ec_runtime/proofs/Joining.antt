@@ -35,15 +35,15 @@ nil_right [] = refl
 nil_right (x ∷ xs) = λ j. x ∷ nil_right xs j
 
 -- the answers of two logs, and others
-answers-append : (g h : List Logged) (rest : List Answer) → answers_in (g ++ h) ++ rest ≡ answers_in g ++ (answers_in h ++ rest)
+pub answers-append : (g h : List Logged) (rest : List Answer) → answers_in (g ++ h) ++ rest ≡ answers_in g ++ (answers_in h ++ rest)
 answers-append [] h rest = refl
 answers-append (x ∷ g) h rest = λ j. (x.slot, x.reply) ∷ answers-append g h rest j
 
 -- nothing more was said
-said_nothing : (s : State) → saying [] s ≡ s
+pub said_nothing : (s : State) → saying [] s ≡ s
 said_nothing s = λ j. record s { conversation = nil_right s.conversation j }
 
-said_both : (g h : List Logged) (s : State) → saying h (saying g s) ≡ saying (g ++ h) s
+pub said_both : (g h : List Logged) (s : State) → saying h (saying g s) ≡ saying (g ++ h) s
 said_both g h s = λ j. record s { conversation = append_assoc s.conversation g h j }
 
 -- ---- a part that asks nothing

@@ -1,4 +1,5 @@
 pub mod Asking
+pub mod Begun
 pub mod Calls
 pub mod Closes
 pub mod Closing
@@ -6,6 +7,7 @@ pub mod Connections
 pub mod Connects
 pub mod Filling
 pub mod Fits
+pub mod Going
 pub mod Grows
 pub mod Joining
 pub mod Kept
@@ -22,3 +24,4 @@ pub mod Takes
 pub mod Targets
 pub mod Telling
 pub mod Texts
+pub mod Whole

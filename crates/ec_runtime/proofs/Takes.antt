@@ -4,7 +4,6 @@ use Rattle.std.specs.declared.alloc.Global.{Global}
 use Rattle.std.specs.declared.dyn_box.DynBox.{DynBox}
 use Rattle.ec_link.specs.declared.rack.Rack.{Rack}
 use Rattle.ec_link.specs.declared.request.Request.{Request}
-use Rattle.ec_link.specs.declared.request.Request.TheVariants as request
 use Rattle.ec_link.specs.Conn.{slot_of}
 use Rattle.ec_link.specs.Logged.{Talk}
 use Rattle.ec_link.proofs.Runs.{Asks-nil}
@@ -16,22 +15,20 @@ use Rattle.ec_call_defs.specs.Growth.{Grows}
 use Rattle.ec_call_defs.specs.Inputs.{given_read}
 use Rattle.ec_call_defs.specs.Marks.{with_marks}
 use Rattle.ec_call_defs.specs.Outcomes.{Text, Outcome, gives, next, with_memory}
-use Rattle.ec_call_defs.specs.Preparing.{with_text, without_text, prepared_anew}
-use Rattle.ec_call_defs.specs.Running.{prepared_text, found_text}
+use Rattle.ec_call_defs.specs.Preparing.{prepared_anew}
 use Rattle.ec_runtime.specs.declared.inputs.GivenText.{GivenText}
 use Rattle.ec_runtime.specs.declared.open.Open.{Open}
 use Rattle.ec_runtime.specs.declared.prepared.Prepared.{Prepared}
 use Rattle.ec_runtime.specs.declared.stop.Stop.{Stop}
 use Rattle.ec_runtime.specs.declared.stop.Stop.TheVariants as stops
-use Rattle.ec_runtime.specs.Does.{among, placed, seen, Does, Over, OverNamed}
+use Rattle.ec_runtime.specs.Does.{among, placed, seen, Over}
 use Rattle.ec_runtime.specs.Opening.{open_view}
 use Rattle.ec_runtime.specs.Prepared.{prepared_views}
 use Rattle.ec_runtime.specs.Reading.{given_view}
 use Rattle.ec_runtime.specs.Says.{Quiet}
-use Rattle.ec_runtime.specs.Statements.{reached, request_taken, changed_behind, prepare_sent, deallocate_sent, name_there, deallocated, marks_read, text_prepared, preparing}
-use Rattle.ec_runtime.proofs.Grows.{same_front, next_grows, asked_grows, taken_grows, found_text_grows}
-use Rattle.ec_runtime.proofs.Joining.{quiet, same_action, changed_among, and_next, and_stop, no_memory, over_quiet, over_next, over_stop}
-use Rattle.ec_runtime.proofs.Starting.{given_grows, only, reached_grows, named_read, named_unread}
+use Rattle.ec_runtime.specs.Statements.{request_taken, changed_behind, marks_read}
+use Rattle.ec_runtime.proofs.Grows.{same_front, next_grows, asked_grows, taken_grows}
+use Rattle.ec_runtime.proofs.Joining.{quiet, same_action, changed_among, no_memory, over_next, over_stop}
 use Rattle.ec_runtime.proofs.Targets.{stopped_next}
 
 -- ---- what only adds
@@ -52,26 +49,6 @@ changing_grows slot change s = same_front s.conversation
 pub changed_grows : (line : ℕ) (asks : Request) (change : Change) (c : Connection) → Grows (changed_behind line asks change c)
 changed_grows line asks change c =
     next_grows (request_taken line asks c.slot) (λ _ t. changing c.slot change t) (taken_request_grows line asks c.slot) (λ _. changing_grows c.slot change)
-
-pub prepare_grows : (line : ℕ) (name bytes : Text) (c : Connection) → Grows (prepare_sent line name bytes c)
-prepare_grows line name bytes c = changed_grows line (request.Prepare name bytes) (with_text name bytes) c
-
-there_grows : (line : ℕ) (name : Text) (c : Connection) → Grows (name_there line name c)
-there_grows line name c =
-    next_grows (found_text line (prepared_text name c.prepared) (λ bytes. bytes)) (λ _ t. gives tt t) (found_text_grows Text line (prepared_text name c.prepared) (λ bytes. bytes)) (λ _ t. same_front t.conversation)
-
-pub deallocate_grows : (line : ℕ) (name : Text) (c : Connection) → Grows (deallocate_sent line name c)
-deallocate_grows line name c = changed_grows line (request.Deallocate name) (without_text name) c
-
-pub deallocated_grows : (line : ℕ) (name : Text) (c : Connection) → Grows (deallocated line name c)
-deallocated_grows line name c = next_grows (name_there line name c) (λ _ t. deallocate_sent line name c t) (there_grows line name c) (λ _. deallocate_grows line name c)
-
-marks_grow : (given : GivenText) → Grows (marks_read given)
-marks_grow given = next_grows (given_read (given_view given)) (λ bytes t. gives (with_marks bytes) t) (given_grows given) (λ bytes t. same_front t.conversation)
-
-text_prepared_grows : (line : ℕ) (name bytes : Text) (called : Option Text) → Grows (text_prepared line name bytes called)
-text_prepared_grows line name bytes called =
-    next_grows (reached line called) (λ c t. prepare_sent line name bytes c t) (reached_grows line called) (λ c. prepare_grows line name bytes c)
 
 -- ---- what is sent for the text of PREPARE
 
@@ -133,68 +110,3 @@ module _ {X : Type 0} {F : X → Type 0} (talk : DynBox X Global F → Option Ta
     change_unkept ps p =
         over_next talk faults (request_taken line asks (slot_of was.conn)) (λ _ t. changing (slot_of was.conn) change t) m m' m' old was new now new (record now { prepared = ps }) tt (Err stops.OutOfMemory) p
         (unchanged_over change (slot_of was.conn) m' new now ps)
-
-  -- ---- PREPARE
-
-  module _ (line : ℕ) (name : Text) (m : Memory) (old : Rack X F) (was : Open X F) where
-    pub prepare_unasked : (bytes : Text) → Over {X = X} {F = F} talk faults {A = Unit {0}} (prepare_sent line name bytes (open_view was)) m old was m old was (Err stops.OutOfMemory)
-    prepare_unasked bytes = over_quiet talk faults (prepare_sent line name bytes (open_view was)) m m old was (Err stops.OutOfMemory) (prepare_grows line name bytes (open_view was)) (λ s. tt)
-
-    pub prepare_asked : (bytes own : Text) (asks : Request) (m' : Memory) (new : Rack X F) (now : Open X F) (r : Result (Unit {0}) Stop) → asks ≡ request.Prepare name bytes → own ≡ name
-        → Over talk faults (changed_behind line asks (with_text own bytes) (open_view was)) m old was m' new now r → Over talk faults (prepare_sent line name bytes (open_view was)) m old was m' new now r
-    prepare_asked bytes own asks m' new now r is same p =
-        subst (λ n. Over talk faults (changed_behind line (request.Prepare name bytes) (with_text n bytes) (open_view was)) m old was m' new now r) same
-        (subst (λ q. Over talk faults (changed_behind line q (with_text own bytes) (open_view was)) m old was m' new now r) is p)
-
-    module _ (given : GivenText) (called : Option Text) where
-      abbrev With : Text → State → Outcome (Unit {0})
-      With bytes t = text_prepared line name bytes called t
-
-      pub prepare_unread : (stop : Stop) → Quiet {A = Text} (Err stop) (marks_read given) m m → OverNamed talk faults called (preparing line name given called) m old was m old was (Err stop)
-      prepare_unread stop q = named_unread talk faults called (marks_read given) With m old was stop (marks_grow given) (λ bytes. text_prepared_grows line name bytes called) q
-
-      pub prepare_read : (bytes : Text) (m' : Memory) (new : Rack X F) (now : Open X F) (r : Result (Unit {0}) Stop) → Quiet (Ok bytes) (marks_read given) m m
-          → OverNamed talk faults called (With bytes) m old was m' new now r → OverNamed talk faults called (preparing line name given called) m old was m' new now r
-      prepare_read bytes m' new now r q p = named_read talk faults called (marks_read given) With m m' old was new now bytes r (marks_grow given) q p
-
-  -- ---- DEALLOCATE
-
-  module _ (line : ℕ) (name : Text) (m : Memory) (old : Rack X F) (was : Open X F) where
-    pub deallocate_unasked : Over {X = X} {F = F} talk faults {A = Unit {0}} (deallocate_sent line name (open_view was)) m old was m old was (Err stops.OutOfMemory)
-    deallocate_unasked = over_quiet talk faults (deallocate_sent line name (open_view was)) m m old was (Err stops.OutOfMemory) (deallocate_grows line name (open_view was)) (λ s. tt)
-
-    pub deallocate_asked : (copy lent : Text) (m' : Memory) (new : Rack X F) (now : Open X F) (r : Result (Unit {0}) Stop) → copy ≡ name → lent ≡ name
-        → Over talk faults (changed_behind line (request.Deallocate copy) (without_text lent) (open_view was)) m old was m' new now r → Over talk faults (deallocate_sent line name (open_view was)) m old was m' new now r
-    deallocate_asked copy lent m' new now r is same p =
-        subst (λ n. Over talk faults (changed_behind line (request.Deallocate name) (without_text n) (open_view was)) m old was m' new now r) same
-        (subst (λ n. Over talk faults (changed_behind line (request.Deallocate n) (without_text lent) (open_view was)) m old was m' new now r) is p)
-
-    abbrev Sent : Unit {0} → State → Outcome (Unit {0})
-    Sent x t = deallocate_sent line name (open_view was) t
-
-    pub deallocate_missing : (m' : Memory) (stop : Stop) → Quiet {A = Unit {0}} (Err stop) (name_there line name (open_view was)) m m'
-        → Over {X = X} {F = F} talk faults {A = Unit {0}} (deallocated line name (open_view was)) m old was m' old was (Err stop)
-    deallocate_missing m' stop q =
-        over_stop talk faults (name_there line name (open_view was)) Sent m m' old was old was stop (λ _. deallocate_grows line name (open_view was))
-        (over_quiet talk faults (name_there line name (open_view was)) m m' old was (Err stop) (there_grows line name (open_view was)) q)
-
-    pub deallocate_there : (m1 m' : Memory) (new : Rack X F) (now : Open X F) (r : Result (Unit {0}) Stop) → Quiet (Ok (tt {0})) (name_there line name (open_view was)) m m1
-        → Over talk faults (deallocate_sent line name (open_view was)) m1 old was m' new now r → Over talk faults (deallocated line name (open_view was)) m old was m' new now r
-    deallocate_there m1 m' new now r q p =
-        over_next talk faults (name_there line name (open_view was)) Sent m m1 m' old was old was new now tt r
-        (over_quiet talk faults (name_there line name (open_view was)) m m1 old was (Ok tt) (there_grows line name (open_view was)) q) p
-
--- ---- where the name leads to no connection
-
-module _ (line : ℕ) (name : Text) (given : GivenText) (called : Option Text) (m : Memory) (cs : List Connection) (current : Option Text) where
-  pub prepare_ended : (m' : Memory) (bytes : Text) (stop : Stop) → Quiet (Ok bytes) (marks_read given) m m → Does {A = Connection} (reached line called) (only m cs current) (only m' cs current) [] (Err stop)
-      → Does {A = Unit {0}} (preparing line name given called) (only m cs current) (only m' cs current) [] (Err stop)
-  prepare_ended m' bytes stop q p =
-      and_next (marks_read given) (λ b t. text_prepared line name b called t) (only m cs current) (only m cs current) (only m' cs current) bytes [] [] (Err stop)
-      (quiet (marks_read given) (only m cs current) m (Ok bytes) (marks_grow given) q)
-      (and_stop (reached line called) (λ c t. prepare_sent line name bytes c t) (only m cs current) (only m' cs current) [] stop (λ c. prepare_grows line name bytes c) p)
-
-  pub prepare_trapped : (stop : Stop) → Quiet {A = Text} (Err stop) (marks_read given) m m → Does {A = Unit {0}} (preparing line name given called) (only m cs current) (only m cs current) [] (Err stop)
-  prepare_trapped stop q =
-      and_stop (marks_read given) (λ b t. text_prepared line name b called t) (only m cs current) (only m cs current) [] stop (λ bytes. text_prepared_grows line name bytes called)
-      (quiet (marks_read given) (only m cs current) m (Err stop) (marks_grow given) q)

@@ -7,6 +7,7 @@ use Rattle.ec_link.specs.declared.logged.Logged.{Logged}
 use Rattle.ec_link.specs.declared.rack.Rack.{Rack}
 use Rattle.ec_link.specs.declared.slot.Slot.{Slot}
 use Rattle.ec_link.specs.Calls.{TakesReady}
+use Rattle.ec_link.specs.Conn.{slot_of}
 use Rattle.ec_link.specs.Logged.{Talk}
 use Rattle.ec_link.specs.Rack.{slots_of}
 use Rattle.ec_link.specs.Slot.{states}
@@ -31,7 +32,7 @@ use Rattle.ec_runtime.specs.declared.stop.CallStop.{CallStop}
 use Rattle.ec_runtime.specs.declared.stop.CallStop.TheVariants as calls
 use Rattle.ec_runtime.specs.Does.{Does, DoesWith, Placing, Seen, placed_with, saying}
 use Rattle.ec_runtime.specs.Opening.{open_view}
-use Rattle.ec_runtime.specs.Racks.{AllTaken, GivesAll, Moves}
+use Rattle.ec_runtime.specs.Racks.{AllTaken, Beside, GivesAll, Moves}
 use Rattle.ec_runtime.specs.Seeking.{sought}
 
 -- what a call answers, by how its parts end
@@ -103,6 +104,16 @@ module _ {X : Type 0} {F : X → Type 0} where
     pub taken : AllTaken (states (slots_of rack)) (conns_of it)
     pub named : AllNamed (connections_of it)
 
+  -- no two connections have one slot
+  abbrev pub AllBeside : List (Conn X F) → Type 0
+  AllBeside [] = Unit {0}
+  AllBeside (conn ∷ conns) = Beside (slot_of conn) conns × AllBeside conns
+
+  -- the links are those that were there, and names that were apart still are
+  pub record Stays (was now : Sessions X F) : Type 0 where
+    pub links : conns_of now ≡ conns_of was
+    pub named : AllNamed (connections_of was) → AllNamed (connections_of now)
+
   -- the slot that was ready is taken, and its link is that of the connection; or no slot was ready
   abbrev pub TakesFirst : List (Slot X F) → List (Conn X F) → List (Slot X F) → Type 0
   TakesFirst before [] after = (ready_slot (states before) ≡ None) × (after ≡ before)
@@ -121,17 +132,17 @@ module _ {X : Type 0} {F : X → Type 0} where
 
   module _ (talk : DynBox X Global F → Option Talk) (faults : DynBox X Global F → ℕ) where
     -- a part of a call was carried out over the connections of a library
-    pub record Changes (action : State → Outcome (Unit {0})) (m : Memory) (old : Rack X F)
+    pub record Changes {A : Type 0} (action : State → Outcome A) (m : Memory) (old : Rack X F)
         (was : Sessions X F) (m' : Memory) (new : Rack X F) (now : Sessions X F)
-        (result : Result (Unit {0}) Stop) : Type 0 where
+        (result : Result A Stop) : Type 0 where
       pub growth : List Logged
       pub moves : Moves talk faults old (conns_of was) new (conns_of now) growth
       pub does : Does action (seen_by m was) (seen_by m' now) growth result
 
     -- the same for a part that finds and leaves these descriptors
-    pub record ChangesWith (action : State → Outcome (Unit {0})) (m : Memory) (a : Areas)
+    pub record ChangesWith {A : Type 0} (action : State → Outcome A) (m : Memory) (a : Areas)
         (old : Rack X F) (was : Sessions X F) (m' : Memory) (b : Areas)
-        (new : Rack X F) (now : Sessions X F) (result : Result (Unit {0}) Stop) : Type 0 where
+        (new : Rack X F) (now : Sessions X F) (result : Result A Stop) : Type 0 where
       pub growth : List Logged
       pub moves : Moves talk faults old (conns_of was) new (conns_of now) growth
       pub does : DoesWith action (seen_by m was) a (seen_by m' now) b growth result

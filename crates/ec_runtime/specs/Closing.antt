@@ -41,11 +41,6 @@ abbrev pub at_place : List Connection → Option ℕ → Option Connection
 at_place cs None = None
 at_place cs (Some at) = slice_get cs at
 
-abbrev pub which_closed : ℕ → Which → State → Outcome (Unit {0})
-which_closed line (One place) s =
-    next (found_connection line (at_place s.connections place) s) (λ c t. closed c t)
-which_closed line All s = all_closed (reverse s.connections) s
-
 -- whether a name is that of the current connection
 abbrev pub is_current : Option Text → Text → Bool
 is_current None name = false

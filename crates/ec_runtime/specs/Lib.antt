@@ -6,9 +6,13 @@ pub mod Fitting
 pub mod Opening
 pub mod Places
 pub mod Prepared
+pub mod Proceeding
 pub mod Racks
 pub mod Reading
+pub mod Resuming
 pub mod Says
 pub mod Seeking
+pub mod Starts
 pub mod Statements
 pub mod Views
+pub mod Waiting

@@ -5,12 +5,11 @@ use Rattle.ec_link.specs.declared.request.Request.TheVariants as request
 use Rattle.ec_arguments.specs.Arguments.{Call as CutCall, Cut, Member, Statement as Asked, TextArg, allocate_descriptor, connect, control, deallocate, deallocate_descriptor, descriptor, disconnect, get_count, get_items, host, immediate, normal, opening, prepare, prepared, run, set_autocommit, set_connection, set_count, set_items}
 use Rattle.ec_meaning_defs.specs.evaluation.State.{Connection, State}
 use Rattle.ec_call_defs.specs.Outcomes.{Text, Field, Outcome, gives, next, begun_area}
-use Rattle.ec_call_defs.specs.Connecting.{own_name, unless_named}
-use Rattle.ec_call_defs.specs.Connections.{asked, begun, connection_for, connection_named, control_sent}
-use Rattle.ec_call_defs.specs.Autocommit.{autocommit_set}
+use Rattle.ec_call_defs.specs.Connecting.{own_name}
+use Rattle.ec_call_defs.specs.Connections.{asked, connection_for}
 use Rattle.ec_call_defs.specs.Answers.{replied, taken}
 use Rattle.ec_call_defs.specs.Marks.{with_marks}
-use Rattle.ec_call_defs.specs.Preparing.{with_text, without_text, prepared_anew}
+use Rattle.ec_call_defs.specs.Preparing.{prepared_anew}
 use Rattle.ec_call_defs.specs.Running as sought
 use Rattle.ec_call_defs.specs.Running.{Wanted as Sought, Outputs as Going, nowhere, hosts, area, is_wanted, table_kept, request_of, params_behind, outputs_found, prepared_text, found_text}
 use Rattle.ec_call_defs.specs.Areas.{Areas, area_named}
@@ -46,7 +45,7 @@ use Rattle.ec_runtime.specs.Views.{host_view, outputs_of}
 
 -- where rows go, once the name of a descriptor is read
 abbrev pub outputs_view : Outputs → Going
-outputs_view (goes.Hosts hs) = outputs_of hs.now
+outputs_view (goes.Hosts hs) = outputs_of hs
 outputs_view (goes.Area name) = area name
 
 -- the descriptor that rows go into is there
@@ -60,11 +59,6 @@ abbrev pub sent : ℕ → Request → Going → ℕ → State → Outcome (Unit 
 sent line request outputs slot s =
     next (asked slot request s)
     (λ reply t. replied line (is_wanted outputs) (table_kept line outputs) reply t)
-
--- a transaction is begun where it is due, and then the request is sent
-abbrev pub carried : ℕ → Request → Going → Connection → State → Outcome (Unit {0})
-carried line request outputs c s =
-    next (begun line c s) (λ _ t. sent line request outputs c.slot t)
 
 -- the area is set to its opening value, and the connection is found
 abbrev pub reached : ℕ → Option Text → State → Outcome Connection
@@ -91,17 +85,6 @@ request_made line order c s =
     next (request_of line (what_view order.what) c s) (λ made t.
     next (params_behind line order.params order.area t) (λ params u. gives (made params) u))
 
--- the request is made, the descriptor of its outputs is found, and it is carried out
-abbrev pub ordered : ℕ → Order → Going → Connection → State → Outcome (Unit {0})
-ordered line order outputs c s =
-    next (request_made line order c s) (λ request t.
-    next (outputs_found line outputs t) (λ _ u. carried line request outputs c u))
-
--- what is asked for is carried out over the connection that is found
-abbrev pub started : ℕ → Order → Going → Option Text → State → Outcome (Unit {0})
-started line order outputs name s =
-    next (reached line name s) (λ c t. ordered line order outputs c t)
-
 -- what is asked for
 abbrev pub wanted_read : Wanted → State → Outcome What
 wanted_read (wants.Normal bytes) s = gives (whats.Text bytes) s
@@ -125,14 +108,10 @@ statement_read it s =
     (λ name v. gives (record { what = what; params = params; area = name }) v)))
 
 -- where its rows go
-abbrev pub targets_read : Destination → State → Outcome Going
-targets_read (into.Hosts hs) s = gives (outputs_of hs) s
+abbrev pub targets_read : Destination → State → Outcome Outputs
+targets_read (into.Hosts hs) s = gives (goes.Hosts hs) s
 targets_read (into.Area given) s =
-    next (given_read (given_view given) s) (λ bytes t. gives (area bytes) t)
-
-abbrev pub outputs_seen : Result Outputs Stop → Result Going Stop
-outputs_seen (Ok outputs) = Ok (outputs_view outputs)
-outputs_seen (Err stop) = Err stop
+    next (given_read (given_view given) s) (λ bytes t. gives (goes.Area bytes) t)
 
 -- ---- prepared statements
 
@@ -148,59 +127,15 @@ changed_behind line request change c s =
     next (request_taken line request c.slot s)
     (λ _ t. gives tt (prepared_anew c.slot change t))
 
-abbrev pub prepare_sent : ℕ → Text → Text → Connection → State → Outcome (Unit {0})
-prepare_sent line name bytes c s =
-    changed_behind line (request.Prepare name bytes) (with_text name bytes) c s
-
-abbrev pub deallocate_sent : ℕ → Text → Connection → State → Outcome (Unit {0})
-deallocate_sent line name c s =
-    changed_behind line (request.Deallocate name) (without_text name) c s
-
 -- the name has to be there
 abbrev pub name_there : ℕ → Text → Connection → State → Outcome (Unit {0})
 name_there line name c s =
     next (found_text line (prepared_text name c.prepared) (λ bytes. bytes) s) (λ _ t. gives tt t)
 
-abbrev pub deallocated : ℕ → Text → Connection → State → Outcome (Unit {0})
-deallocated line name c s =
-    next (name_there line name c s) (λ _ t. deallocate_sent line name c t)
-
 -- the text that is sent for the one that PREPARE is given
 abbrev pub marks_read : GivenText → State → Outcome Text
 marks_read given s =
     next (given_read (given_view given) s) (λ bytes t. gives (with_marks bytes) t)
-
--- a text is prepared over the connection that is found
-abbrev pub text_prepared : ℕ → Text → Text → Option Text → State → Outcome (Unit {0})
-text_prepared line name bytes called s =
-    next (reached line called s) (λ c t. prepare_sent line name bytes c t)
-
--- what each call does behind the name of its connection
-abbrev pub ran : ℕ → Statement → Option Text → State → Outcome (Unit {0})
-ran line it name s =
-    next (statement_read it s) (λ order t.
-    next (targets_read it.outs t) (λ outputs u. started line order outputs name u))
-
-abbrev pub controlling : ℕ → Text → Option Text → State → Outcome (Unit {0})
-controlling line text name s = next (reached line name s) (λ c t. control_sent line c text t)
-
-abbrev pub switching : ℕ → Bool → Option Text → State → Outcome (Unit {0})
-switching line on name s = next (reached line name s) (λ c t. autocommit_set line on c t)
-
-abbrev pub preparing : ℕ → Text → GivenText → Option Text → State → Outcome (Unit {0})
-preparing line name given called s =
-    next (marks_read given s) (λ bytes t. text_prepared line name bytes called t)
-
-abbrev pub deallocating : ℕ → Text → Option Text → State → Outcome (Unit {0})
-deallocating line name called s =
-    next (reached line called s) (λ c t. deallocated line name c t)
-
-abbrev pub act_done : ℕ → Act → Option Text → State → Outcome (Unit {0})
-act_done line (acts.Run it) name s = ran line it name s
-act_done line (acts.Control text) name s = controlling line text name s
-act_done line (acts.Autocommit on) name s = switching line on name s
-act_done line (acts.Prepare own given) name s = preparing line own given name s
-act_done line (acts.Deallocate own) name s = deallocating line own name s
 
 -- ---- connections
 
@@ -212,12 +147,6 @@ connect_read it s =
     next (text_read (text_view it.password) u) (λ word v.
     next (text_read (text_view it.name) v) (λ called w.
     gives (own_name server called, request.Connect server by word) w))))
-
--- a connection of this name is opened by this request, if the name isn't in use
-abbrev pub connected : ℕ → Text × Request → State → Outcome (Unit {0})
-connected line it s =
-    next (begun_area s) (λ _ t.
-    unless_named line it.0 it.1 (connection_named it.0 t.connections) t)
 
 -- the connection of this name is the current one
 abbrev pub current_set : ℕ → Text → State → Outcome (Unit {0})

@@ -145,7 +145,7 @@ fn store_rows(
     store: &mut Store,
     areas: &mut Areas,
     line: Line,
-    outputs: &Outputs<'_>,
+    outputs: &Outputs,
     table: &Table,
 ) -> Result<(), Stop>
     requires area { IsArea store.old }
@@ -155,7 +155,7 @@ fn store_rows(
     ensures kept { IsArea store.new }
 {
     match outputs {
-        Outputs::Hosts(hosts) => keep_in_hosts(store, line, hosts, table),
+        Outputs::Hosts(hosts) => keep_in_hosts(store, line, hosts.as_slice(), table),
         Outputs::Area(name) => keep_row(store, areas, line, name.as_slice(), table),
     }
 }
@@ -165,7 +165,7 @@ fn counted_rows(
     store: &mut Store,
     areas: &mut Areas,
     line: Line,
-    outputs: &Outputs<'_>,
+    outputs: &Outputs,
     table: &Table,
 ) -> Result<(), Stop>
     requires area { IsArea store.old }
@@ -186,7 +186,7 @@ fn keep_table(
     store: &mut Store,
     areas: &mut Areas,
     line: Line,
-    outputs: &Outputs<'_>,
+    outputs: &Outputs,
     table: &Table,
 ) -> Result<(), Stop>
     requires area { IsArea store.old }
@@ -199,13 +199,22 @@ fn keep_table(
     counted_rows(store, areas, line, outputs, table)
 }
 
+/// Whether there is a host.
+fn has_hosts(hosts: &[Host]) -> bool
+    ensures { result ≡ is_wanted (outputs_of hosts.now) }
+{
+    match hosts {
+        [] => false,
+        _ => true,
+    }
+}
+
 /// Whether outputs are wanted.
-fn is_wanted(outputs: &Outputs<'_>) -> bool
+fn is_wanted(outputs: &Outputs) -> bool
     ensures { result ≡ is_wanted (outputs_view outputs.now) }
 {
     match outputs {
-        Outputs::Hosts([]) => false,
-        Outputs::Hosts(_) => true,
+        Outputs::Hosts(hosts) => has_hosts(hosts.as_slice()),
         Outputs::Area(_) => true,
     }
 }
@@ -215,7 +224,7 @@ pub(crate) fn answered(
     store: &mut Store,
     areas: &mut Areas,
     line: Line,
-    outputs: &Outputs<'_>,
+    outputs: &Outputs,
     reply: &Reply,
 ) -> Result<(), Stop>
     requires area { IsArea store.old }

@@ -1,10 +1,10 @@
 //! CONNECT and SET CONNECTION (PostgreSQL manual, chapter ECPG, section "Managing Database Connections").
 
 ghost use Rattle.std.specs.Prelude.{◌≡◌, ◌<◌, vec_capacity, vec_len, ◌++◌, ◌∷◌, [], None, Some, IfErr, IfOk};
+ghost use Rattle.ec_call_defs.specs.Areas.{Areas as Named};
 ghost use Rattle.ec_call_defs.specs.Connecting.{connecting, own_name, set_connection_call};
 ghost use Rattle.ec_call_defs.specs.Connections.{connection_named};
 ghost use Rattle.ec_call_defs.specs.Inputs.{given_read};
-ghost use Rattle.ec_call_defs.specs.Library.{call_done};
 ghost use Rattle.ec_meaning_defs.specs.evaluation.State.{State};
 ghost use Rattle.ec_link.specs.Links.{talk_by, faults_by};
 ghost use Rattle.ec_link.specs.Logged.{IsConnect};
@@ -12,7 +12,10 @@ ghost use Rattle.ec_runtime.specs.Calling.{connections_of, seen_by, Changes, Hol
 ghost use Rattle.ec_runtime.specs.Does.{Does};
 ghost use Rattle.ec_runtime.specs.Reading.{given_view};
 ghost use Rattle.ec_runtime.specs.Says.{Quiet};
-ghost use Rattle.ec_runtime.specs.Statements.{connect_read, connected, current_set, kind_view};
+ghost use Rattle.ec_runtime.specs.Starts.{connected_first, Leads};
+ghost use Rattle.ec_runtime.specs.Statements.{connect_read, current_set, kind_view};
+ghost use Rattle.ec_runtime.specs.Waiting.{asking_seen, some_of, Fits};
+ghost use Rattle.ec_stopping_defs.specs.Resuming.{call_started};
 ghost use Rattle.ec_runtime.specs.declared.call.Kind.TheVariants as kinds;
 ghost use Rattle.ec_runtime.specs.declared.stop.Stop.TheVariants as stops;
 ghost use Rattle.ec_transfer_defs.specs.Area.{IsArea};
@@ -24,6 +27,7 @@ use crate::inputs::{GivenText, given_text, maybe_text};
 use crate::open::Open;
 use crate::sessions::Sessions;
 use crate::stop::Stop;
+use crate::waiting::{Waiting, Waits};
 use ec_base::{Bytes, Line, List, Name};
 use ec_link::{Link, Rack, Request, Tx};
 use ec_memory::Store;
@@ -81,7 +85,7 @@ pub(crate) fn keep(library: &mut Sessions, session: Open, current: Name)
 }
 
 /// Asks for a connection, and keeps it if it opens. There is room for it before that.
-fn open_new(
+pub(crate) fn open_new(
     alloc: Global,
     store: &mut Store,
     rack: &mut Rack,
@@ -125,52 +129,54 @@ fn open_new(
     }
 }
 
-/// A connection of this name is opened by this request, if the name isn't in use.
-fn open_named(
-    alloc: Global,
+/// A connection of this name is asked for by this request, if the name isn't in use.
+fn start_named(
     store: &mut Store,
-    rack: &mut Rack,
-    library: &mut Sessions,
+    library: &Sessions,
     line: Line,
     name: Name,
     request: Request,
-) -> Result<(), Stop>
+) -> Result<Waiting, Stop>
     requires area { IsArea store.old }
-    requires holds { Holds library.old rack.old }
     requires asks { IsConnect request }
-    ensures changes { Changes (talk_by ⟦<dyn Link as Link>⟧) (faults_by ⟦<dyn Link as Link>⟧)
-        (connected line.0 (name, request))
-        store.old rack.old library.old store.new rack.new library.new result }
+    ensures leads { (areas : Named) → Leads
+        (asking_seen (connections_of library.now) (some_of result))
+        (connected_first line.0 (name, request))
+        (seen_by store.old library.now) areas (seen_by store.new library.now) areas }
+    ensures fits { (areas : Named) → IfOk result
+        (λ it. Fits (connections_of library.now) areas (Some it)) }
     ensures kept { IsArea store.new }
-    ensures still_holds { Holds library.new rack.new }
 {
     begin_area(store);
     match place_of(library.sessions.as_slice(), name.as_slice()) {
         Some(_) => Err(refuse(store, line, Finding::NotConnected)),
-        None => open_new(alloc, store, rack, library, line, name, request),
+        None => Ok(Waiting {
+            request,
+            waits: Waits::Connecting(name),
+        }),
     }
 }
 
-/// ECPGconnect. A name that is in use gives a code without a request.
-pub(crate) fn connect(
+/// ECPGconnect, up to its request. A name that is in use gives a code without one.
+pub(crate) fn start_connect(
     alloc: Global,
     store: &mut Store,
-    rack: &mut Rack,
-    library: &mut Sessions,
+    library: &Sessions,
     line: Line,
     it: &Connect,
-) -> Result<(), Stop>
+) -> Result<Waiting, Stop>
     requires area { IsArea store.old }
-    requires holds { Holds library.old rack.old }
-    ensures changes { Changes (talk_by ⟦<dyn Link as Link>⟧) (faults_by ⟦<dyn Link as Link>⟧)
-        (call_done line.0 (kind_view (kinds.Connect it.now)))
-        store.old rack.old library.old store.new rack.new library.new result }
+    ensures leads { (areas : Named) → Leads
+        (asking_seen (connections_of library.now) (some_of result))
+        (λ s. call_started line.0 (kind_view (kinds.Connect it.now)) s)
+        (seen_by store.old library.now) areas (seen_by store.new library.now) areas }
+    ensures fits { (areas : Named) → IfOk result
+        (λ it. Fits (connections_of library.now) areas (Some it)) }
     ensures kept { IsArea store.new }
-    ensures still_holds { Holds library.new rack.new }
 {
     match read_connect(alloc, store, it) {
         Err(stop) => Err(stop),
-        Ok((name, request)) => open_named(alloc, store, rack, library, line, name, request),
+        Ok((name, request)) => start_named(store, library, line, name, request),
     }
 }
 

@@ -2,14 +2,20 @@
 
 ghost use Rattle.std.specs.Prelude.{◌≡◌, ◌<◌, ℕ, List, Some, length, map, reverse, slice_get, IfErr, IfOk, OnOk};
 ghost use Rattle.std.specs.List.{remove};
-ghost use Rattle.ec_call_defs.specs.Disconnecting.{all_closed, closed, current_without, disconnect_call, last_name};
-ghost use Rattle.ec_meaning_defs.specs.evaluation.State.{Connection, State};
+ghost use Rattle.ec_arguments.specs.Arguments.{disconnect};
+ghost use Rattle.ec_call_defs.specs.Areas.{Areas as Named};
+ghost use Rattle.ec_call_defs.specs.Disconnecting.{closed, current_without, last_name};
+ghost use Rattle.ec_meaning_defs.specs.evaluation.State.{Connection};
 ghost use Rattle.ec_link.specs.Links.{talk_by, faults_by};
 ghost use Rattle.ec_memory_defs.specs.Memory.{Memory};
-ghost use Rattle.ec_runtime.specs.Calling.{connections_of, Changes, Holds};
-ghost use Rattle.ec_runtime.specs.Closing.{is_current, which_closed, which_of, Chooses, IsWithin};
+ghost use Rattle.ec_runtime.specs.Calling.{connections_of, seen_by, Changes, Holds};
+ghost use Rattle.ec_runtime.specs.Closing.{is_current, which_of, Chooses, IsWithin};
 ghost use Rattle.ec_runtime.specs.Opening.{open_view};
 ghost use Rattle.ec_runtime.specs.Reading.{given_view};
+ghost use Rattle.ec_runtime.specs.Resuming.{closing_asks};
+ghost use Rattle.ec_runtime.specs.Starts.{which_first, Leads};
+ghost use Rattle.ec_runtime.specs.Waiting.{asking_in, asking_seen, closing_first, Fits};
+ghost use Rattle.ec_stopping_defs.specs.Resuming.{call_started, stepped};
 ghost use Rattle.ec_runtime.specs.declared.stop.Stop.TheVariants as stops;
 ghost use Rattle.ec_transfer_defs.specs.Area.{IsArea};
 
@@ -19,8 +25,9 @@ use crate::inputs::GivenText;
 use crate::open::Open;
 use crate::sessions::Sessions;
 use crate::stop::Stop;
+use crate::waiting::{Waiting, Waits};
 use ec_base::{Line, Name, OutOfMemory, Trap};
-use ec_link::{Link, Rack};
+use ec_link::{Link, Rack, Request};
 use ec_memory::Store;
 use ec_transfer_defs::Finding;
 
@@ -108,7 +115,7 @@ fn forget(library: &mut Sessions, name: &[u8]) -> Result<(), Stop>
 }
 
 /// Closes the connection at a place, whatever the answer.
-fn close_at(rack: &mut Rack, library: &mut Sessions, at: usize) -> Result<(), Stop>
+pub(crate) fn close_at(rack: &mut Rack, library: &mut Sessions, at: usize) -> Result<(), Stop>
     requires holds { Holds library.old rack.old }
     requires within { at < length library.old.sessions.items }
     ensures changes { (m : Memory) (c : Connection)
@@ -146,72 +153,91 @@ fn close_at(rack: &mut Rack, library: &mut Sessions, at: usize) -> Result<(), St
     }
 }
 
-/// Closes every connection, the one opened last first.
-fn close_all(rack: &mut Rack, library: &mut Sessions) -> Result<(), Stop>
-    requires { Holds library.old rack.old }
-    ensures changes { (m : Memory) → Changes (talk_by ⟦<dyn Link as Link>⟧)
+/// What is asked to close every connection, the one opened last first.
+fn closing_all(library: &Sessions) -> Option<Waiting>
+    ensures asking { asking_in (connections_of library.now) result
+        ≡ closing_asks (reverse (connections_of library.now)) }
+    ensures fits { (areas : Named) → Fits (connections_of library.now) areas result }
+{
+    if library.sessions.len() == 0 {
+        return None;
+    }
+    Some(Waiting {
+        request: Request::Close,
+        waits: Waits::ClosingAll,
+    })
+}
+
+/// The connection that was opened last is closed, and then the others are.
+pub(crate) fn close_last(rack: &mut Rack, library: &mut Sessions) -> Result<Option<Waiting>, Stop>
+    requires holds { Holds library.old rack.old }
+    requires within { 0 < length library.old.sessions.items }
+    ensures changes { (line : ℕ) (m : Memory) → Changes (talk_by ⟦<dyn Link as Link>⟧)
         (faults_by ⟦<dyn Link as Link>⟧)
-        (λ (s : State). all_closed (reverse (connections_of library.old)) s)
-        m rack.old library.old m rack.new library.new result }
+        (stepped line (closing_first (reverse (connections_of library.old))))
+        m rack.old library.old m rack.new library.new
+        (asking_seen (connections_of library.new) result) }
+    ensures fits { (areas : Named) → IfOk result
+        (λ it. Fits (connections_of library.new) areas it) }
+    ensures fewer { IfOk result (λ _.
+        length library.new.sessions.items < length library.old.sessions.items) }
     ensures still_holds { Holds library.new rack.new }
 {
-    let count = library.sessions.len();
-    if count == 0 {
-        return Ok(());
-    }
-    match close_at(rack, library, count - 1) {
+    let last = library.sessions.len() - 1;
+    match close_at(rack, library, last) {
         Err(stop) => Err(stop),
-        Ok(()) => close_all(rack, library),
+        Ok(()) => Ok(closing_all(library)),
     }
 }
 
-/// Closes what is closed.
-fn close(
+/// What is asked to close what is closed.
+fn start_closing(
     store: &mut Store,
-    rack: &mut Rack,
-    library: &mut Sessions,
+    library: &Sessions,
     line: Line,
     which: Which,
-) -> Result<(), Stop>
+) -> Result<Option<Waiting>, Stop>
     requires area { IsArea store.old }
-    requires holds { Holds library.old rack.old }
-    requires within { IsWithin which (length library.old.sessions.items) }
-    ensures changes { Changes (talk_by ⟦<dyn Link as Link>⟧) (faults_by ⟦<dyn Link as Link>⟧)
-        (which_closed line.0 which)
-        store.old rack.old library.old store.new rack.new library.new result }
+    requires within { IsWithin which (length library.now.sessions.items) }
+    ensures leads { (areas : Named) → Leads (asking_seen (connections_of library.now) result)
+        (which_first line.0 which)
+        (seen_by store.old library.now) areas (seen_by store.new library.now) areas }
+    ensures fits { (areas : Named) → IfOk result
+        (λ it. Fits (connections_of library.now) areas it) }
     ensures kept { IsArea store.new }
-    ensures still_holds { Holds library.new rack.new }
 {
     match which {
         Which::One(place) => match place {
             None => Err(refuse(store, line, Finding::NoConnection)),
-            Some(at) => close_at(rack, library, at),
+            Some(at) => Ok(Some(Waiting {
+                request: Request::Close,
+                waits: Waits::ClosingOne(at),
+            })),
         },
-        Which::All => close_all(rack, library),
+        Which::All => Ok(closing_all(library)),
     }
 }
 
-/// ECPGdisconnect. The texts `CURRENT` and `ALL` are special however they came.
-pub(crate) fn disconnect(
+/// ECPGdisconnect, up to its first request. The texts `CURRENT` and `ALL` are special however they came.
+pub(crate) fn start_disconnect(
     store: &mut Store,
-    rack: &mut Rack,
-    library: &mut Sessions,
+    library: &Sessions,
     line: Line,
     text: &GivenText,
-) -> Result<(), Stop>
+) -> Result<Option<Waiting>, Stop>
     requires area { IsArea store.old }
-    requires holds { Holds library.old rack.old }
-    ensures changes { Changes (talk_by ⟦<dyn Link as Link>⟧) (faults_by ⟦<dyn Link as Link>⟧)
-        (disconnect_call line.0 (given_view text.now))
-        store.old rack.old library.old store.new rack.new library.new result }
+    ensures leads { (areas : Named) → Leads (asking_seen (connections_of library.now) result)
+        (λ s. call_started line.0 (disconnect (given_view text.now)) s)
+        (seen_by store.old library.now) areas (seen_by store.new library.now) areas }
+    ensures fits { (areas : Named) → IfOk result
+        (λ it. Fits (connections_of library.now) areas it) }
     ensures kept { IsArea store.new }
-    ensures still_holds { Holds library.new rack.new }
 {
     match read_which(store, library.sessions.as_slice(), &library.current, text) {
         Err(trap) => Err(Stop::Trapped(trap)),
         Ok(which) => {
             begin_area(store);
-            close(store, rack, library, line, which)
+            start_closing(store, library, line, which)
         }
     }
 }

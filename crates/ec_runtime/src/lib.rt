@@ -1,7 +1,6 @@
 //! The calls of the library, over a memory and a rack of links.
 #![tactic(auto)]
 
-mod acting;
 mod answering;
 mod area;
 mod autocommit;
@@ -11,22 +10,25 @@ mod control;
 mod describing;
 mod disconnecting;
 mod finding;
+mod firsts;
 mod host;
 mod inputs;
 mod library;
-mod nowhere;
 mod open;
 mod order;
 mod prepared;
 mod preparing;
 mod requests;
+mod resuming;
 mod running;
 mod sessions;
+
 mod stop;
 mod storing;
+mod waiting;
 
 pub use call::{Act, Call, Connect, Describe, Destination, Kind, Statement, Wanted};
 pub use host::{Host, places_that_fit};
 pub use inputs::{GivenText, Input, TextArg};
-pub use library::Library;
+pub use library::{Library, Pending, Progress};
 pub use stop::CallStop;

@@ -2,7 +2,7 @@
 
 ghost use Rattle.std.specs.Prelude.{◌≡◌, IfOk, IfErr};
 ghost use Rattle.ec_runtime.specs.Says.{Quiet};
-ghost use Rattle.ec_runtime.specs.Statements.{area_read, outputs_seen, statement_read, targets_read, wanted_read};
+ghost use Rattle.ec_runtime.specs.Statements.{area_read, statement_read, targets_read, wanted_read};
 ghost use Rattle.ec_runtime.specs.declared.stop.Stop.TheVariants as stops;
 
 use crate::call::{Destination, Statement, Wanted};
@@ -24,9 +24,9 @@ pub(crate) struct Order {
 
 /// Where rows go, once the name of a descriptor is read.
 #[derive(Debug, Drop)]
-pub(crate) enum Outputs<'h> {
+pub(crate) enum Outputs {
     /// Into hosts, or nowhere if there is none.
-    Hosts(&'h [Host]),
+    Hosts(List<Host>),
     /// Into the descriptor of a name.
     Area(Bytes),
 }
@@ -98,16 +98,16 @@ fn area_name(alloc: Global, store: &Store, area: &Option<GivenText>) -> Result<O
 }
 
 /// Reads where rows go.
-pub(crate) fn read_targets<'h>(
+pub(crate) fn read_targets(
     alloc: Global,
     store: &Store,
-    targets: &'h Destination,
-) -> Result<Outputs<'h>, Stop>
-    ensures { Quiet (outputs_seen result) (targets_read targets.now) store.now store.now }
+    targets: Destination,
+) -> Result<Outputs, Stop>
+    ensures { Quiet result (targets_read targets) store.now store.now }
 {
     match targets {
-        Destination::Hosts(hosts) => Ok(Outputs::Hosts(hosts.as_slice())),
-        Destination::Area(text) => match given_text(alloc, store, text) {
+        Destination::Hosts(hosts) => Ok(Outputs::Hosts(hosts)),
+        Destination::Area(text) => match given_text(alloc, store, &text) {
             Err(stop) => Err(stop),
             Ok(name) => Ok(Outputs::Area(name)),
         },

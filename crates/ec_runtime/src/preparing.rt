@@ -1,31 +1,28 @@
 //! PREPARE and DEALLOCATE (PostgreSQL manual, chapter ECPG, section "Dynamic SQL"). No transaction is begun before them.
 
-ghost use Rattle.std.specs.Prelude.{◌≡◌, IfOk};
+ghost use Rattle.std.specs.Prelude.{◌≡◌};
 ghost use Rattle.ec_call_defs.specs.Answers.{taken};
-ghost use Rattle.ec_call_defs.specs.Outcomes.{Text};
 ghost use Rattle.ec_call_defs.specs.Preparing.{with_text, without_text};
 ghost use Rattle.ec_link.specs.Conn.{slot_of};
 ghost use Rattle.ec_link.specs.Links.{talk_by, faults_by};
 ghost use Rattle.ec_link.specs.Logged.{IsAsk};
 ghost use Rattle.ec_link.specs.Rack.{slots_of};
 ghost use Rattle.ec_link.specs.Slot.{states};
-ghost use Rattle.ec_link.specs.declared.request.Request.TheVariants as Asks;
 ghost use Rattle.ec_link.specs.SlotState.{TakenAt};
 ghost use Rattle.ec_transfer_defs.specs.Area.{IsArea};
-ghost use Rattle.ec_runtime.specs.Does.{Over, OverNamed};
+ghost use Rattle.ec_runtime.specs.Does.{Over};
 ghost use Rattle.ec_runtime.specs.Opening.{open_view};
 ghost use Rattle.ec_runtime.specs.Says.{Quiet};
-ghost use Rattle.ec_runtime.specs.Statements.{changed_behind, deallocate_sent, deallocated, deallocating, marks_read, name_there, prepare_sent, preparing, request_taken, text_prepared};
+ghost use Rattle.ec_runtime.specs.Statements.{changed_behind, marks_read, name_there, request_taken};
 ghost use Rattle.std.specs.declared.option.Option.{Option};
 
 use crate::answering::refused;
-use crate::area::{begin_area, refuse, tell_notice};
+use crate::area::{refuse, tell_notice};
 use crate::inputs::{GivenText, given_text};
 use crate::open::{Open, ask};
-use crate::order::kept_name;
 use crate::prepared::{forget, keep, text_under};
 use crate::stop::Stop;
-use ec_base::{Bytes, Line, Name, OutOfMemory};
+use ec_base::{Bytes, Line, Name};
 use ec_link::{Link, Rack, Reply, Request};
 use ec_marks::with_marks;
 use ec_memory::Store;
@@ -83,7 +80,7 @@ fn send_taken(
 }
 
 /// A request is sent, and a text is kept under its name once the server took it.
-fn keep_behind(
+pub(crate) fn keep_behind(
     store: &mut Store,
     rack: &mut Rack,
     session: &mut Open,
@@ -110,41 +107,6 @@ fn keep_behind(
     }
 }
 
-/// The request to prepare a text under a name, and the name again.
-fn prepare_request(alloc: Global, name: &Name, text: &Bytes) -> Result<(Request, Name), OutOfMemory>
-    ensures { IfOk result (λ made. (made.0 ≡ Asks.Prepare name.now text.now)
-        × (made.1 ≡ name.now)) }
-{
-    let asked = name.clone()?;
-    let kept = name.clone()?;
-    let text = Bytes::from_slice(alloc, text.as_slice())?;
-    Ok((Request::Prepare { name: asked, text }, kept))
-}
-
-/// A text is sent, and kept under its name once the server took it.
-fn send_prepare(
-    alloc: Global,
-    store: &mut Store,
-    rack: &mut Rack,
-    session: &mut Open,
-    line: Line,
-    name: &Name,
-    text: Bytes,
-) -> Result<(), Stop>
-    requires area { IsArea store.old }
-    requires taken { TakenAt (states (slots_of rack.old)) (slot_of session.old.conn) }
-    ensures over { Over (talk_by ⟦<dyn Link as Link>⟧) (faults_by ⟦<dyn Link as Link>⟧)
-        (prepare_sent line.0 name.now text (open_view session.old))
-        store.old rack.old session.old store.new rack.new session.new result }
-    ensures kept { IsArea store.new }
-    ensures still_taken { TakenAt (states (slots_of rack.new)) (slot_of session.new.conn) }
-{
-    match prepare_request(alloc, name, &text) {
-        Err(_) => Err(Stop::OutOfMemory),
-        Ok((request, name)) => keep_behind(store, rack, session, line, request, name, text),
-    }
-}
-
 /// The text that is sent for the one that PREPARE is given.
 pub(crate) fn marked_text(alloc: Global, store: &Store, given: &GivenText) -> Result<Bytes, Stop>
     ensures { Quiet result (marks_read given.now) store.now store.now }
@@ -158,54 +120,8 @@ pub(crate) fn marked_text(alloc: Global, store: &Store, given: &GivenText) -> Re
     }
 }
 
-/// With the text that is sent: the connection is found, and it is sent over that.
-fn prepare_text(
-    alloc: Global,
-    store: &mut Store,
-    rack: &mut Rack,
-    session: &mut Open,
-    line: Line,
-    name: &Name,
-    text: Bytes,
-) -> Result<(), Stop>
-    requires area { IsArea store.old }
-    requires taken { TakenAt (states (slots_of rack.old)) (slot_of session.old.conn) }
-    ensures over { (called : Option Text) → OverNamed (talk_by ⟦<dyn Link as Link>⟧)
-        (faults_by ⟦<dyn Link as Link>⟧) called (text_prepared line.0 name.now text called)
-        store.old rack.old session.old store.new rack.new session.new result }
-    ensures kept { IsArea store.new }
-    ensures still_taken { TakenAt (states (slots_of rack.new)) (slot_of session.new.conn) }
-{
-    begin_area(store);
-    send_prepare(alloc, store, rack, session, line, name, text)
-}
-
-/// ECPGprepare.
-pub(crate) fn prepare(
-    alloc: Global,
-    store: &mut Store,
-    rack: &mut Rack,
-    session: &mut Open,
-    line: Line,
-    name: &Name,
-    given: &GivenText,
-) -> Result<(), Stop>
-    requires area { IsArea store.old }
-    requires taken { TakenAt (states (slots_of rack.old)) (slot_of session.old.conn) }
-    ensures over { (called : Option Text) → OverNamed (talk_by ⟦<dyn Link as Link>⟧)
-        (faults_by ⟦<dyn Link as Link>⟧) called (preparing line.0 name.now given.now called)
-        store.old rack.old session.old store.new rack.new session.new result }
-    ensures kept { IsArea store.new }
-    ensures still_taken { TakenAt (states (slots_of rack.new)) (slot_of session.new.conn) }
-{
-    match marked_text(alloc, store, given) {
-        Err(stop) => Err(stop),
-        Ok(text) => prepare_text(alloc, store, rack, session, line, name, text),
-    }
-}
-
 /// The name has to be there.
-fn find(store: &mut Store, session: &Open, line: Line, name: &Name) -> Result<(), Stop>
+pub(crate) fn find_name(store: &mut Store, session: &Open, line: Line, name: &Name) -> Result<(), Stop>
     requires { IsArea store.old }
     ensures quiet { Quiet result (name_there line.0 name.now (open_view session.now))
         store.old store.new }
@@ -218,13 +134,13 @@ fn find(store: &mut Store, session: &Open, line: Line, name: &Name) -> Result<()
 }
 
 /// A request is sent, and the text under a name is forgotten once the server took it.
-fn forget_behind(
+pub(crate) fn forget_behind(
     store: &mut Store,
     rack: &mut Rack,
     session: &mut Open,
     line: Line,
     request: Request,
-    name: &[u8],
+    name: &Name,
 ) -> Result<(), Stop>
     requires area { IsArea store.old }
     requires taken { TakenAt (states (slots_of rack.old)) (slot_of session.old.conn) }
@@ -238,75 +154,8 @@ fn forget_behind(
     match send_taken(store, rack, session, line, request) {
         Err(stop) => Err(stop),
         Ok(()) => {
-            forget(&mut session.prepared, name);
+            forget(&mut session.prepared, name.as_slice());
             Ok(())
         }
     }
-}
-
-/// The name is sent, and its text is forgotten once the server took it.
-fn send_deallocate(
-    store: &mut Store,
-    rack: &mut Rack,
-    session: &mut Open,
-    line: Line,
-    name: &Name,
-) -> Result<(), Stop>
-    requires area { IsArea store.old }
-    requires taken { TakenAt (states (slots_of rack.old)) (slot_of session.old.conn) }
-    ensures over { Over (talk_by ⟦<dyn Link as Link>⟧) (faults_by ⟦<dyn Link as Link>⟧)
-        (deallocate_sent line.0 name.now (open_view session.old))
-        store.old rack.old session.old store.new rack.new session.new result }
-    ensures kept { IsArea store.new }
-    ensures still_taken { TakenAt (states (slots_of rack.new)) (slot_of session.new.conn) }
-{
-    match kept_name(name) {
-        Err(_) => Err(Stop::OutOfMemory),
-        Ok(copy) => {
-            let request = Request::Deallocate { name: copy };
-            forget_behind(store, rack, session, line, request, name.as_slice())
-        }
-    }
-}
-
-/// Where the name is there, it is sent.
-fn deallocate_named(
-    store: &mut Store,
-    rack: &mut Rack,
-    session: &mut Open,
-    line: Line,
-    name: &Name,
-) -> Result<(), Stop>
-    requires area { IsArea store.old }
-    requires taken { TakenAt (states (slots_of rack.old)) (slot_of session.old.conn) }
-    ensures over { Over (talk_by ⟦<dyn Link as Link>⟧) (faults_by ⟦<dyn Link as Link>⟧)
-        (deallocated line.0 name.now (open_view session.old))
-        store.old rack.old session.old store.new rack.new session.new result }
-    ensures kept { IsArea store.new }
-    ensures still_taken { TakenAt (states (slots_of rack.new)) (slot_of session.new.conn) }
-{
-    match find(store, session, line, name) {
-        Err(stop) => Err(stop),
-        Ok(()) => send_deallocate(store, rack, session, line, name),
-    }
-}
-
-/// ECPGdeallocate.
-pub(crate) fn deallocate(
-    store: &mut Store,
-    rack: &mut Rack,
-    session: &mut Open,
-    line: Line,
-    name: &Name,
-) -> Result<(), Stop>
-    requires area { IsArea store.old }
-    requires taken { TakenAt (states (slots_of rack.old)) (slot_of session.old.conn) }
-    ensures over { (called : Option Text) → OverNamed (talk_by ⟦<dyn Link as Link>⟧)
-        (faults_by ⟦<dyn Link as Link>⟧) called (deallocating line.0 name.now called)
-        store.old rack.old session.old store.new rack.new session.new result }
-    ensures kept { IsArea store.new }
-    ensures still_taken { TakenAt (states (slots_of rack.new)) (slot_of session.new.conn) }
-{
-    begin_area(store);
-    deallocate_named(store, rack, session, line, name)
 }

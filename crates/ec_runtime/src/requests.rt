@@ -155,7 +155,7 @@ pub(crate) fn find_target(
     store: &mut Store,
     areas: &Areas,
     line: Line,
-    outputs: &Outputs<'_>,
+    outputs: &Outputs,
 ) -> Result<(), Stop>
     requires { IsArea store.old }
     ensures changed { Changed result (outputs_found line.0 (outputs_view outputs.now))

@@ -7,24 +7,24 @@ use Rattle.ec_calling.proofs.Carrying.{answer_of, served_made, unserved}
 use Rattle.ec_calling.proofs.making.run.Goals as goal
 
 pub returns-then-not-has_area-clause-made : goal.returns-then-not-has_area-clause-made
-returns-then-not-has_area-clause-made g c = λ turns. unserved (cut_view c.args.call.now) c.args.line.0 c.args.store.now turns _
+returns-then-not-has_area-clause-made g c = λ turns. unserved (cut_view c.args.call) c.args.line.0 c.args.store.now turns _
 
 pub returns-in-Ok-clause-made : goal.returns-in-Ok-clause-made
 returns-in-Ok-clause-made g c = λ turns.
     served_made (λ z. (goal.Link-dyn g (z.vtable, z.value)).talk z.value) (λ z. (goal.Link-dyn g (z.vtable, z.value)).faults z.value)
-    (call_action c.args.call.now) c.args.line c.args.store.now c.call.new.store c.args.rack.now c.call.new.rack c.args.library.now c.call.new.self turns (Ok tt) c.in-Ok.ensures.called
+    (call_action c.args.call) c.args.line c.args.store.now c.call.new.store c.args.rack.now c.call.new.rack c.args.library.now c.call.new.self turns (Ok tt) c.in-Ok.ensures.called
 
 pub returns-in-Err-Trapped-clause-made : goal.returns-in-Err-Trapped-clause-made
 returns-in-Err-Trapped-clause-made g c = λ turns.
-    subst (λ x. Made (λ w first s. settled c.args.line.0 (call_action c.args.call.now s)) (position_of c.args.store.now turns c.args.rack.now c.args.library.now) (position_of c.call.new.store turns c.call.new.rack c.call.new.self) (answer_of c.args.line (Err x))) c.in-Err-Trapped.field-0-is
+    subst (λ x. Made (λ w first s. settled c.args.line.0 (call_action c.args.call s)) (position_of c.args.store.now turns c.args.rack.now c.args.library.now) (position_of c.call.new.store turns c.call.new.rack c.call.new.self) (answer_of c.args.line (Err x))) c.in-Err-Trapped.field-0-is
     (served_made (λ z. (goal.Link-dyn g (z.vtable, z.value)).talk z.value) (λ z. (goal.Link-dyn g (z.vtable, z.value)).faults z.value)
-    (call_action c.args.call.now) c.args.line c.args.store.now c.call.new.store c.args.rack.now c.call.new.rack c.args.library.now c.call.new.self turns (Err c.in-Err-Trapped.field-0) c.in-Err-Trapped.ensures.called)
+    (call_action c.args.call) c.args.line c.args.store.now c.call.new.store c.args.rack.now c.call.new.rack c.args.library.now c.call.new.self turns (Err c.in-Err-Trapped.field-0) c.in-Err-Trapped.ensures.called)
 
 pub returns-in-Err-OutOfMemory-clause-made : goal.returns-in-Err-OutOfMemory-clause-made
 returns-in-Err-OutOfMemory-clause-made g c = λ turns.
-    subst (λ x. Made (λ w first s. settled c.args.line.0 (call_action c.args.call.now s)) (position_of c.args.store.now turns c.args.rack.now c.args.library.now) (position_of c.call.new.store turns c.call.new.rack c.call.new.self) (answer_of c.args.line (Err x))) c.in-Err-OutOfMemory.field-0-is
+    subst (λ x. Made (λ w first s. settled c.args.line.0 (call_action c.args.call s)) (position_of c.args.store.now turns c.args.rack.now c.args.library.now) (position_of c.call.new.store turns c.call.new.rack c.call.new.self) (answer_of c.args.line (Err x))) c.in-Err-OutOfMemory.field-0-is
     (served_made (λ z. (goal.Link-dyn g (z.vtable, z.value)).talk z.value) (λ z. (goal.Link-dyn g (z.vtable, z.value)).faults z.value)
-    (call_action c.args.call.now) c.args.line c.args.store.now c.call.new.store c.args.rack.now c.call.new.rack c.args.library.now c.call.new.self turns (Err c.in-Err-OutOfMemory.field-0) c.in-Err-OutOfMemory.ensures.called)
+    (call_action c.args.call) c.args.line c.args.store.now c.call.new.store c.args.rack.now c.call.new.rack c.args.library.now c.call.new.self turns (Err c.in-Err-OutOfMemory.field-0) c.in-Err-OutOfMemory.ensures.called)
 
 pub returns-then-not-has_area-clause-moved : goal.returns-then-not-has_area-clause-moved
 returns-then-not-has_area-clause-moved g c = unmoved (λ z. (goal.Link-dyn g (z.vtable, z.value)).talk z.value) (λ z. (goal.Link-dyn g (z.vtable, z.value)).faults z.value) c.args.rack.now c.args.library.now
