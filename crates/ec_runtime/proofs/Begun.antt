@@ -1,9 +1,8 @@
 -- A call up to its first request, from its parts.
-use Rattle.std.proofs.Common.{◌≡◌, ◌<◌, ℕ, zero, suc, Bool, true, false, List, [], ◌∷◌, ◌++◌, length, map, Option, Some, None, Result, Ok, Err, refl, sym, subst, ap, ◌∙◌, codes, arith}
+use Rattle.std.proofs.Common.{◌≡◌, ◌<◌, ℕ, Bool, true, false, List, [], ◌∷◌, ◌++◌, length, map, Option, Some, None, Result, Ok, Err, refl, sym, subst, ap, ◌∙◌, codes, arith}
 use Rattle.std.specs.Prelude.{slice_get, slice_set, IfOk, IfErr}
 use Rattle.ec_arguments.specs.Arguments.{TextArg as TextData, Member}
 use Rattle.ec_base.specs.declared.stop.Trap.{Trap}
-use Rattle.ec_link.specs.declared.connection.Conn.{Conn}
 use Rattle.ec_link.specs.declared.request.Request.{Request}
 use Rattle.ec_link.specs.declared.request.Request.TheVariants as request
 use Rattle.ec_link.specs.Conn.{slot_of}
@@ -13,14 +12,14 @@ use Rattle.ec_transfer_defs.specs.Codes.{code_of, state_of, text_of_finding}
 use Rattle.ec_meaning_defs.specs.evaluation.State.{Connection, State}
 use Rattle.ec_call_defs.specs.Areas.{Areas}
 use Rattle.ec_call_defs.specs.Autocommit.{commits_first, with_autocommit}
-use Rattle.ec_call_defs.specs.Connections.{begins, begin_text, changed_at, connection_for, found_connection}
+use Rattle.ec_call_defs.specs.Connections.{begins, begin_text, connection_for, found_connection}
 use Rattle.ec_call_defs.specs.Inputs.{text_read, given_read, Inputs, no_inputs, with_param, with_area as named_by, inputs_read, value_read}
 use Rattle.ec_call_defs.specs.Connecting.{set_connection_call}
 use Rattle.ec_call_defs.specs.Library.{call_done}
 use Rattle.ec_call_defs.specs.Marks.{with_marks}
 use Rattle.ec_call_defs.specs.Outcomes.{Text, Field, Outcome, trapped, gives, finished, over, next, with_memory, fresh_area, told_area, begun_area}
-use Rattle.ec_call_defs.specs.Running.{Wanted as Sought, Outputs as Going, nowhere, hosts, area, text, places_of, into_places, outputs_read, params_of, params_behind, outputs_found, request_of, prepared_text, found_text, statement_read as statement_said}
-use Rattle.ec_stopping_defs.specs.Resuming.{Asking, asks, asks_with, begun, call_started, commits, controls, deallocates, ending, prepares, replies, statement_asks, switching}
+use Rattle.ec_call_defs.specs.Running.{Wanted as Sought, Outputs as Going, text, places_of, into_places, outputs_read, params_of, params_behind, outputs_found, request_of, prepared_text, found_text, statement_read as statement_said}
+use Rattle.ec_stopping_defs.specs.Resuming.{Asking, asks, asks_with, begun, call_started, commits, deallocates, ending, statement_asks, switching}
 use Rattle.ec_runtime.specs.declared.call.Act.{Act}
 use Rattle.ec_runtime.specs.declared.call.Act.TheVariants as acts
 use Rattle.ec_runtime.specs.declared.call.Describe.{Describe}
@@ -50,21 +49,20 @@ use Rattle.ec_runtime.specs.declared.stop.Stop.TheVariants as stops
 use Rattle.ec_runtime.specs.declared.waiting.Behind.{Behind}
 use Rattle.ec_runtime.specs.declared.waiting.Behind.TheVariants as behinds
 use Rattle.ec_runtime.specs.declared.waiting.Waiting.{Waiting}
-use Rattle.ec_runtime.specs.Calling.{AllBeside, AllNamed, Stays, connections_of, conns_of, seen_by}
+use Rattle.ec_runtime.specs.Calling.{AllBeside, AllNamed, Stays, connections_of, seen_by}
 use Rattle.ec_runtime.specs.Closing.{at_place}
-use Rattle.ec_runtime.specs.Does.{Apart, Around, NoneAt, Seen, among, placed, seen, Does}
+use Rattle.ec_runtime.specs.Does.{Around, Seen, placed, seen, Does}
 use Rattle.ec_runtime.specs.Opening.{open_view}
 use Rattle.ec_runtime.specs.Racks.{Beside}
-use Rattle.ec_runtime.specs.Reading.{given_view, input_view, text_view, values_read, TextIs}
+use Rattle.ec_runtime.specs.Reading.{given_view, input_view, values_read, TextIs}
 use Rattle.ec_runtime.specs.Says.{Changed, Quiet, Says, giving}
 use Rattle.ec_runtime.specs.Seeking.{place_sought, sought}
 use Rattle.ec_runtime.specs.Starts.{act_read, deallocated_first, ordered_first, over_first, ready_first, standing, Leads, StartsOver}
 use Rattle.ec_runtime.specs.Statements.{act_view, area_members, area_read, describe_view, kind_view, marks_read, name_there, outputs_view, reached, request_made, statement_read, target_view, targets_read, targets_view, wanted_read, wanted_view, what_view}
 use Rattle.ec_runtime.specs.Views.{host_view, hosts_view}
-use Rattle.ec_runtime.specs.Waiting.{asking_seen, behind_view, first_in, first_seen, over_at, slot_for, some_of, waiting_at, BehindFits, FirstFits, Fits}
+use Rattle.ec_runtime.specs.Waiting.{asking_seen, behind_view, first_seen, over_at, slot_for, some_of, FirstFits, Fits}
 use Rattle.ec_runtime.proofs.Joining.{changed_among, said_nothing}
 use Rattle.ec_runtime.proofs.Making.{links, links_among, named_same, none_at, split_at, views, views_among, Splits}
-use Rattle.ec_runtime.proofs.Moving.{beside_before}
 use Rattle.ec_runtime.proofs.Seeking.{sought_at}
 use Rattle.ec_runtime.proofs.Starting.{connection_sought, next_next, only, with_area, with_values}
 use Rattle.ec_runtime.proofs.Targets.{stopped_next}

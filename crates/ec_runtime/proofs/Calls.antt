@@ -1,6 +1,6 @@
 -- A whole call, from its parts.
-use Rattle.std.proofs.Common.{◌≡◌, ◌<◌, ◌+◌, ℕ, zero, suc, List, [], ◌∷◌, ◌++◌, length, map, Option, Some, None, Result, Ok, Err, refl, sym, subst, ap, ◌∙◌, append-nil, append_assoc, arith}
-use Rattle.std.specs.Prelude.{reverse, slice_get, slice_set, IfOk, IsSome}
+use Rattle.std.proofs.Common.{◌≡◌, ◌<◌, ℕ, zero, suc, List, [], ◌∷◌, ◌++◌, length, Option, Some, None, Result, Ok, Err, refl, sym, subst, ap, ◌∙◌, arith}
+use Rattle.std.specs.Prelude.{reverse, slice_get, slice_set, IfOk}
 use Rattle.std.specs.declared.alloc.Global.{Global}
 use Rattle.std.specs.declared.dyn_box.DynBox.{DynBox}
 use Rattle.ec_base.specs.declared.line.Line.{Line}
@@ -8,18 +8,16 @@ use Rattle.ec_link.specs.declared.connection.Conn.{Conn}
 use Rattle.ec_link.specs.declared.logged.Logged.{Logged}
 use Rattle.ec_link.specs.declared.rack.Rack.{Rack}
 use Rattle.ec_link.specs.Logged.{Talk}
-use Rattle.ec_link.specs.Rack.{log_of, slots_of}
+use Rattle.ec_link.specs.Rack.{slots_of}
 use Rattle.ec_link.specs.Slot.{states}
 use Rattle.ec_link.specs.SlotState.{SlotState, TakenAt}
 use Rattle.ec_link.specs.Conn.{slot_of}
 use Rattle.ec_memory_defs.specs.Memory.{Memory}
 use Rattle.ec_meaning_defs.specs.observed.Observed.{answers_in}
-use Rattle.ec_meaning_defs.specs.observed.Run.{IsFront}
-use Rattle.ec_meaning_defs.specs.evaluation.State.{Answer, Connection, State}
+use Rattle.ec_meaning_defs.specs.evaluation.State.{Connection, State}
 use Rattle.ec_arguments.specs.Arguments.{Cut}
 use Rattle.ec_call_defs.specs.Areas.{Areas}
-use Rattle.ec_call_defs.specs.Growth.{Grows, state_of}
-use Rattle.ec_call_defs.specs.Outcomes.{Outcome, finished, gives, next, over, trapped}
+use Rattle.ec_call_defs.specs.Outcomes.{Outcome}
 use Rattle.ec_link.specs.declared.request.Request.{Request}
 use Rattle.ec_link.specs.declared.request.Request.TheVariants as request
 use Rattle.ec_stopping_defs.specs.Resuming.{Asking, asks_for, call_started, is_asked_over, started, stepped}
@@ -27,25 +25,22 @@ use Rattle.ec_stopping_defs.specs.Saying.{requests_left, IsNearer}
 use Rattle.ec_stopping_defs.proofs.Once.{stepped_nearer}
 use Rattle.ec_runtime.specs.declared.library.Library.{Library}
 use Rattle.ec_runtime.specs.declared.library.Progress.{Progress}
-use Rattle.ec_runtime.specs.declared.library.Progress.TheVariants as progress
 use Rattle.ec_runtime.specs.declared.sessions.Sessions.{Sessions}
 use Rattle.ec_runtime.specs.declared.open.Open.{Open}
 use Rattle.ec_runtime.specs.declared.stop.Stop.{Stop}
 use Rattle.ec_runtime.specs.declared.stop.Stop.TheVariants as stops
 use Rattle.ec_runtime.specs.declared.stop.CallStop.{CallStop}
-use Rattle.ec_runtime.specs.declared.stop.CallStop.TheVariants as calls
 use Rattle.ec_runtime.specs.declared.waiting.UnderWay.{UnderWay}
 use Rattle.ec_runtime.specs.declared.waiting.Waiting.{Waiting}
 use Rattle.ec_runtime.specs.declared.waiting.Waits.{Waits}
 use Rattle.ec_runtime.specs.declared.waiting.Waits.TheVariants as waits
-use Rattle.ec_runtime.specs.Calling.{AllBeside, AllNamed, Answers, Stopped, Carries, Changes, ChangesWith, Called, Holds, Stays, connections_of, conns_of, placed_by, seen_by}
-use Rattle.ec_runtime.specs.Does.{DoesFrom, LeftFrom, Placing, saying}
-use Rattle.ec_runtime.specs.Opening.{open_view}
+use Rattle.ec_runtime.specs.Calling.{AllBeside, AllNamed, Changes, ChangesWith, Holds, Stays, connections_of, placed_by, seen_by}
+use Rattle.ec_runtime.specs.Does.{LeftFrom, Placing, saying}
 use Rattle.ec_runtime.specs.Proceeding.{asked_of, kept_of, left_of, progress_of, waiting_in, waiting_of, IsEnd, IsFit, Nears, Proceeds, Resumes, Starts, StoppedAt, UnderWayFits}
-use Rattle.ec_runtime.specs.Racks.{AllTaken, Moves}
+use Rattle.ec_runtime.specs.Racks.{AllTaken}
 use Rattle.ec_runtime.specs.Says.{Says, giving}
 use Rattle.ec_runtime.specs.Starts.{Leads}
-use Rattle.ec_runtime.specs.Waiting.{asking_in, asking_of, asking_seen, closing_first, closing_with, waits_view, Fits, WaitsFit}
+use Rattle.ec_runtime.specs.Waiting.{asking_of, asking_seen, closing_first, closing_with, waits_view, Fits, WaitsFit}
 use Rattle.ec_runtime.proofs.Connections.{taken_here}
 use Rattle.ec_runtime.proofs.Joining.{lifted}
 use Rattle.ec_runtime.proofs.Making.{held_same, links, links_among, named_same, split_at, views}

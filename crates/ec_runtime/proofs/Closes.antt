@@ -18,36 +18,21 @@ use Rattle.ec_link.specs.Slot.{states}
 use Rattle.ec_link.specs.SlotState.{SlotState, TakenAt, free, ready_slot}
 use Rattle.ec_link.proofs.Places.{slice_get-slice_set_other}
 use Rattle.ec_link.proofs.Runs.{states-slice_set}
-use Rattle.ec_arguments.specs.Arguments.{TextArg as TextData}
-use Rattle.ec_base.specs.declared.stop.Trap.{Trap}
 use Rattle.ec_memory_defs.specs.Memory.{Memory}
-use Rattle.ec_transfer_defs.specs.declared.finding.Finding.TheVariants as found
-use Rattle.ec_transfer_defs.specs.Codes.{code_of, state_of, text_of_finding}
 use Rattle.ec_meaning_defs.specs.evaluation.Whole.{ready_connections, ready_name}
-use Rattle.ec_call_defs.specs.Connecting.{set_connection_call}
-use Rattle.ec_call_defs.specs.Inputs.{given_read}
-use Rattle.ec_call_defs.specs.Library.{call_done}
-use Rattle.ec_meaning_defs.specs.evaluation.State.{Connection, State}
+use Rattle.ec_meaning_defs.specs.evaluation.State.{Connection}
 use Rattle.ec_call_defs.specs.Disconnecting.{closed, current_without, last_name}
-use Rattle.ec_call_defs.specs.Outcomes.{Text, fresh_area, gives, over, told_area, trapped, with_memory}
-use Rattle.ec_runtime.specs.declared.call.Call.{Call}
-use Rattle.ec_runtime.specs.declared.call.Kind.TheVariants as kinds
-use Rattle.ec_runtime.specs.declared.disconnecting.Which.{Which}
-use Rattle.ec_runtime.specs.declared.disconnecting.Which.TheVariants.{All, One}
-use Rattle.ec_runtime.specs.declared.inputs.GivenText.{GivenText}
+use Rattle.ec_call_defs.specs.Outcomes.{Text}
 use Rattle.ec_runtime.specs.declared.sessions.Sessions.{Sessions}
 use Rattle.ec_runtime.specs.declared.open.Open.{Open}
 use Rattle.ec_runtime.specs.declared.stop.Stop.{Stop}
 use Rattle.ec_runtime.specs.declared.stop.Stop.TheVariants as stops
-use Rattle.ec_runtime.specs.Calling.{AllNamed, Changes, Holds, Opens, TakesFirst, connections_of, conns_of, seen_by}
-use Rattle.ec_runtime.specs.Does.{Does}
+use Rattle.ec_runtime.specs.Calling.{AllNamed, Changes, Holds, Opens, TakesFirst, connections_of, conns_of}
 use Rattle.ec_runtime.specs.Opening.{open_view}
 use Rattle.ec_runtime.specs.Racks.{AllTaken, GivesAll}
-use Rattle.ec_runtime.specs.Reading.{given_view}
 use Rattle.ec_runtime.proofs.Closing.{all_named_less, close_ended, close_taken, close_unasked}
 use Rattle.ec_runtime.proofs.Connections.{apart_before, taken_here, taken_less}
-use Rattle.ec_runtime.proofs.Making.{changes_from, held_same, links, links_among, made_along, made_from, made_still, named_same, split_at, views, views_among}
-use Rattle.ec_runtime.proofs.Starting.{only}
+use Rattle.ec_runtime.proofs.Making.{changes_from, held_same, links, links_among, made_along, named_same, split_at, views, views_among}
 
 pub on_ok : {P : Type 0} (r : Result (Unit {0}) Stop) → P → OnOk r P
 on_ok (Ok x) p = p

@@ -8,7 +8,6 @@ use Rattle.std.specs.declared.dyn_box.DynBox.{DynBox}
 use Rattle.ec_arguments.specs.Arguments.{TextArg as TextData, disconnect}
 use Rattle.ec_call_defs.specs.Areas.{Areas}
 use Rattle.ec_base.specs.declared.stop.Trap.{Trap}
-use Rattle.ec_link.specs.declared.logged.Logged.{Logged}
 use Rattle.ec_link.specs.declared.rack.Rack.{Rack}
 use Rattle.ec_link.specs.declared.reply.Reply.{Reply}
 use Rattle.ec_link.specs.declared.reply.Tx.{Tx}
@@ -35,7 +34,7 @@ use Rattle.ec_runtime.specs.declared.stop.Stop.{Stop}
 use Rattle.ec_runtime.specs.declared.stop.Stop.TheVariants as stops
 use Rattle.ec_runtime.specs.Calling.{AllNamed, NoneNamed}
 use Rattle.ec_runtime.specs.Closing.{at_place, which_of}
-use Rattle.ec_runtime.specs.Does.{Around, NoneAt, Seen, among, placed, Does}
+use Rattle.ec_runtime.specs.Does.{Around, NoneAt, among, placed, Does}
 use Rattle.ec_runtime.specs.Opening.{open_view}
 use Rattle.ec_runtime.specs.Racks.{AllTaken, Moves}
 use Rattle.ec_runtime.specs.Resuming.{closing_asks}
@@ -46,9 +45,9 @@ use Rattle.ec_runtime.specs.Waiting.{closing_with}
 use Rattle.ec_stopping_defs.specs.Resuming.{Asking, asks_with, call_started, closes, closing, disconnecting, one_closing}
 use Rattle.ec_runtime.proofs.Connections.{apart_before, moves_closed, taken_closed, taken_here}
 use Rattle.ec_runtime.proofs.Grows.{same_front, next_grows, asked_grows}
-use Rattle.ec_runtime.proofs.Joining.{quiet, same_action, and_next, and_stop, asked_does, no_memory, there}
-use Rattle.ec_runtime.proofs.Making.{Made, links, links_among, links_moved, made_still, none_at, views, views_among}
-use Rattle.ec_runtime.proofs.Moving.{moves_asked, moves_both}
+use Rattle.ec_runtime.proofs.Joining.{quiet, same_action, and_next, asked_does, no_memory, there}
+use Rattle.ec_runtime.proofs.Making.{Made, links, links_among, links_moved, none_at, views, views_among}
+use Rattle.ec_runtime.proofs.Moving.{moves_asked}
 use Rattle.ec_runtime.proofs.Seeking.{sought_at}
 use Rattle.ec_runtime.proofs.Starting.{connection_sought, only}
 

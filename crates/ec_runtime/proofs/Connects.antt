@@ -7,7 +7,6 @@ use Rattle.std.specs.declared.alloc.Global.{Global}
 use Rattle.std.specs.declared.dyn_box.DynBox.{DynBox}
 use Rattle.ec_arguments.specs.Arguments.{TextArg as TextData}
 use Rattle.ec_link.specs.declared.connection.Conn.{Conn}
-use Rattle.ec_link.specs.declared.logged.Logged.{Logged}
 use Rattle.ec_link.specs.declared.rack.Rack.{Rack}
 use Rattle.ec_link.specs.declared.reply.Reply.{Reply}
 use Rattle.ec_link.specs.declared.reply.Reply.TheVariants.{Connected, NoTarget, Rows, Done, Refused, Broken}
@@ -29,7 +28,7 @@ use Rattle.ec_call_defs.specs.Connections.{connection_named, exchange, found_con
 use Rattle.ec_meaning_defs.specs.observed.Run.{IsFront}
 use Rattle.ec_call_defs.specs.Growth.{Grows, state_of as reached_state}
 use Rattle.ec_call_defs.specs.Inputs.{given_read, text_read}
-use Rattle.ec_call_defs.specs.Outcomes.{Text, Outcome, gives, finished, next, with_memory, fresh_area, told_area, raised}
+use Rattle.ec_call_defs.specs.Outcomes.{Text, Outcome, gives, finished, next, with_memory, fresh_area, told_area}
 use Rattle.ec_runtime.specs.declared.call.Connect.{Connect}
 use Rattle.ec_runtime.specs.declared.call.Kind.TheVariants as kinds
 use Rattle.ec_runtime.specs.declared.inputs.GivenText.{GivenText}
@@ -37,7 +36,7 @@ use Rattle.ec_runtime.specs.declared.sessions.Sessions.{Sessions}
 use Rattle.ec_runtime.specs.declared.open.Open.{Open}
 use Rattle.ec_runtime.specs.declared.stop.Stop.{Stop}
 use Rattle.ec_runtime.specs.declared.stop.Stop.TheVariants as stops
-use Rattle.ec_runtime.specs.Calling.{AllNamed, Changes, Holds, NoneNamed, connections_of}
+use Rattle.ec_runtime.specs.Calling.{AllNamed, Holds, NoneNamed, connections_of}
 use Rattle.ec_runtime.specs.Closing.{at_place}
 use Rattle.ec_runtime.specs.Does.{Seen, placed, saying, Does}
 use Rattle.ec_runtime.specs.Opening.{open_view}

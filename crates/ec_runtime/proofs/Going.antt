@@ -1,6 +1,6 @@
 -- From one request to the next, from its parts.
-use Rattle.std.proofs.Common.{◌≡◌, ◌<◌, ◌+◌, ◌-◌, ℕ, List, [], ◌∷◌, ◌++◌, length, map, reverse, Option, Some, None, Result, Ok, Err, refl, sym, subst, ap, ◌∙◌, append-nil, arith}
-use Rattle.std.specs.Prelude.{slice_get, slice_set, IfOk}
+use Rattle.std.proofs.Common.{◌≡◌, ◌<◌, ◌+◌, ℕ, List, [], ◌∷◌, ◌++◌, length, reverse, Option, Some, None, Result, Ok, Err, refl, sym, subst, ap, ◌∙◌, append-nil, arith}
+use Rattle.std.specs.Prelude.{slice_get, slice_set}
 use Rattle.std.specs.List.{remove}
 use Rattle.std.specs.declared.alloc.Global.{Global}
 use Rattle.std.specs.declared.dyn_box.DynBox.{DynBox}
@@ -13,42 +13,38 @@ use Rattle.ec_link.specs.Conn.{slot_of}
 use Rattle.ec_link.specs.Logged.{Talk}
 use Rattle.ec_link.specs.Rack.{slots_of}
 use Rattle.ec_link.specs.Slot.{states}
-use Rattle.ec_link.specs.SlotState.{TakenAt}
 use Rattle.ec_memory_defs.specs.Memory.{Memory}
-use Rattle.ec_meaning_defs.specs.evaluation.State.{Answer, Connection, State}
+use Rattle.ec_meaning_defs.specs.evaluation.State.{Connection, State}
 use Rattle.ec_call_defs.specs.Answers.{replied, taken}
 use Rattle.ec_call_defs.specs.Areas.{Areas}
 use Rattle.ec_call_defs.specs.Autocommit.{with_autocommit}
-use Rattle.ec_call_defs.specs.Connecting.{connecting}
 use Rattle.ec_call_defs.specs.Connections.{asked, changed_at, controlled}
 use Rattle.ec_call_defs.specs.Disconnecting.{closed, removed}
-use Rattle.ec_call_defs.specs.Outcomes.{Text, Outcome, gives, finished, over, next}
+use Rattle.ec_call_defs.specs.Outcomes.{Outcome, gives, finished, over, next}
 use Rattle.ec_call_defs.specs.Preparing.{prepared_anew, with_text, without_text}
 use Rattle.ec_call_defs.specs.Running.{is_wanted, table_kept}
-use Rattle.ec_stopping_defs.specs.Resuming.{Asking, asks, closes, connects, ending, part, stepped}
+use Rattle.ec_stopping_defs.specs.Resuming.{Asking, asks, ending, stepped}
 use Rattle.ec_runtime.specs.declared.open.Open.{Open}
 use Rattle.ec_runtime.specs.declared.sessions.Sessions.{Sessions}
 use Rattle.ec_runtime.specs.declared.stop.Stop.{Stop}
-use Rattle.ec_runtime.specs.declared.stop.Stop.TheVariants as stops
 use Rattle.ec_runtime.specs.declared.waiting.Behind.{Behind}
 use Rattle.ec_runtime.specs.declared.waiting.Behind.TheVariants as behinds
 use Rattle.ec_runtime.specs.declared.waiting.Waiting.{Waiting}
 use Rattle.ec_runtime.specs.declared.waiting.Waits.{Waits}
-use Rattle.ec_runtime.specs.declared.waiting.Waits.TheVariants as waits
 use Rattle.ec_runtime.specs.Calling.{Changes, ChangesWith, Holds, connections_of, seen_by}
-use Rattle.ec_runtime.specs.Does.{DoesFrom, DoesWith, Over, OverWith, Placing, placed, placed_with, seen}
+use Rattle.ec_runtime.specs.Does.{DoesFrom, DoesWith, Over, OverWith, Placing, placed, placed_with}
 use Rattle.ec_runtime.specs.Opening.{open_view}
 use Rattle.ec_runtime.specs.Racks.{AllTaken, Moves}
-use Rattle.ec_runtime.specs.Resuming.{closing_asks, further, over_done, over_part, request_controlled}
+use Rattle.ec_runtime.specs.Resuming.{closing_asks, further, over_done, over_part}
 use Rattle.ec_runtime.specs.Says.{giving}
-use Rattle.ec_runtime.specs.Statements.{outputs_view, request_taken, sent}
-use Rattle.ec_runtime.specs.Waiting.{asking_in, asking_of, asking_seen, behind_view, closing_first, closing_with, first_in, first_seen, over_at, slot_for, waits_view, FirstFits, Fits}
+use Rattle.ec_runtime.specs.Statements.{outputs_view}
+use Rattle.ec_runtime.specs.Waiting.{asking_seen, behind_view, closing_first, closing_with, first_in, first_seen, over_at, slot_for, waits_view}
 use Rattle.ec_runtime.proofs.Begun.{seen_so, still_there}
 use Rattle.ec_runtime.proofs.Closes.{element, reversed_at, view_there, views_without}
 use Rattle.ec_runtime.proofs.Connections.{apart_before, taken_here}
 use Rattle.ec_runtime.proofs.Grows.{same_front}
-use Rattle.ec_runtime.proofs.Joining.{changed, lifted, next_from, over_with, same_from, stop_from, with_changed, with_next, with_stop}
-use Rattle.ec_runtime.proofs.Making.{links, links_among, links_moved, none_at, split_at, views, views_among}
+use Rattle.ec_runtime.proofs.Joining.{lifted, next_from, over_with, same_from, stop_from, with_changed, with_next, with_stop}
+use Rattle.ec_runtime.proofs.Making.{links, links_among, none_at, split_at, views, views_among}
 use Rattle.ec_runtime.proofs.Moving.{moves_asked}
 use Rattle.ec_runtime.proofs.Starting.{next_next, only}
 
@@ -157,10 +153,10 @@ module _ {X : Type 0} {F : X → Type 0} (talk : DynBox X Global F → Option Ta
         let taken : AllTaken (states (slots_of old)) (links s.before ++ o.conn ∷ links s.behind) = subst (λ cs. AllTaken (states (slots_of old)) cs) links_was held.taken in
         let apart = apart_before (states (slots_of old)) (links s.before) (links s.behind) o.conn taken in
         let done : DoesWith (over_part line (slot_of o.conn) r behind) (seen_by m was) a (seen_by m' now) b p.growth first =
-            subst (λ cs. DoesWith (over_part line (slot_of o.conn) r behind) (only m cs was.current) a (seen_by m' now) b p.growth first) (sym views_was)
-            (subst (λ cs. DoesWith (over_part line (slot_of o.conn) r behind) (only m (views s.before ++ open_view o ∷ views s.behind) was.current) a (only m' cs now.current) b p.growth first) (sym views_now)
-            (subst (λ n. DoesWith (over_part line (slot_of o.conn) r behind) (only m (views s.before ++ open_view o ∷ views s.behind) was.current) a (only m' (views s.before ++ open_view o' ∷ views s.behind) n) b p.growth first) (sym same)
-            (p.does (record { before = views s.before; behind = views s.behind; current = was.current }) (none_at (slot_of o.conn) s.before apart)))) in
+        subst (λ cs. DoesWith (over_part line (slot_of o.conn) r behind) (only m cs was.current) a (seen_by m' now) b p.growth first) (sym views_was)
+        (subst (λ cs. DoesWith (over_part line (slot_of o.conn) r behind) (only m (views s.before ++ open_view o ∷ views s.behind) was.current) a (only m' cs now.current) b p.growth first) (sym views_now)
+        (subst (λ n. DoesWith (over_part line (slot_of o.conn) r behind) (only m (views s.before ++ open_view o ∷ views s.behind) was.current) a (only m' (views s.before ++ open_view o' ∷ views s.behind) n) b p.growth first) (sym same)
+        (p.does (record { before = views s.before; behind = views s.behind; current = was.current }) (none_at (slot_of o.conn) s.before apart)))) in
         let slot_is : slot_for (slice_get (connections_of was) at) ≡ slot_of o.conn = ap slot_for (view_there was.sessions.items at o there) in
         let slot_now : slot_for (slice_get (connections_of now) at) ≡ slot_of o.conn = ap (λ xs. slot_for (slice_get (views xs) at)) set ∙ ap slot_for (still_there was.sessions.items at o o' there) ∙ p.asks.slot in
         record {

@@ -1,10 +1,10 @@
 -- What is read first, and the connection that is found.
-use Rattle.std.proofs.Common.{◌≡◌, ℕ, List, [], map, Option, Some, None, Result, Ok, Err, refl, sym, subst, ap, ◌∙◌}
+use Rattle.std.proofs.Common.{◌≡◌, ℕ, List, [], map, Option, Some, None, Ok, Err, refl, sym, subst, ap, ◌∙◌}
 use Rattle.std.specs.Prelude.{option_and_then}
 use Rattle.ec_memory_defs.specs.Memory.{Memory, text_at}
 use Rattle.ec_transfer_defs.specs.declared.finding.Finding.TheVariants as found
 use Rattle.ec_transfer_defs.specs.Codes.{code_of, state_of, text_of_finding}
-use Rattle.ec_meaning_defs.specs.evaluation.State.{Answer, Connection, State}
+use Rattle.ec_meaning_defs.specs.evaluation.State.{Connection, State}
 use Rattle.ec_call_defs.specs.Growth.{Grows}
 use Rattle.ec_call_defs.specs.Outcomes.{Text, Field, Outcome, gives, finished, over, next, with_memory, fresh_area, told_area, raised}
 use Rattle.ec_call_defs.specs.Connections.{connection_named, connection_of, found_connection, connection_for}

@@ -1,5 +1,5 @@
 -- A whole call, from its start and its requests.
-use Rattle.std.proofs.Common.{◌≡◌, ℕ, List, [], ◌∷◌, ◌++◌, map, Option, Some, None, Result, Ok, Err, refl, sym, subst, ap, ◌∙◌, append-nil, append_assoc}
+use Rattle.std.proofs.Common.{◌≡◌, ℕ, List, [], ◌++◌, Option, Some, None, Result, Ok, Err, refl, sym, subst, ap, ◌∙◌, append-nil, append_assoc}
 use Rattle.std.specs.Prelude.{IsSome}
 use Rattle.std.specs.declared.alloc.Global.{Global}
 use Rattle.std.specs.declared.dyn_box.DynBox.{DynBox}
@@ -9,15 +9,14 @@ use Rattle.ec_link.specs.Logged.{Talk}
 use Rattle.ec_memory_defs.specs.Memory.{Memory}
 use Rattle.ec_meaning_defs.specs.observed.Observed.{answers_in}
 use Rattle.ec_meaning_defs.specs.observed.Run.{IsFront}
-use Rattle.ec_meaning_defs.specs.evaluation.State as state
 use Rattle.ec_meaning_defs.specs.evaluation.State.{Answer, State}
-use Rattle.ec_meaning_defs.specs.evaluation.Results.{on, over as ends}
+use Rattle.ec_meaning_defs.specs.evaluation.Results.{on}
 use Rattle.ec_meaning_defs.specs.evaluation.Agree.{state_of as state_of_run}
 use Rattle.ec_arguments.specs.Arguments.{Cut}
 use Rattle.ec_call_defs.specs.Growth.{Grows, state_of}
 use Rattle.ec_call_defs.specs.Library.{cut_done}
 use Rattle.ec_call_defs.proofs.library_step_lemmas.Keeping.{cut_grows}
-use Rattle.ec_call_defs.specs.Outcomes.{Outcome, finished, gives, next, over, trapped}
+use Rattle.ec_call_defs.specs.Outcomes.{Outcome, finished, gives, next, over}
 use Rattle.ec_call_defs.specs.Steps.{settled}
 use Rattle.ec_stopping_defs.specs.Resuming.{Asking, going, residual, started, stepped}
 use Rattle.ec_stopping_defs.proofs.Growing.{residual_front}

@@ -1,13 +1,12 @@
 -- Which connections DISCONNECT closes.
-use Rattle.std.specs.Prelude.{◌≡◌, ◌<◌, ℕ, Bool, true, false, List, reverse, slice_get, codes, Option, None, Some, IfSome, Result, Ok, Err}
+use Rattle.std.specs.Prelude.{◌≡◌, ◌<◌, ℕ, Bool, true, false, List, slice_get, codes, Option, None, Some, IfSome, Result, Ok, Err}
 use Rattle.ec_base.specs.declared.stop.Trap.{Trap}
 use Rattle.ec_arguments.specs.Arguments.{TextArg as TextData}
 use Rattle.ec_memory_defs.specs.Memory.{Memory}
 use Rattle.ec_meaning_defs.specs.evaluation.State.{Connection, State}
-use Rattle.ec_call_defs.specs.Connections.{same_name, found_connection}
-use Rattle.ec_call_defs.specs.Disconnecting.{all_closed, closed}
+use Rattle.ec_call_defs.specs.Connections.{same_name}
 use Rattle.ec_call_defs.specs.Inputs.{given_read}
-use Rattle.ec_call_defs.specs.Outcomes.{Text, Outcome, trapped, gives, over, next, with_memory}
+use Rattle.ec_call_defs.specs.Outcomes.{Text, trapped, gives, over, with_memory}
 use Rattle.ec_runtime.specs.declared.disconnecting.Which.{Which}
 use Rattle.ec_runtime.specs.declared.disconnecting.Which.TheVariants.{All, One}
 use Rattle.ec_runtime.specs.Seeking.{place_named, place_sought}

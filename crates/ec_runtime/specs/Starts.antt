@@ -1,5 +1,5 @@
 -- A call up to its first request, in the parts that code has.
-use Rattle.std.specs.Prelude.{◌≡◌, ℕ, List, [], reverse, Option, Some, None, Result, Ok, Err}
+use Rattle.std.specs.Prelude.{ℕ, [], reverse, Option, Result}
 use Rattle.ec_link.specs.declared.request.Request.{Request}
 use Rattle.ec_link.specs.declared.request.Request.TheVariants as request
 use Rattle.ec_link.specs.Conn.{slot_of}
@@ -7,11 +7,10 @@ use Rattle.ec_memory_defs.specs.Memory.{Memory}
 use Rattle.ec_meaning_defs.specs.evaluation.State.{Connection, State}
 use Rattle.ec_call_defs.specs.Areas.{Areas}
 use Rattle.ec_call_defs.specs.Autocommit.{commits_first}
-use Rattle.ec_call_defs.specs.Connecting.{own_name}
 use Rattle.ec_call_defs.specs.Connections.{begins, connection_named, found_connection}
 use Rattle.ec_call_defs.specs.Outcomes.{Text, Outcome, gives, next, begun_area}
 use Rattle.ec_call_defs.specs.Running.{Outputs as Going, outputs_found}
-use Rattle.ec_stopping_defs.specs.Resuming.{Asking, asks, asks_with, closes, closing, controls, deallocates, prepares, statement_asks, switching, unless_used}
+use Rattle.ec_stopping_defs.specs.Resuming.{Asking, asks_with, closes, closing, controls, deallocates, prepares, statement_asks, switching, unless_used}
 use Rattle.ec_runtime.specs.declared.call.Act.{Act}
 use Rattle.ec_runtime.specs.declared.call.Act.TheVariants as acts
 use Rattle.ec_runtime.specs.declared.disconnecting.Which.{Which}

@@ -1,5 +1,5 @@
 -- The parts of a call over a connection, and what a call does.
-use Rattle.std.specs.Prelude.{ℕ, Bool, List, [], ◌∷◌, ◌++◌, Option, Some, None, IsSome, Result, Ok, Err, map}
+use Rattle.std.specs.Prelude.{ℕ, List, [], ◌∷◌, ◌++◌, Option, Some, None, IsSome, Result, Ok, Err, map}
 use Rattle.ec_link.specs.declared.request.Request.{Request}
 use Rattle.ec_link.specs.declared.request.Request.TheVariants as request
 use Rattle.ec_arguments.specs.Arguments.{Call as CutCall, Cut, Member, Statement as Asked, TextArg, allocate_descriptor, connect, control, deallocate, deallocate_descriptor, descriptor, disconnect, get_count, get_items, host, immediate, normal, opening, prepare, prepared, run, set_autocommit, set_connection, set_count, set_items}

@@ -7,7 +7,6 @@ use Rattle.ec_meaning_defs.specs.evaluation.State.{Connection}
 use Rattle.ec_call_defs.specs.Areas.{Areas}
 use Rattle.ec_call_defs.specs.Connections.{connection_named}
 use Rattle.ec_stopping_defs.specs.Resuming.{Asking, Behind as Further, asks, begun, closes, commits, connects, controls, deallocates, prepares, replies}
-use Rattle.ec_runtime.specs.declared.order.Outputs.{Outputs}
 use Rattle.ec_runtime.specs.declared.stop.Stop.{Stop}
 use Rattle.ec_runtime.specs.declared.waiting.Behind.{Behind}
 use Rattle.ec_runtime.specs.declared.waiting.Behind.TheVariants as behinds

@@ -22,7 +22,6 @@ mod requests;
 mod resuming;
 mod running;
 mod sessions;
-
 mod stop;
 mod storing;
 mod waiting;

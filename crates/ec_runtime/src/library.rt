@@ -17,9 +17,9 @@ use crate::call::{Call, Kind};
 use crate::connecting::{set_connection, start_connect};
 use crate::describing::describe;
 use crate::disconnecting::start_disconnect;
+use crate::firsts::start_act;
 use crate::resuming::{ended, step};
 use crate::sessions::Sessions;
-use crate::firsts::start_act;
 use crate::stop::{CallStop, Stop};
 use crate::waiting::{UnderWay, Waiting, Waits};
 use ec_base::{Line, OutOfMemory};
@@ -139,7 +139,11 @@ impl Library {
     }
 
     /// Keeps the request that waits, and tells how far a call of this line is.
-    fn settle(&mut self, line: Line, part: Result<Option<Waiting>, Stop>) -> Result<Progress, CallStop>
+    fn settle(
+        &mut self,
+        line: Line,
+        part: Result<Option<Waiting>, Stop>,
+    ) -> Result<Progress, CallStop>
         ensures result { result ≡ progress_of part }
         ensures under_way { self.new.under_way ≡ kept_of line part }
         ensures connections { self.new.connections ≡ self.old.connections }

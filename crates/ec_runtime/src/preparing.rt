@@ -121,7 +121,12 @@ pub(crate) fn marked_text(alloc: Global, store: &Store, given: &GivenText) -> Re
 }
 
 /// The name has to be there.
-pub(crate) fn find_name(store: &mut Store, session: &Open, line: Line, name: &Name) -> Result<(), Stop>
+pub(crate) fn find_name(
+    store: &mut Store,
+    session: &Open,
+    line: Line,
+    name: &Name,
+) -> Result<(), Stop>
     requires { IsArea store.old }
     ensures quiet { Quiet result (name_there line.0 name.now (open_view session.now))
         store.old store.new }

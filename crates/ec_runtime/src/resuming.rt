@@ -20,11 +20,11 @@ use crate::autocommit::commit;
 use crate::connecting::open_new;
 use crate::control::send_control;
 use crate::disconnecting::{close_at, close_last};
+use crate::firsts::at_place;
 use crate::open::Open;
 use crate::preparing::{forget_behind, keep_behind};
 use crate::running::send;
 use crate::sessions::Sessions;
-use crate::firsts::at_place;
 use crate::stop::Stop;
 use crate::waiting::{Behind, Waiting, Waits};
 use ec_base::Line;
@@ -113,7 +113,10 @@ fn resume_over(
     ensures still_holds { Holds library.new rack.new }
 {
     let session = &mut library.sessions[at];
-    at_place(at, reply_over(store, rack, session, areas, line, request, behind))
+    at_place(
+        at,
+        reply_over(store, rack, session, areas, line, request, behind),
+    )
 }
 
 /// The call is at its end.

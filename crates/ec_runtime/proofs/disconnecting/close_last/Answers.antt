@@ -1,4 +1,4 @@
-use Rattle.std.proofs.Common.{◌≡◌, ◌<◌, ◌+◌, ◌-◌, Err, Ok, length, refl, sym, ◌∙◌, ap, reverse, []}
+use Rattle.std.proofs.Common.{◌≡◌, ◌-◌, Err, Ok, length, refl, ◌∙◌, ap, reverse, []}
 use Rattle.std.specs.Vec.{vec_len}
 use Rattle.ec_runtime.specs.Resuming.{closing_asks}
 use Rattle.ec_runtime.proofs.Closes.{last_inside, last_place}

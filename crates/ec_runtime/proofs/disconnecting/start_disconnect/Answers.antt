@@ -1,4 +1,4 @@
-use Rattle.std.proofs.Common.{◌∙◌, ◌<◌, ap, length, map, subst}
+use Rattle.std.proofs.Common.{◌∙◌, ap, length, map, subst}
 use Rattle.ec_runtime.specs.Calling.{connections_of}
 use Rattle.ec_runtime.specs.Closing.{which_of, IsWithin}
 use Rattle.ec_runtime.specs.Opening.{open_view}

@@ -21,7 +21,7 @@ go_on-requires g t c =
     let near : left_of (waiting_of c.resume.new.self) < left_of (waiting_of c.args.library.now) = subst (λ x. Nears (Ok x) (left_of (waiting_of c.args.library.now)) (left_of (waiting_of c.resume.new.self))) c.in-Ok-Asks.field-0-is c.in-Ok-Asks.ensures.nears in
     let w = some_waits c.args.library.now c.requires.waits in
     let v = resumed_asks (talk_by (λ vtable. (g.dyn-1.0.entry vtable).1)) (faults_by (λ vtable. (g.dyn-1.0.entry vtable).1)) w.0 w.1 c.args.store.now c.resume.new.store c.args.rack.now c.resume.new.rack c.args.library.now c.resume.new.self
-        (subst (λ x. Resumes (talk_by (λ vtable. (g.dyn-1.0.entry vtable).1)) (faults_by (λ vtable. (g.dyn-1.0.entry vtable).1)) w.0 w.1 c.args.store.now c.args.rack.now c.args.library.now c.resume.new.store c.resume.new.rack c.resume.new.self (Ok x)) c.in-Ok-Asks.field-0-is (c.in-Ok-Asks.ensures.resumes w.0 w.1 w.2)) in
+    (subst (λ x. Resumes (talk_by (λ vtable. (g.dyn-1.0.entry vtable).1)) (faults_by (λ vtable. (g.dyn-1.0.entry vtable).1)) w.0 w.1 c.args.store.now c.args.rack.now c.args.library.now c.resume.new.store c.resume.new.rack c.resume.new.self (Ok x)) c.in-Ok-Asks.field-0-is (c.in-Ok-Asks.ensures.resumes w.0 w.1 w.2)) in
     (omega (arith, near, c.decreases), (c.in-Ok-Asks.ensures.kept, (c.in-Ok-Asks.ensures.still_holds, (c.in-Ok-Asks.ensures.still_fits, waits_some c.resume.new.self w.0 v.0 v.1))))
 
 pub returns-in-Ok-Asks-clause-called : goal.returns-in-Ok-Asks-clause-called

@@ -1,6 +1,5 @@
 use Rattle.std.proofs.Common.{Ok, Err, refl, subst}
 use Rattle.ec_runtime.specs.Waiting.{BehindFits}
-use Rattle.ec_runtime.specs.declared.waiting.Behind.TheVariants as behinds
 use Rattle.ec_runtime.proofs.Going.{part_arm, part_still}
 use Rattle.ec_runtime.proofs.resuming.reply_over.Goals as goal
 

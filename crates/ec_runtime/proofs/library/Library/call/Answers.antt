@@ -35,7 +35,7 @@ go_on-requires-clause-holds g c = stays_held c.args.rack.now c.args.self.now.con
 pub go_on-requires-clause-waits : goal.go_on-requires-clause-waits
 go_on-requires-clause-waits g c =
     let v = started_asks (λ z. (goal.Link-dyn g (z.vtable, z.value)).talk z.value) (λ z. (goal.Link-dyn g (z.vtable, z.value)).faults z.value) (cut_view c.args.it) c.args.store.now c.start.new.store c.start.new.store c.args.rack.now c.args.rack.now c.args.self.now c.start.new.self c.start.new.self c.in-Ok-Asks.ensures.stays
-        (subst (λ x. Starts (cut_view c.args.it) c.args.store.now c.args.self.now c.start.new.store c.start.new.self (Ok x)) c.in-Ok-Asks.field-0-is c.in-Ok-Asks.ensures.starts) in
+    (subst (λ x. Starts (cut_view c.args.it) c.args.store.now c.args.self.now c.start.new.store c.start.new.self (Ok x)) c.in-Ok-Asks.field-0-is c.in-Ok-Asks.ensures.starts) in
     waits_some c.start.new.self c.args.it.line.0 v.0 v.1
 
 pub returns-in-Ok-Asks-clause-called : goal.returns-in-Ok-Asks-clause-called

@@ -1,4 +1,4 @@
-use Rattle.std.proofs.Common.{subst, sym}
+use Rattle.std.proofs.Common.{subst}
 use Rattle.ec_runtime.specs.Calling.{connections_of}
 use Rattle.ec_runtime.specs.Proceeding.{UnderWayFits}
 use Rattle.ec_runtime.proofs.Calls.{pending_so}

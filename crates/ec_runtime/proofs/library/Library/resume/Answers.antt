@@ -1,4 +1,4 @@
-use Rattle.std.proofs.Common.{refl, subst, sym, ◌∙◌}
+use Rattle.std.proofs.Common.{subst, sym, ◌∙◌}
 use Rattle.ec_runtime.specs.Calling.{connections_of, Holds}
 use Rattle.ec_runtime.specs.Proceeding.{UnderWayFits}
 use Rattle.ec_runtime.proofs.Calls.{settled_fits, settled_nears, settled_resumes}

@@ -1,5 +1,5 @@
-use Rattle.std.proofs.Common.{refl, subst, sym, IfOk}
-use Rattle.ec_runtime.specs.Calling.{connections_of, Stays}
+use Rattle.std.proofs.Common.{refl, subst, sym}
+use Rattle.ec_runtime.specs.Calling.{Stays}
 use Rattle.ec_runtime.specs.Statements.{cut_view}
 use Rattle.ec_runtime.proofs.Calls.{settled_fits, settled_starts}
 use Rattle.ec_runtime.proofs.library.Library.start.Goals as goal
