@@ -1,5 +1,5 @@
-"""Random slots and logs, and random texts near to transcripts: most are the transcript of a log, and of each third one or
-more lines, words or bytes were put in, left out, doubled, moved or changed."""
+"""Random slots and logs, random texts near to transcripts (most are the transcript of a log, and of each third one or more
+lines, words or bytes were put in, left out, doubled, moved or changed), and random requests to links over a log."""
 
 import random
 
@@ -91,6 +91,30 @@ class Transcripts:
         top = count if self.chance() < 0.97 else count + 2
         places = [None, *range(top)]
         return slots, [(self.one_of(places), self.request(), self.reply()) for _ in range(self.few(6))]
+
+    # -- requests to links
+
+    def changed(self, request):
+        """A request near to another one."""
+        word, *parts = request
+        if not parts or self.chance() < 0.3:
+            return self.request()
+        at = self.random.randrange(len(parts))
+        if isinstance(parts[at], list):
+            parts[at] = self.one_of([[*parts[at], None], parts[at][1:], [b"" if it is None else None for it in parts[at]],
+                                     parts[at][::-1]])
+        else:
+            parts[at] = self.text_part() if parts[at] is None or self.chance() < 0.5 else parts[at] + b" "
+        return (word, *parts)
+
+    def asked(self, slots, log):
+        """Requests, each to one of the slots: mostly the next one that is recorded."""
+        parts = [[request for place, request, _ in log if place == slot] for slot in range(len(slots))]
+        used = [slot for slot, part in enumerate(parts) if part] or list(range(len(slots)))
+        for _ in range(self.few(10) if used else 0):
+            slot = self.one_of(used)
+            recorded = parts[slot].pop(0) if parts[slot] else self.request()
+            yield slot, recorded if self.chance() < 0.85 else self.changed(recorded)
 
     # -- texts
 

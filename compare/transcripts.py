@@ -1,8 +1,8 @@
 #!/usr/bin/env python3
 """Transcripts, from docs/TRANSCRIPT.md alone: compare/transcripts.py FILE
 
-prints what the file is the transcript of, as the rows `transcripts` of ec_base_rows do (docs/rows/ROWS.md), or the line
-at which it is refused.
+prints what the file is the transcript of, as the rows of ec_transcript_rows do (docs/rows/ROWS.md), or the line at which
+it is refused.
 
 A slot is (whether it is ready, name). An exchange is (slot or None, request, reply). A request is its word and what
 stands behind it, parameters as one list: ("text", text, [field]). A reply is one of ("connected",), ("notarget",),
@@ -223,7 +223,30 @@ def written(slots, log):
     return "".join(line + "\n" for line in lines).encode()
 
 
-# ---- the rows `transcripts` of ec_base_rows
+# ---- links over a transcript
+
+LIMIT = 2 ** 24
+
+
+class Replayer:
+    """A link over the part of a slot."""
+
+    def __init__(self, log, slot):
+        self.part = [(request, reply) for place, request, reply in log if place == slot]
+        self.said, self.is_over = [], False
+
+    def ask(self, request):
+        number = len(self.said)
+        self.is_over = self.is_over or number == len(self.part) or self.part[number][0] != request
+        reply = ("broken",) if self.is_over else self.part[number][1]
+        self.said.append((request, reply))
+        return reply
+
+    def broke(self):
+        return sum(reply == ("broken",) for _, reply in self.said)
+
+
+# ---- the rows of ec_transcript_rows
 
 def escaped(text):
     """A text in a row: the bytes from 33 to 126 but the backslash are themselves."""
@@ -275,15 +298,52 @@ def read_answer(text):
     return [" " + line for line in rows_of(slots, log)] + [f" written {end}"]
 
 
+def replay_answer(text):
+    """The links of a text, and what `replay` answers of it."""
+    if len(text) > LIMIT:
+        return [], [" too long"]
+    try:
+        slots, log, _ = read(text)
+    except Bad as bad:
+        return [], [f" bad {bad.args[0]}"]
+    return [Replayer(log, slot) for slot in range(len(slots))], [" " + line for line in rows_of(slots, [])] + [" replayed"]
+
+
+def ask_answer(link, request):
+    """What `ask` answers."""
+    return [" " + reply_row(*link.ask(request))]
+
+
+def said_answer(link):
+    """What `said` answers."""
+    lines = [" " + row for request, reply in link.said for row in (request_row(*request), reply_row(*reply))]
+    return lines + [f" broke {link.broke()}"]
+
+
+def replayed(slots, log, asked):
+    """The rows that replay a log and ask its links, and what is printed of them."""
+    given = ["new", *rows_of(slots, log), "write"]
+    links, answer = replay_answer(written(slots, log))
+    told = [*given, *write_answer(slots, log), "replay", *answer]
+    given.append("replay")
+    for slot, request in asked if links else []:
+        given.append(" ".join(["ask", str(slot), request_row(*request)]))
+        told += [given[-1], *ask_answer(links[slot], request)]
+    for number, link in enumerate(links):
+        given.append(f"said {number}")
+        told += [given[-1], *said_answer(link)]
+    return given, told
+
+
 def write_answer(slots, log):
     """What `write` answers of slots and a log."""
     return [" " + line for line in written(slots, log).decode().split("\n")[:-1]]
 
 
-def runs_answer(texts):
-    """What `cuts` and `drops` answer: at which line each of these texts is refused, if at one."""
+def runs_answer(texts, first=0):
+    """What `cuts` and the like answer: at which line each of these texts is refused, if at one."""
     runs = []
-    for number, text in enumerate(texts):
+    for number, text in enumerate(texts, first):
         answer = read_answer(text)[0]
         answer = answer if answer.startswith(" bad") else " read"
         if runs and runs[-1][2] == answer:
@@ -299,6 +359,12 @@ def cuts_answer(text):
 
 def drops_answer(text):
     return runs_answer([text[:at] + text[at + 1:] for at in range(len(text))])
+
+
+def lines_answer(text, times):
+    """What `skips` and `doubles` answer: each line so many times, numbered from 1."""
+    lines = re.findall(rb"[^\n]*\n|[^\n]+", text)
+    return runs_answer([b"".join([*lines[:at], *[line] * times, *lines[at + 1:]]) for at, line in enumerate(lines)], 1)
 
 
 def main(file):
