@@ -120,7 +120,7 @@ class Transcripts:
 
     def damaged_line(self, line):
         """A line with a word, a number or some bytes changed."""
-        way = self.random.randrange(5)
+        way = self.random.randrange(6)
         if way == 0:
             words = line.split(b" ")
             at = self.random.randrange(len(words))
@@ -133,6 +133,8 @@ class Transcripts:
             return line[:at] + line[at + 1:]
         if way == 3:
             return line[:at] + self.one_of(PIECES) + line[at + 1:]
+        if way == 4:
+            return line[:at] + line[at:at + 1].swapcase() + line[at + 1:]
         return line[:at]
 
     def damaged(self, lines):
