@@ -5,7 +5,7 @@ use Rattle.ec_ctypes.specs.trees.Types.{TyData}
 use Rattle.ec_ctypes.specs.trees.Exprs.{ExprData, call, BaseData, words, varchar, tagged, struct_base, DimList, InitOption, no_init, some_init, DeclaratorData, declarator, DeclaratorList, no_declarators, declarators, DeclData, decl}
 use Rattle.ec_ctypes.specs.trees.Stmts.{StmtData, stmt, StmtKindData, empty_stmt, expr_stmt, block_stmt, if_stmt, while_stmt, do_stmt, for_stmt, break_stmt, continue_stmt, return_stmt, goto_stmt, label_stmt, decl_stmt, emb_stmt, mark_stmt, StmtList, no_stmts, stmts as stmt_list, StmtOption, no_stmt, some_stmt}
 use Rattle.ec_ctypes.specs.trees.Embedded.{ActionData, continue_action, goto_action, print_action, stop_action, break_action, next_action, call_action, EmbData}
-use Rattle.ec_ctypes.specs.trees.Units.{ParamData, FuncData}
+use Rattle.ec_ctypes.specs.trees.Units.{ParamData}
 use Rattle.ec_ctypes.specs.declared.embedded.emb.Cond.TheVariants.{NotFound, Warning, Error}
 use Rattle.ec_language.specs.Letters.{Text}
 use Rattle.ec_typing_defs.specs.Expressions.{is_varchar}
@@ -19,7 +19,7 @@ use Rattle.ec_resolving_defs.specs.Expressions.{expr}
 use Rattle.ec_resolving_defs.specs.Embedded.{reference_rule, references_rule, action_rule, actions_rule, handlers_rule, embedded_rule}
 use Rattle.ec_resolving_defs.specs.Initializers.{PartData}
 use Rattle.ec_resolving_defs.specs.Statements.{Around, object_made, initial, object_type, object_item, object_items, specifier, declaration, scoped, condition, alone, optional, optional_condition, return_by, embedded_at, statement, statement_kind, statements, otherwise, declarators_in, objects_of_decl, objects_in, objects_in_kind, objects_in_all, objects_in_option}
-use Rattle.ec_resolving_defs.specs.Programs.{param, params, function_rule}
+use Rattle.ec_resolving_defs.specs.Programs.{param, params}
 use Rattle.ec_sound_statement_laws.specs.Objects.{Spares, Makes}
 use Rattle.ec_sound_statement_laws.proofs.Sparing as sparing
 use Rattle.ec_sound_statement_laws.proofs.Sparing.{expr_spares, base_spares, lengths_spare, last_spares, outer_spare, initializer_spares, checks_spare, ask_spares, pure_spares, stored_spares}
@@ -32,6 +32,8 @@ chained {m = m} {f = f} h k = record {
   below = λ s w. (k (m s w).answer).below (m s w).storage (m s w).world ∙ h.below s w;
   count = λ s w. (k (m s w).answer).count (m s w).storage (m s w).world ∙ h.count s w;
   sizes = λ s w. (k (m s w).answer).sizes (m s w).storage (m s w).world ∙ h.sizes s w;
+  functions = λ s w. (k (m s w).answer).functions (m s w).storage (m s w).world ∙ h.functions s w;
+  defined = λ s w. (k (m s w).answer).defined (m s w).storage (m s w).world ∙ h.defined s w;
 }
 
 -- what leaves the block as it is
@@ -40,6 +42,8 @@ spared {n = n} h = record {
   below = λ s w. ap (λ t. t.block.below) (h.stays s w);
   count = λ s w. ap (λ t. t.block.count) (h.stays s w);
   sizes = λ s w. ap (λ t. length t.block.sizes + n) (h.stays s w);
+  functions = λ s w. ap (λ t. t.functions) (h.stays s w);
+  defined = λ s w. ap (λ t. t.defined) (h.stays s w);
 }
 
 checked : {n : ℕ} {A : Type 0} (m : Rule A) → Makes n n (checks m)
@@ -55,12 +59,14 @@ given : {n : ℕ} {A : Type 0} (a : A) → Makes n n (pure a)
 given a = spared (pure_spares a)
 
 -- what leaves the block alone
-arranged : {n : ℕ} (g : Storage → Storage) → ((s : Storage) → (g s).block ≡ s.block) → Makes n n (arrange g)
+arranged : {n : ℕ} (g : Storage → Storage) → ((s : Storage) → (g s).block ≡ s.block) → ((s : Storage) → (g s).functions ≡ s.functions) → ((s : Storage) → (g s).defined ≡ s.defined) → Makes n n (arrange g)
 unfolding arrange
-arranged {n = n} g e = record {
+arranged {n = n} g e f d = record {
   below = λ s w. ap (λ b. b.below) (e s);
   count = λ s w. ap (λ b. b.count) (e s);
   sizes = λ s w. ap (λ b. length b.sizes + n) (e s);
+  functions = λ s w. f s;
+  defined = λ s w. d s;
 }
 
 one_longer : (xs : List ℕ) (x n : ℕ) → length (xs ++ x ∷ []) + n ≡ length xs + suc n
@@ -69,13 +75,13 @@ one_longer (y ∷ ys) x n = let e = one_longer ys x n in omega (arith, e)
 
 made_one : {n : ℕ} (size : ℕ) → Makes (suc n) n (arrange (with_object_of size))
 unfolding arrange
-made_one {n = n} size = record { below = λ s w. refl; count = λ s w. refl; sizes = λ s w. one_longer s.block.sizes size n }
+made_one {n = n} size = record { below = λ s w. refl; count = λ s w. refl; sizes = λ s w. one_longer s.block.sizes size n; functions = λ s w. refl; defined = λ s w. refl }
 
 -- ---- a block further in
 
-pub in_block_makes : {n : ℕ} {A : Type 0} (k : ℕ) (m : Resolving A) → Makes n n (in_block k m)
+pub in_block_makes : {n a b : ℕ} {A : Type 0} (k : ℕ) (m : Resolving A) → Makes a b m → Makes n n (in_block k m)
 unfolding chain stored arrange pure
-in_block_makes k m = record { below = λ s w. refl; count = λ s w. refl; sizes = λ s w. refl }
+in_block_makes k m h = record { below = λ s w. refl; count = λ s w. refl; sizes = λ s w. refl; functions = λ s w. h.functions (inside_block k s) w; defined = λ s w. h.defined (inside_block k s) w }
 
 counted : (x y : ℕ) → x + 0 ≡ 0 + y → x ≡ y
 counted x y e = omega (arith, e)
@@ -103,13 +109,13 @@ next_count true n = n
 next_count false n = suc n
 
 made_makes : (n : ℕ) (global : Bool) (s : Storage) (size : ℕ) (init : InitOption) (ps : List PartData) → Makes (next_count global n) n (object_made (next_site global s) size init ps)
-made_makes n true s size init ps = chained (arranged _ (λ t. refl)) (λ u. (given _))
+made_makes n true s size init ps = chained (arranged _ (λ t. refl) (λ t. refl) (λ t. refl)) (λ u. (given _))
 made_makes n false s size init ps = chained (made_one size) (λ u. (given _))
 
 -- the site is that of the storage there
 at_site : {a b : ℕ} {A B : Type 0} (g : Storage → A) (f : A → Resolving B) → ((s : Storage) → Makes a b (f (g s))) → Makes a b (chain (stored g) f)
 unfolding chain stored
-at_site g f h = record { below = λ s w. (h s).below s w; count = λ s w. (h s).count s w; sizes = λ s w. (h s).sizes s w }
+at_site g f h = record { below = λ s w. (h s).below s w; count = λ s w. (h s).count s w; sizes = λ s w. (h s).sizes s w; functions = λ s w. (h s).functions s w; defined = λ s w. (h s).defined s w }
 
 item_makes : (n : ℕ) (at : Place) (global v : Bool) (t : Option TyData) (d : DeclaratorData) → Makes (next_count global n) n (object_item at global v t d)
 item_makes n at global v t (declarator stars name ns init) =
@@ -118,7 +124,7 @@ item_makes n at global v t (declarator stars name ns init) =
     chained (looked _) (λ k.
     chained (checked _) (λ a.
     at_site (next_site global) _ (λ s.
-    chained (arranged _ (λ t. refl)) (λ b.
+    chained (arranged _ (λ t. refl) (λ t. refl) (λ t. refl)) (λ b.
     chained (initial_makes at global before init) (λ made.
     chained (checked _) (λ c.
     chained (checked _) (λ d.
@@ -192,7 +198,7 @@ handlers_spare es labels at e = by_directive (is_directive e)
     by_directive false = sparing.chained (action_spares labels at (handler es e.place NotFound)) (λ a. sparing.chained (action_spares labels at (handler es e.place Warning)) (λ b. sparing.chained (action_spares labels at (handler es e.place Error)) (λ c. pure_spares _)))
 
 pub embedded_makes : {n : ℕ} (es : List EmbData) (labels : Named (Unit {0})) (at : Place) (k : ℕ) (e : EmbData) → Makes n n (embedded_rule es labels at k e)
-embedded_makes es labels at k e = chained (spared (references_spare at (references e))) (λ rs. chained (checked _) (λ u. chained (spared (handlers_spare es labels at e)) (λ actions. arranged _ (λ s. refl))))
+embedded_makes es labels at k e = chained (spared (references_spare at (references e))) (λ rs. chained (checked _) (λ u. chained (spared (handlers_spare es labels at e)) (λ actions. arranged _ (λ s. refl) (λ s. refl) (λ s. refl))))
 
 embedded_at_makes : {n : ℕ} (a : Around) (at : Place) (k : ℕ) (e : Option EmbData) → Makes n n (embedded_at a at k e)
 embedded_at_makes a at k None = given _
@@ -225,7 +231,7 @@ mutual
   kind_makes : (a : Around) (n : ℕ) (at : Place) (kind : StmtKindData) → Makes (objects_in_kind kind + n) n (statement_kind a at kind)
   kind_makes a n at empty_stmt = from (none_more n) (given _)
   kind_makes a n at (expr_stmt e) = from (none_more n) (chained (spared (alone_spares at e)) (λ x. (given _)))
-  kind_makes a n at (block_stmt ss) = from (none_more n) (chained (in_block_makes (objects_in_all ss) (scoped (statements a ss))) (λ b. (given _)))
+  kind_makes a n at (block_stmt ss) = from (none_more n) (chained (in_block_makes (objects_in_all ss) (scoped (statements a ss)) (scoped_makes (statements_make a 0 ss))) (λ b. (given _)))
   kind_makes a n at (if_stmt e s other) = from (both_more (objects_in s) (objects_in_option other) n)
       (scoped_makes (chained (condition_makes at e) (λ x. chained (scoped_makes (statement_makes a (objects_in_option other + n) s)) (λ y. chained (otherwise_makes a n other) (λ z. (given _))))))
   kind_makes a n at (while_stmt e s) = scoped_makes (chained (condition_makes at e) (λ x. chained (scoped_makes (statement_makes a n s)) (λ y. (given _))))
@@ -260,23 +266,10 @@ param_makes n at defined p =
     chained (checked _) (λ a.
     chained (checked _) (λ c.
     chained (read _) (λ site.
-    chained (arranged _ (λ s. refl)) (λ d.
+    chained (arranged _ (λ s. refl) (λ s. refl) (λ s. refl)) (λ d.
     chained (looked _) (λ size.
     chained (made_one size) (λ e. (given _)))))))))))
 
 pub params_make : (n : ℕ) (at : Place) (defined : Bool) (ps : List ParamData) → Makes (length ps + n) n (params at defined ps)
 params_make n at defined [] = from (none_more n) (given _)
 params_make n at defined (p ∷ ps) = from (one_more (length ps) n) (chained (param_makes (length ps + n) at defined p) (λ t. chained (params_make n at defined ps) (λ ts. (given _))))
-
-pub function_makes : (es : List EmbData) (n : ℕ) (f : FuncData) → Makes n n (function_rule es f)
-function_makes es n f =
-    chained (checked _) (λ at.
-    chained (spared (base_spares at f.base)) (λ b.
-    chained (checked _) (λ r.
-    chained (looked _) (λ k.
-    chained (looked _) (λ before.
-    chained (checked _) (λ a.
-    chained (checked _) (λ c.
-    chained (arranged _ (λ s. refl)) (λ d.
-    chained (checked _) (λ e.
-    chained (in_block_makes (length f.params) _) (λ g. (checked _)))))))))))

@@ -1,2 +1,4 @@
+pub mod Functions
 pub mod Labels
 pub mod Objects
+pub mod Scopes

@@ -3,15 +3,14 @@ use Rattle.std.specs.Prelude.{◌≡◌, ℕ, ◌+◌, Bool, true, false, List, 
 use Rattle.ec_ctypes.specs.trees.Exprs.{ExprData, ExprList, BaseData, DimList, InitData, DeclData}
 use Rattle.ec_ctypes.specs.trees.Stmts.{StmtData, StmtList}
 use Rattle.ec_ctypes.specs.trees.Types.{TyData}
-use Rattle.ec_ctypes.specs.trees.Units.{ParamData, FuncData}
-use Rattle.ec_ctypes.specs.trees.Embedded.{EmbData}
+use Rattle.ec_ctypes.specs.trees.Units.{ParamData}
 use Rattle.ec_typing_defs.specs.Known.{ArgumentsData}
 use Rattle.ec_typing_defs.specs.Worlds.{Place, World}
 use Rattle.ec_resolving_defs.specs.Storage.{Storage, Resolving, in_block}
 use Rattle.ec_resolving_defs.specs.Expressions.{expr, args, base, lengths}
 use Rattle.ec_resolving_defs.specs.Initializers.{initializer}
 use Rattle.ec_resolving_defs.specs.Statements.{Around, declaration, objects_of_decl, statement, statements, objects_in, objects_in_all}
-use Rattle.ec_resolving_defs.specs.Programs.{params, function_rule}
+use Rattle.ec_resolving_defs.specs.Programs.{params}
 
 -- ---- what makes literals and calls of the library alone
 
@@ -40,12 +39,14 @@ InitializersSpare = (at : Place) (global : Bool) (t : Option TyData) (i : InitDa
 
 -- ---- what makes objects of the innermost block
 
--- Where so many objects of the block are still to be made before it, so many are behind it, and the block is the same.
+-- Where so many objects of the block are still to be made before it, so many are behind it. The block is the same, and no function is made.
 pub record Makes (before behind : ℕ) {A : Type 0} (m : Resolving A) : Type 0 where
   pub below : (s : Storage) (w : World) → (m s w).storage.block.below ≡ s.block.below
   pub count : (s : Storage) (w : World) → (m s w).storage.block.count ≡ s.block.count
   pub sizes : (s : Storage) (w : World)
       → length (m s w).storage.block.sizes + behind ≡ length s.block.sizes + before
+  pub functions : (s : Storage) (w : World) → (m s w).storage.functions ≡ s.functions
+  pub defined : (s : Storage) (w : World) → (m s w).storage.defined ≡ s.defined
 
 abbrev pub DeclarationsMake : Type 0
 DeclarationsMake = (n : ℕ) (d : DeclData) → Makes (objects_of_decl d + n) n (declaration false d)
@@ -63,9 +64,6 @@ StatementsMake = (a : Around) (n : ℕ) (x : StmtData) → Makes (objects_in x +
 abbrev pub ListsMake : Type 0
 ListsMake = (a : Around) (n : ℕ) (xs : StmtList)
     → Makes (objects_in_all xs + n) n (statements a xs)
-
-abbrev pub FunctionsMakeNone : Type 0
-FunctionsMakeNone = (es : List EmbData) (n : ℕ) (f : FuncData) → Makes n n (function_rule es f)
 
 -- the block of these statements has so many sizes
 abbrev pub BlocksAreFull : Type 0

@@ -1,7 +1,9 @@
 //! What holds of the objects and the labels of statements, as the contracts of functions that do nothing.
 
+ghost use Rattle.ec_sound_statement_laws.specs.Functions.{FunctionsAreMade, NamesStay, NamesHaveTheirPlaces, MainStands};
 ghost use Rattle.ec_sound_statement_laws.specs.Labels.{LabelsStand};
-ghost use Rattle.ec_sound_statement_laws.specs.Objects.{ExpressionsSpare, ArgumentsSpare, TypesSpare, LengthsSpare, InitializersSpare, DeclarationsMake, GlobalsMakeNone, ParametersMake, StatementsMake, ListsMake, FunctionsMakeNone, BlocksAreFull};
+ghost use Rattle.ec_sound_statement_laws.specs.Objects.{ExpressionsSpare, ArgumentsSpare, TypesSpare, LengthsSpare, InitializersSpare, DeclarationsMake, GlobalsMakeNone, ParametersMake, StatementsMake, ListsMake, BlocksAreFull};
+ghost use Rattle.ec_sound_statement_laws.specs.Scopes.{DeclarationsKeep, ParametersKeep, StatementsKeep, ListsKeep, BodiesLeave, BlocksLeave, FunctionsAreKnown};
 
 /// Expressions, the types and lengths in them, and initializers make no storage but literals and calls of the library: the
 /// objects, globals, functions and statements so far are the same behind them, and so is the block.
@@ -21,11 +23,36 @@ pub fn blocks_have_their_objects()
     ensures parameters { ParametersMake }
     ensures statements { StatementsMake }
     ensures lists { ListsMake }
-    ensures functions { FunctionsMakeNone }
     ensures blocks { BlocksAreFull }
 {}
 
 /// Each label that a jump of a function may name stands in the resolved form of the function's body.
 pub fn labels_are_there()
     ensures { LabelsStand }
+{}
+
+/// Each scope that a statement enters is left again: behind it, and behind parameters and declarations, the scopes round it are
+/// as they were, and behind a block so is the scope that it stands in.
+pub fn scopes_are_left()
+    ensures declarations { DeclarationsKeep }
+    ensures parameters { ParametersKeep }
+    ensures statements { StatementsKeep }
+    ensures lists { ListsKeep }
+    ensures bodies { BodiesLeave }
+    ensures blocks { BlocksLeave }
+{}
+
+/// Behind a function without a violation its name stands for it, as it may behind what it stood for before: with as many
+/// parameters as are written, and defined where one of its declarations so far is a definition.
+pub fn functions_are_known()
+    ensures { FunctionsAreKnown }
+{}
+
+/// A function of a resolved program is made of each definition, in their order, and calls find it by the place of its name, since
+/// in a program without a violation no two definitions have one name. `main` is there, takes nothing, and gives 0 at its end.
+pub fn functions_have_their_places()
+    ensures made { FunctionsAreMade }
+    ensures names { NamesStay }
+    ensures places { NamesHaveTheirPlaces }
+    ensures main { MainStands }
 {}

@@ -1,7 +1,10 @@
-//! The resolved forms of statements: labels are there, and blocks have their objects. A part of the law that every program
-//! that is accepted is resolved to a sound one.
+//! The resolved forms of statements and functions: labels are there, blocks have their objects, functions are found by their
+//! names. A part of the law that every program that is accepted is resolved to a sound one.
 #![tactic(auto)]
 
 mod laws;
 
-pub use laws::{blocks_have_their_objects, expressions_declare_nothing, labels_are_there};
+pub use laws::{
+    blocks_have_their_objects, expressions_declare_nothing, functions_are_known,
+    functions_have_their_places, labels_are_there, scopes_are_left,
+};

@@ -1,5 +1,5 @@
 use Rattle.ec_resolving_defs.specs.Statements.{objects_in_all, statements}
-use Rattle.ec_sound_statement_laws.proofs.Making.{in_block_full, declaration_makes, global_makes, params_make, statement_makes, statements_make, function_makes}
+use Rattle.ec_sound_statement_laws.proofs.Making.{in_block_full, declaration_makes, global_makes, params_make, statement_makes, statements_make}
 use Rattle.ec_sound_statement_laws.proofs.laws.blocks_have_their_objects.Goals as goal
 
 pub returns-clause-declarations : goal.returns-clause-declarations
@@ -16,9 +16,6 @@ returns-clause-statements c = statement_makes
 
 pub returns-clause-lists : goal.returns-clause-lists
 returns-clause-lists c = statements_make
-
-pub returns-clause-functions : goal.returns-clause-functions
-returns-clause-functions c = function_makes
 
 pub returns-clause-blocks : goal.returns-clause-blocks
 returns-clause-blocks c = λ a xs s w. in_block_full (objects_in_all xs) (statements a xs) (statements_make a 0 xs) s w
