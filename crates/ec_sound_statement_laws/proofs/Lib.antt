@@ -5,3 +5,4 @@ pub mod Names
 pub mod Places
 pub mod Scopes
 pub mod Sparing
+pub mod Values

@@ -2,3 +2,4 @@ pub mod Functions
 pub mod Labels
 pub mod Objects
 pub mod Scopes
+pub mod Values

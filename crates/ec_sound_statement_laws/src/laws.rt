@@ -1,9 +1,12 @@
 //! What holds of the objects and the labels of statements, as the contracts of functions that do nothing.
 
+ghost use Rattle.std.specs.Prelude.{ℕ, List};
+ghost use Rattle.ec_sound_defs.specs.Sound.{Signature, no_atoms};
 ghost use Rattle.ec_sound_statement_laws.specs.Functions.{FunctionsAreMade, NamesStay, NamesHaveTheirPlaces, MainStands};
 ghost use Rattle.ec_sound_statement_laws.specs.Labels.{LabelsStand};
 ghost use Rattle.ec_sound_statement_laws.specs.Objects.{ExpressionsSpare, ArgumentsSpare, TypesSpare, LengthsSpare, InitializersSpare, DeclarationsMake, GlobalsMakeNone, ParametersMake, StatementsMake, ListsMake, BlocksAreFull};
 ghost use Rattle.ec_sound_statement_laws.specs.Scopes.{DeclarationsKeep, ParametersKeep, StatementsKeep, ListsKeep, BodiesLeave, BlocksLeave, FunctionsAreKnown};
+ghost use Rattle.ec_sound_statement_laws.specs.Values.{NothingIsReturned, ReturnsFit, ValuesAreStored, PartsAreStored};
 
 /// Expressions, the types and lengths in them, and initializers make no storage but literals and calls of the library: the
 /// objects, globals, functions and statements so far are the same behind them, and so is the block.
@@ -55,4 +58,13 @@ pub fn functions_have_their_places()
     ensures names { NamesStay }
     ensures places { NamesHaveTheirPlaces }
     ensures main { MainStands }
+{}
+
+/// A value that is returned without a fault is of the sort of the function's type, once it is converted, and what initializes an
+/// object or a part of it is stored there as what is wanted: a scalar, a text, or a struct by its address.
+pub fn values_are_returned_and_stored()
+    ensures nothing { NothingIsReturned }
+    ensures returned { (gs : List Signature) (n : ℕ) → ReturnsFit gs no_atoms n }
+    ensures values { (gs : List Signature) (n : ℕ) → ValuesAreStored gs no_atoms n }
+    ensures parts { (gs : List Signature) (n : ℕ) → PartsAreStored gs no_atoms n }
 {}
