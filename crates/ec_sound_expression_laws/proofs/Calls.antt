@@ -195,10 +195,10 @@ module _ (gs : List Signature) (calls : List LibraryCall) (n : ℕ) where
 
   -- ---- both
 
-  pub function_serves : (s : Storage) (w : World) → Stands gs calls n s w → (name : Text) (es : ExprList) (fs : List Found) → library_call w.written name ≡ None
-      → ArgumentsServe gs calls n (arguments_of w.written name) es fs → (o : OperandData) → IsCallBy w name es (operands_of fs) (look_up name w) o
+  pub function_serves : (written : Bool) (s : Storage) (w : World) → Stands gs calls n written s w → (name : Text) (es : ExprList) (fs : List Found) → library_call written name ≡ None
+      → ArgumentsServe gs calls n (arguments_of written name) es fs → (o : OperandData) → IsCallBy w name es (operands_of fs) (look_up name w) o
       → Serves gs calls n (found o (call_exp s.defined name es fs (look_up name w)) false)
-  function_serves s w stands name es fs no_call h o t = by_entry (look_up name w) refl t
+  function_serves written s w stands name es fs no_call h o t = by_entry (look_up name w) refl t
     where
       typed : (entry : EntryData) → look_up name w ≡ Some entry → IsTypedEntry entry
       typed entry is = subst EntryIn is (name_typed name w stands.sound)
@@ -209,10 +209,10 @@ module _ (gs : List Signature) (calls : List LibraryCall) (n : ℕ) where
       own k done r (Some ps) is t =
           let e = typed (function k done r (Some ps)) is in
           let g = stands.names.stand name (function k done r (Some ps)) is (subst (λ d. is_some (find name d) ≡ true) stands.names.defined_there t.0) in
-          let all = all_serve es fs (subst (λ x. ArgumentsServe gs calls n x es fs) (free_forms name (stands.names.free name (function k done r (Some ps)) is) w.written) h) in
+          let all = all_serve es fs (subst (λ x. ArgumentsServe gs calls n x es fs) (free_forms name (stands.names.free name (function k done r (Some ps)) is) written) h) in
           own_serves (place_in name s.defined) r ps fs o e.0 e.1 g all t.1 t.2
 
       by_entry : (entry : Option EntryData) → look_up name w ≡ entry → IsCallBy w name es (operands_of fs) entry o → Serves gs calls n (found o (call_exp s.defined name es fs entry) false)
       by_entry (Some (object k global x)) is t = absurd t
       by_entry (Some (function k done r ps)) is t = own k done r ps is t
-      by_entry None is t = known_serves name es fs o w.written no_call h (subst (λ x. IsUndeclaredCall name es (operands_of fs) x o) no_call t)
+      by_entry None is t = known_serves name es fs o written no_call h (subst (λ x. IsUndeclaredCall name es (operands_of fs) x o) (ap (λ b. library_call b name) stands.is_written ∙ no_call) t)

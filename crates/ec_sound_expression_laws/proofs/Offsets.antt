@@ -10,7 +10,7 @@ use Rattle.ec_typing_defs.specs.Expressions.{Members, typed_members}
 use Rattle.ec_typing_defs.specs.Operands.{member_type}
 use Rattle.ec_typing_defs.specs.Worlds.{World, MembersData, unlisted, begun, listed, StructInfo, members_of}
 use Rattle.ec_resolving_defs.specs.Operands.{offset_among}
-use Rattle.ec_sim_world_laws.specs.closing.Closing.{members_at, shapes_at}
+use Rattle.ec_sim_world_laws.specs.closing.Closing.{members_at, shapes_at, IsTyped}
 use Rattle.ec_sim_world_laws.proofs.closing_lemmas.Lists.{some_is}
 use Rattle.ec_sim_world_laws.proofs.closing_lemmas.Rules.{There, there}
 use Rattle.ec_sim_program_laws.proofs.types_lemmas.Structs.{GoodIn, AllGood, GoodStructs, some_all, Has, type_shaped}
@@ -62,6 +62,33 @@ module _ (ss : List StructInfo) (structs : GoodStructs ss) (m : Text) where
       mapped : (o : Option (ℕ × TyData)) → Has o → Has (option_map (λ d. d.0) o)
       mapped None h = absurd h
       mapped (Some d) h = tt
+
+-- a member that is found has a type
+found_typed : (ss : List StructInfo) (m : Text) (ms : Members) → AllGood ss ms → (o : Option TyData) → find m ms ≡ Some o → IsTyped o
+found_typed ss m [] h o e = none_not e
+found_typed ss m (x ∷ ms) h o e = go (same_text m x.0) e (λ f. found_typed ss m ms h.1 o f)
+  where
+    typed : (t : Option TyData) → GoodIn ss t → IsTyped t
+    typed None g = absurd g
+    typed (Some t) g = tt
+
+    go : (b : Bool) → (if b then Some x.1 else find m ms) ≡ Some o → (find m ms ≡ Some o → IsTyped o) → IsTyped o
+    go true e rest = subst IsTyped (some_is e) (typed x.1 h.0)
+    go false e rest = rest e
+
+pub member_typed : (w : World) → Sound w → (k : ℕ) (m : Text) (t : Option TyData) → member_type m (members_of k w) ≡ Some t → IsTyped t
+member_typed w sound k m t e = go (members_of k w) refl e
+  where
+    listed_one : (ms : Members) → members_of k w ≡ Some (listed ms) → find m ms ≡ Some t → IsTyped t
+    listed_one ms is f =
+        let x = there w.structs k (listed ms) is in
+        found_typed w.structs m ms (some_all w.structs ms (sound.structs k x.info ms x.is (some_is x.are)).good) t f
+
+    go : (o : Option MembersData) → members_of k w ≡ o → member_type m o ≡ Some t → IsTyped t
+    go None is f = none_not f
+    go (Some unlisted) is f = none_not f
+    go (Some begun) is f = none_not f
+    go (Some (listed ms)) is f = listed_one ms is f
 
 pub record IsThere {A : Type 0} (o : Option A) : Type 0 where
   pub value : A

@@ -13,9 +13,10 @@ use Rattle.ec_sound_defs.specs.Sound.{Signature}
 use Rattle.ec_sound_form_laws.proofs.Answered.{Tells}
 use Rattle.ec_sound_expression_laws.specs.Standing.{NamesStand}
 
-module _ (gs : List Signature) (calls : List LibraryCall) (n : ℕ) where
+module _ (gs : List Signature) (calls : List LibraryCall) (n : ℕ) (written : Bool) where
   -- what is known, and where things are
   pub record Stands (s : Storage) (w : World) : Type 0 where
+    pub is_written : w.written ≡ written
     pub sound : Sound w
     pub names : NamesStand gs n s.sites s.defined w
 
