@@ -2,6 +2,8 @@ pub mod Basics
 pub mod Calls
 pub mod Done
 pub mod Leaves
+pub mod Library
 pub mod Names
 pub mod Offsets
+pub mod Strays
 pub mod Walks
