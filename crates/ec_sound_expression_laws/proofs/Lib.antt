@@ -1,9 +1,11 @@
 pub mod Basics
 pub mod Calls
 pub mod Done
+pub mod Expressions
 pub mod Leaves
 pub mod Library
 pub mod Names
 pub mod Offsets
+pub mod Storing
 pub mod Strays
 pub mod Walks

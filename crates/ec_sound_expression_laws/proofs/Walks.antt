@@ -56,6 +56,17 @@ module _ (gs : List Signature) (calls : List LibraryCall) (n : ℕ) (written : B
     steps = λ s w. let x = h.steps s w in record { answer = x.answer; world = x.world; grows = x.grows; calls_grow = x.calls_grow; fits = λ stands r found shallow front. x.fits stands (g r) found shallow front };
   }
 
+  pub to : {A B : Type 0} {seen : B → A} {R : Type 0} {P Q : B → Type 0} {m : Resolving B} {c : Rule A} → ((b : B) → P b → Q b) → Walk seen R P m c → Walk seen R Q m c
+  to {m = m} g h = record {
+    steps = λ s w. let x = h.steps s w in record {
+      answer = x.answer;
+      world = x.world;
+      grows = x.grows;
+      calls_grow = x.calls_grow;
+      fits = λ stands r found shallow front. let p = x.fits stands r found shallow front in (p.0, g (m s w).answer p.1);
+    };
+  }
+
   pub beside : {A B : Type 0} {seen : B → A} {R : Type 0} {P : B → Type 0} {m : Resolving B} {c : Rule A} (X : Type 0) → Walk seen R P m c → Walk seen (X × R) (λ b. X × P b) m c
   beside X h = record {
     steps = λ s w. let x = h.steps s w in record {
