@@ -11,14 +11,11 @@ use Rattle.ec_sim_world_laws.proofs.growth_lemmas.Rules.{Growing, grows_itself, 
 use Rattle.ec_sim_program_laws.proofs.types_lemmas.Rules.{Sound, Shallow, shallow_before, both_none}
 use Rattle.ec_sound_defs.specs.Sound.{Signature}
 use Rattle.ec_sound_form_laws.proofs.Answered.{Tells}
-use Rattle.ec_sound_expression_laws.specs.Standing.{NamesStand}
+use Rattle.ec_sound_expression_laws.specs.Standing.{NamesStand, IsStanding}
 
 module _ (gs : List Signature) (calls : List LibraryCall) (n : ℕ) (written : Bool) where
-  -- what is known, and where things are
-  pub record Stands (s : Storage) (w : World) : Type 0 where
-    pub is_written : w.written ≡ written
-    pub sound : Sound w
-    pub names : NamesStand gs n s.sites s.defined w
+  abbrev pub Stands : Storage → World → Type 0
+  Stands s w = IsStanding gs n written s w
 
   -- from here, where this is known, and the calls so far are the first of all
   pub record Step {A B : Type 0} (seen : B → A) (R : Type 0) (P : B → Type 0) (s : Storage) (w : World) (r : Reached B) (o : Out A) : Type 0 where

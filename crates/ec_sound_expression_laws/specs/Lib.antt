@@ -1,3 +1,4 @@
 pub mod Arguments
+pub mod Laws
 pub mod Plain
 pub mod Standing

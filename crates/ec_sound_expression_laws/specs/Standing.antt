@@ -6,7 +6,8 @@ use Rattle.ec_typing_defs.specs.Known.{is_reserved}
 use Rattle.ec_typing_defs.specs.Tables.{Named, find}
 use Rattle.ec_typing_defs.specs.Worlds.{EntryData, object, function, World, look_up}
 use Rattle.ec_resolving_defs.specs.Operands.{Found, place_in}
-use Rattle.ec_resolving_defs.specs.Storage.{Site, numbered, slotted, nowhere, LibraryCall}
+use Rattle.ec_resolving_defs.specs.Storage.{Storage, Site, numbered, slotted, nowhere, LibraryCall}
+use Rattle.ec_sim_program_laws.proofs.types_lemmas.Rules.{Sound}
 use Rattle.ec_sound_defs.specs.Sorts.{Sort, any_sort}
 use Rattle.ec_sound_defs.specs.Sound.{Signature, Has, no_atoms}
 use Rattle.ec_sound_defs.specs.Types.{type_sort}
@@ -46,6 +47,12 @@ pub record NamesStand (gs : List Signature) (n : ℕ) (sites : List Site) (defin
       → EntryStands gs n sites defined name entry
   pub free : (name : Text) (entry : EntryData) → look_up name w ≡ Some entry
       → is_reserved name ≡ false
+
+-- All names have types, too, and all members of structs.
+pub record IsStanding (gs : List Signature) (n : ℕ) (written : Bool) (s : Storage) (w : World) : Type 0 where
+  pub is_written : w.written ≡ written
+  pub sound : Sound w
+  pub names : NamesStand gs n s.sites s.defined w
 
 -- ---- what is found out
 
