@@ -4,5 +4,6 @@ pub mod Making
 pub mod Names
 pub mod Places
 pub mod Scopes
+pub mod Sites
 pub mod Sparing
 pub mod Values

@@ -10,15 +10,18 @@ use Rattle.ec_ctypes.specs.declared.embedded.emb.Cond.TheVariants.{NotFound, War
 use Rattle.ec_language.specs.Letters.{Text}
 use Rattle.ec_typing_defs.specs.Expressions.{is_varchar}
 use Rattle.ec_typing_defs.specs.Tables.{Named}
-use Rattle.ec_typing_defs.specs.Worlds.{Place, World, Rule}
+use Rattle.ec_typing_defs.specs.Worlds.{Place, object, World, Rule, next_number, number_as, declare, know_better}
+use Rattle.ec_typing_defs.specs.Statements.{type_or_void}
+use Rattle.ec_typing_defs.specs.Programs.{declare_param}
+use Rattle.ec_meaning_defs.specs.resolved.Resolved.{Stm}
 use Rattle.ec_typing_defs.specs.statement_parts.Handlers.{is_directive, handler}
 use Rattle.ec_typing_defs.specs.statement_parts.References.{References, references}
 use Rattle.ec_resolving_defs.specs.Operands.{no_expression}
-use Rattle.ec_resolving_defs.specs.Storage.{with_object_of, no_actions, Storage, Resolving, chain, pure, checks, ask, stored, arrange, in_block, inside_block, next_site}
+use Rattle.ec_resolving_defs.specs.Storage.{with_site, with_object_of, no_actions, Storage, Resolving, chain, pure, checks, ask, stored, arrange, in_block, inside_block, next_site}
 use Rattle.ec_resolving_defs.specs.Expressions.{expr}
 use Rattle.ec_resolving_defs.specs.Embedded.{reference_rule, references_rule, action_rule, actions_rule, handlers_rule, embedded_rule}
 use Rattle.ec_resolving_defs.specs.Initializers.{PartData}
-use Rattle.ec_resolving_defs.specs.Statements.{Around, object_made, initial, object_type, object_item, object_items, specifier, declaration, scoped, condition, alone, optional, optional_condition, return_by, embedded_at, statement, statement_kind, statements, otherwise, declarators_in, objects_of_decl, objects_in, objects_in_kind, objects_in_all, objects_in_option}
+use Rattle.ec_resolving_defs.specs.Statements.{Around, size_of_type, object_made, initial, object_type, object_item, object_items, specifier, declaration, scoped, condition, alone, optional, optional_condition, return_by, embedded_at, statement, statement_kind, statements, otherwise, declarators_in, objects_of_decl, objects_in, objects_in_kind, objects_in_all, objects_in_option}
 use Rattle.ec_resolving_defs.specs.Programs.{param, params}
 use Rattle.ec_sound_statement_laws.specs.Objects.{Spares, Makes}
 use Rattle.ec_sound_statement_laws.proofs.Sparing as sparing
@@ -59,7 +62,7 @@ given : {n : ℕ} {A : Type 0} (a : A) → Makes n n (pure a)
 given a = spared (pure_spares a)
 
 -- what leaves the block alone
-arranged : {n : ℕ} (g : Storage → Storage) → ((s : Storage) → (g s).block ≡ s.block) → ((s : Storage) → (g s).functions ≡ s.functions) → ((s : Storage) → (g s).defined ≡ s.defined) → Makes n n (arrange g)
+pub arranged : {n : ℕ} (g : Storage → Storage) → ((s : Storage) → (g s).block ≡ s.block) → ((s : Storage) → (g s).functions ≡ s.functions) → ((s : Storage) → (g s).defined ≡ s.defined) → Makes n n (arrange g)
 unfolding arrange
 arranged {n = n} g e f d = record {
   below = λ s w. ap (λ b. b.below) (e s);
@@ -73,7 +76,7 @@ one_longer : (xs : List ℕ) (x n : ℕ) → length (xs ++ x ∷ []) + n ≡ len
 one_longer [] x n = omega (arith)
 one_longer (y ∷ ys) x n = let e = one_longer ys x n in omega (arith, e)
 
-made_one : {n : ℕ} (size : ℕ) → Makes (suc n) n (arrange (with_object_of size))
+pub made_one : {n : ℕ} (size : ℕ) → Makes (suc n) n (arrange (with_object_of size))
 unfolding arrange
 made_one {n = n} size = record { below = λ s w. refl; count = λ s w. refl; sizes = λ s w. one_longer s.block.sizes size n; functions = λ s w. refl; defined = λ s w. refl }
 
@@ -104,11 +107,11 @@ type_makes at false t stars name ns = chained (spared (lengths_spare at ns)) (λ
 type_makes at true t stars name ns = chained (spared (last_spares at ns)) (λ n. chained (checked _) (λ own. chained (spared (outer_spare at ns)) (λ sizes. (given _))))
 
 -- an object at file level makes none of a block, and one in a function makes one
-abbrev next_count : Bool → ℕ → ℕ
+abbrev pub next_count : Bool → ℕ → ℕ
 next_count true n = n
 next_count false n = suc n
 
-made_makes : (n : ℕ) (global : Bool) (s : Storage) (size : ℕ) (init : InitOption) (ps : List PartData) → Makes (next_count global n) n (object_made (next_site global s) size init ps)
+pub made_makes : (n : ℕ) (global : Bool) (s : Storage) (size : ℕ) (init : InitOption) (ps : List PartData) → Makes (next_count global n) n (object_made (next_site global s) size init ps)
 made_makes n true s size init ps = chained (arranged _ (λ t. refl) (λ t. refl) (λ t. refl)) (λ u. (given _))
 made_makes n false s size init ps = chained (made_one size) (λ u. (given _))
 
@@ -117,10 +120,15 @@ at_site : {a b : ℕ} {A B : Type 0} (g : Storage → A) (f : A → Resolving B)
 unfolding chain stored
 at_site g f h = record { below = λ s w. (h s).below s w; count = λ s w. (h s).count s w; sizes = λ s w. (h s).sizes s w; functions = λ s w. (h s).functions s w; defined = λ s w. (h s).defined s w }
 
-item_makes : (n : ℕ) (at : Place) (global v : Bool) (t : Option TyData) (d : DeclaratorData) → Makes (next_count global n) n (object_item at global v t d)
-item_makes n at global v t (declarator stars name ns init) =
-    chained (type_makes at v t stars name ns) (λ whole.
-    chained (checked _) (λ before.
+-- behind the type of an object
+abbrev pub object_rest : Place → Bool → Text → InitOption → Option TyData → Resolving (List Stm)
+object_rest at global name init before =
+    chain (ask next_number) (λ k. chain (checks (declare at name (object k global before))) (λ _. chain (stored (next_site global)) (λ site. chain (arrange (with_site site)) (λ _.
+    chain (initial at global before init) (λ made. chain (checks (know_better name (object k global made.0))) (λ _. chain (checks (number_as (type_or_void made.0))) (λ _.
+    chain (ask (λ w. size_of_type w made.0)) (λ size. object_made site size init made.1))))))))
+
+pub rest_makes : (n : ℕ) (at : Place) (global : Bool) (name : Text) (init : InitOption) (before : Option TyData) → Makes (next_count global n) n (object_rest at global name init before)
+rest_makes n at global name init before =
     chained (looked _) (λ k.
     chained (checked _) (λ a.
     at_site (next_site global) _ (λ s.
@@ -128,19 +136,23 @@ item_makes n at global v t (declarator stars name ns init) =
     chained (initial_makes at global before init) (λ made.
     chained (checked _) (λ c.
     chained (checked _) (λ d.
-    chained (looked _) (λ size. made_makes n global s size init made.1))))))))))
+    chained (looked _) (λ size. made_makes n global s size init made.1))))))))
+
+item_makes : (n : ℕ) (at : Place) (global v : Bool) (t : Option TyData) (d : DeclaratorData) → Makes (next_count global n) n (object_item at global v t d)
+item_makes n at global v t (declarator stars name ns init) =
+    chained (type_makes at v t stars name ns) (λ whole. chained (checked _) (λ before. rest_makes n at global name init before))
 
 -- by numbers that are the same
-from : {a b c : ℕ} {A : Type 0} {m : Resolving A} → a ≡ b → Makes b c m → Makes a c m
+pub from : {a b c : ℕ} {A : Type 0} {m : Resolving A} → a ≡ b → Makes b c m → Makes a c m
 from {c = c} {m = m} e h = subst (λ k. Makes k c m) (sym e) h
 
-none_more : (n : ℕ) → 0 + n ≡ n
+pub none_more : (n : ℕ) → 0 + n ≡ n
 none_more n = omega (arith)
 
-one_more : (k n : ℕ) → suc k + n ≡ suc (k + n)
+pub one_more : (k n : ℕ) → suc k + n ≡ suc (k + n)
 one_more k n = omega (arith)
 
-both_more : (j k n : ℕ) → (j + k) + n ≡ j + (k + n)
+pub both_more : (j k n : ℕ) → (j + k) + n ≡ j + (k + n)
 both_more j k n = omega (arith)
 
 items_make : (n : ℕ) (at : Place) (v : Bool) (t : Option TyData) (ds : DeclaratorList) → Makes (declarators_in ds + n) n (object_items at false v t ds)
@@ -221,7 +233,7 @@ return_makes : {n : ℕ} (at : Place) (r : Option TyData) (e : Option ExprData) 
 return_makes at r None = given _
 return_makes at r (Some e) = chained (spared (sparing.valued at (expr_spares at e))) (λ f. (given _))
 
-scoped_makes : {a b : ℕ} {A : Type 0} {m : Resolving A} → Makes a b m → Makes a b (scoped m)
+pub scoped_makes : {a b : ℕ} {A : Type 0} {m : Resolving A} → Makes a b m → Makes a b (scoped m)
 scoped_makes h = chained (checked _) (λ u. chained h (λ x. chained (checked _) (λ v. (given _))))
 
 mutual
@@ -257,18 +269,25 @@ mutual
 
 -- ---- functions
 
-param_makes : (n : ℕ) (at : Place) (defined : Bool) (p : ParamData) → Makes (suc n) n (param at defined p)
-param_makes n at defined p =
-    chained (spared (base_spares at p.base)) (λ b.
-    chained (spared (lengths_spare at p.dims)) (λ sizes.
-    chained (checked _) (λ t.
+-- behind the type of a parameter
+abbrev pub param_rest : Place → Bool → Option Text → Option TyData → Resolving (Option TyData)
+param_rest at defined name t =
+    chain (ask next_number) (λ k. chain (checks (declare_param at defined name k t)) (λ _. chain (checks (number_as (type_or_void t))) (λ _. chain (stored (next_site false)) (λ site.
+    chain (arrange (with_site site)) (λ _. chain (ask (λ w. size_of_type w t)) (λ size. chain (arrange (with_object_of size)) (λ _. pure t)))))))
+
+pub param_rest_makes : (n : ℕ) (at : Place) (defined : Bool) (name : Option Text) (t : Option TyData) → Makes (suc n) n (param_rest at defined name t)
+param_rest_makes n at defined name t =
     chained (looked _) (λ k.
     chained (checked _) (λ a.
     chained (checked _) (λ c.
     chained (read _) (λ site.
     chained (arranged _ (λ s. refl) (λ s. refl) (λ s. refl)) (λ d.
     chained (looked _) (λ size.
-    chained (made_one size) (λ e. (given _)))))))))))
+    chained (made_one size) (λ e. (given _))))))))
+
+param_makes : (n : ℕ) (at : Place) (defined : Bool) (p : ParamData) → Makes (suc n) n (param at defined p)
+param_makes n at defined p =
+    chained (spared (base_spares at p.base)) (λ b. chained (spared (lengths_spare at p.dims)) (λ sizes. chained (checked _) (λ t. param_rest_makes n at defined p.name t)))
 
 pub params_make : (n : ℕ) (at : Place) (defined : Bool) (ps : List ParamData) → Makes (length ps + n) n (params at defined ps)
 params_make n at defined [] = from (none_more n) (given _)

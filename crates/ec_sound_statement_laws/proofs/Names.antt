@@ -97,7 +97,7 @@ object_level ds w z name entry here outer new h = record { outer = outer ∙ h.o
 
 -- ---- declarations
 
-declared_world : (at : Place) (name : Text) (entry : EntryData) (w : World) → (declare at name entry w).world ≡ with_name name entry w
+pub declared_world : (at : Place) (name : Text) (entry : EntryData) (w : World) → (declare at name entry w).world ≡ with_name name entry w
 unfolding declare free_name chain ask change
 declared_world at name entry w = growth.demand_same at F12 (not (is_reserved name)) (demand at F10 (not (is_some (find name w.here.names))) (with_name name entry w)).world
     ∙ growth.demand_same at F10 (not (is_some (find name w.here.names))) (with_name name entry w)

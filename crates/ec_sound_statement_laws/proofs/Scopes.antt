@@ -43,10 +43,10 @@ changed : (g : World → World) → ((w : World) → (g w).outer ≡ w.outer) �
 unfolding change
 changed g e = record { outer = e }
 
-left_here : (w : World) (s : ScopeData) (ss : List ScopeData) → w.outer ≡ s ∷ ss → (left w).here ≡ s
+pub left_here : (w : World) (s : ScopeData) (ss : List ScopeData) → w.outer ≡ s ∷ ss → (left w).here ≡ s
 left_here w s ss e = ap (λ os. (left_to os w).here) e
 
-left_outer : (w : World) (s : ScopeData) (ss : List ScopeData) → w.outer ≡ s ∷ ss → (left w).outer ≡ ss
+pub left_outer : (w : World) (s : ScopeData) (ss : List ScopeData) → w.outer ≡ s ∷ ss → (left w).outer ≡ ss
 left_outer w s ss e = ap (λ os. (left_to os w).outer) e
 
 pub scoped_leaves : {m : Rule (Unit {0})} → Keeps m → Leaves (scoped m)

@@ -52,7 +52,7 @@ chosen false h k = k
 
 -- ---- operands
 
-form_spares : (f : OperandData → Found) (m : Rule OperandData) → Spares (with_form f m)
+pub form_spares : (f : OperandData → Found) (m : Rule OperandData) → Spares (with_form f m)
 form_spares f m = chained (checks_spare m) (λ o. pure_spares _)
 
 asked_form : {A : Type 0} (g : World → A) (f : A → OperandData → Found) (m : Rule OperandData) → Spares (chain (ask g) (λ a. with_form (f a) m))

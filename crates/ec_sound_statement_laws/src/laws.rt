@@ -6,6 +6,7 @@ ghost use Rattle.ec_sound_statement_laws.specs.Functions.{FunctionsAreMade, Name
 ghost use Rattle.ec_sound_statement_laws.specs.Labels.{LabelsStand};
 ghost use Rattle.ec_sound_statement_laws.specs.Objects.{ExpressionsSpare, ArgumentsSpare, TypesSpare, LengthsSpare, InitializersSpare, DeclarationsMake, GlobalsMakeNone, ParametersMake, StatementsMake, ListsMake, BlocksAreFull};
 ghost use Rattle.ec_sound_statement_laws.specs.Scopes.{DeclarationsKeep, ParametersKeep, StatementsKeep, ListsKeep, BodiesLeave, BlocksLeave, FunctionsAreKnown};
+ghost use Rattle.ec_sound_statement_laws.specs.Sites.{ExpressionsStand, DeclarationsStand, GlobalsStand, ParametersStand, StatementsStand, ListsStand};
 ghost use Rattle.ec_sound_statement_laws.specs.Values.{NothingIsReturned, ReturnsFit, ValuesAreStored, PartsAreStored};
 
 /// Expressions, the types and lengths in them, and initializers make no storage but literals and calls of the library: the
@@ -67,4 +68,16 @@ pub fn values_are_returned_and_stored()
     ensures returned { (gs : List Signature) (n : ℕ) → ReturnsFit gs no_atoms n }
     ensures values { (gs : List Signature) (n : ℕ) → ValuesAreStored gs no_atoms n }
     ensures parts { (gs : List Signature) (n : ℕ) → PartsAreStored gs no_atoms n }
+{}
+
+/// Where each name in scope stands for an object that has its place among those in scope, or for a function of its signature, so
+/// it does behind expressions, declarations, parameters and statements, whatever their faults. As many objects are in
+/// scope then: those of blocks further in are gone with their names.
+pub fn names_in_scope_stand()
+    ensures expressions { (gs : List Signature) → ExpressionsStand gs }
+    ensures declarations { (gs : List Signature) → DeclarationsStand gs }
+    ensures globals { (gs : List Signature) → GlobalsStand gs }
+    ensures parameters { (gs : List Signature) → ParametersStand gs }
+    ensures statements { (gs : List Signature) → StatementsStand gs }
+    ensures lists { (gs : List Signature) → ListsStand gs }
 {}

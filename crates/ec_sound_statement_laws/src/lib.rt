@@ -6,5 +6,6 @@ mod laws;
 
 pub use laws::{
     blocks_have_their_objects, expressions_declare_nothing, functions_are_known,
-    functions_have_their_places, labels_are_there, scopes_are_left, values_are_returned_and_stored,
+    functions_have_their_places, labels_are_there, names_in_scope_stand, scopes_are_left,
+    values_are_returned_and_stored,
 };
