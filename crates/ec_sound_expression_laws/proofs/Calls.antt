@@ -1,39 +1,38 @@
 -- Calls of functions of the program and of known functions fit, where their arguments serve and nothing is wrong.
-use Rattle.std.proofs.Common.{◌≡◌, ◌∙◌, ◌⊎◌, inl, inr, ℕ, zero, suc, ◌+◌, Bool, true, false, not as negation, ◌&&◌, ◌||◌, List, [], ◌∷◌, length, map, drop, replicate, Option, Some, None, refl, sym, ap, subst, slice_get, arith, eqb-true}
-use Rattle.std.specs.Prelude.{◌==◌, is_some, nat_le, option_and_then}
-use Rattle.ec_ctypes.specs.declared.checked.library.LibName.{LibName}
+use Rattle.std.proofs.Common.{◌≡◌, ◌∙◌, inl, inr, ℕ, zero, suc, ◌+◌, Bool, true, false, not as negation, List, [], ◌∷◌, length, map, drop, replicate, Option, Some, None, refl, sym, ap, subst, slice_get, arith, eqb-true}
+use Rattle.std.specs.Prelude.{is_some, option_and_then}
 use Rattle.ec_ctypes.specs.trees.Types.{TyData, void, arithmetic, pointer, array, structure}
 use Rattle.ec_ctypes.specs.trees.Exprs.{ExprList, no_exprs, exprs}
 use Rattle.ec_language.specs.Letters.{Text}
-use Rattle.ec_typing_defs.specs.Tables.{Named, find}
+use Rattle.ec_typing_defs.specs.Tables.{find}
 use Rattle.ec_typing_defs.specs.Types.{int_type, is_void, is_assignable}
-use Rattle.ec_typing_defs.specs.Known.{KnownData, plain, formatted, known_function, takes_stream, literal_at, ArgumentsData, all_expressions, stream_first, with_symbols, arguments_of}
+use Rattle.ec_typing_defs.specs.Known.{KnownData, plain, formatted, known_function, takes_stream, literal_at, all_expressions, stream_first, arguments_of}
 use Rattle.ec_typing_defs.specs.Library.{library_call}
 use Rattle.ec_typing_defs.specs.Formats.{NeedData, exact_int, short_integer, long_integer, text_need, Needs, needs_of, meets, meet_all, is_format_of}
 use Rattle.ec_typing_defs.specs.Operands.{OperandData, computed, is_null, fits, all_fit, types_of}
 use Rattle.ec_typing_defs.specs.Worlds.{EntryData, object, function, World, look_up}
-use Rattle.ec_meaning_defs.specs.functions.Formats.{Part, format_parts}
-use Rattle.ec_meaning_defs.specs.functions.Functions.{Known, Channel}
-use Rattle.ec_meaning_defs.specs.resolved.Resolved.{Exp, call, known, faulty}
+use Rattle.ec_meaning_defs.specs.functions.Formats.{format_parts}
+use Rattle.ec_meaning_defs.specs.functions.Functions.{Channel}
+use Rattle.ec_meaning_defs.specs.resolved.Resolved.{call, known}
 use Rattle.ec_resolving_defs.specs.Conversions.{promoted_value}
-use Rattle.ec_resolving_defs.specs.Operands.{Found, found, place_in, has_result, own_call, passed, plain_functions, plain_call, channel_of, exps_of, printing, known_call, call_exp, operands_of}
+use Rattle.ec_resolving_defs.specs.Operands.{Found, found, place_in, own_call, passed, plain_functions, plain_call, channel_of, exps_of, printing, known_call, call_exp, operands_of}
 use Rattle.ec_resolving_defs.specs.Storage.{Storage, LibraryCall}
 use Rattle.ec_sim_world_laws.specs.closing.Closing.{IsTyped}
 use Rattle.ec_sim_program_laws.specs.types.Types.{AreAllTyped, IsTypedEntry}
-use Rattle.ec_sim_program_laws.proofs.types_lemmas.Rules.{Sound, EntryIn, name_typed}
-use Rattle.ec_sound_defs.specs.Sorts.{Sort, Takes, number_sort, address_sort, any_sort, known_takes, known_gives, parts_need}
+use Rattle.ec_sim_program_laws.proofs.types_lemmas.Rules.{EntryIn, name_typed}
+use Rattle.ec_sound_defs.specs.Sorts.{Sort, Takes, number_sort, address_sort, any_sort}
 use Rattle.ec_sound_defs.specs.Sound.{Signature, Has, HasEach, Called, call_gives, count_of, no_atoms}
 use Rattle.ec_sound_defs.specs.Types.{type_sort}
-use Rattle.ec_sound_form_laws.specs.Fits.{IsValue, AreValues, FoundFits}
-use Rattle.ec_sound_form_laws.specs.Formats.{need_sort, IsTakenApart}
+use Rattle.ec_sound_form_laws.specs.Fits.{IsValue, AreValues}
+use Rattle.ec_sound_form_laws.specs.Formats.{IsTakenApart}
 use Rattle.ec_sound_form_laws.specs.Laws.{IsKnownAs}
-use Rattle.ec_sound_form_laws.proofs.Answered.{IsOf, computed_of, AreArguments, IsFormatted, IsKnownCall, IsUndeclaredCall, IsCallBy}
+use Rattle.ec_sound_form_laws.proofs.Answered.{IsOf, computed_of, AreArguments, IsKnownCall, IsUndeclaredCall, IsCallBy}
 use Rattle.ec_sound_form_laws.proofs.Formats.{formats_are_taken_apart}
 use Rattle.ec_sound_form_laws.proofs.Known.{known_is}
 use Rattle.ec_sound_form_laws.proofs.Found.{AreAllSome, computed_is, passed_any, passed_each, passed_count, operands_count, formatted_each}
-use Rattle.ec_sound_expression_laws.specs.Arguments.{ArgumentServes, ArgumentsServe}
-use Rattle.ec_sound_expression_laws.specs.Standing.{Serves, ServesAsValue, IsDone, NamesStand, EntryStands, signature_of, gives_of}
-use Rattle.ec_sound_expression_laws.proofs.Basics.{clash, none_not, left, right}
+use Rattle.ec_sound_expression_laws.specs.Arguments.{ArgumentsServe}
+use Rattle.ec_sound_expression_laws.specs.Standing.{Serves, ServesAsValue, signature_of}
+use Rattle.ec_sound_expression_laws.proofs.Basics.{clash, left, right}
 use Rattle.ec_sound_expression_laws.proofs.Done.{no_assignable}
 use Rattle.ec_sound_expression_laws.proofs.Names.{free_forms, no_symbols, plain_no_stream}
 use Rattle.ec_sound_expression_laws.proofs.Walks.{Stands}
@@ -154,7 +153,7 @@ module _ (gs : List Signature) (calls : List LibraryCall) (n : ℕ) where
           let vs = values_of (map Some ps) fs (known_some ps) h l a.fit in
           let each = passed_each gs no_atoms n ps fs vs (l ∙ map_length ps) a.fit in
           let form : Has gs no_atoms n (type_sort r) (known k.function (passed (map Some ps) fs)) =
-              (subst (λ x. Takes (type_sort r) x) (sym k.gives) (sort_taken (type_sort r)), subst (λ ks. HasEach gs no_atoms n ks (passed (map Some ps) fs)) (sym k.takes) each) in
+          (subst (λ x. Takes (type_sort r) x) (sym k.gives) (sort_taken (type_sort r)), subst (λ ks. HasEach gs no_atoms n ks (passed (map Some ps) fs)) (sym k.takes) each) in
           inl (computed_is gs no_atoms n r o _ of (subst (λ x. Has gs no_atoms n (type_sort r) (plain_call x ps fs)) (sym k.is) form))
 
   printed_serves : (c : Channel) (format : Option Text) (fs : List Found) (o : OperandData) → AllServe fs → is_format_of format (types_of (operands_of fs)) ≡ true → IsOf int_type o

@@ -1,25 +1,23 @@
 -- What the rules of operands tell where a part is done without a value: but for a cast to void, each finds something wrong.
-use Rattle.std.proofs.Common.{◌≡◌, ◌∙◌, ◌⊎◌, inl, inr, ℕ, Bool, true, false, not, ◌&&◌, ◌||◌, List, [], ◌∷◌, length, Option, Some, None, refl, sym, ap, subst}
-use Rattle.std.specs.Prelude.{◌==◌, if◌then◌else◌, option_and_then}
+use Rattle.std.proofs.Common.{◌≡◌, ◌∙◌, inl, inr, ℕ, Bool, true, false, ◌&&◌, List, Some, None, refl, sym, subst}
+use Rattle.std.specs.Prelude.{if◌then◌else◌}
 use Rattle.ec_ctypes.specs.declared.tree.expr.BinOp.{BinOp}
 use Rattle.ec_ctypes.specs.declared.tree.expr.UnOp.{UnOp}
 use Rattle.ec_ctypes.specs.declared.tree.expr.UnOp.TheVariants.{Addr, Deref, Plus, Minus, Not, Flip}
 use Rattle.ec_ctypes.specs.trees.Types.{TyData, void, arithmetic, pointer, array, structure}
-use Rattle.ec_language.specs.Letters.{Text}
-use Rattle.ec_typing_defs.specs.Types.{is_void, is_structure, decayed, pointed_to, struct_number, is_assignable, binary_type, is_compound, is_counter, element_type, may_be_cast}
+use Rattle.ec_typing_defs.specs.Types.{is_void, is_structure, is_assignable, binary_type, is_compound, element_type, may_be_cast}
 use Rattle.ec_typing_defs.specs.Operands as checked
 use Rattle.ec_typing_defs.specs.Operands.{OperandData, is_null, unary_type}
 use Rattle.ec_typing_defs.specs.Worlds.{Place, World, is_complete}
-use Rattle.ec_meaning_defs.specs.resolved.Resolved.{Exp, whole, faulty}
+use Rattle.ec_meaning_defs.specs.resolved.Resolved.{whole, faulty}
 use Rattle.ec_resolving_defs.specs.Conversions as of
-use Rattle.ec_resolving_defs.specs.Operands.{Found, found, value_exp, over_type, over_types, discarded, cast_form, done_alone, is_call_alone, without_use}
+use Rattle.ec_resolving_defs.specs.Operands.{Found, found, value_exp, over_type, over_types, discarded, cast_form}
 use Rattle.ec_resolving_defs.specs.Storage.{LibraryCall}
-use Rattle.ec_sound_defs.specs.Sorts.{Sort, any_sort}
+use Rattle.ec_sound_defs.specs.Sorts.{any_sort}
 use Rattle.ec_sound_defs.specs.Sound.{Signature, Has, no_atoms}
 use Rattle.ec_sound_defs.specs.Written.{library_atoms}
 use Rattle.ec_sound_form_laws.specs.Laws.{assigns, gives_value}
-use Rattle.ec_sound_form_laws.specs.Fits.{IsValue, FoundFits}
-use Rattle.ec_sound_form_laws.proofs.Answered.{Tells, told, IsOf, IsTyped, IsTarget, IsElement, IsSet, IsCast, value_tells, address_tells, target_tells, sign_tells, binary_tells, index_tells, assign_tells, compound_tells, bump_tells, cast_tells}
+use Rattle.ec_sound_form_laws.proofs.Answered.{Tells, told, IsCast, value_tells, address_tells, target_tells, sign_tells, binary_tells, index_tells, assign_tells, compound_tells, bump_tells, cast_tells}
 use Rattle.ec_sound_form_laws.proofs.Found.{value_is, address_is, target_is, sign_is, both_is, index_is, set_is, compounded_is, bump_is, cast_fits}
 use Rattle.ec_sound_expression_laws.specs.Standing.{IsDone, Serves, ServesAsValue}
 use Rattle.ec_sound_expression_laws.proofs.Basics.{clash, none_not, both_false}

@@ -1,9 +1,8 @@
 -- Expressions and arguments serve, by induction over the trees.
-use Rattle.std.proofs.Common.{◌≡◌, ◌∙◌, ◌⊎◌, inl, inr, ℕ, Bool, true, false, List, [], ◌∷◌, ◌++◌, length, map, Option, Some, None, refl, sym, ap, subst}
+use Rattle.std.proofs.Common.{◌≡◌, ◌∙◌, inl, inr, ℕ, Bool, true, false, List, [], ◌∷◌, length, Option, Some, None, refl, sym, ap, subst}
 use Rattle.std.specs.Prelude.{pos, ℤ}
 use Rattle.ec_base.specs.declared.fault.FaultKind.TheVariants.{F16}
 use Rattle.ec_ctypes.specs.declared.checked.library.LibName.{LibName}
-use Rattle.ec_ctypes.specs.declared.tree.expr.UnOp.{UnOp}
 use Rattle.ec_ctypes.specs.declared.tree.expr.UnOp.TheVariants.{Addr, Deref, Plus, Minus, Not, Flip}
 use Rattle.ec_ctypes.specs.trees.Types.{TyData, void, arithmetic, pointer, array, structure}
 use Rattle.ec_ctypes.specs.trees.Exprs.{ExprData, integer, character, string, identifier, unary, binary, assign, bump, call, call_other, index, member, arrow, cast, size_type, size_expr, ExprList, no_exprs, exprs, BaseData}
@@ -18,12 +17,10 @@ use Rattle.ec_typing_defs.specs.Expressions as checked_parts
 use Rattle.ec_typing_defs.specs.Expressions.{is_varchar}
 use Rattle.ec_typing_defs.specs.Worlds.{Place, EntryData, object, function, World, Rule, look_up, or_else, look_up_in, chain as check_chain, pure as check_pure, ask as check_ask, note}
 use Rattle.ec_memory_defs.specs.Memory.{number}
-use Rattle.ec_meaning_defs.specs.observed.Run.{IsFront}
-use Rattle.ec_meaning_defs.specs.resolved.Resolved.{constant, faulty, library_call as library_form}
+use Rattle.ec_meaning_defs.specs.resolved.Resolved.{constant, faulty}
 use Rattle.ec_resolving_defs.specs.Agreement.{operand_of}
-use Rattle.ec_resolving_defs.specs.Calling.{any_calls_function}
-use Rattle.ec_resolving_defs.specs.Operands.{Found, found, no_expression, with_form, as_value, value_rule, unary_rule, arguments_of_call, left_of, evaluated_before, library_exp, function_called, called, call_exp, call_rule, operands_of, is_library_literal}
-use Rattle.ec_resolving_defs.specs.Storage.{Storage, LibraryCall, Resolving, with_call, chain, pure, checks, ask, stored, arrange}
+use Rattle.ec_resolving_defs.specs.Operands.{Found, found, no_expression, with_form, as_value, value_rule, library_exp, function_called, call_rule, operands_of, is_library_literal}
+use Rattle.ec_resolving_defs.specs.Storage.{Storage, LibraryCall, Resolving, chain, pure, checks, ask, stored, arrange}
 use Rattle.ec_resolving_defs.specs.Expressions.{library_literal, expr, args, base}
 use Rattle.ec_resolving_defs.proofs.Agreeing.{base_finds}
 use Rattle.ec_sim_world_laws.specs.growth.Growth.{Grows}
@@ -36,21 +33,19 @@ use Rattle.ec_sim_world_laws.proofs.known_lemmas.NamesRules.{NamesStay}
 use Rattle.ec_sim_program_laws.proofs.types_lemmas.Rules.{Shallow}
 use Rattle.ec_sim_program_laws.proofs.types_lemmas.Fits as tree
 use Rattle.ec_sim_program_laws.proofs.types_lemmas.Expressions.{IsAtom, atom_typed, plain_base, base_has}
-use Rattle.ec_sound_defs.specs.Sorts.{any_sort}
 use Rattle.ec_sound_defs.specs.Sound.{Signature, no_atoms}
-use Rattle.ec_sound_form_laws.specs.Laws.{gives_value}
-use Rattle.ec_sound_form_laws.proofs.Answered.{Tells, told, IsOf, value_tells, IsUndeclaredCall, IsCallBy, call_tells}
+use Rattle.ec_sound_form_laws.proofs.Answered.{Tells, IsOf, value_tells, IsUndeclaredCall, IsCallBy, call_tells}
 use Rattle.ec_sound_form_laws.proofs.Found.{computed_is}
 use Rattle.ec_sound_expression_laws.specs.Arguments.{ArgumentServes, ArgumentsServe}
 use Rattle.ec_sound_expression_laws.specs.Plain.{IsArithmetic, IsPlain, ArePlain}
-use Rattle.ec_sound_expression_laws.specs.Standing.{NamesStand, IsDone, Serves, ServesAsValue}
+use Rattle.ec_sound_expression_laws.specs.Standing.{NamesStand, Serves, ServesAsValue}
 use Rattle.ec_sound_expression_laws.proofs.Basics.{clash}
 use Rattle.ec_sound_expression_laws.proofs.Names.{free_no_library, library_no_stream, some_not}
 use Rattle.ec_sound_expression_laws.proofs.Calls.{function_serves}
 use Rattle.ec_sound_expression_laws.proofs.Library.{HasNoStream, no_stream, library_serves}
 use Rattle.ec_sound_expression_laws.proofs.Leaves.{name_walks, literal_walks, value_walks, address_walks, target_walks, sign_walks, binary_walks, index_walks, assign_walks, compound_walks, bump_walks, member_walks, arrow_walks, cast_walks, size_walks, served_type}
 use Rattle.ec_sound_expression_laws.proofs.Storing.{base_stores}
-use Rattle.ec_sound_expression_laws.proofs.Walks.{Stands, Step, Walk, chained, from, to, beside, carried, pure_walks, leaf, stands_still}
+use Rattle.ec_sound_expression_laws.proofs.Walks.{Stands, Step, Walk, chained, from, to, carried, pure_walks, leaf, stands_still}
 
 -- the same names in scope
 same_names : (w z : World) → NamesStay w z → (name : Text) → look_up name z ≡ look_up name w

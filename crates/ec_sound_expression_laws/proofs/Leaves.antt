@@ -1,40 +1,39 @@
 -- What rules find out about operands, beside their forms.
-use Rattle.std.proofs.Common.{◌≡◌, ◌∙◌, ◌⊎◌, inl, inr, ℕ, zero, suc, ◌+◌, ◌<◌, Bool, true, false, not as negation, ◌&&◌, ◌||◌, List, [], ◌∷◌, length, Option, Some, None, refl, sym, ap, subst, slice_get, codes}
+use Rattle.std.proofs.Common.{◌≡◌, inl, inr, ℕ, Bool, true, false, List, length, Option, Some, None, refl, sym, subst, slice_get, codes}
 use Rattle.std.specs.Prelude.{is_some, option_and_then, pos, if◌then◌else◌}
 use Rattle.ec_base.specs.declared.fault.FaultKind.TheVariants.{F11, F14}
 use Rattle.ec_ctypes.specs.declared.tree.expr.BinOp.{BinOp}
 use Rattle.ec_ctypes.specs.declared.tree.expr.UnOp.{UnOp}
 use Rattle.ec_ctypes.specs.declared.tree.expr.UnOp.TheVariants.{Addr, Deref, Plus, Minus, Not, Flip}
-use Rattle.ec_ctypes.specs.trees.Types.{TyData, void, arithmetic, pointer, array, structure}
+use Rattle.ec_ctypes.specs.trees.Types.{TyData, void, pointer, structure}
 use Rattle.ec_language.specs.Letters.{Text, same_text}
 use Rattle.ec_typing_defs.specs.Known.{known_function}
 use Rattle.ec_typing_defs.specs.Types.{int_type, struct_number, pointed_to}
 use Rattle.ec_typing_defs.specs.Operands as checked
 use Rattle.ec_typing_defs.specs.Operands.{OperandData, unknown, object_operand, null_operand, integer_operand, literal_operand, size_operand, named_by, predefined}
-use Rattle.ec_typing_defs.specs.Worlds.{Place, EntryData, object as object_entry, function as function_entry, World, Rule, look_up, members_of, is_complete, shape_in, chain as check_chain, pure as check_pure, note}
+use Rattle.ec_typing_defs.specs.Worlds.{Place, EntryData, object as object_entry, function as function_entry, World, Rule, look_up, members_of, shape_in, chain as check_chain, pure as check_pure, note}
 use Rattle.ec_memory_defs.specs.Memory.{number, address}
-use Rattle.ec_meaning_defs.specs.resolved.Resolved.{Exp, constant, faulty}
+use Rattle.ec_meaning_defs.specs.resolved.Resolved.{constant, faulty}
 use Rattle.ec_resolving_defs.specs.Agreement.{operand_of}
 use Rattle.ec_resolving_defs.specs.Conversions as of
 use Rattle.ec_resolving_defs.specs.Operands.{Found, found, named_exp, predefined_exp, name_rule, literal_rule, value_exp, value_rule, address_rule, unary_rule, binary_rule, index_rule, assign_rule, compound_rule, bump_rule, over_type, over_types, member_exp, member_rule, target_struct, arrow_rule, cast_form, cast_rule, size_exp, size_rule}
-use Rattle.ec_resolving_defs.specs.Storage.{Storage, Site, numbered, slotted, nowhere, site_exp, sqlca, literal_object, LibraryCall, reached, Resolving, chain, pure, checks, ask, stored, arrange}
+use Rattle.ec_resolving_defs.specs.Storage.{Storage, Site, numbered, slotted, nowhere, site_exp, sqlca, literal_object, LibraryCall, Resolving, chain, pure, checks, ask, stored, arrange}
 use Rattle.ec_sim_world_laws.proofs.growth_lemmas.Rules.{grows_itself, begins_itself}
 use Rattle.ec_sim_world_laws.proofs.growth_lemmas.Operands.{name_grows, value_grows, address_grows, unary_grows, binary_grows, index_grows, assign_grows, compound_grows, bump_grows, member_grows, arrow_grows, cast_grows, size_grows}
 use Rattle.ec_sim_world_laws.specs.closing.Closing.{IsTyped}
-use Rattle.ec_sim_program_laws.specs.types.Types.{IsTypedEntry}
 use Rattle.ec_sim_program_laws.proofs.types_lemmas.Rules.{EntryIn, name_typed}
 use Rattle.ec_sim_program_laws.proofs.types_lemmas.Structs.{whole_complete, type_shaped}
 use Rattle.ec_sound_defs.specs.Sorts.{address_sort}
 use Rattle.ec_sound_defs.specs.Sound.{Signature, Has, no_atoms}
 use Rattle.ec_sound_form_laws.specs.Fits.{IsValue, FoundFits}
 use Rattle.ec_sound_form_laws.specs.Laws.{assigns, gives_value}
-use Rattle.ec_sound_form_laws.proofs.Answered.{Tells, told, pure_tells, asked, fault, IsOf, computed_of, IsMember, member_tells, arrow_tells, size_tells}
+use Rattle.ec_sound_form_laws.proofs.Answered.{Tells, told, pure_tells, asked, fault, member_tells, arrow_tells, size_tells}
 use Rattle.ec_sound_form_laws.proofs.Found.{computed_is, place_is, member_is, arrow_is, size_is}
-use Rattle.ec_sound_expression_laws.specs.Standing.{SiteStands, IsDone, Serves, ServesAsValue}
+use Rattle.ec_sound_expression_laws.specs.Standing.{SiteStands, Serves, ServesAsValue}
 use Rattle.ec_sound_expression_laws.proofs.Basics.{clash, none_not}
 use Rattle.ec_sound_expression_laws.proofs.Done.{value_serves, address_serves, target_serves, sign_serves, binary_serves, index_serves, assign_serves, compound_serves, bump_serves, cast_serves}
 use Rattle.ec_sound_expression_laws.proofs.Offsets.{has_offset, member_typed, is_there}
-use Rattle.ec_sound_expression_laws.proofs.Walks.{Stands, Step, Walk, leaf}
+use Rattle.ec_sound_expression_laws.proofs.Walks.{Stands, Walk, leaf}
 
 module _ (gs : List Signature) (calls : List LibraryCall) (n : ℕ) (written : Bool) where
   abbrev Served : Found → Type 0
@@ -98,8 +97,10 @@ module _ (gs : List Signature) (calls : List LibraryCall) (n : ℕ) (written : B
       world = refl;
       grows = grows_itself w;
       calls_grow = begins_itself s.calls;
-      fits = λ stands r found shallow front. (record { is_written = stands.is_written; sound = stands.sound; names = stands.names },
-          inl (place_is gs no_atoms n _ (literal_operand (length text)) (literal_object s) refl tt));
+      fits = λ stands r found shallow front. (
+        record { is_written = stands.is_written; sound = stands.sound; names = stands.names },
+        inl (place_is gs no_atoms n _ (literal_operand (length text)) (literal_object s) refl tt),
+      );
     };
   }
 

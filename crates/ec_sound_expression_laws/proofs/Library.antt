@@ -1,11 +1,10 @@
 -- A call of the library serves where it is evaluated: its list is a call, and its pointers lead to addresses.
-use Rattle.std.proofs.Common.{◌≡◌, ◌∙◌, ◌⊎◌, inl, inr, ℕ, zero, suc, Bool, true, false, ◌&&◌, ◌||◌, List, [], ◌∷◌, ◌++◌, length, map, replicate, Option, Some, None, refl, sym, ap, subst, slice_get, codes, append_assoc}
+use Rattle.std.proofs.Common.{◌≡◌, ◌∙◌, ◌⊎◌, inl, inr, ℕ, zero, Bool, true, false, ◌&&◌, ◌||◌, List, [], ◌∷◌, ◌++◌, length, map, replicate, Option, Some, None, refl, sym, ap, subst, slice_get, codes}
 use Rattle.std.specs.Prelude.{is_some, if◌then◌else◌}
 use Rattle.ec_arguments.specs.Arguments.{Arg, symbol, literal, null, int_constant, long_constant, pointer as pointer_arg, stray}
 use Rattle.ec_arguments.specs.Rules.{cut}
 use Rattle.ec_ctypes.specs.declared.checked.library.LibName.{LibName}
 use Rattle.ec_ctypes.specs.declared.checked.library.Sym.{Sym}
-use Rattle.ec_ctypes.specs.declared.types.arith.Arith.{Arith}
 use Rattle.ec_ctypes.specs.declared.types.arith.Arith.TheVariants.{Int, Long}
 use Rattle.ec_ctypes.specs.trees.Types.{TyData, void, arithmetic, pointer, array, structure}
 use Rattle.ec_ctypes.specs.trees.Exprs.{ExprData, integer, character, string, identifier, unary, binary, assign, bump, call, call_other, index, member, arrow, cast, size_type, size_expr, ExprList, no_exprs, exprs}
@@ -13,10 +12,10 @@ use Rattle.ec_ctypes.specs.Texts.{symbol_text}
 use Rattle.ec_language.specs.Letters.{Text, same_text}
 use Rattle.ec_typing_defs.specs.Tables.{is_one_of}
 use Rattle.ec_typing_defs.specs.Known.{symbols, library_symbols, is_symbol, takes_stream, library_calls, ArgumentsData, all_expressions, stream_first, with_symbols, arguments_of, is_no_expression, behind_first_argument}
-use Rattle.ec_typing_defs.specs.Library.{named_among, library_call, cuts}
-use Rattle.ec_typing_defs.specs.Operands.{OperandData, types_of}
+use Rattle.ec_typing_defs.specs.Library.{named_among, cuts}
+use Rattle.ec_typing_defs.specs.Operands.{types_of}
 use Rattle.ec_meaning_defs.specs.observed.Run.{IsFront}
-use Rattle.ec_meaning_defs.specs.resolved.Resolved.{Exp, Exps, no_exps, exps, library_call as library_exp_call}
+use Rattle.ec_meaning_defs.specs.resolved.Resolved.{Exp, library_call as library_exp_call}
 use Rattle.ec_resolving_defs.specs.Calling.{any_calls_function}
 use Rattle.ec_resolving_defs.specs.Operands.{Found, operands_of, is_library_literal, pointer_argument, constant_argument, name_argument, argument_of, arguments_of_call, pointers_of, evaluated_before, without_pointer, left_of}
 use Rattle.ec_resolving_defs.specs.Storage.{LibraryCall}
@@ -24,14 +23,13 @@ use Rattle.ec_sim_world_laws.proofs.closing_lemmas.Lists.{get_front, get_last}
 use Rattle.ec_sound_defs.specs.Sorts.{address_sort, any_sort}
 use Rattle.ec_sound_defs.specs.Sound.{Signature, Has, HasEach, count_of, no_atoms}
 use Rattle.ec_sound_defs.specs.Types.{type_sort}
-use Rattle.ec_sound_defs.specs.Written.{without_pointer as seen, shape, IsCall, Serve, CallServes, library_atoms}
-use Rattle.ec_sound_form_laws.specs.Fits.{IsValue}
+use Rattle.ec_sound_defs.specs.Written.{shape, IsCall, Serve, CallServes, library_atoms}
 use Rattle.ec_sound_form_laws.specs.Laws.{names_symbol, AllTyped}
 use Rattle.ec_sound_form_laws.proofs.Lists.{cuts_are_calls}
 use Rattle.ec_sound_expression_laws.specs.Arguments.{ArgumentServes, ArgumentsServe}
-use Rattle.ec_sound_expression_laws.specs.Standing.{ServesAsValue, IsDone}
-use Rattle.ec_sound_expression_laws.proofs.Basics.{clash, none_not, with_atoms}
-use Rattle.ec_sound_expression_laws.proofs.Names.{same_text_sym, some_not}
+use Rattle.ec_sound_expression_laws.specs.Standing.{ServesAsValue}
+use Rattle.ec_sound_expression_laws.proofs.Basics.{clash, with_atoms}
+use Rattle.ec_sound_expression_laws.proofs.Names.{same_text_sym}
 use Rattle.ec_sound_expression_laws.proofs.Strays.{NoStray, call_has_none}
 
 -- ---- the forms of arguments
@@ -278,8 +276,9 @@ module _ (gs : List Signature) (calls : List LibraryCall) (n : ℕ) where
       let is_call = cuts_are_calls name es fs (all_typed forms es fs g h) e in
       let lead = arguments_lead forms es fs g h in
       let none = call_has_none name (arguments_of_call es fs) is_call in
-      let b = any_calls_function es in
-      (refl,
+      let b = any_calls_function es in (
+        refl,
         subst (λ c. CallServes gs n (count_of (evaluated_before b (arguments_of_call es fs))) c) (sym (next_call before (name, left_of b (arguments_of_call es fs)) front))
-        (left_call b name (arguments_of_call es fs) is_call, left_serves b (arguments_of_call es fs) none lead),
-        before_serve b (arguments_of_call es fs) lead)
+            (left_call b name (arguments_of_call es fs) is_call, left_serves b (arguments_of_call es fs) none lead),
+        before_serve b (arguments_of_call es fs) lead,
+      )

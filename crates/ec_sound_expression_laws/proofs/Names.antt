@@ -1,14 +1,13 @@
 -- Names that are not reserved, and names of calls of the library.
-use Rattle.std.proofs.Common.{◌≡◌, ◌∙◌, ℕ, zero, suc, Bool, true, false, ◌&&◌, ◌||◌, nat_eq, List, [], ◌∷◌, map, Option, Some, None, refl, sym, ap, subst, arith, codes}
+use Rattle.std.proofs.Common.{◌≡◌, ◌∙◌, ℕ, Bool, true, false, ◌&&◌, ◌||◌, nat_eq, List, [], ◌∷◌, map, Some, None, refl, sym, ap, subst, arith, codes}
 use Rattle.std.specs.Prelude.{if◌then◌else◌}
 use Rattle.ec_ctypes.specs.declared.checked.library.LibName.{LibName}
 use Rattle.ec_ctypes.specs.declared.checked.library.LibName.TheVariants as library
-use Rattle.ec_ctypes.specs.declared.checked.library.Sym.{Sym}
 use Rattle.ec_ctypes.specs.trees.Types.{TyData}
-use Rattle.ec_ctypes.specs.Texts.{library_text, symbol_text}
+use Rattle.ec_ctypes.specs.Texts.{library_text}
 use Rattle.ec_language.specs.Letters.{Text, same_text}
-use Rattle.ec_typing_defs.specs.Tables.{Named, find, is_one_of}
-use Rattle.ec_typing_defs.specs.Known.{KnownData, plain, formatted, known_functions, known_function, is_reserved, calls, library_calls, symbols, takes_stream, ArgumentsData, all_expressions, stream_first, with_symbols, arguments_of}
+use Rattle.ec_typing_defs.specs.Tables.{is_one_of}
+use Rattle.ec_typing_defs.specs.Known.{plain, formatted, known_function, is_reserved, calls, library_calls, takes_stream, ArgumentsData, all_expressions, stream_first, with_symbols, arguments_of}
 use Rattle.ec_typing_defs.specs.Library.{named_among, library_call}
 use Rattle.ec_sim_host_laws.proofs.reference_lemmas.Parts.{texts_equal}
 use Rattle.ec_sound_expression_laws.proofs.Basics.{clash, none_not}

@@ -10,9 +10,9 @@ use Rattle.ec_typing_defs.specs.Expressions.{Members, typed_members}
 use Rattle.ec_typing_defs.specs.Operands.{member_type}
 use Rattle.ec_typing_defs.specs.Worlds.{World, MembersData, unlisted, begun, listed, StructInfo, members_of}
 use Rattle.ec_resolving_defs.specs.Operands.{offset_among}
-use Rattle.ec_sim_world_laws.specs.closing.Closing.{members_at, shapes_at, IsTyped}
+use Rattle.ec_sim_world_laws.specs.closing.Closing.{shapes_at, IsTyped}
 use Rattle.ec_sim_world_laws.proofs.closing_lemmas.Lists.{some_is}
-use Rattle.ec_sim_world_laws.proofs.closing_lemmas.Rules.{There, there}
+use Rattle.ec_sim_world_laws.proofs.closing_lemmas.Rules.{there}
 use Rattle.ec_sim_program_laws.proofs.types_lemmas.Structs.{GoodIn, AllGood, GoodStructs, some_all, Has, type_shaped}
 use Rattle.ec_sim_program_laws.proofs.types_lemmas.Rules.{Sound}
 use Rattle.ec_sound_form_laws.proofs.Found.{HasOffset}

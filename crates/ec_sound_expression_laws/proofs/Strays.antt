@@ -1,14 +1,14 @@
 -- No list with an argument that no call takes is a call.
-use Rattle.std.proofs.Common.{◌≡◌, ℕ, zero, suc, Bool, true, false, List, [], ◌∷◌, length, Option, Some, None, refl, sym, ap, subst}
+use Rattle.std.proofs.Common.{◌≡◌, ℕ, zero, suc, Bool, true, false, List, [], ◌∷◌, length, Option, Some, None, refl, ap}
 use Rattle.std.specs.Prelude.{is_some}
-use Rattle.ec_arguments.specs.Arguments.{Arg, symbol, literal, null, int_constant, long_constant, pointer, stray, TextArg, Indicator, Member, Statement, ItemMember, Call, Cut}
-use Rattle.ec_arguments.specs.Reading.{Read, and_then, next_symbol, next_literal, next_int, next_long, next_text, before, next_indicator, next_member, begins_with, behind_first, next_members, next_items, ends_items, ends_inputs, ends_outputs, statement_of, next_statement, read_name, read_run, read_connect, read_autocommit, read_literal, read_prepare, read_count, read_items, read_call, to_end, read_from, read}
-use Rattle.ec_arguments.specs.Rules.{ruled, cut}
+use Rattle.ec_arguments.specs.Arguments.{Arg, symbol, literal, null, int_constant, long_constant, pointer, stray, TextArg, Member, ItemMember, Call, Cut}
+use Rattle.ec_arguments.specs.Reading.{Read, and_then, next_symbol, next_literal, next_int, next_long, next_text, before, next_indicator, next_member, begins_with, behind_first, next_members, next_items, ends_items, ends_inputs, ends_outputs, statement_of, next_statement, read_name, read_literal, read_count, read_items, read_call, to_end, read_from, read}
+use Rattle.ec_arguments.specs.Rules.{ruled}
 use Rattle.ec_ctypes.specs.declared.checked.library.LibName.{LibName}
 use Rattle.ec_ctypes.specs.declared.checked.library.LibName.TheVariants as library
 use Rattle.ec_ctypes.specs.declared.checked.library.Sym.{Sym}
 use Rattle.ec_ctypes.specs.declared.checked.library.Sym.TheVariants as sym
-use Rattle.ec_sound_defs.specs.Written.{without_pointer, shape, any, IsCall}
+use Rattle.ec_sound_defs.specs.Written.{shape, any, IsCall}
 use Rattle.ec_sound_expression_laws.proofs.Basics.{clash}
 
 module _ {A : Type 0} where

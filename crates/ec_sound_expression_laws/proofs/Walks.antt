@@ -1,5 +1,5 @@
 -- Parts of the walk through an expression, beside what the checks find: where nothing is wrong, what is known stands behind each, and its answer serves.
-use Rattle.std.proofs.Common.{◌≡◌, ◌∙◌, ℕ, Bool, true, false, List, [], ◌∷◌, ◌++◌, Option, Some, None, refl, sym, ap, subst}
+use Rattle.std.proofs.Common.{◌≡◌, ◌∙◌, ℕ, Bool, List, [], refl, sym, subst}
 use Rattle.ec_typing_defs.specs.Operands.{OperandData}
 use Rattle.ec_typing_defs.specs.Worlds.{World, Rule, Out, chain as check_chain, pure as check_pure, ask as check_ask}
 use Rattle.ec_meaning_defs.specs.observed.Run.{IsFront}
@@ -8,10 +8,10 @@ use Rattle.ec_resolving_defs.specs.Operands.{Found}
 use Rattle.ec_resolving_defs.specs.Storage.{Storage, Reached, reached, Resolving, LibraryCall, chain, pure, ask}
 use Rattle.ec_sim_world_laws.specs.growth.Growth.{Grows}
 use Rattle.ec_sim_world_laws.proofs.growth_lemmas.Rules.{Growing, grows_itself, grows_further, begins_itself, begins_further}
-use Rattle.ec_sim_program_laws.proofs.types_lemmas.Rules.{Sound, Shallow, shallow_before, both_none}
+use Rattle.ec_sim_program_laws.proofs.types_lemmas.Rules.{Shallow, shallow_before, both_none}
 use Rattle.ec_sound_defs.specs.Sound.{Signature}
 use Rattle.ec_sound_form_laws.proofs.Answered.{Tells}
-use Rattle.ec_sound_expression_laws.specs.Standing.{NamesStand, IsStanding}
+use Rattle.ec_sound_expression_laws.specs.Standing.{IsStanding}
 
 module _ (gs : List Signature) (calls : List LibraryCall) (n : ℕ) (written : Bool) where
   abbrev pub Stands : Storage → World → Type 0

@@ -6,14 +6,10 @@ use Rattle.ec_typing_defs.specs.Known.{ArgumentsData}
 use Rattle.ec_typing_defs.specs.Worlds.{Place, World, Rule}
 use Rattle.ec_meaning_defs.specs.observed.Run.{IsFront}
 use Rattle.ec_resolving_defs.specs.Expressions.{expr, args}
-use Rattle.ec_resolving_defs.specs.Operands.{Found, value_rule}
-use Rattle.ec_resolving_defs.specs.Statements.{condition, alone}
 use Rattle.ec_resolving_defs.specs.Storage.{Storage, LibraryCall, Resolving}
 use Rattle.ec_sim_program_laws.proofs.types_lemmas.Rules.{Shallow}
 use Rattle.ec_sim_program_laws.proofs.types_lemmas.Fits.{Fits, FitAll}
-use Rattle.ec_sound_defs.specs.Sorts.{any_sort}
-use Rattle.ec_sound_defs.specs.Sound.{Signature, Has}
-use Rattle.ec_sound_defs.specs.Written.{library_atoms}
+use Rattle.ec_sound_defs.specs.Sound.{Signature}
 use Rattle.ec_sound_expression_laws.specs.Arguments.{ArgumentsServe}
 use Rattle.ec_sound_expression_laws.specs.Plain.{IsPlain, ArePlain}
 use Rattle.ec_sound_expression_laws.specs.Standing.{IsStanding, Serves}
