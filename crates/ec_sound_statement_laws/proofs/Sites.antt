@@ -62,7 +62,7 @@ quiet_chained {m = m} {f = f} h k = record {
   names = λ s w. stay_further w (m s w).world (f (m s w).answer (m s w).storage (m s w).world).world (h.names s w) ((k (m s w).answer).names (m s w).storage (m s w).world);
 }
 
-quiet_pure : {A : Type 0} (a : A) → Quiet (pure a)
+pub quiet_pure : {A : Type 0} (a : A) → Quiet (pure a)
 unfolding pure
 quiet_pure a = record { spares = pure_spares a; names = λ s w. stay_so w }
 
@@ -70,7 +70,7 @@ quiet_ask : {A : Type 0} (g : World → A) → Quiet (ask g)
 unfolding ask
 quiet_ask g = record { spares = ask_spares g; names = λ s w. stay_so w }
 
-quiet_checks : {A : Type 0} {m : Rule A} → Staying m → Quiet (checks m)
+pub quiet_checks : {A : Type 0} {m : Rule A} → Staying m → Quiet (checks m)
 unfolding checks
 quiet_checks {m = m} h = record { spares = checks_spare m; names = λ s w. h.stays w }
 
@@ -81,44 +81,44 @@ quiet_found {m = m} {n = n} p f h = record { spares = p; names = λ s w. subst (
 pub quiet_expr : (at : Place) (e : ExprData) → Quiet (expr at e)
 quiet_expr at e = quiet_found (expr_spares at e) (expr_finds at e) (expr_stays at e)
 
-quiet_base : (at : Place) (b : BaseData) → Quiet (base at b)
+pub quiet_base : (at : Place) (b : BaseData) → Quiet (base at b)
 quiet_base at b = quiet_found (base_spares at b) (base_finds at b) (base_stays at b)
 
-quiet_lengths : (at : Place) (ds : DimList) → Quiet (lengths at ds)
+pub quiet_lengths : (at : Place) (ds : DimList) → Quiet (lengths at ds)
 quiet_lengths at ds = quiet_found (lengths_spare at ds) (lengths_find at ds) (lengths_stay at ds)
 
 pub quiet_valued : (at : Place) (e : ExprData) → Quiet (chain (expr at e) (value_rule at))
 quiet_valued at e = quiet_chained (quiet_expr at e) (λ f. quiet_found (sparing.form_spares _ _) (value_finds at f) (value_stays at f.operand))
 
-quiet_alone : (at : Place) (e : ExprData) → Quiet (alone at e)
+pub quiet_alone : (at : Place) (e : ExprData) → Quiet (alone at e)
 quiet_alone at e = quiet_chained (quiet_expr at e) (λ f. quiet_ask _)
 
-quiet_condition : (at : Place) (e : ExprData) → Quiet (condition at e)
+pub quiet_condition : (at : Place) (e : ExprData) → Quiet (condition at e)
 quiet_condition at e = quiet_chained (quiet_valued at e) (λ f. quiet_pure _)
 
-quiet_optional : (at : Place) (e : Option ExprData) → Quiet (optional at e)
+pub quiet_optional : (at : Place) (e : Option ExprData) → Quiet (optional at e)
 quiet_optional at None = quiet_pure _
 quiet_optional at (Some e) = quiet_chained (quiet_alone at e) (λ x. quiet_pure _)
 
-quiet_optional_condition : (at : Place) (e : Option ExprData) → Quiet (optional_condition at e)
+pub quiet_optional_condition : (at : Place) (e : Option ExprData) → Quiet (optional_condition at e)
 quiet_optional_condition at None = quiet_pure _
 quiet_optional_condition at (Some e) = quiet_chained (quiet_condition at e) (λ x. quiet_pure _)
 
-quiet_return : (at : Place) (r : Option TyData) (e : Option ExprData) → Quiet (return_by at r e)
+pub quiet_return : (at : Place) (r : Option TyData) (e : Option ExprData) → Quiet (return_by at r e)
 quiet_return at r None = quiet_pure _
 quiet_return at r (Some e) = quiet_chained (quiet_valued at e) (λ f. quiet_pure _)
 
-quiet_initial : (at : Place) (global : Bool) (t : Option TyData) (i : InitOption) → Quiet (initial at global t i)
+pub quiet_initial : (at : Place) (global : Bool) (t : Option TyData) (i : InitOption) → Quiet (initial at global t i)
 quiet_initial at global t no_init = quiet_pure _
 quiet_initial at global t (some_init i) = quiet_found (initializer_spares at global t i) (initializer_finds at global t i) (initializer_stays at global t i)
 
-quiet_type : (at : Place) (v : Bool) (t : Option TyData) (stars : ℕ) (name : Text) (ns : DimList) → Quiet (object_type at v t stars name ns)
+pub quiet_type : (at : Place) (v : Bool) (t : Option TyData) (stars : ℕ) (name : Text) (ns : DimList) → Quiet (object_type at v t stars name ns)
 quiet_type at false t stars name ns = quiet_chained (quiet_lengths at ns) (λ sizes. quiet_pure _)
 quiet_type at true t stars name ns =
     quiet_chained (quiet_found (last_spares at ns) (last_length_finds at ns) (last_stays at ns)) (λ n. quiet_chained (quiet_checks (varchar_object_stays at name n)) (λ own.
     quiet_chained (quiet_found (outer_spare at ns) (outer_lengths_find at ns) (outer_stay at ns)) (λ sizes. quiet_pure _)))
 
-quiet_specifier : (at : Place) (b : BaseData) (ds : DeclaratorList) → Quiet (specifier at b ds)
+pub quiet_specifier : (at : Place) (b : BaseData) (ds : DeclaratorList) → Quiet (specifier at b ds)
 quiet_specifier at (tagged tag) no_declarators = quiet_checks (checked_names.specifier_stays at (tagged tag) no_declarators)
 quiet_specifier at (tagged tag) (declarators d ds) = quiet_base at (tagged tag)
 quiet_specifier at (words ws) ds = quiet_base at (words ws)
@@ -216,7 +216,7 @@ module _ (gs : List Signature) where
   pub scope_kept : {a b : ℕ} {A : Type 0} {m : Resolving A} → Makes a b m → (s : Storage) (w : World) → in_scope (m s w).storage ≡ in_scope s
   scope_kept {m = m} h s w = (λ i. h.below s w i + (m s w).storage.block.count) ∙ ap (λ c. s.block.below + c) (h.count s w)
 
-  chained : {a b c : ℕ} {A B : Type 0} {m : Resolving A} {f : A → Resolving B} → Sites a b m → ((x : A) → Sites b c (f x)) → Sites a c (chain m f)
+  pub chained : {a b c : ℕ} {A B : Type 0} {m : Resolving A} {f : A → Resolving B} → Sites a b m → ((x : A) → Sites b c (f x)) → Sites a c (chain m f)
   unfolding chain
   chained {m = m} {f = f} h k = record {
     makes = making.chained h.makes (λ x. (k x).makes);
@@ -231,7 +231,7 @@ module _ (gs : List Signature) where
         (subst (λ n. NamesStand gs n (f (m s w).answer t z).storage.sites t.defined (f (m s w).answer t z).world.here.names) (scope_kept h.makes s w) q);
   }
 
-  quiet : {n : ℕ} {A : Type 0} {m : Resolving A} → Quiet m → Sites n n m
+  pub quiet : {n : ℕ} {A : Type 0} {m : Resolving A} → Quiet m → Sites n n m
   quiet {m = m} h = record {
     makes = spared h.spares;
     leads = stands_lead (record { sites = λ s w. ap (λ t. t.sites) (h.spares.stays s w); types = λ s w. (h.names s w).types });
@@ -241,7 +241,7 @@ module _ (gs : List Signature) where
         (subst (λ xs. NamesStand gs (in_scope s) xs s.defined w.here.names) (sym (ap (λ t. t.sites) (h.spares.stays s w))) p);
   }
 
-  from : {a b c : ℕ} {A : Type 0} {m : Resolving A} → a ≡ b → Sites b c m → Sites a c m
+  pub from : {a b c : ℕ} {A : Type 0} {m : Resolving A} → a ≡ b → Sites b c m → Sites a c m
   from {c = c} {m = m} e h = subst (λ k. Sites k c m) (sym e) h
 
   -- ---- declarations
@@ -317,15 +317,15 @@ module _ (gs : List Signature) where
         (names_grow (in_scope s) (in_scope s) s.sites (s.sites ++ site ∷ []) s.defined w.here.names (no_less (in_scope s)) (begins_joined s.sites (site ∷ [])) p)));
   }
 
-  item_sites : (n : ℕ) (at : Place) (global v : Bool) (t : Option TyData) (d : DeclaratorData) → Sites (next_count global n) n (object_item at global v t d)
+  pub item_sites : (n : ℕ) (at : Place) (global v : Bool) (t : Option TyData) (d : DeclaratorData) → Sites (next_count global n) n (object_item at global v t d)
   item_sites n at global v t (declarator stars name ns init) =
       chained (quiet (quiet_type at v t stars name ns)) (λ whole. chained (quiet (quiet_checks (checked_names.object_stays at (has_init init) whole))) (λ before. rest_sites n at global name init before))
 
-  items_sites : (n : ℕ) (at : Place) (v : Bool) (t : Option TyData) (ds : DeclaratorList) → Sites (declarators_in ds + n) n (object_items at false v t ds)
+  pub items_sites : (n : ℕ) (at : Place) (v : Bool) (t : Option TyData) (ds : DeclaratorList) → Sites (declarators_in ds + n) n (object_items at false v t ds)
   items_sites n at v t no_declarators = from (none_more n) (quiet (quiet_pure _))
   items_sites n at v t (declarators d ds) = from (one_more (declarators_in ds) n) (chained (item_sites (declarators_in ds + n) at false v t d) (λ first. chained (items_sites n at v t ds) (λ more. quiet (quiet_pure _))))
 
-  globals_sites : (n : ℕ) (at : Place) (v : Bool) (t : Option TyData) (ds : DeclaratorList) → Sites n n (object_items at true v t ds)
+  pub globals_sites : (n : ℕ) (at : Place) (v : Bool) (t : Option TyData) (ds : DeclaratorList) → Sites n n (object_items at true v t ds)
   globals_sites n at v t no_declarators = quiet (quiet_pure _)
   globals_sites n at v t (declarators d ds) = chained (item_sites n at true v t d) (λ first. chained (globals_sites n at v t ds) (λ more. quiet (quiet_pure _)))
 
@@ -340,7 +340,7 @@ module _ (gs : List Signature) where
   scoped_leads : {A : Type 0} {m : Resolving A} → Leads 1 1 m → Leads 1 1 (scoped m)
   scoped_leads h = then_leads (stands_lead (counting.checks_stand enter_still)) (λ u. then_leads h (λ x. then_leads (stands_lead (counting.checks_stand leave_still)) (λ v. stands_lead (counting.pure_stands _))))
 
-  scoped_sites : {a b : ℕ} {A : Type 0} {m : Resolving A} → Sites a b m → Sites a b (scoped m)
+  pub scoped_sites : {a b : ℕ} {A : Type 0} {m : Resolving A} → Sites a b m → Sites a b (scoped m)
   unfolding chain checks pure enter leave check_change
   scoped_sites {m = m} h = record {
     makes = scoped_makes h.makes;
@@ -356,7 +356,7 @@ module _ (gs : List Signature) where
   unfolding chain stored arrange pure
   block_leads k h = record { begins = λ s w. h.begins (inside_block k s) w; counts = λ s w e. h.counts (inside_block k s) w e }
 
-  block_sites : {n a b : ℕ} {A : Type 0} (k : ℕ) {m : Resolving A} → Sites a b m → Sites n n (in_block k (scoped m))
+  pub block_sites : {n a b : ℕ} {A : Type 0} (k : ℕ) {m : Resolving A} → Sites a b m → Sites n n (in_block k (scoped m))
   unfolding chain checks pure stored arrange enter leave check_change
   block_sites k {m = m} h = record {
     makes = making.in_block_makes k (scoped m) (scoped_makes h.makes);
@@ -393,7 +393,7 @@ module _ (gs : List Signature) where
     pub statement_sites : (a : Around) (n : ℕ) (x : StmtData) → Sites (objects_in x + n) n (statement a x)
     statement_sites a n (stmt line kind) = chained (quiet (quiet_checks (place_stays line))) (λ at. chained (kind_sites a n at kind) (λ s. quiet (quiet_pure _)))
 
-    kind_sites : (a : Around) (n : ℕ) (at : Place) (kind : StmtKindData) → Sites (objects_in_kind kind + n) n (statement_kind a at kind)
+    pub kind_sites : (a : Around) (n : ℕ) (at : Place) (kind : StmtKindData) → Sites (objects_in_kind kind + n) n (statement_kind a at kind)
     kind_sites a n at empty_stmt = from (none_more n) (quiet (quiet_pure _))
     kind_sites a n at (expr_stmt e) = from (none_more n) (chained (quiet (quiet_alone at e)) (λ x. quiet (quiet_pure _)))
     kind_sites a n at (block_stmt ss) = from (none_more n) (chained (block_sites (objects_in_all ss) (statements_sites a 0 ss)) (λ b. quiet (quiet_pure _)))
@@ -417,7 +417,7 @@ module _ (gs : List Signature) where
     statements_sites a n no_stmts = from (none_more n) (quiet (quiet_pure _))
     statements_sites a n (stmt_list s ss) = from (both_more (objects_in s) (objects_in_all ss) n) (chained (statement_sites a (objects_in_all ss + n) s) (λ x. chained (statements_sites a n ss) (λ xs. quiet (quiet_pure _))))
 
-    otherwise_sites : (a : Around) (n : ℕ) (o : StmtOption) → Sites (objects_in_option o + n) n (otherwise a o)
+    pub otherwise_sites : (a : Around) (n : ℕ) (o : StmtOption) → Sites (objects_in_option o + n) n (otherwise a o)
     otherwise_sites a n no_stmt = from (none_more n) (quiet (quiet_pure _))
     otherwise_sites a n (some_stmt s) = scoped_sites (statement_sites a n s)
 
