@@ -36,13 +36,14 @@ use Rattle.ec_runtime.specs.declared.waiting.Waits.{Waits}
 use Rattle.ec_runtime.specs.declared.waiting.Waits.TheVariants as waits
 use Rattle.ec_runtime.specs.Calling.{AllBeside, AllNamed, Changes, ChangesWith, Holds, Stays, connections_of, placed_by, seen_by}
 use Rattle.ec_runtime.specs.Does.{LeftFrom, Placing, saying}
-use Rattle.ec_runtime.specs.Proceeding.{asked_of, kept_of, left_of, progress_of, waiting_in, waiting_of, IsEnd, IsFit, Nears, Proceeds, Resumes, Starts, StoppedAt, UnderWayFits}
+use Rattle.ec_runtime.specs.Proceeding.{asked_of, kept_of, left_of, progress_of, waiting_in, waiting_of, IsEnd, IsFit, IsOnce, Nears, Proceeds, Resumes, Starts, StoppedAt, UnderWayFits}
 use Rattle.ec_runtime.specs.Racks.{AllTaken}
 use Rattle.ec_runtime.specs.Says.{Says, giving}
 use Rattle.ec_runtime.specs.Starts.{Leads}
 use Rattle.ec_runtime.specs.Waiting.{asking_of, asking_seen, closing_first, closing_with, waits_view, Fits, WaitsFit}
 use Rattle.ec_runtime.proofs.Connections.{taken_here}
 use Rattle.ec_runtime.proofs.Joining.{lifted}
+use Rattle.ec_runtime.proofs.Single.{once_by}
 use Rattle.ec_runtime.proofs.Making.{held_same, links, links_among, named_same, split_at, views}
 
 -- a part that leaves the descriptors
@@ -125,6 +126,9 @@ module _ {X : Type 0} {F : X → Type 0} where
       growth = p.growth;
       moves = p.moves;
       proceeds = λ s rest. proceeds_kept (connections_of now.connections) line part now.under_way result (stepped line.0 u (placed_by m was (answers_in p.growth ++ rest) s)) (placed_by m' now rest (saying p.growth s)) e is (p.does.says s rest);
+      once = subst (λ r. IsOnce u r p.growth) (sym is)
+          (once_by line.0 u (placed_by m was [] nowhere_yet) refl p.growth (connections_of now.connections) part (placed_by m' now [] (saying p.growth nowhere_yet)) refl refl (p.does.says nowhere_yet [])
+          (λ out. subst (λ q. LeftFrom (stepped line.0 u) (placed_by m was) p.growth (asking_seen (connections_of now.connections) q)) out p.does.left nowhere_yet []));
       left = subst (λ r. StoppedAt (stepped line.0 u) (placed_by m was) p.growth r) (sym is) (stopped_at (stepped line.0 u) (placed_by m was) p.growth (connections_of now.connections) part p.does.left);
     }
 

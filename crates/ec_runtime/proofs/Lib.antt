@@ -17,6 +17,7 @@ pub mod Orders
 pub mod Placing
 pub mod Seeking
 pub mod Sending
+pub mod Single
 pub mod Starting
 pub mod Stored
 pub mod Switching

@@ -1,5 +1,5 @@
 -- Where a call of a library is, and what it promises from one request to the next.
-use Rattle.std.specs.Prelude.{◌≡◌, ◌<◌, ℕ, List, ◌++◌, Option, Some, None, Result, Ok, Err}
+use Rattle.std.specs.Prelude.{◌≡◌, ◌<◌, ℕ, List, ◌++◌, Option, Some, None, Result, Ok, Err, ◌⊎◌, [], ◌∷◌}
 use Rattle.std.specs.declared.alloc.Global.{Global}
 use Rattle.std.specs.declared.dyn_box.DynBox.{DynBox}
 use Rattle.ec_arguments.specs.Arguments.{Cut}
@@ -16,7 +16,7 @@ use Rattle.ec_call_defs.specs.Areas.{Areas}
 use Rattle.ec_call_defs.specs.Growth.{state_of}
 use Rattle.ec_call_defs.specs.Outcomes.{Outcome, finished, gives, over, trapped}
 use Rattle.ec_stopping_defs.specs.Resuming.{Asking, asks_for, is_asked_over, started, stepped}
-use Rattle.ec_stopping_defs.specs.Saying.{requests_left}
+use Rattle.ec_stopping_defs.specs.Saying.{exchange_of, requests_left}
 use Rattle.ec_runtime.specs.declared.library.Library.{Library}
 use Rattle.ec_runtime.specs.declared.library.Pending.{Pending}
 use Rattle.ec_runtime.specs.declared.library.Progress.{Progress}
@@ -103,6 +103,16 @@ StoppedAt action from growth (Err calls.OutOfMemory) =
     (s : State) (rest : List Answer) → IsFront (s.conversation ++ growth)
     (state_of (action (from (answers_in growth ++ rest) s))).conversation
 
+-- this was said: the request that waited, with its answer
+abbrev pub IsAsked : Asking → List Logged → Type 0
+IsAsked u growth = (a : Answer) × (growth ≡ exchange_of u a ∷ [])
+
+-- and nothing else; after want of memory maybe nothing
+abbrev pub IsOnce : Asking → Result Progress CallStop → List Logged → Type 0
+IsOnce u (Ok progress) growth = IsAsked u growth
+IsOnce u (Err (calls.Trapped trap)) growth = IsAsked u growth
+IsOnce u (Err calls.OutOfMemory) growth = (growth ≡ []) ⊎ IsAsked u growth
+
 module _ {X : Type 0} {F : X → Type 0} where
   abbrev pub waiting_of : Library X F → Option (ℕ × Asking)
   waiting_of it = waiting_in (connections_of it.connections) it.under_way
@@ -128,4 +138,5 @@ module _ {X : Type 0} {F : X → Type 0} where
       pub proceeds : (s : State) (rest : List Answer) → Proceeds result (waiting_of now) line
           (stepped line u (placed_by m was (answers_in growth ++ rest) s))
           (placed_by m' now rest (saying growth s))
+      pub once : IsOnce u result growth
       pub left : StoppedAt (stepped line u) (placed_by m was) growth result
