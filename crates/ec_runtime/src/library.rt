@@ -1,6 +1,6 @@
 //! The library: its connections and descriptors, and its calls.
 
-ghost use Rattle.std.specs.Prelude.{◌≡◌, ℕ, IfOk, OnOk, OnErr, IsSome, None, Some, []};
+ghost use Rattle.std.specs.Prelude.{◌≡◌, ℕ, length, IfOk, OnOk, OnErr, IsSome, None, Some, []};
 ghost use Rattle.ec_call_defs.specs.Areas.{Areas as Named};
 ghost use Rattle.ec_link.specs.Links.{talk_by, faults_by};
 ghost use Rattle.ec_link.specs.Rack.{slots_of, log_of};
@@ -197,6 +197,22 @@ impl Library {
                 request: &it.waiting.request,
             }),
         }
+    }
+
+    /// Lets a call that is under way go. Its request isn't made.
+    pub fn abandon(&mut self)
+        ensures under_way { self.new.under_way ≡ None }
+        ensures connections { self.new.connections ≡ self.old.connections }
+        ensures areas { self.new.areas ≡ self.old.areas }
+    {
+        self.under_way = None;
+    }
+
+    /// How many connections are open.
+    pub fn count(&self) -> usize
+        ensures { result ≡ length (connections_of self.now.connections) }
+    {
+        self.connections.sessions.len()
     }
 
     /// Makes the request that waits, and goes on to the next one or to the end of the call. After a stop no call is under
