@@ -484,11 +484,6 @@ module _ (it : Statement) (m : Memory) where
         subst (λ o. Says {A = Ready} (Err stop) (next o (λ order t. next (targets_read it.outs t) (λ outputs u. gives (readies.Run order outputs) u))) (with_memory m s)) (sym (p s))
         (stopped_next stop (targets_read it.outs (with_memory m s)) (with_memory m s) (λ outputs u. gives (readies.Run order outputs) u) (q s))
 
-    pub run_read : (outputs : Outputs) → Quiet (Ok outputs) (targets_read it.outs) m m → Quiet (Ok (readies.Run order outputs)) (act_read (acts.Run it)) m m
-    run_read outputs q = λ s.
-        (λ j. next (p s j) (λ order t. next (targets_read it.outs t) (λ outputs u. gives (readies.Run order outputs) u)))
-        ∙ (λ j. next (q s j) (λ outputs u. gives (readies.Run order outputs) u))
-
 -- a kind of call
 pub act_seen : (r : Result Ready Stop) (act k : Act) (m : Memory) → act ≡ k → Quiet r (act_read k) m m → Quiet r (act_read act) m m
 act_seen r act k m e q = subst (λ x. Quiet r (act_read x) m m) (sym e) q

@@ -1,27 +1,25 @@
 -- Each part of a call only adds to what was said.
 use Rattle.std.proofs.Common.{◌≡◌, ℕ, zero, suc, List, [], ◌∷◌, ◌++◌, length, Option, Some, None, Result, Ok, Err, Bool, true, false, refl, ◌∙◌, append_assoc}
-use Rattle.std.specs.Prelude.{ℤ, nat_lt}
+use Rattle.std.specs.Prelude.{nat_lt}
 use Rattle.ec_base.specs.declared.stop.Trap.{Trap}
-use Rattle.ec_arguments.specs.Arguments.{TextArg, absent, word, held, Place, Member, host, constant, descriptor}
+use Rattle.ec_arguments.specs.Arguments.{Place}
 use Rattle.ec_link.specs.declared.logged.Logged.{Logged}
 use Rattle.ec_link.specs.declared.reply.Reply.{Reply}
 use Rattle.ec_link.specs.declared.reply.Reply.TheVariants.{Connected, NoTarget, Rows, Done, Refused, Broken}
 use Rattle.ec_link.specs.declared.request.Request.{Request}
 use Rattle.ec_link.specs.Table.{Sheet}
-use Rattle.ec_memory_defs.specs.Memory.{text_at}
-use Rattle.ec_transfer_defs.specs.declared.finding.Finding.{Finding}
 use Rattle.ec_transfer_defs.specs.declared.finding.Finding.TheVariants as found
-use Rattle.ec_transfer_defs.specs.Conversion.{trapped, refused as refused_there, Stored, parameter}
+use Rattle.ec_transfer_defs.specs.Conversion.{trapped, refused as refused_there, Stored}
 use Rattle.ec_transfer_defs.specs.Hosts.{HostData}
-use Rattle.ec_meaning_defs.specs.evaluation.State.{Answer, Connection, State}
+use Rattle.ec_meaning_defs.specs.evaluation.State.{Answer, State}
 use Rattle.ec_meaning_defs.specs.observed.Run.{IsFront}
 use Rattle.ec_call_defs.specs.Growth.{state_of, Grows}
-use Rattle.ec_call_defs.specs.Outcomes.{Text, Field, Outcome, gives, finished, over, next, trying, present, with_memory, counted_area, noticed, heard, refused, raised, begun_area}
-use Rattle.ec_call_defs.specs.Connections.{wanted_name, found_connection, connection_of, connection_for, connection_named, answered, asked, controlled, control_sent, begins, begin_text, begun}
-use Rattle.ec_call_defs.specs.Inputs.{host_data, text_read, value_read, member_read}
+use Rattle.ec_call_defs.specs.Outcomes.{Text, Field, Outcome, gives, finished, over, next, trying, present, with_memory, counted_area, noticed, heard, raised}
+use Rattle.ec_call_defs.specs.Connections.{answered, asked, controlled}
+use Rattle.ec_call_defs.specs.Inputs.{host_data}
 use Rattle.ec_call_defs.specs.Storing.{stored_by, field_kept, in_column, column_kept, targets_kept, any_fewer, measured, counted_rows}
 use Rattle.ec_call_defs.specs.Answers.{count_of, done, replied, taken}
-use Rattle.ec_call_defs.specs.Running.{Outputs, nowhere, hosts, area, row_into, rows_stored, table_kept, found_text}
+use Rattle.ec_call_defs.specs.Running.{Outputs, nowhere, hosts, area, row_into, rows_stored, table_kept}
 
 nil_right : (xs : List Logged) → xs ≡ xs ++ []
 nil_right [] = refl
@@ -50,15 +48,6 @@ present_grows : {A : Type 0} (o : Option A) → Grows (present o)
 present_grows None s = same_front s.conversation
 present_grows (Some a) s = same_front s.conversation
 
-refused_grows : (A : Type 0) (line : ℕ) (code : ℤ) (state message : Text) → Grows (refused {A = A} line code state message)
-refused_grows A line code state message s = same_front s.conversation
-
-raised_grows : (A : Type 0) (line : ℕ) (finding : Finding) → Grows (raised {A = A} line finding)
-raised_grows A line finding s = same_front s.conversation
-
-pub begun_area_grows : Grows begun_area
-begun_area_grows s = same_front s.conversation
-
 pub asked_grows : (slot : ℕ) (request : Request) → Grows (asked slot request)
 asked_grows slot request s = go s.answers
   where
@@ -73,27 +62,6 @@ controlled_grows line (Refused state message tx) s = same_front s.conversation
 controlled_grows line Connected s = same_front s.conversation
 controlled_grows line NoTarget s = same_front s.conversation
 controlled_grows line Broken s = same_front s.conversation
-
-pub control_grows : (line : ℕ) (c : Connection) (text : Text) → Grows (control_sent line c text)
-control_grows line c text = next_grows (asked c.slot _) (λ reply t. controlled line reply t) (asked_grows c.slot _) (λ r. controlled_grows line r)
-
-pub begun_grows : (line : ℕ) (c : Connection) → Grows (begun line c)
-begun_grows line c s = go (begins c)
-  where
-    go : (b : Bool) → IsFront s.conversation (state_of {A = Unit {0}} (elim b [ true ↦ control_sent line c begin_text s | false ↦ gives tt s ])).conversation
-    go true = control_grows line c begin_text s
-    go false = same_front s.conversation
-
-found_grows : (line : ℕ) (o : Option Connection) → Grows (found_connection line o)
-found_grows line None s = same_front s.conversation
-found_grows line (Some c) s = same_front s.conversation
-
-of_grows : (line : ℕ) (name : Option Text) → Grows (connection_of line name)
-of_grows line None s = same_front s.conversation
-of_grows line (Some name) s = found_grows line (connection_named name s.connections) s
-
-pub connection_grows : (line : ℕ) (name : Option Text) → Grows (connection_for line name)
-connection_grows line name s = of_grows line (wanted_name name s) s
 
 -- ---- what is stored
 
@@ -163,22 +131,3 @@ taken_grows line (Refused state message tx) s = same_front s.conversation
 taken_grows line Connected s = same_front s.conversation
 taken_grows line NoTarget s = same_front s.conversation
 taken_grows line Broken s = same_front s.conversation
-
-pub found_text_grows : (A : Type 0) (line : ℕ) (o : Option Text) (made : Text → A) → Grows (found_text line o made)
-found_text_grows A line None made s = same_front s.conversation
-found_text_grows A line (Some bytes) made s = same_front s.conversation
-
--- ---- what is read
-
-pub text_grows : (t : TextArg ℕ) → Grows (text_read t)
-text_grows absent s = same_front s.conversation
-text_grows (word bytes) s = same_front s.conversation
-text_grows (held p) s = next_grows (λ u. trying (text_at s.memory p) u) (λ bytes u. gives (Some bytes) u) (trying_grows (text_at s.memory p)) (λ bytes u. same_front u.conversation) s
-
-value_grows : (p : Place ℕ) → Grows (value_read p)
-value_grows p = next_grows (present (host_data p)) (λ h t. trying (parameter t.memory h) t) (present_grows (host_data p)) (λ h t. trying_grows (parameter t.memory h) t)
-
-pub member_grows : (m : Member ℕ) → Grows (member_read m)
-member_grows (host p) s = value_grows p s
-member_grows (constant bytes) s = same_front s.conversation
-member_grows (descriptor name) s = same_front s.conversation

@@ -7,7 +7,6 @@ use Rattle.ec_link.specs.declared.rack.Rack.{Rack}
 use Rattle.ec_link.specs.declared.reply.Reply.{Reply}
 use Rattle.ec_link.specs.declared.reply.Tx.{Tx}
 use Rattle.ec_link.specs.declared.request.Request.{Request}
-use Rattle.ec_link.specs.declared.request.Request.TheVariants as request
 use Rattle.ec_link.specs.Calls.{Asks}
 use Rattle.ec_link.specs.Conn.{slot_of}
 use Rattle.ec_link.specs.Logged.{Talk, last_reply_of}
@@ -19,15 +18,15 @@ use Rattle.ec_meaning_defs.specs.evaluation.State.{Answer, Connection, State}
 use Rattle.ec_meaning_defs.specs.observed.Run.{IsFront}
 use Rattle.ec_call_defs.specs.Areas.{Areas}
 use Rattle.ec_call_defs.specs.Growth.{state_of, Grows}
-use Rattle.ec_call_defs.specs.Outcomes.{Text, Outcome, gives, next}
-use Rattle.ec_call_defs.specs.Connections.{told_by, with_told, changed_at, exchange, asked, controlled, control_sent, begins, begin_text, begun}
+use Rattle.ec_call_defs.specs.Outcomes.{Outcome, gives, next}
+use Rattle.ec_call_defs.specs.Connections.{told_by, with_told, changed_at, exchange, asked}
 use Rattle.ec_runtime.specs.declared.open.Open.{Open}
 use Rattle.ec_runtime.specs.declared.stop.Stop.{Stop}
 use Rattle.ec_runtime.specs.declared.stop.Stop.TheVariants as stops
 use Rattle.ec_runtime.specs.Does.{Around, Apart, NoneAt, Placing, Seen, among, placed, placed_with, saying, Left, LeftFrom, Does, DoesFrom, DoesWith, seen, Over, OverWith}
 use Rattle.ec_runtime.specs.Opening.{open_view, Asked}
 use Rattle.ec_runtime.specs.Says.{Changed, Says, Quiet}
-use Rattle.ec_runtime.proofs.Grows.{same_front, front_next}
+use Rattle.ec_runtime.proofs.Grows.{front_next}
 use Rattle.ec_runtime.proofs.Targets.{stopped_next}
 
 nil_right : (xs : List Logged) → xs ++ [] ≡ xs
@@ -157,10 +156,6 @@ same_action action other x y z g r h p = same_from action other (placed x) (plac
 told_name : (o : Option Tx) (c : Connection) → (with_told o c).name ≡ c.name
 told_name None c = refl
 told_name (Some tx) c = refl
-
-pub slot_kept : (o : Option Tx) (c : Connection) → (with_told o c).slot ≡ c.slot
-slot_kept None c = refl
-slot_kept (Some tx) c = refl
 
 -- the connection of a slot is changed among others
 pub changed_among : (change : Connection → Connection) (c : Connection) (before behind : List Connection) → NoneAt c.slot before → changed_at c.slot change (before ++ c ∷ behind) ≡ before ++ change c ∷ behind
@@ -310,33 +305,3 @@ module _ {X : Type 0} {F : X → Type 0} (talk : DynBox X Global F → Option Ta
       (over_with (asked (slot_of was.conn) request) m m a old was new now (Ok reply)
       (subst (λ x. Over talk faults (asked (slot_of was.conn) request) m old was m new now (Ok x)) same (only_asked request m old was new now asks)))
       (with_changed (go reply) m m' a b new now r (grows reply) q)
-
-  -- with the slot that a connection keeps
-  pub with_slot : {B : Type 0} (action : ℕ → State → Outcome B) (slot slot' : ℕ) (m m' : Memory) (a b : Areas) (old : Rack X F) (was : Open X F) (new : Rack X F) (now : Open X F) (r : Result B Stop) → slot ≡ slot'
-      → OverWith talk faults (action slot) m a old was m' b new now r → OverWith talk faults (action slot') m a old was m' b new now r
-  with_slot action slot slot' m m' a b old was new now r e p = subst (λ n. OverWith talk faults (action n) m a old was m' b new now r) e p
-
-  -- ---- transaction control
-
-  pub control_over : (line : ℕ) (m m' : Memory) (old : Rack X F) (was : Open X F) (new : Rack X F) (now : Open X F) (r : Result (Unit {0}) Stop) (bytes text : Text) (params : List (Option Text))
-      → text ≡ bytes → params ≡ [] → Over talk faults (λ s. next (asked (slot_of was.conn) (request.Text text params) s) (λ reply t. controlled line reply t)) m old was m' new now r
-      → Over talk faults (control_sent line (open_view was) bytes) m old was m' new now r
-  control_over line m m' old was new now r bytes text params is none p =
-      subst (λ ps. Over talk faults (λ s. next (asked (slot_of was.conn) (request.Text bytes ps) s) (λ reply t. controlled line reply t)) m old was m' new now r) none
-      (subst (λ bs. Over talk faults (λ s. next (asked (slot_of was.conn) (request.Text bs params) s) (λ reply t. controlled line reply t)) m old was m' new now r) is p)
-
-  pub begun_over : (line : ℕ) (m m' : Memory) (old : Rack X F) (was : Open X F) (new : Rack X F) (now : Open X F) (r : Result (Unit {0}) Stop) (text : Text)
-      → begins (open_view was) ≡ true → text ≡ begin_text → Over talk faults (control_sent line (open_view was) text) m old was m' new now r → Over talk faults (begun line (open_view was)) m old was m' new now r
-  begun_over line m m' old was new now r text due is p =
-      subst (λ b. Over talk faults (λ s. elim b [ true ↦ control_sent line (open_view was) begin_text s | false ↦ gives tt s ]) m old was m' new now r) (sym due)
-      (subst (λ bs. Over talk faults (control_sent line (open_view was) bs) m old was m' new now r) is p)
-
-  pub begun_not : (line : ℕ) (m : Memory) (rack : Rack X F) (was : Open X F) → begins (open_view was) ≡ false → Over talk faults (begun line (open_view was)) m rack was m rack was (Ok (tt {0}))
-  begun_not line m rack was e =
-      subst (λ b. Over talk faults (λ s. elim b [ true ↦ control_sent line (open_view was) begin_text s | false ↦ gives tt s ]) m rack was m rack was (Ok (tt {0}))) (sym e)
-      (over_quiet (λ s. gives tt s) m m rack was (Ok (tt {0})) (λ s. same_front s.conversation) (λ s. refl))
-
-  -- with the slot that a connection keeps
-  pub over_slot : {B : Type 0} (action : ℕ → State → Outcome B) (slot slot' : ℕ) (m m' : Memory) (old : Rack X F) (was : Open X F) (new : Rack X F) (now : Open X F) (r : Result B Stop) → slot ≡ slot'
-      → Over talk faults (action slot) m old was m' new now r → Over talk faults (action slot') m old was m' new now r
-  over_slot action slot slot' m m' old was new now r e p = subst (λ n. Over talk faults (action n) m old was m' new now r) e p

@@ -15,18 +15,17 @@ use Rattle.ec_link.specs.Rack.{slots_of}
 use Rattle.ec_link.specs.Slot.{states}
 use Rattle.ec_memory_defs.specs.Memory.{Memory}
 use Rattle.ec_meaning_defs.specs.evaluation.State.{Connection, State}
-use Rattle.ec_call_defs.specs.Areas.{Areas}
 use Rattle.ec_call_defs.specs.Connections.{same_name}
 use Rattle.ec_call_defs.specs.Outcomes.{Text, Outcome}
 use Rattle.ec_runtime.specs.declared.sessions.Sessions.{Sessions}
 use Rattle.ec_runtime.specs.declared.open.Open.{Open}
 use Rattle.ec_runtime.specs.declared.stop.Stop.{Stop}
-use Rattle.ec_runtime.specs.Calling.{AllNamed, Changes, ChangesWith, NoneNamed}
-use Rattle.ec_runtime.specs.Does.{Around, NoneAt, Does, DoesWith, LeadsTo, NamedWith, OverNamed}
+use Rattle.ec_runtime.specs.Calling.{AllNamed, Changes, NoneNamed}
+use Rattle.ec_runtime.specs.Does.{NoneAt, Does}
 use Rattle.ec_runtime.specs.Opening.{open_view}
 use Rattle.ec_runtime.specs.Racks.{AllTaken, Beside, Moves}
-use Rattle.ec_runtime.proofs.Connections.{apart_before, taken_here, taken_same}
-use Rattle.ec_runtime.proofs.Moving.{moves_asked, moves_not}
+use Rattle.ec_runtime.proofs.Connections.{taken_same}
+use Rattle.ec_runtime.proofs.Moving.{moves_not}
 use Rattle.ec_runtime.proofs.Starting.{only}
 
 module _ {X : Type 0} {F : X → Type 0} where
@@ -93,10 +92,6 @@ module _ {X : Type 0} {F : X → Type 0} where
         → Made action m old was.sessions.items was.current m' new now.sessions.items now.current r → Changes talk faults action m old was m' new now r
     changes_from p = record { growth = p.growth; moves = p.moves; does = p.does }
 
-    pub made_from : {action : State → Outcome (Unit {0})} {m m' : Memory} {old new : Rack X F} {was now : Sessions X F} {r : Result (Unit {0}) Stop}
-        → Changes talk faults action m old was m' new now r → Made action m old was.sessions.items was.current m' new now.sessions.items now.current r
-    made_from p = record { growth = p.growth; moves = p.moves; does = p.does }
-
     -- other lists that are equal
     pub made_along : {action : State → Outcome (Unit {0})} {m m' : Memory} {old new : Rack X F} {was was' now now' : List (Open X F)} {first first' last last' : Option Text} {r : Result (Unit {0}) Stop}
         → was' ≡ was → first' ≡ first → now' ≡ now → last' ≡ last → Made action m old was first m' new now last r → Made action m old was' first' m' new now' last' r
@@ -105,25 +100,6 @@ module _ {X : Type 0} {F : X → Type 0} where
         (subst (λ xs. Made action m old was' first' m' new xs last r) (sym c)
         (subst (λ l. Made action m old was' l m' new now last r) (sym b)
         (subst (λ xs. Made action m old xs first m' new now last r) (sym a) p)))
-
-    -- the same with descriptors
-    pub record MadeWith (action : State → Outcome (Unit {0})) (m : Memory) (a : Areas) (old : Rack X F) (was : List (Open X F)) (first : Option Text)
-        (m' : Memory) (b : Areas) (new : Rack X F) (now : List (Open X F)) (last : Option Text) (result : Result (Unit {0}) Stop) : Type 0 where
-      pub growth : List Logged
-      pub moves : Moves talk faults old (links was) new (links now) growth
-      pub does : DoesWith action (only m (views was) first) a (only m' (views now) last) b growth result
-
-    pub with_from : {action : State → Outcome (Unit {0})} {m m' : Memory} {a b : Areas} {old new : Rack X F} {was now : Sessions X F} {r : Result (Unit {0}) Stop}
-        → MadeWith action m a old was.sessions.items was.current m' b new now.sessions.items now.current r → ChangesWith talk faults action m a old was m' b new now r
-    with_from p = record { growth = p.growth; moves = p.moves; does = p.does }
-
-    pub with_along : {action : State → Outcome (Unit {0})} {m m' : Memory} {a b : Areas} {old new : Rack X F} {was was' now now' : List (Open X F)} {first first' last last' : Option Text} {r : Result (Unit {0}) Stop}
-        → was' ≡ was → first' ≡ first → now' ≡ now → last' ≡ last → MadeWith action m a old was first m' b new now last r → MadeWith action m a old was' first' m' b new now' last' r
-    with_along {action} {m} {m'} {a} {b} {old} {new} {was} {was'} {now} {now'} {first} {first'} {last} {last'} {r} e f g h p =
-        subst (λ l. MadeWith action m a old was' first' m' b new now' l r) (sym h)
-        (subst (λ xs. MadeWith action m a old was' first' m' b new xs last r) (sym g)
-        (subst (λ l. MadeWith action m a old was' l m' b new now last r) (sym f)
-        (subst (λ xs. MadeWith action m a old xs first m' b new now last r) (sym e) p)))
 
     -- nothing was asked
     pub made_still : (action : State → Outcome (Unit {0})) (m m' : Memory) (rack : Rack X F) (os : List (Open X F)) (first last : Option Text) (r : Result (Unit {0}) Stop)
@@ -136,37 +112,6 @@ module _ {X : Type 0} {F : X → Type 0} where
       links_moved p =
           subst (λ cs. Moves talk faults old (links (before ++ was ∷ behind)) new cs growth) (sym (links_among before behind now))
           (subst (λ cs. Moves talk faults old cs new (links before ++ now.conn ∷ links behind) growth) (sym (links_among before behind was)) p)
-
-    module _ (name current : Option Text) (action : State → Outcome (Unit {0})) (m m' : Memory) (old new : Rack X F) (before behind : List (Open X F)) (was now : Open X F) (r : Result (Unit {0}) Stop) where
-      abbrev around : Around
-      around = record { before = views before; behind = views behind; current = current }
-
-      pub made_over : AllTaken (states (slots_of old)) (links (before ++ was ∷ behind)) → LeadsTo name around (open_view was) → OverNamed talk faults name action m old was m' new now r
-          → Made action m old (before ++ was ∷ behind) current m' new (before ++ now ∷ behind) current r
-      made_over held leads p =
-          let taken : AllTaken (states (slots_of old)) (links before ++ was.conn ∷ links behind) = subst (λ cs. AllTaken (states (slots_of old)) cs) (links_among before behind was) held in
-          let apart = apart_before (states (slots_of old)) (links before) (links behind) was.conn taken in
-          record {
-            growth = p.growth;
-            moves = links_moved old new before behind was now p.growth (moves_asked talk faults old new was.conn now.conn (links before) (links behind) p.growth apart p.asks (taken_here (states (slots_of old)) (links before) (links behind) was.conn taken));
-            does = subst (λ cs. Does action (only m (views (before ++ was ∷ behind)) current) (only m' cs current) p.growth r) (sym (views_among before behind now))
-                (subst (λ cs. Does action (only m cs current) (only m' (views before ++ open_view now ∷ views behind) current) p.growth r) (sym (views_among before behind was))
-                (p.does around (none_at (slot_of was.conn) before apart) leads));
-          }
-
-    module _ (name current : Option Text) (action : State → Outcome (Unit {0})) (m m' : Memory) (a b : Areas) (old new : Rack X F) (before behind : List (Open X F)) (was now : Open X F) (r : Result (Unit {0}) Stop) where
-      pub with_over : AllTaken (states (slots_of old)) (links (before ++ was ∷ behind)) → LeadsTo name (record { before = views before; behind = views behind; current = current }) (open_view was) → NamedWith talk faults name action m a old was m' b new now r
-          → MadeWith action m a old (before ++ was ∷ behind) current m' b new (before ++ now ∷ behind) current r
-      with_over held leads p =
-          let taken : AllTaken (states (slots_of old)) (links before ++ was.conn ∷ links behind) = subst (λ cs. AllTaken (states (slots_of old)) cs) (links_among before behind was) held in
-          let apart = apart_before (states (slots_of old)) (links before) (links behind) was.conn taken in
-          record {
-            growth = p.growth;
-            moves = links_moved old new before behind was now p.growth (moves_asked talk faults old new was.conn now.conn (links before) (links behind) p.growth apart p.asks (taken_here (states (slots_of old)) (links before) (links behind) was.conn taken));
-            does = subst (λ cs. DoesWith action (only m (views (before ++ was ∷ behind)) current) a (only m' cs current) b p.growth r) (sym (views_among before behind now))
-                (subst (λ cs. DoesWith action (only m cs current) a (only m' (views before ++ open_view now ∷ views behind) current) b p.growth r) (sym (views_among before behind was))
-                (p.does (record { before = views before; behind = views behind; current = current }) (none_at (slot_of was.conn) before apart) leads));
-          }
 
   -- ---- what is held
 

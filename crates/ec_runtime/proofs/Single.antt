@@ -6,7 +6,7 @@ use Rattle.ec_meaning_defs.specs.observed.Run.{IsFront}
 use Rattle.ec_meaning_defs.specs.evaluation.State.{Answer, Connection, State}
 use Rattle.ec_call_defs.specs.Growth.{state_of}
 use Rattle.ec_call_defs.specs.Outcomes.{Outcome, finished, gives, over, stuck, trapped, waiting}
-use Rattle.ec_stopping_defs.specs.Resuming.{Asking, asks_for, is_asked_over, resumed, stepped}
+use Rattle.ec_stopping_defs.specs.Resuming.{Asking, stepped}
 use Rattle.ec_stopping_defs.specs.Saying.{exchange_of}
 use Rattle.ec_stopping_defs.proofs.Once.{resumed_says}
 use Rattle.ec_stopping_defs.proofs.Parts.{step_resumed, step_waits}

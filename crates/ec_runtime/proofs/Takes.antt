@@ -46,10 +46,6 @@ changing slot change s = gives tt (prepared_anew slot change s)
 changing_grows : (slot : ℕ) (change : Change) → Grows (changing slot change)
 changing_grows slot change s = same_front s.conversation
 
-pub changed_grows : (line : ℕ) (asks : Request) (change : Change) (c : Connection) → Grows (changed_behind line asks change c)
-changed_grows line asks change c =
-    next_grows (request_taken line asks c.slot) (λ _ t. changing c.slot change t) (taken_request_grows line asks c.slot) (λ _. changing_grows c.slot change)
-
 -- ---- what is sent for the text of PREPARE
 
 module _ (given : GivenText) (m : Memory) where

@@ -27,20 +27,11 @@ use Rattle.ec_call_defs.specs.Steps.{settled}
 use Rattle.ec_runtime.specs.declared.library.Library.{Library}
 use Rattle.ec_runtime.specs.declared.sessions.Sessions.{Sessions}
 use Rattle.ec_runtime.specs.declared.stop.Stop.{Stop}
-use Rattle.ec_runtime.specs.declared.stop.Stop.TheVariants as stops
 use Rattle.ec_runtime.specs.declared.stop.CallStop.{CallStop}
 use Rattle.ec_runtime.specs.declared.stop.CallStop.TheVariants as calls
 use Rattle.ec_runtime.specs.Does.{Does, DoesWith, Placing, Seen, placed_with, saying}
 use Rattle.ec_runtime.specs.Opening.{open_view}
 use Rattle.ec_runtime.specs.Racks.{AllTaken, Beside, GivesAll, Moves}
-use Rattle.ec_runtime.specs.Seeking.{sought}
-
--- what a call answers, by how its parts end
-abbrev pub called_by : Result (Unit {0}) Stop → Result (Unit {0}) CallStop
-called_by (Ok x) = Ok tt
-called_by (Err stops.Finished) = Ok tt
-called_by (Err (stops.Trapped trap)) = Err (calls.Trapped trap)
-called_by (Err stops.OutOfMemory) = Err calls.OutOfMemory
 
 -- the program goes on or stops as the call says, on whatever line it stands
 abbrev pub Answers : Result (Unit {0}) CallStop → Outcome (Unit {0}) → State → Type 0
@@ -64,14 +55,6 @@ pub record Carries (action : State → Outcome (Unit {0})) (from to : Placing)
   pub says : (s : State) (rest : List Answer) → Answers result
       (action (from (answers_in growth ++ rest) s)) (to rest (saying growth s))
   pub left : Stopped action from growth result
-
--- whatever connections are open, where the name leads to none of them
-abbrev pub Closed : Option Text → (State → Outcome (Unit {0})) → Memory → Memory →
-    Result (Unit {0}) Stop → Type 0
-Closed name action m m' result =
-    (cs : List Connection) (current : Option Text) → sought name current cs ≡ None → Does action
-    (record { memory = m; connections = cs; current = current })
-    (record { memory = m'; connections = cs; current = current }) [] result
 
 -- no connection has the name
 abbrev pub NoneNamed : Text → List Connection → Type 0

@@ -1,5 +1,5 @@
 -- What a part of a call does that asks a server whose answers aren't known beforehand: over the answers that came, and then any others, it leads where it says and leaves exactly the others.
-use Rattle.std.specs.Prelude.{◌≡◌, ℕ, nat_eq, false, List, [], ◌∷◌, ◌++◌, Option, Some, Result, Ok, Err}
+use Rattle.std.specs.Prelude.{◌≡◌, ℕ, nat_eq, false, List, [], ◌∷◌, ◌++◌, Option, Result, Ok, Err}
 use Rattle.std.specs.declared.alloc.Global.{Global}
 use Rattle.std.specs.declared.dyn_box.DynBox.{DynBox}
 use Rattle.ec_link.specs.declared.logged.Logged.{Logged}
@@ -18,7 +18,6 @@ use Rattle.ec_runtime.specs.declared.open.Open.{Open}
 use Rattle.ec_runtime.specs.declared.stop.Stop.{Stop}
 use Rattle.ec_runtime.specs.declared.stop.Stop.TheVariants as stops
 use Rattle.ec_runtime.specs.Opening.{open_view}
-use Rattle.ec_runtime.specs.Seeking.{sought}
 use Rattle.ec_runtime.specs.Says.{Says}
 
 -- what code sees of a state: the memory, the connections that are open, in the order in which they were opened, and the name of the current one
@@ -112,10 +111,6 @@ NoneAt slot (c ∷ cs) = (nat_eq c.slot slot ≡ false) × NoneAt slot cs
 abbrev pub Apart : ℕ → Around → Type 0
 Apart slot around = NoneAt slot around.before
 
--- among these connections the name, or without one the current one, leads to this connection
-abbrev pub LeadsTo : Option Text → Around → Connection → Type 0
-LeadsTo name around c = sought name around.current (among around c) ≡ Some c
-
 module _ {X : Type 0} {F : X → Type 0} (talk : DynBox X Global F → Option Talk)
     (faults : DynBox X Global F → ℕ) where
   -- the same over a rack: the log and the talk of the connection's link grew by what was said, and it keeps its name
@@ -128,17 +123,6 @@ module _ {X : Type 0} {F : X → Type 0} (talk : DynBox X Global F → Option Ta
     pub does : (around : Around) → Apart (slot_of was.conn) around
         → Does action (seen around m was) (seen around m' now) growth result
 
-  -- the same over the connection that a name leads to
-  pub record OverNamed (name : Option Text) (action : State → Outcome (Unit {0}))
-      (m : Memory) (old : Rack X F) (was : Open X F) (m' : Memory)
-      (new : Rack X F) (now : Open X F) (result : Result (Unit {0}) Stop) : Type 0 where
-    pub growth : List Logged
-    pub asks : Asks talk faults old was.conn new now.conn growth
-    pub named : now.name ≡ was.name
-    pub does : (around : Around) → Apart (slot_of was.conn) around
-        → LeadsTo name around (open_view was)
-        → Does action (seen around m was) (seen around m' now) growth result
-
   -- the same for a part that finds and leaves these descriptors
   pub record OverWith {A : Type 0} (action : State → Outcome A)
       (m : Memory) (a : Areas) (old : Rack X F) (was : Open X F) (m' : Memory) (b : Areas)
@@ -147,14 +131,4 @@ module _ {X : Type 0} {F : X → Type 0} (talk : DynBox X Global F → Option Ta
     pub asks : Asks talk faults old was.conn new now.conn growth
     pub named : now.name ≡ was.name
     pub does : (around : Around) → Apart (slot_of was.conn) around
-        → DoesWith action (seen around m was) a (seen around m' now) b growth result
-
-  pub record NamedWith (name : Option Text) (action : State → Outcome (Unit {0}))
-      (m : Memory) (a : Areas) (old : Rack X F) (was : Open X F) (m' : Memory) (b : Areas)
-      (new : Rack X F) (now : Open X F) (result : Result (Unit {0}) Stop) : Type 0 where
-    pub growth : List Logged
-    pub asks : Asks talk faults old was.conn new now.conn growth
-    pub named : now.name ≡ was.name
-    pub does : (around : Around) → Apart (slot_of was.conn) around
-        → LeadsTo name around (open_view was)
         → DoesWith action (seen around m was) a (seen around m' now) b growth result
