@@ -61,6 +61,26 @@ def controls(connection, text):
     return None
 
 
+def has_float(rows):
+    return any(isinstance(value, float) for row in rows for value in row)
+
+
+def fetched(connection, text, params):
+    """The cursor of a statement and its rows. Where they have a float, what the statement changed is undone."""
+    changes = FIRST_WORD.match(text).group(2).upper() in COUNTED
+    if changes:
+        connection.execute("SAVEPOINT shown")
+    try:
+        cursor = connection.execute(with_marks(text), params)
+        rows = cursor.fetchall()
+        if changes and has_float(rows):
+            connection.execute("ROLLBACK TO shown")
+    finally:
+        if changes:
+            connection.execute("RELEASE shown")
+    return cursor, rows
+
+
 class Refused(Exception):
     """A state of a refusal."""
 
@@ -148,8 +168,7 @@ class SqliteLink:
                 if not self.there.in_transaction:
                     self.cursors = {name: (ends, found) for name, (ends, found) in self.cursors.items() if not ends}
                 return self.done()
-            found = self.there.execute(with_marks(text), [None if one is None else one.decode() for one in params])
-            rows = found.fetchall()
+            found, rows = fetched(self.there, text, [None if one is None else one.decode() for one in params])
         except sqlite3.IntegrityError as error:
             raise Refused(b"23505" if "UNIQUE" in str(error) else b"XX000") from None
         except (sqlite3.Error, sqlite3.Warning):
@@ -157,6 +176,8 @@ class SqliteLink:
         if found.description is None:
             return self.done(found.rowcount if first_word(text) in COUNTED else None)
         if any(isinstance(value, float) for row in rows for value in row):
+            return self.done(found.rowcount if FIRST_WORD.match(text).group(2).upper() in COUNTED else None)
+        if has_float(rows):
             raise Refused(b"XX000")
         columns = [(column[0].encode(), code([row[at] for row in rows])) for at, column in enumerate(found.description)]
         return ("rows", state(self.there), columns, [[field(value) for value in row] for row in rows], False)

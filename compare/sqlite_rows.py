@@ -13,6 +13,7 @@ import sys
 from pathlib import Path
 
 from sqlite_link import COUNTED, code, controls, first_word, new_connection, state, with_marks
+from sqlite_link import COUNTED, FIRST_WORD, code, controls, fetched, has_float, new_connection, state
 
 ROWS = Path(__file__).resolve().parent.parent / "crates" / "ec_base_rows"
 LINK_ONLY = re.compile(r"(?i)^(prepare|deallocate|connect|close)\b|^text (declare|fetch|close)\b")
@@ -38,8 +39,7 @@ def answer(connection, text, params):
             for statement in said:
                 connection.execute(statement)
             return f" done {state(connection)}"
-        cursor = connection.execute(with_marks(text), params)
-        rows = cursor.fetchall()
+        cursor, rows = fetched(connection, text, params)
     except sqlite3.IntegrityError as error:
         return f" refused {state(connection)} {'23505' if 'UNIQUE' in str(error) else 'XX000'}"
     except (sqlite3.Error, sqlite3.Warning):
@@ -47,7 +47,7 @@ def answer(connection, text, params):
     if cursor.description is None:
         is_counted = first_word(text) in COUNTED
         return f" done {state(connection)}" + (f" {cursor.rowcount}" if is_counted else "")
-    if any(isinstance(value, float) for row in rows for value in row):
+    if has_float(rows):
         return f" refused {state(connection)} XX000"
     return printed_rows(connection, [column[0] for column in cursor.description], rows)
 

@@ -2,8 +2,9 @@
 
 use crate::refusal::{Refusal, Stop};
 use crate::sheet::Sheet;
+use crate::statement::changes_rows;
 use sqlite::types::ValueRef;
-use sqlite::{Alter, Connection, Error, File, FileStore, MemStore};
+use sqlite::{Alter, Connection, Error, File, FileStore, MemStore, Statement};
 use std::alloc::Global;
 
 /// What a statement for SQLite came to.
@@ -72,7 +73,7 @@ impl Database {
     }
 }
 
-// Runs one statement. Rows with a float are refused.
+// Runs one statement. Rows with a float are refused, and what was changed to show them is undone.
 fn run<S: Alter>(
     alloc: Global,
     conn: &mut Connection<S>,
@@ -81,8 +82,49 @@ fn run<S: Alter>(
 ) -> Result<Outcome, Stop> {
     let statement = conn.prepare(text)?;
     if statement.column_count() == 0 {
-        return Ok(Outcome::Changed(statement.execute(conn, params)?));
+        Ok(Outcome::Changed(statement.execute(conn, params)?))
+    } else if changes_rows(text.as_bytes()) {
+        change_and_show(alloc, conn, &statement, params)
+    } else {
+        show(alloc, conn, &statement, params)
     }
+}
+
+// Runs a statement that shows rows.
+fn show<S: Alter>(
+    alloc: Global,
+    conn: &mut Connection<S>,
+    statement: &Statement,
+    params: &[ValueRef<'_>],
+) -> Result<Outcome, Stop> {
     let rows = statement.query_all(conn, params)?;
     Ok(Outcome::Shown(Sheet::new(alloc, statement.column_names(), rows.as_slice())?))
+}
+
+// Runs a statement that changes rows and shows some, behind a savepoint of its own.
+fn change_and_show<S: Alter>(
+    alloc: Global,
+    conn: &mut Connection<S>,
+    statement: &Statement,
+    params: &[ValueRef<'_>],
+) -> Result<Outcome, Stop> {
+    conn.execute_batch("SAVEPOINT shown")?;
+    let outcome = show_and_keep(alloc, conn, statement, params);
+    if outcome.is_err() {
+        // After some failures the whole transaction is rolled back already, and the savepoint is gone.
+        let _ = conn.execute_batch("ROLLBACK TO shown; RELEASE shown");
+    }
+    outcome
+}
+
+// Runs a statement that shows rows, and keeps what it changed.
+fn show_and_keep<S: Alter>(
+    alloc: Global,
+    conn: &mut Connection<S>,
+    statement: &Statement,
+    params: &[ValueRef<'_>],
+) -> Result<Outcome, Stop> {
+    let outcome = show(alloc, conn, statement, params)?;
+    conn.execute_batch("RELEASE shown")?;
+    Ok(outcome)
 }

@@ -59,6 +59,11 @@ pub fn read_statement(text: &[u8]) -> Statement<'_> {
     }
 }
 
+/// Whether a statement changes rows, by its first word.
+pub fn changes_rows(text: &[u8]) -> bool {
+    is_counted(Words::new(text).next())
+}
+
 // Whether a statement tells how many rows it changed, by its first word.
 fn is_counted(first: Option<Word<'_>>) -> bool {
     let Some(first) = first else {
