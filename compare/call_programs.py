@@ -10,7 +10,7 @@ from dataclasses import dataclass
 
 import evaluator
 import translator
-from call_rows import DEFAULT_TURNS, ROOM, Row
+from call_rows import ROOM, Row
 from call_rows import Place as SlotOf
 from calls_made import Link, Run, Slot, array, struct
 from source_texts import Maker
@@ -43,6 +43,8 @@ SWITCHES = ['"off"', '"off"', '"off"', '"on"', '"o\\156"']
 DESCRIPTORS = ['"d"'] * 9 + ['"e"', '"e"', '"D"', '"\\144"', '""', "connection", "(unsigned char *)connection"]
 INDEXES = ['"1"'] * 9 + ['"2"', '"2"', '"2"', '"3"', '"+1"', '"007"', '"0"', '"-1"', '"1000"', '"1001"', '"x"', '"9223372036854775808"']
 MOST_PRINTED = 48  # cells of a variable
+# What calls itself without an end spends these: 1,000,000 calls of a program in one another take Python some 4.5 GB.
+MOST_TURNS = 20_000
 STATES = ["23505", "21000", "42P01", "XX000", "00000", "02000", "08006", "2350x"]
 LITERALS = ['"12"', '""', '"it\'s"', '"a\\042b"', '"-5"', '"\\377\\001"', '"x" "y"', '"n\\000ul"']
 
@@ -810,7 +812,9 @@ def row_tried(rng, title, is_translated):
     turns = rng.choice([30, 60, 60, 100, 100] * 4 + few if is_translated else [None] * 18 + few)
     there = slots(rng, front)
     made = linked(rng, there, Answers)
-    first = Run(front + end, DEFAULT_TURNS if turns is None else turns, made)
+    first = Run(front + end, MOST_TURNS if turns is None else turns, made)
+    if turns is None and first.ending[0] == "turns_spent":
+        turns = MOST_TURNS
     if rng.random() < 0.25:
         turns = max(first.used - rng.choice([0, 0, 1]), 0)
     more = printed(first) if first.ending[0] == "exited" else []

@@ -15,6 +15,7 @@ import sys
 import evaluator
 import library
 import storing
+from deep import deep
 from evaluator import SPACE, VOID, Node, Object, Struct, Trap, decayed, is_pointer
 
 FINDINGS = {
@@ -649,10 +650,10 @@ class Run:
         self.objects = [self.machine.objects.get(n) for n in range(1, self.machine.made + 1)]
 
 
-def main(turns, file):
-    sys.setrecursionlimit(100_000)
-    with open(file, encoding="latin-1") as source:
-        run = Run(source.read(), int(turns), [])
+def main(turns, file, kind=Run):
+    """Shows a run of that kind without a slot."""
+    with open(file, encoding="latin-1", newline="") as source:
+        run = deep(kind, source.read(), int(turns), [])
     sys.stdout.buffer.write(run.output)
     sys.stdout.flush()
     sys.stderr.buffer.write(run.errors)

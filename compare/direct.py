@@ -12,6 +12,7 @@ import re
 import sys
 from functools import lru_cache
 
+import calls_made
 import direct_dynamic
 import evaluator
 import storing
@@ -699,16 +700,6 @@ class Run:
         self.exchanges, self.used, self.slots = self.machine.exchanges, turns - self.machine.turns, slots
 
 
-def main(turns, file):
-    sys.setrecursionlimit(100_000)
-    with open(file, encoding="latin-1", newline="") as source:
-        run = Run(source.read(), int(turns), [])
-    sys.stdout.buffer.write(run.output)
-    sys.stdout.flush()
-    sys.stderr.buffer.write(run.errors)
-    print(*run.ending, file=sys.stderr)
-
-
 if __name__ == "__main__":
     sys.dont_write_bytecode = True
-    main(*sys.argv[1:])
+    calls_made.main(*sys.argv[1:], Run)
