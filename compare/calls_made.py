@@ -16,6 +16,7 @@ import evaluator
 import library
 import storing
 from deep import deep
+from descriptor_items import Item
 from evaluator import SPACE, VOID, Node, Object, Struct, Trap, decayed, is_pointer
 
 FINDINGS = {
@@ -329,28 +330,6 @@ def given_back(connections):
 
 # ---- descriptors
 
-class Item:
-    """An item of a descriptor: what it holds, its name, and its type."""
-
-    def __init__(self, content=None, label=b"", code=12):
-        self.content, self.label, self.code = content, label, code
-
-    def text(self, kind):
-        """What it gives as a field."""
-        if kind in ("data", "name"):
-            return self.content if kind == "data" else self.label
-        number = {"indicator": -(self.content is None), "type": self.code, "ret_octet": len(self.content or b"")}[kind]
-        return str(number).encode()
-
-    def set(self, kind, value):
-        if kind == "data":
-            self.content = value
-        elif kind == "type":
-            self.code = value
-        elif value < 0:
-            self.content = None
-
-
 def whole(field, bits):
     """A field as a number of a signed type of so many bits."""
     if field is None or not storing.is_number(field) or not -2 ** (bits - 1) <= int(field) < 2 ** (bits - 1):
@@ -505,7 +484,7 @@ class CallingMachine(evaluator.Machine):
         """A NULL leaves a host without an indicator of its own, where the indicator is asked for too."""
         asked = any(kind == "indicator" for kind, _ in wanted)
         for kind, member in wanted:
-            field = item.text(kind)
+            field = item.given(kind)
             if field is not None or member.has_indicator or not asked:
                 self.stored(member, 0, field)
 

@@ -537,11 +537,10 @@ class DirectMachine(evaluator.Machine):
         elif step.form == "get-count":
             self.field_stored(*outputs[0], 0, self.descriptors.count(name))
         else:
-            entry = self.descriptors.entry(name, *values)
-            for item, output in zip(step.items, outputs):
+            for field, output in zip(self.descriptors.given(name, *values, step.items), outputs):
                 # what is NULL is left out where the indicator is told
-                if item != "DATA" or entry.content is not None or "INDICATOR" not in step.items:
-                    self.field_stored(*output, 0, entry.given(item))
+                if field is not None or "INDICATOR" not in step.items:
+                    self.field_stored(*output, 0, field)
 
     def controlled(self, one, text):
         if self.answered(one, ("text", text, []), [])[0] not in ("rows", "done"):

@@ -1,11 +1,11 @@
 """Prepared statements and SQL descriptors of the direct evaluator: marks, and what a descriptor holds. By the rules alone."""
 
-from dataclasses import dataclass
+from calls import ITEMS
+from descriptor_items import Item
 
 LETTERS = frozenset(b"abcdefghijklmnopqrstuvwxyzABCDEFGHIJKLMNOPQRSTUVWXYZ_") | frozenset(range(128, 256))
 DIGITS = frozenset(b"0123456789")
 MOST_ITEMS = 1000
-TYPE_OF_NEW = 12
 
 
 class Refused(Exception):
@@ -83,23 +83,6 @@ def numbered(text):
 
 # ---- descriptors
 
-@dataclass
-class Entry:
-    content: bytes | None = None
-    name: bytes = b""
-    type: int = TYPE_OF_NEW
-
-    def given(self, item):
-        """An item as a field."""
-        if item == "DATA":
-            return self.content
-        if item == "NAME":
-            return self.name
-        if item == "INDICATOR":
-            return b"-1" if self.content is None else b"0"
-        return str(self.type if item == "TYPE" else 0 if self.content is None else len(self.content)).encode()
-
-
 def number_in(text, least, most):
     """A text as a number between these, or None. NULL is no number."""
     if text is None:
@@ -140,7 +123,7 @@ class Descriptors:
         del self.entries[name]
 
     def fill(self, name, columns, row):
-        self.entries[name] = [Entry(field, label, code) for field, (label, code) in zip(row, columns)]
+        self.entries[name] = [Item(field, *column) for field, column in zip(row, columns)]
 
     def contents(self, name):
         return [entry.content for entry in self.of(name)]
@@ -148,9 +131,11 @@ class Descriptors:
     def count(self, name):
         return str(len(self.of(name))).encode()
 
-    def entry(self, name, index):
+    def given(self, name, index, items):
+        """The fields that an item gives."""
         there = self.of(name)
-        return there[long_in(index, 1, len(there)) - 1]
+        item = there[long_in(index, 1, len(there)) - 1]
+        return [item.given(ITEMS[one]) for one in items]
 
     def set_count(self, name, text):
         there = self.of(name)
@@ -159,23 +144,17 @@ class Descriptors:
     def resize(self, there, count):
         del there[count:]
         while len(there) < count:
-            there.append(Entry())
+            there.append(Item())
 
     def set(self, name, index, items):
         """Item after item: the first code ends it, and what was set stays."""
         there = self.of(name)
         index = long_in(index, 1, MOST_ITEMS)
         for item, text in items:
-            number = None
+            value = text
             if item != "DATA":
-                number = number_in(text, -2 ** 31, 2 ** 31 - 1)
-                if number is None:
+                value = number_in(text, -2 ** 31, 2 ** 31 - 1)
+                if value is None:
                     raise Refused(-204)
             self.resize(there, max(len(there), index))
-            entry = there[index - 1]
-            if item == "DATA":
-                entry.content = text
-            elif item == "TYPE":
-                entry.type = number
-            elif number < 0:
-                entry.content = None
+            there[index - 1].set(ITEMS[item], value)
