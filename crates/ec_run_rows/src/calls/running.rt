@@ -75,7 +75,7 @@ fn carry_out(
     alloc: Global,
     store: &mut Store,
     rack: &mut Rack,
-    call: &Call,
+    call: Call,
 ) -> Result<Result<(), CallStop>, OutOfMemory>
     requires { IsArea store.old }
 {
@@ -87,12 +87,11 @@ fn carry_out(
     Ok(done)
 }
 
-// Carries the call out over a link under the empty name, and shows what is left.
+// Carries `SELECT` out over a link under the empty name, and shows what is left.
 fn run_over(
     alloc: Global,
     store: &mut Store,
     link: MemLink,
-    call: &Call,
     shown: &mut Bytes,
 ) -> Result<(), OutOfMemory>
     requires { IsArea store.old }
@@ -102,16 +101,16 @@ fn run_over(
     if rack.add_ready(Name::new(), link).is_err() {
         return Err(OutOfMemory);
     }
+    let call = select(alloc)?;
     let done = carry_out(alloc, store, &mut rack, call)?;
     show(done, store, rack.log().len(), shown)
 }
 
 /// Runs the call over a link with this answer, and shows what is left.
 pub fn run(alloc: Global, reply: Reply, shown: &mut Bytes) -> Result<(), OutOfMemory> {
-    let call = select(alloc)?;
     let Some(mut store) = memory(alloc) else {
         return Err(OutOfMemory);
     };
     let link = link_of(alloc, reply)?;
-    run_over(alloc, &mut store, link, &call, shown)
+    run_over(alloc, &mut store, link, shown)
 }
