@@ -184,7 +184,7 @@ mutual
 
 -- ---- initializers
 
-stored_at_stores : (offset : ℕ) (t : Option TyData) (e : ExprData) (f : Found) → Stores (stored_at offset t e f)
+pub stored_at_stores : (offset : ℕ) (t : Option TyData) (e : ExprData) (f : Found) → Stores (stored_at offset t e f)
 unfolding stored_at
 stored_at_stores offset None e f = pure_stores _
 stored_at_stores offset (Some t) e f = chosen (is_text_for f.operand t) (chained (arrange_stores _ (λ s. refl) (λ s. refl) (λ s. refl)) (λ u. pure_stores _)) (ask_stores _)

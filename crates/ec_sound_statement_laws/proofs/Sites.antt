@@ -246,13 +246,13 @@ module _ (gs : List Signature) where
 
   -- ---- declarations
 
-  made_world : (site : Site) (size : ℕ) (init : InitOption) (ps : List PartData) (s : Storage) (w : World) → (object_made site size init ps s w).world ≡ w
+  pub made_world : (site : Site) (size : ℕ) (init : InitOption) (ps : List PartData) (s : Storage) (w : World) → (object_made site size init ps s w).world ≡ w
   unfolding chain arrange pure
   made_world (numbered k) size init ps s w = refl
   made_world (slotted i) size init ps s w = refl
   made_world nowhere size init ps s w = refl
 
-  made_sites : (site : Site) (size : ℕ) (init : InitOption) (ps : List PartData) (s : Storage) (w : World) → (object_made site size init ps s w).storage.sites ≡ s.sites
+  pub made_sites : (site : Site) (size : ℕ) (init : InitOption) (ps : List PartData) (s : Storage) (w : World) → (object_made site size init ps s w).storage.sites ≡ s.sites
   unfolding chain arrange pure
   made_sites (numbered k) size init ps s w = refl
   made_sites (slotted i) size init ps s w = refl
@@ -272,17 +272,17 @@ module _ (gs : List Signature) where
       then_leads (counting.number_leads 1 _) (λ d.
       then_leads (stands_lead (counting.ask_stands _)) (λ size. stands_lead (record { sites = λ s w. made_sites site size init made.1 s w; types = λ s w. ap (λ z. z.types) (made_world site size init made.1 s w) })))))))))
 
-  site_stands : (global : Bool) (n : ℕ) (s : Storage) → Room (next_count global n) s → SiteStands (in_scope s) (Some (next_site global s))
+  pub site_stands : (global : Bool) (n : ℕ) (s : Storage) → Room (next_count global n) s → SiteStands (in_scope s) (Some (next_site global s))
   site_stands true n s r = tt
   site_stands false n s r = omega (arith, r)
 
-  at_last : (s : Storage) (k : ℕ) (site : Site) → length s.sites ≡ k → slice_get (s.sites ++ site ∷ []) k ≡ Some site
+  pub at_last : (s : Storage) (k : ℕ) (site : Site) → length s.sites ≡ k → slice_get (s.sites ++ site ∷ []) k ≡ Some site
   at_last s k site e = subst (λ j. slice_get (s.sites ++ site ∷ []) j ≡ Some site) e (get_last s.sites site)
 
   no_less : (n : ℕ) → n ≤ n
   no_less n = omega (arith)
 
-  rest_sites : (n : ℕ) (at : Place) (global : Bool) (name : Text) (init : InitOption) (before : Option TyData) → Sites (next_count global n) n (object_rest at global name init before)
+  pub rest_sites : (n : ℕ) (at : Place) (global : Bool) (name : Text) (init : InitOption) (before : Option TyData) → Sites (next_count global n) n (object_rest at global name init before)
   unfolding chain checks ask stored arrange know_better number_as check_change
   rest_sites n at global name init before = record {
     makes = rest_makes n at global name init before;
