@@ -8,8 +8,8 @@ STACK = 1 << 30
 
 
 def deep(work, *given):
-    """What the work answers, in a thread of its own. No limit ends it before its stack is full: each module that is used has been
-    imported by then, since some set the limit themselves."""
+    """What the work answers, in a thread of its own, with no limit of calls but its stack. What it uses has to be imported before,
+    since some modules set that limit themselves."""
     sys.setrecursionlimit(2**31 - 1)
     threading.stack_size(STACK)
     with ThreadPoolExecutor(1) as pool:
