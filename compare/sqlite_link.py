@@ -67,7 +67,7 @@ def has_float(rows):
 
 def fetched(connection, text, params):
     """The cursor of a statement and its rows. Where they have a float, what the statement changed is undone."""
-    changes = FIRST_WORD.match(text).group(2).upper() in COUNTED
+    changes = first_word(text) in COUNTED
     if changes:
         connection.execute("SAVEPOINT shown")
     try:
@@ -175,8 +175,6 @@ class SqliteLink:
             raise Refused(b"XX000") from None
         if found.description is None:
             return self.done(found.rowcount if first_word(text) in COUNTED else None)
-        if any(isinstance(value, float) for row in rows for value in row):
-            return self.done(found.rowcount if FIRST_WORD.match(text).group(2).upper() in COUNTED else None)
         if has_float(rows):
             raise Refused(b"XX000")
         columns = [(column[0].encode(), code([row[at] for row in rows])) for at, column in enumerate(found.description)]

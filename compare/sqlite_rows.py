@@ -12,8 +12,7 @@ import sqlite3
 import sys
 from pathlib import Path
 
-from sqlite_link import COUNTED, code, controls, first_word, new_connection, state, with_marks
-from sqlite_link import COUNTED, FIRST_WORD, code, controls, fetched, has_float, new_connection, state
+from sqlite_link import COUNTED, code, controls, fetched, first_word, has_float, new_connection, state
 
 ROWS = Path(__file__).resolve().parent.parent / "crates" / "ec_base_rows"
 LINK_ONLY = re.compile(r"(?i)^(prepare|deallocate|connect|close)\b|^text (declare|fetch|close)\b")
