@@ -11,9 +11,9 @@ ghost use Rattle.ec_check.specs.Objects.{object_of, end_object};
 
 use ec_base::OutOfMemory;
 use ec_ctypes::{Declarator, Expr, Init, Ty};
+use ec_initializers::initializer;
 use ec_rules::{complete_rule, copy_type, declared_type, elements_rule, within_rule};
 use ec_scopes::{Checker, Entry, Place};
-use ec_walk::initializers::initializer;
 use ec_walk::{last_length, lengths, outer_lengths};
 
 /// The type, or `void` where there is none.

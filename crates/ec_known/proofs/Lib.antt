@@ -1,3 +1,1 @@
-pub mod Named
 pub mod Tables
-pub mod Taken

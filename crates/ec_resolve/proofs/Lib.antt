@@ -1,4 +1,3 @@
-pub mod Globals
 pub mod Loops
 pub mod Parts
 pub mod Whole

@@ -1,5 +1,5 @@
 -- Loops over parameters and over what stands at the top level.
-use Rattle.std.proofs.Common.{◌≡◌, ◌∙◌, ℕ, ◌+◌, ◌<◌, Bool, List, [], ◌∷◌, ◌++◌, append-nil, length, take, drop, map, get_or, Option, refl, sym, ap}
+use Rattle.std.proofs.Common.{◌≡◌, ◌∙◌, ℕ, ◌+◌, ◌<◌, Bool, List, [], ◌∷◌, ◌++◌, append-nil, length, drop, map, get_or, Option, refl, sym, ap}
 use Rattle.ec_ctypes.specs.declared.tree.unit.Param.{Param}
 use Rattle.ec_ctypes.specs.declared.tree.unit.Top.{Top}
 use Rattle.ec_ctypes.specs.declared.types.ty.Ty.{Ty}
@@ -8,14 +8,11 @@ use Rattle.ec_ctypes.specs.views.Units.{param_view, top_view}
 use Rattle.ec_resolve_forms.specs.declared.resolver.Resolver.{Resolver}
 use Rattle.ec_resolve_forms.specs.Seen.{from, mapped, IsReached}
 use Rattle.ec_resolve_forms.proofs.Following.{follow, gather, reached_as}
-use Rattle.ec_resolving_defs.specs.Programs.{param, params, top_rule, tops_rule, parameter_kind}
+use Rattle.ec_resolving_defs.specs.Programs.{param, params, top_rule, tops_rule}
 use Rattle.ec_resolving_defs.specs.Storage.{Reached, pure}
 use Rattle.ec_scopes.specs.Entries.{type_view}
 use Rattle.ec_scopes.proofs.Loops.{drop_item, one_done}
 use Rattle.ec_typing_defs.specs.Worlds.{Place}
-use Rattle.std.proofs.lemmas.List.{map_more, map-append}
-use Rattle.ec_memory_defs.specs.declared.kind.Kind.{Kind}
-use Rattle.ec_memory_defs.specs.Kinds.{kind_type}
 
 -- the same state, with another answer
 mapped_as : {A B : Type 0} (f h : A → B) (r : Reached A) → f r.answer ≡ h r.answer → mapped f r ≡ mapped h r
@@ -53,13 +50,3 @@ pub tops_end : {whole : Reached (Unit {0})} {now : Resolver} (left : List Top) �
 unfolding pure
 tops_end {whole} {now} left e g =
     reached_as (sym (g ∙ ap (λ xs. from (tops_rule [] (map top_view xs)) now) e)) (record { answer_is = refl; storage_is = refl; world_is = refl })
-
--- one parameter more, by its scalar type
-pub kinds_step : (ks more : List Kind) (k : Kind) (ts : List (Option Ty)) (i : ℕ) (t : Option Ty) → i < length ts → t ≡ get_or ts i t → more ≡ ks ++ (k ∷ []) → kind_type k ≡ parameter_kind (type_view t)
-    → map kind_type ks ≡ map parameter_kind (map type_view (take i ts)) → map kind_type more ≡ map parameter_kind (map type_view (take (i + 1) ts))
-kinds_step ks more k ts i t lt is put e g =
-    ap (map kind_type) put ∙ map-append kind_type ks (k ∷ [])
-    ∙ (λ j. g j ++ (e j ∷ []))
-    ∙ ap (λ y. map parameter_kind (map type_view (take i ts)) ++ (parameter_kind (type_view y) ∷ [])) is
-    ∙ sym (map-append parameter_kind (map type_view (take i ts)) (type_view (get_or ts i t) ∷ []))
-    ∙ ap (map parameter_kind) (sym (map_more type_view ts i t lt))

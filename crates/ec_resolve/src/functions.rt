@@ -13,15 +13,16 @@ ghost use Rattle.ec_scopes.specs.Entries.{place_view, type_view};
 ghost use Rattle.ec_values.specs.Words.{word_view};
 ghost use Rattle.ec_resolve.specs.Functions.{body_option_view, function_begun, function_inside, function_of, function_parts, sizes_alone};
 
-use crate::entries::{begin_function, defines, is_done_with, know_function};
 use crate::params::params;
-use crate::types::{parameter_kinds, result_rule};
 use ec_base::{List, OutOfMemory};
 use ec_code::{Function, ObjectSize};
 use ec_ctypes::{Func, Stmt, Ty};
 use ec_memory_defs::Kind;
 use ec_resolve_expressions::base;
 use ec_resolve_forms::Resolver;
+use ec_resolve_parts::{
+    begin_function, defines, is_done_with, know_function, parameter_kinds, result_rule,
+};
 use ec_resolve_statements::{Body, function_body};
 use ec_resolve_values::storage::Site;
 use ec_rules::declared_type;

@@ -2,11 +2,8 @@
 //! C is.
 #![tactic(auto)]
 
-mod counting;
-mod entries;
 mod functions;
 mod params;
 mod programs;
-mod types;
 
 pub use programs::resolve;

@@ -7,15 +7,14 @@ ghost use Rattle.ec_resolve_forms.specs.Seen.{from, Reaches};
 ghost use Rattle.ec_resolving_defs.specs.Programs as rule;
 ghost use Rattle.ec_scopes.specs.Entries.{place_view, type_view};
 ghost use Rattle.ec_resolve.specs.Params.{param_named, param_placed};
-ghost use Rattle.ec_resolve.specs.Types.{types_view};
+ghost use Rattle.ec_resolve_parts.specs.Types.{types_view};
 
-use crate::entries::{declare_param, number_as};
-use crate::types::{param_type, size_of_type};
 use ec_base::{List, Name, OutOfMemory};
 use ec_code::ObjectSize;
 use ec_ctypes::{Param, Ty};
 use ec_resolve_expressions::{base, lengths};
 use ec_resolve_forms::Resolver;
+use ec_resolve_parts::{declare_param, number_as, param_type, size_of_type};
 use ec_rules::copy_type;
 use ec_scopes::Place;
 

@@ -11,11 +11,11 @@ ghost use Rattle.ec_resolve_values.specs.storage.Stored.{call_view, storage_of};
 ghost use Rattle.ec_typing_defs.specs.Programs as checked;
 ghost use Rattle.ec_resolve.specs.Clean.{FindsNothing, called_form, resolved_form, walked_form};
 
-use crate::counting::{defined_names, defined_table, globals_in};
 use crate::functions::function_rule;
 use ec_base::OutOfMemory;
 use ec_ctypes::{Top, Unit};
 use ec_resolve_forms::Resolver;
+use ec_resolve_parts::{defined_names, defined_table, globals_in};
 use ec_resolve_statements::declaration;
 use ec_resolve_values::storage::{Resolved, Storage};
 use ec_scopes::Checker;

@@ -7,7 +7,7 @@ use Rattle.ec_scopes.specs.Entries.{type_view}
 use Rattle.ec_typing_defs.specs.Initializers.{Frames, going_in, max_depth}
 use Rattle.ec_typing_defs.specs.Operands.{OperandData}
 use Rattle.ec_typing_defs.specs.Worlds.{World}
-use Rattle.ec_resolve_initials.specs.Frames.{gone_to}
+use Rattle.ec_initializers.specs.Frames.{gone_to}
 use Rattle.ec_resolve_initials.specs.Spots.{next_place}
 
 abbrev goal_at : Option TyData → ℕ → List Spot → Goal

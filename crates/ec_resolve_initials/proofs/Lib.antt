@@ -1,4 +1,2 @@
 pub mod Aiming
-pub mod FrameLemmas
 pub mod Spotting
-pub mod Steps

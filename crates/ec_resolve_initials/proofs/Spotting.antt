@@ -11,11 +11,11 @@ use Rattle.ec_scopes.specs.Entries.{type_view}
 use Rattle.ec_typing_defs.specs.Initializers.{FrameData, elements_left, any_elements, members_left, Frames, next_part, member_types, parts_of, first_type, first_part, is_whole}
 use Rattle.ec_typing_defs.specs.Operands.{OperandData}
 use Rattle.ec_typing_defs.specs.Worlds.{World, members_of}
-use Rattle.ec_resolve_initials.proofs.FrameLemmas.{pushed, next_in}
-use Rattle.ec_resolve_initials.specs.declared.frames.Frame.{Frame}
-use Rattle.ec_resolve_initials.specs.declared.frames.Taken.{Taken}
+use Rattle.ec_initializers.proofs.FrameLemmas.{pushed, next_in}
+use Rattle.ec_initializers.specs.declared.frames.Frame.{Frame}
+use Rattle.ec_initializers.specs.declared.frames.Taken.{Taken}
 use Rattle.ec_resolve_initials.specs.declared.spots.Spot.{Spot}
-use Rattle.ec_resolve_initials.specs.Frames.{frame_view, frames_view, frame_taken}
+use Rattle.ec_initializers.specs.Frames.{frame_view, frames_view, frame_taken}
 use Rattle.ec_resolve_initials.specs.Left.{opened_spots}
 use Rattle.ec_resolve_initials.specs.Spots.{next_place, spot_view, spots_view}
 

@@ -1,28 +1,11 @@
--- What an initializer stores, as the definition has it.
-use Rattle.std.specs.Prelude.{ℕ, zero, suc, List, ◌++◌, take, Option, Some, None}
-use Rattle.ec_ctypes.specs.trees.Types.{TyData}
+-- What an initializer stores behind other parts, as the definition has it.
+use Rattle.std.specs.Prelude.{ℕ, zero, suc, List, ◌++◌, take}
 use Rattle.ec_language.specs.Letters.{Text}
-use Rattle.ec_resolving_defs.specs.Initializers.{PartData, Filled}
-use Rattle.ec_scopes.specs.Entries.{type_view}
-use Rattle.ec_typing_defs.specs.Initializers.{completed_by}
-use Rattle.ec_typing_defs.specs.Operands.{OperandData}
-use Rattle.ec_resolve_initials.specs.declared.fill.Initialized.{Initialized}
-use Rattle.ec_resolve_values.specs.initial_parts.Parts.{parts_view}
-
-abbrev pub initialized_view : Initialized → Option TyData × List PartData
-initialized_view i = (type_view i.ty, parts_view i.parts)
+use Rattle.ec_resolving_defs.specs.Initializers.{PartData}
 
 -- parts behind others
 abbrev pub parts_behind : List PartData → List PartData → List PartData
 parts_behind before ps = before ++ ps
-
-abbrev pub filled_behind : List PartData → Filled → Filled
-filled_behind before f = (f.0, before ++ f.1)
-
--- the type of an object that one expression initializes, with its length
-abbrev pub single_type : Option TyData → OperandData → Option TyData
-single_type None o = None
-single_type (Some t) o = completed_by t o
 
 -- the bytes of a literal that an array of this length takes, which is 0 where it is left out
 abbrev pub literal_front : ℕ → Text → Text

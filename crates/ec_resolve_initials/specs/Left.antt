@@ -10,7 +10,7 @@ use Rattle.ec_resolve_initials.specs.declared.goals.Aim.{Aim}
 use Rattle.ec_resolve_initials.specs.declared.goals.Slot.{Slot}
 use Rattle.ec_resolve_initials.specs.declared.left.Left.{Left}
 use Rattle.ec_resolve_initials.specs.declared.left.Next.{Next}
-use Rattle.ec_resolve_initials.specs.Frames.{known_frames}
+use Rattle.ec_initializers.specs.Frames.{known_frames}
 use Rattle.ec_resolve_initials.specs.Spots.{spots_view, next_place}
 
 abbrev pub left_view : Left → of.Left

@@ -1,4 +1,3 @@
 pub mod Filled
-pub mod Frames
 pub mod Left
 pub mod Spots

@@ -1,128 +1,30 @@
 //! Where an expression of a list goes, and a list in braces (ISO/IEC 9899:1999, 6.7.8, 17 to 20).
 
 ghost use Rattle.std.specs.Prelude.{◌≡◌, [], false, IfOk, Some, option_map};
-ghost use Rattle.ec_ctypes.specs.trees.Types.{array, structure};
 ghost use Rattle.ec_ctypes.specs.views.Types.{ty_view};
 ghost use Rattle.ec_resolving_defs.specs.Initializers as of;
 ghost use Rattle.ec_rules.specs.Seen.{operand_view};
 ghost use Rattle.ec_scopes.specs.Entries.{type_view};
 ghost use Rattle.ec_scopes.specs.Seen.{world_of};
 ghost use Rattle.ec_typing_defs.specs.Initializers as rule;
-ghost use Rattle.ec_typing_defs.specs.Initializers.{members_left};
 ghost use Rattle.ec_typing_defs.specs.Types.{is_scalar};
-ghost use Rattle.ec_typing_defs.specs.Worlds.{members_of};
-ghost use Rattle.ec_resolve_initials.specs.Frames.{frame_view, frames_view, gone_to, known_frames, Opens, OpensMembers};
+ghost use Rattle.ec_initializers.specs.Frames.{frames_view, gone_to, known_frames, Opens};
 ghost use Rattle.ec_resolve_initials.specs.Left.{frames_behind, frames_by, goal_view, left_view, opened_spots, slot_at, slot_in, slot_place, slot_view, typed_frames};
 ghost use Rattle.ec_resolve_initials.specs.Spots.{next_place, spots_view};
 
-use crate::frames::{Frame, Frames};
 use crate::left::{Left, Next, next_part};
 use crate::spots::{Spots, open_spot, shape_of};
 use ec_base::{List, OutOfMemory, beside};
-use ec_ctypes::{Ty, copy_ty};
+use ec_ctypes::Ty;
+use ec_initializers::{Frames, open_first};
 use ec_rules::{Operand, is_whole};
-use ec_scopes::{Checker, Members, Shared, Table};
+use ec_scopes::Checker;
 use std::alloc::Global;
 
 /// More parts than stand one in another in any program.
 const MAX_DEPTH: u64 = 1 << 32;
 
-/// The members of the struct of this number, if they are listed.
-fn members_frame(checker: &Checker, k: u32) -> Result<Frame, OutOfMemory>
-    ensures { IfOk result (λ frame. frame_view frame
-        ≡ members_left (rule.member_types (members_of k (world_of checker.now)))) }
-{
-    match checker.members_of(k) {
-        Some(Members::Listed(members)) => Ok(Frame::Members(members.share()?, 0)),
-        Some(Members::Begun) => Ok(Frame::NoMembers),
-        Some(Members::Unlisted) => Ok(Frame::NoMembers),
-        None => Ok(Frame::NoMembers),
-    }
-}
-
-/// All parts of an object of this type.
-pub fn parts_of(checker: &Checker, ty: &Ty) -> Result<Frames, OutOfMemory>
-    ensures { IfOk result (λ frames. frames_view frames
-        ≡ rule.parts_of (world_of checker.now) (ty_view ty.now)) }
-{
-    let alloc = checker.alloc();
-    let mut frames = List::new(alloc);
-    match ty {
-        Ty::Void => {}
-        Ty::Array(of, 0) => frames.push(Frame::Any(copy_ty(alloc, of.get())?, 0))?,
-        Ty::Array(of, n) => frames.push(Frame::Elements(copy_ty(alloc, of.get())?, *n))?,
-        Ty::Struct(k) => frames.push(members_frame(checker, *k)?)?,
-        _ => frames.push(Frame::Elements(copy_ty(alloc, ty)?, 1))?,
-    }
-    Ok(frames)
-}
-
-/// The first of these members, which is gone into.
-fn open_members(
-    alloc: Global,
-    members: &Shared<Table<Option<Ty>>>,
-    frames: &mut Frames,
-) -> Result<Option<Ty>, OutOfMemory>
-    ensures { IfOk result (λ first. OpensMembers members.now (frames_view frames.old) first
-        (frames_view frames.new)) }
-{
-    match members.get().value_at(0) {
-        None => Ok(None),
-        Some(None) => Ok(None),
-        Some(Some(ty)) => {
-            let first = copy_ty(alloc, ty)?;
-            frames.push(Frame::Members(members.share()?, 1))?;
-            Ok(Some(first))
-        }
-    }
-}
-
-/// The first member of a struct, which is gone into.
-fn open_struct(checker: &Checker, k: u32, frames: &mut Frames) -> Result<Option<Ty>, OutOfMemory>
-    ensures { IfOk result (λ first. Opens (world_of checker.now) (structure k)
-        (frames_view frames.old) first (frames_view frames.new)) }
-{
-    match checker.members_of(k) {
-        Some(Members::Listed(members)) => open_members(checker.alloc(), members, frames),
-        Some(Members::Begun) => Ok(None),
-        Some(Members::Unlisted) => Ok(None),
-        None => Ok(None),
-    }
-}
-
-/// The first element of an array, which is gone into.
-fn open_array(
-    checker: &Checker,
-    of: Ty,
-    count: u64,
-    frames: &mut Frames,
-) -> Result<Option<Ty>, OutOfMemory>
-    ensures { IfOk result (λ first. Opens (world_of checker.now) (array (ty_view of) count)
-        (frames_view frames.old) first (frames_view frames.new)) }
-{
-    let first = copy_ty(checker.alloc(), &of)?;
-    if count == 0 {
-        frames.push(Frame::Any(of, 1))?;
-    } else {
-        frames.push(Frame::Elements(of, count - 1))?;
-    }
-    Ok(Some(first))
-}
-
-/// The first part of an object of this type, which is gone into, if there is one with a type.
-fn open_first(checker: &Checker, ty: Ty, frames: &mut Frames) -> Result<Option<Ty>, OutOfMemory>
-    requires { is_scalar (ty_view ty) ≡ false }
-    ensures { IfOk result (λ first. Opens (world_of checker.now) (ty_view ty)
-        (frames_view frames.old) first (frames_view frames.new)) }
-{
-    match ty {
-        Ty::Array(of, count) => open_array(checker, of.into_inner(), count, frames),
-        Ty::Struct(k) => open_struct(checker, k, frames),
-        _ => Ok(None),
-    }
-}
-
-/// The same, of an object that begins here.
+/// The first part of an object of this type that begins here, which is gone into, if there is one with a type.
 fn open_part(
     checker: &Checker,
     ty: Ty,

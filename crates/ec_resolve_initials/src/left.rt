@@ -5,14 +5,14 @@ ghost use Rattle.ec_resolving_defs.specs.Initializers as of;
 ghost use Rattle.ec_scopes.specs.Entries.{type_view};
 ghost use Rattle.ec_scopes.specs.Seen.{world_of};
 ghost use Rattle.ec_typing_defs.specs.Initializers as rule;
-ghost use Rattle.ec_resolve_initials.specs.Frames.{frame_view, frames_view};
+ghost use Rattle.ec_initializers.specs.Frames.{frame_view, frames_view};
 ghost use Rattle.ec_resolve_initials.specs.Left.{next_by, offset_by};
 ghost use Rattle.ec_resolve_initials.specs.Spots.{next_place, spots_view};
 
-use crate::frames::{Frames, Taken, take_next};
 use crate::spots::{Spots, part_shape, take_spot};
 use ec_base::{OutOfMemory, beside};
 use ec_ctypes::Ty;
+use ec_initializers::{Frames, Taken, take_next};
 use ec_scopes::Checker;
 
 /// What is left to be initialized, if it is known which parts these are, and where it stands.

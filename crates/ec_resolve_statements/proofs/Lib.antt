@@ -1,3 +1,5 @@
+pub mod DeclaratorLoops
+pub mod Filling
 pub mod Loops
 pub mod Scoping
 pub mod Seeing

@@ -6,7 +6,7 @@ use Rattle.ec_resolving_defs.specs.Statements.{optional, optional_condition}
 use Rattle.ec_resolving_defs.specs.Storage.{Resolving, ◌>>=◌, pure}
 use Rattle.ec_typing_defs.specs.Worlds.{Place}
 use Rattle.ec_resolve_statements.specs.declared.simple.ForForms.{ForForms}
-use Rattle.ec_resolve_statements.specs.Made.{optional_view}
+use Rattle.ec_resolve_parts.specs.Made.{optional_view}
 
 -- the first part, the condition, and what is evaluated behind each body
 abbrev pub Parts : Type 0

@@ -1,7 +1,7 @@
 pub mod Around
 pub mod Begun
 pub mod Bodies
+pub mod Filled
 pub mod ForParts
-pub mod Made
 pub mod Objects
 pub mod Scopes

@@ -12,14 +12,13 @@ ghost use Rattle.ec_scopes.specs.Entries.{type_view};
 ghost use Rattle.ec_resolve_statements.specs.Around.{around_view};
 ghost use Rattle.ec_resolve_statements.specs.Bodies.{body_view, some_body_view};
 
-use crate::counting::objects_in_all;
-use crate::labels::labels_of;
 use crate::surroundings::Around;
 use crate::walk::statements_within;
 use ec_base::{List, OutOfMemory};
 use ec_code::{ObjectSize, Statement};
 use ec_ctypes::{Stmt, Ty};
 use ec_resolve_forms::Resolver;
+use ec_resolve_parts::{labels_of, objects_in_all};
 
 /// How many levels of a tree are walked. What nests deeper would take more stack than there may be, and counts as want of
 /// memory; a tree that is read has at most 64 levels of nesting.

@@ -10,7 +10,7 @@ ghost use Rattle.ec_scopes.specs.Entries.{place_view, type_view};
 ghost use Rattle.ec_scopes.specs.Seen.{world_of, Does};
 ghost use Rattle.ec_typing_defs.specs.Expressions as expressions;
 ghost use Rattle.ec_typing_defs.specs.Statements as checked;
-ghost use Rattle.ec_resolve_statements.specs.Made.{listed_view, made_view};
+ghost use Rattle.ec_resolve_parts.specs.Made.{listed_view, made_view};
 
 use crate::objects::object_item;
 use ec_base::{Boxed, List, OutOfMemory};

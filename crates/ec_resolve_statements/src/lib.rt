@@ -3,10 +3,9 @@
 #![tactic(auto)]
 
 mod bodies;
-mod counting;
 mod declarations;
-mod labels;
-mod making;
+mod fill;
+mod initial_values;
 mod objects;
 mod simple;
 mod surroundings;
@@ -14,6 +13,5 @@ mod values;
 mod walk;
 
 pub use bodies::{Body, function_body, statements};
-pub use counting::objects_in_all;
 pub use declarations::declaration;
 pub use surroundings::Around;

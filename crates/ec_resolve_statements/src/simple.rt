@@ -11,16 +11,16 @@ ghost use Rattle.ec_resolving_defs.specs.Statements as rule;
 ghost use Rattle.ec_scopes.specs.Entries.{place_view};
 ghost use Rattle.ec_resolve_statements.specs.Around.{around_view};
 ghost use Rattle.ec_resolve_statements.specs.ForParts.{for_parts, for_forms_view};
-ghost use Rattle.ec_resolve_statements.specs.Made.{optional_view};
+ghost use Rattle.ec_resolve_parts.specs.Made.{optional_view};
 
 use crate::declarations::declaration;
-use crate::making::{behind_first_part, evaluated, jump, repeated, together};
 use crate::surroundings::Around;
 use crate::values::{alone, optional, optional_condition};
 use ec_base::{Boxed, OutOfMemory};
 use ec_code::{Expression, Statement};
 use ec_ctypes::{Decl, Expr, ForParts};
 use ec_resolve_forms::Resolver;
+use ec_resolve_parts::{behind_first_part, evaluated, jump, repeated, together};
 use ec_scopes::Place;
 use std::alloc::Global;
 

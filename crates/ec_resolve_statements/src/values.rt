@@ -8,14 +8,14 @@ ghost use Rattle.ec_resolve_forms.specs.Seen.{from, Reaches};
 ghost use Rattle.ec_meaning_defs.specs.resolved.Resolved as of;
 ghost use Rattle.ec_resolving_defs.specs.Statements as rule;
 ghost use Rattle.ec_scopes.specs.Entries.{place_view, type_view};
-ghost use Rattle.ec_resolve_statements.specs.Made.{optional_view};
+ghost use Rattle.ec_resolve_parts.specs.Made.{optional_view};
 
-use crate::making::{returned, returned_nothing};
 use ec_base::{Boxed, OutOfMemory};
 use ec_code::{Expression, Statement};
 use ec_ctypes::{Expr, Ty};
 use ec_resolve_expressions::expr;
 use ec_resolve_forms::{Resolver, done_alone, result_value, value_rule};
+use ec_resolve_parts::{returned, returned_nothing};
 use ec_scopes::Place;
 
 /// A condition: the value of an expression.

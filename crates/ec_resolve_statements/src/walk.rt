@@ -12,10 +12,6 @@ ghost use Rattle.ec_scopes.specs.Entries.{place_view};
 ghost use Rattle.ec_resolve_statements.specs.Around.{around_view};
 ghost use Rattle.ec_resolve_statements.specs.Scopes.{if_parts, while_parts, do_parts, for_loop};
 
-use crate::counting::objects_in_all;
-use crate::making::{
-    block, choice, continued, embedded, labelled, left, nothing, on_line, repeated,
-};
 use crate::simple::{declared_here, done, for_parts, jumped, looped};
 use crate::surroundings::Around;
 use crate::values::{condition, return_by};
@@ -23,6 +19,9 @@ use ec_base::{Boxed, List, OutOfMemory};
 use ec_code::Statement;
 use ec_ctypes::{Expr, ForParts, Stmt, StmtKind};
 use ec_resolve_forms::Resolver;
+use ec_resolve_parts::{
+    block, choice, continued, embedded, labelled, left, nothing, objects_in_all, on_line, repeated,
+};
 use ec_scopes::Place;
 
 /// A statement, which is a place.

@@ -18,10 +18,8 @@ use crate::faults::fault;
 use crate::operand::Operand;
 use ec_base::{FaultKind, List, OutOfMemory};
 use ec_ctypes::{Expr, LibName, Ty};
-use ec_known::{
-    Known, cuts, has_stream, is_format_of, known_function, library_call, literal_at,
-    optional_types, takes_stream,
-};
+use ec_known::{Known, has_stream, known_function, literal_at, optional_types, takes_stream};
+use ec_known_calls::{cuts, is_format_of, library_call};
 use ec_scopes::{Checker, Entry, Place};
 use ec_type_rules::is_assignable;
 use std::alloc::Global;

@@ -2,12 +2,11 @@
 //! (`ec_rows`).
 #![tactic(auto)]
 
-mod calls;
 mod runs;
-mod words;
 
 use ec_base::Bytes;
 use ec_rows::{Failure, Sections, show_input, text_of};
+use ec_run_parts::{calls, words};
 use std::process::ExitCode;
 
 // What the rows of a section are about.

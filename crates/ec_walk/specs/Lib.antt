@@ -1,3 +1,2 @@
 pub mod Dims
 pub mod Spines
-pub mod initializers

@@ -3,7 +3,6 @@
 
 mod cycle;
 mod dims;
-pub mod initializers;
 mod members;
 mod spines;
 mod walk;

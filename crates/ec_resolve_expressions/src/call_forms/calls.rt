@@ -18,7 +18,7 @@ use crate::call_forms::operands::operands_of;
 use ec_base::{List, OutOfMemory};
 use ec_code::Expression;
 use ec_ctypes::{Expr, Ty};
-use ec_known::library_call;
+use ec_known_calls::library_call;
 use ec_resolve_forms::{Found, Resolver, passed};
 use ec_resolve_values::conversions::faulty;
 use ec_resolve_values::storage::Storage;

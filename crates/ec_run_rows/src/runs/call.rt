@@ -1,13 +1,12 @@
 //! A call of the tool, as a row gives it.
 
-use crate::runs::setup::{Given, Stop};
-use crate::runs::show::{put_log, put_number, put_quoted, put_slots};
 use ec_base::{
     Bytes, FaultKind, InputStop, LimitKind, Line, List, MemSink, MemSource, OutOfMemory, Trap,
     read_all,
 };
 use ec_cli::{Ending, ec_main, status};
 use ec_link::Rack;
+use ec_run_parts::{Given, Stop, put_log, put_number, put_quoted, put_slots};
 use std::alloc::Global;
 use std::{mem, str};
 

@@ -1,7 +1,7 @@
 use Rattle.ec_ctypes.specs.views.Types.{ty_view}
 use Rattle.ec_rules.specs.Seen.{operand_view}
 use Rattle.ec_scopes.specs.Seen.{world_of}
-use Rattle.ec_resolve_initials.specs.Frames.{frames_view}
+use Rattle.ec_initializers.specs.Frames.{frames_view}
 use Rattle.ec_resolve_initials.specs.Spots.{spots_view}
 use Rattle.ec_resolve_initials.proofs.Aiming.{aimed_into}
 use Rattle.ec_resolve_initials.proofs.goals.aim_into.Goals as goal

@@ -2,9 +2,9 @@ use Rattle.std.proofs.Common.{◌∙◌, sym}
 use Rattle.ec_ctypes.specs.views.Types.{ty_view}
 use Rattle.ec_scopes.specs.Seen.{world_of}
 use Rattle.ec_rules.specs.Seen.{operand_view}
-use Rattle.ec_resolve_initials.specs.Frames.{frames_view}
+use Rattle.ec_initializers.specs.Frames.{frames_view}
 use Rattle.ec_resolve_initials.specs.Spots.{spots_view}
-use Rattle.ec_resolve_initials.proofs.FrameLemmas.{opened_on, gone_on}
+use Rattle.ec_initializers.proofs.FrameLemmas.{opened_on, gone_on}
 use Rattle.ec_resolve_initials.proofs.Spotting.{spotted_on, spots_on}
 use Rattle.ec_resolve_initials.proofs.goals.go_in.Goals as goal
 

@@ -4,7 +4,7 @@ use Rattle.ec_resolving_defs.specs.Initializers.{spots_in}
 use Rattle.ec_scopes.specs.Seen.{world_of}
 use Rattle.ec_rules.specs.Seen.{operand_view}
 use Rattle.ec_typing_defs.specs.Initializers as rule
-use Rattle.ec_resolve_initials.specs.Frames.{frames_view}
+use Rattle.ec_initializers.specs.Frames.{frames_view}
 use Rattle.ec_resolve_initials.specs.Spots.{spots_view}
 use Rattle.ec_resolve_initials.proofs.goals.go_in.Given as goal
 

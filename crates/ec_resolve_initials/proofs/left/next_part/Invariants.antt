@@ -2,7 +2,7 @@ use Rattle.std.proofs.Common.{◌≡◌, length}
 use Rattle.ec_resolving_defs.specs.Initializers.{next_spot}
 use Rattle.ec_scopes.specs.Seen.{world_of}
 use Rattle.ec_typing_defs.specs.Initializers as rule
-use Rattle.ec_resolve_initials.specs.Frames.{frames_view}
+use Rattle.ec_initializers.specs.Frames.{frames_view}
 use Rattle.ec_resolve_initials.specs.Spots.{spots_view}
 use Rattle.ec_resolve_initials.proofs.left.next_part.Given as goal
 

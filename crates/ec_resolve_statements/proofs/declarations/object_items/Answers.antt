@@ -1,5 +1,5 @@
 use Rattle.ec_scopes.specs.Entries.{place_view, type_view}
-use Rattle.ec_resolve_statements.proofs.Loops.{items_step}
+use Rattle.ec_resolve_statements.proofs.DeclaratorLoops.{items_step}
 use Rattle.ec_resolve_statements.proofs.declarations.object_items.Goals as goal
 
 pub loop-item-preserved : goal.loop-item-preserved

@@ -3,7 +3,7 @@ use Rattle.ec_ctypes.specs.views.Exprs.{declarators_view}
 use Rattle.ec_resolve_forms.specs.Seen.{from, mapped}
 use Rattle.ec_resolving_defs.specs.Statements.{object_items}
 use Rattle.ec_scopes.specs.Entries.{place_view, type_view}
-use Rattle.ec_resolve_statements.specs.Made.{listed_view}
+use Rattle.ec_resolve_parts.specs.Made.{listed_view}
 use Rattle.ec_resolve_statements.proofs.declarations.object_items.Given as goal
 
 abbrev pub invariant-loop-item : goal.invariant-loop-item

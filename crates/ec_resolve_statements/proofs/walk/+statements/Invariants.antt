@@ -3,7 +3,7 @@ use Rattle.ec_ctypes.specs.views.Stmts.{stmts_view}
 use Rattle.ec_resolve_forms.specs.Seen.{from, mapped}
 use Rattle.ec_resolving_defs.specs.Statements.{statements}
 use Rattle.ec_resolve_statements.specs.Around.{around_view}
-use Rattle.ec_resolve_statements.specs.Made.{listed_view}
+use Rattle.ec_resolve_parts.specs.Made.{listed_view}
 use Rattle.ec_resolve_statements.proofs.Loops.{before}
 use Rattle.ec_resolve_statements.proofs.walk.+statements.Given as goal
 

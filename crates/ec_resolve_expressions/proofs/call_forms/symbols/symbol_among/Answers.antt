@@ -1,5 +1,5 @@
 use Rattle.ec_ctypes.specs.Texts.{symbol_text}
-use Rattle.ec_known.proofs.Named.{named_found, named_passed}
+use Rattle.ec_known_calls.proofs.Named.{named_found, named_passed}
 use Rattle.ec_resolve_expressions.proofs.call_forms.symbols.symbol_among.Goals as goal
 
 pub returns-then-is_named : goal.returns-then-is_named

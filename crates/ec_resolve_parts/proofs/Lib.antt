@@ -1,0 +1,3 @@
+pub mod GlobalCounts
+pub mod Lengths
+pub mod Loops
