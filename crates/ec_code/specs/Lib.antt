@@ -1,4 +1,5 @@
+pub mod Marks
 pub mod Numbers
-pub mod Trees
 pub mod Objects
+pub mod Trees
 pub mod Views

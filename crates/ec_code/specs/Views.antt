@@ -8,6 +8,7 @@ use Rattle.ec_meaning_defs.specs.resolved.Resolved as of
 use Rattle.ec_meaning_defs.specs.resolved.Programs as programs
 use Rattle.ec_printf.specs.formats.Known.{known_view}
 use Rattle.ec_values.specs.Words.{word_view}
+use Rattle.ec_code.specs.Marks.{mark_view}
 use Rattle.ec_code.specs.Trees.{Step, one, two, leaf_view, walked, exps_of, stms_of}
 use Rattle.ec_code.specs.declared.expression.Plain.{Plain, fold-Plain}
 use Rattle.ec_code.specs.declared.expression.PlainStep.TheOpen.{Plain-F, PlainStep-F}
@@ -53,6 +54,7 @@ head_step (Head-F.Begun p) = plain_view p
 head_step (Head-F.Call f used es) = of.call f used (exps_of es)
 head_step (Head-F.Known f es) = of.known (known_view f) (exps_of es)
 head_step (Head-F.LibraryCall n es) = of.library_call n (exps_of es)
+head_step (Head-F.Choice e a b) = of.choice e a b
 
 abbrev pub full_step_step : FullStep-F of.Exp Step of.Exp of.Exp → Step
 full_step_step (FullStep-F.One u) = one u
@@ -91,7 +93,8 @@ statement_step Statement-F.Leave = of.leave
 statement_step Statement-F.Next = of.next
 statement_step (Statement-F.Return e) = of.return (option_map expression_view e)
 statement_step (Statement-F.Goto l) = of.goto l
-statement_step (Statement-F.Label l x) = of.label l x
+statement_step (Statement-F.Label l x) = of.label (mark_view l) x
+statement_step (Statement-F.Switch e x) = of.select (expression_view e) x
 statement_step (Statement-F.Embedded n) = of.embedded_statement n
 
 abbrev pub loop_step : Loop-F of.Stm of.Stm → of.Stm

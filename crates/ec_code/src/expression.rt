@@ -1,11 +1,11 @@
 //! Expressions: a chain of operators to the left is a list of steps, so that none goes deep.
 
 use crate::step::{Binary, Leaf, Unary, Update};
-use ec_base::List;
+use ec_base::{Boxed, List};
 use ec_printf::formats::Known;
 use ec_values::Operation;
 
-/// An expression without calls: where it begins, and the steps that are taken from there.
+/// An expression without calls and `?:`: where it begins, and the steps that are taken from there.
 #[cycle(plain)]
 #[derive(Debug, Drop)]
 pub struct Plain {
@@ -13,7 +13,7 @@ pub struct Plain {
     pub steps: List<PlainStep>,
 }
 
-/// A step of an expression without calls.
+/// A step of an expression without calls and `?:`.
 #[cycle(plain)]
 #[derive(Debug, Drop)]
 pub enum PlainStep {
@@ -33,12 +33,12 @@ pub enum PlainStep {
 #[cycle(full)]
 #[derive(Debug, Drop)]
 pub enum Expression {
-    /// One without calls.
+    /// One without calls and `?:`.
     Plain(Plain),
     Full(Full),
 }
 
-/// An expression that holds a call: where it begins, and the steps that are taken from there.
+/// An expression that holds a call or `?:`: where it begins, and the steps that are taken from there.
 #[cycle(full)]
 #[derive(Debug, Drop)]
 pub struct Full {
@@ -46,11 +46,11 @@ pub struct Full {
     pub steps: List<FullStep>,
 }
 
-/// Where an expression that holds a call begins.
+/// Where an expression that holds a call or `?:` begins.
 #[cycle(full)]
 #[derive(Debug, Drop)]
 pub enum Head {
-    /// An expression without calls, whose steps are done first.
+    /// An expression without these, whose steps are done first.
     Begun(Plain),
     /// A call of the function of this number, and whether its value is used (6.5.2.2).
     Call(u32, bool, List<Expression>),
@@ -58,9 +58,11 @@ pub enum Head {
     Known(Known, List<Expression>),
     /// A call of the library, by its number among these, with the pointers that are evaluated before it.
     LibraryCall(u32, List<Expression>),
+    /// `a ? b : c`, whose second and third operand have the type of the whole (6.5.15).
+    Choice(Boxed<Expression>, Boxed<Expression>, Boxed<Expression>),
 }
 
-/// A step of an expression that holds a call.
+/// A step of an expression that holds a call or `?:`.
 #[cycle(full)]
 #[derive(Debug, Drop)]
 pub enum FullStep {

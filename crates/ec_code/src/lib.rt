@@ -4,12 +4,14 @@
 
 mod expression;
 mod making;
+mod mark;
 mod program;
 mod statement;
 mod step;
 
 pub use expression::{Expression, Full, FullStep, Head, Plain, PlainStep};
 pub use making::small;
+pub use mark::Mark;
 pub use program::{Function, GlobalVariable, Literal, ObjectSize, Program, Stored};
 pub use statement::{Loop, Statement};
 pub use step::{Binary, Leaf, Unary, Update};

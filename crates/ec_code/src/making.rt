@@ -12,7 +12,7 @@ ghost use Rattle.ec_code.specs.Views.{expression_view, expressions_view, full_st
 
 use crate::expression::{Expression, Full, FullStep, Head, Plain, PlainStep};
 use crate::step::{Binary, Leaf, Unary};
-use ec_base::{List, OutOfMemory};
+use ec_base::{Boxed, List, OutOfMemory};
 use ec_memory_defs::Kind;
 use ec_printf::formats::Known;
 use ec_values::Word;
@@ -52,6 +52,22 @@ impl Expression {
         full(alloc, Head::LibraryCall(number, pointers))
     }
 
+    /// `a ? b : c`, of operands of which the second and third have the type of the whole.
+    pub fn choice(
+        alloc: Global,
+        test: Expression,
+        first: Expression,
+        second: Expression,
+    ) -> Result<Expression, OutOfMemory>
+        ensures { IfOk result (λ made. expression_view made
+            ≡ of.choice (expression_view test) (expression_view first) (expression_view second)) }
+    {
+        let test = Boxed::new(alloc, test)?;
+        let first = Boxed::new(alloc, first)?;
+        let second = Boxed::new(alloc, second)?;
+        Ok(full(alloc, Head::Choice(test, first, second)))
+    }
+
     /// The expression with a unary step behind it.
     pub fn unary(self, step: Unary) -> Result<Expression, OutOfMemory>
         ensures { IfOk result
@@ -89,7 +105,7 @@ impl Expression {
     }
 }
 
-/// What begins with a call.
+/// What begins with a call or `?:`.
 fn full(alloc: Global, head: Head) -> Expression
     ensures { expression_view result ≡ head_view head }
 {

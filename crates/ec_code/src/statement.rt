@@ -1,6 +1,7 @@
 //! Statements.
 
 use crate::expression::Expression;
+use crate::mark::Mark;
 use crate::program::ObjectSize;
 use ec_base::{Boxed, Line, List};
 
@@ -24,7 +25,10 @@ pub enum Statement {
     Next,
     Return(Option<Expression>),
     Goto(u32),
-    Label(u32, Boxed<Statement>),
+    /// A statement with a label, a `case` or `default` before it (6.8.1).
+    Label(Mark, Boxed<Statement>),
+    /// `switch`: the operand, of its promoted type, and the body (6.8.4.2).
+    Switch(Expression, Boxed<Statement>),
     /// An embedded statement, by its number among these.
     Embedded(u32),
 }

@@ -5,6 +5,7 @@ mod expressions;
 mod laws;
 mod runs;
 mod statements;
+mod switches;
 
 pub use expressions::{
     bump_examples, conversion_examples, logical_examples, order_examples, place_examples,
@@ -21,4 +22,7 @@ pub use runs::{
 pub use statements::{
     block_examples, declaration_examples, goto_examples, line_examples, loop_examples,
     turn_examples,
+};
+pub use switches::{
+    breaking_examples, choice_examples, nested_examples, passed_examples, switch_examples,
 };

@@ -1,17 +1,17 @@
 -- The induction over the tree and the turns, once for all pairs of steps that agree.
 use Rattle.std.proofs.Common.{◌≡◌, ℕ, zero, suc, ◌+◌, inl, inr, List, [], ◌∷◌, ◌++◌, map, Option, Some, None, Bool, true, false, Result, Ok, Err, refl, sym, ap, subst, arith}
-use Rattle.std.specs.Prelude.{not as negation, option_map, slice_get, nat_eq, ◌||◌, pos, ◌⊎◌, ℤ}
+use Rattle.std.specs.Prelude.{not as negation, option_map, slice_get, nat_eq, ◌||◌, ◌&&◌, pos, ◌⊎◌, ℤ}
 use Rattle.ec_base.specs.declared.stop.Trap.{Trap}
 use Rattle.ec_base.specs.declared.stop.Trap.TheVariants.{NoValue}
 use Rattle.ec_meaning_defs.specs.functions.Functions.{Effect, answers, traps as traps_there, ends, misfit as no_call, effect_of, status_of}
 use Rattle.ec_memory_defs.specs.Cells.{set_cells}
 use Rattle.ec_memory_defs.specs.Memory.{Memory, ValueData, number, address, number_of, ScalarType, scalar_size, last_number, make, moved, cells_at, load as loaded, store as stored, copy as copied, put as put_bytes, unset, fill, with_object}
-use Rattle.ec_meaning_defs.specs.resolved.Labels.{holds, holds_any}
+use Rattle.ec_meaning_defs.specs.resolved.Labels.{same, is_named, holds, holds_any}
 use Rattle.ec_meaning_defs.specs.resolved.Operations.{is_true, truth, value_as, negated, flipped, number_worked, Worked, gives, traps, misfit, worked}
 use Rattle.ec_meaning_defs.specs.resolved.Programs.{Function, Program, opening_objects}
-use Rattle.ec_meaning_defs.specs.resolved.Resolved.{Update, Exp, object, slot, member, constant, load, whole as all_of, store, copy, put, update, convert, negate, flip, not, operate, both, either, call, known, library_call, faulty, Exps, no_exps, exps, Stm, on_line, nothing, evaluate, declare, initialize, block, choose, loop, leave, next, return, goto, label, embedded_statement, Stms, no_stms, stms}
+use Rattle.ec_meaning_defs.specs.resolved.Resolved.{Mark, named, case, default, Update, Exp, object, slot, member, constant, load, whole as all_of, store, copy, put, update, convert, negate, flip, not, operate, both, either, choice, call, known, library_call, faulty, Exps, no_exps, exps, Stm, on_line, nothing, evaluate, declare, initialize, block, choose, loop, leave, next, return, goto, label, select, embedded_statement, Stms, no_stms, stms}
 use Rattle.ec_meaning_defs.specs.evaluation.State.{Answer, State, Ending, exited, trapped, turns_spent, stuck}
-use Rattle.ec_meaning_defs.specs.evaluation.Results.{no_value, Res, value, on, broke, continued, went, back, over, on_value, on_done, after_body, tried, changed, worked_out, at_address, on_number, present, done_there, turn, made, given, ended_to, closing, function_end, without_value, without_answer, answered, exits_with, returned, finished}
+use Rattle.ec_meaning_defs.specs.evaluation.Results.{no_value, Res, value, on, broke, continued, went, back, over, on_value, on_done, after_body, after_switch, tried, changed, worked_out, at_address, on_number, present, done_there, turn, made, given, ended_to, closing, function_end, without_value, without_answer, answered, exits_with, returned, finished}
 use Rattle.ec_meaning_defs.specs.evaluation.Evaluate.{Context, Task, calls, turn_of, look_for, World, Step, updated, eval, collect}
 use Rattle.ec_meaning_defs.specs.evaluation.Execute.{tested, again, settle, inside, enter, declared, initialized, returning, run, run_all, look, look_all, body_run, in_function, called, act, meaning}
 use Rattle.ec_meaning_defs.specs.evaluation.Whole.{opened, main_run, whole_within}
@@ -22,10 +22,14 @@ pub the_other : (a b : Bool) → (a || b) ≡ true → a ≡ false → b ≡ tru
 the_other true b h e = cc
 the_other false b h e = h
 
+both_true : (a b : Bool) → (a && b) ≡ true → b ≡ true
+both_true true b h = h
+both_true false b h = cc
+
 -- labels stay where they are
-module _ (text : ℕ → Stm) (no_label : (l n : ℕ) → holds l (text n) ≡ false) where
+module _ (text : ℕ → Stm) (no_label : (l : Mark) (n : ℕ) → holds l (text n) ≡ false) where
   mutual
-    holds_written : (l : ℕ) (x : Stm) → holds l (written text x) ≡ holds l x
+    holds_written : (l : Mark) (x : Stm) → holds l (written text x) ≡ holds l x
     holds_written l (on_line n x) = holds_written l x
     holds_written l nothing = refl
     holds_written l (evaluate e) = refl
@@ -38,10 +42,11 @@ module _ (text : ℕ → Stm) (no_label : (l n : ℕ) → holds l (text n) ≡ f
     holds_written l next = refl
     holds_written l (return e) = refl
     holds_written l (goto m) = refl
-    holds_written l (label m x) = ap (λ b. nat_eq m l || b) (holds_written l x)
+    holds_written l (label m x) = ap (λ b. same m l || b) (holds_written l x)
+    holds_written l (select e x) = ap (λ b. is_named l && b) (holds_written l x)
     holds_written l (embedded_statement n) = no_label l n
 
-    any_written : (l : ℕ) (x : Stms) → holds_any l (written_all text x) ≡ holds_any l x
+    any_written : (l : Mark) (x : Stms) → holds_any l (written_all text x) ≡ holds_any l x
     any_written l no_stms = refl
     any_written l (stms a b) = cc (holds_written l a, any_written l b)
 
@@ -236,6 +241,29 @@ module _ (P : State → Type 0) (E : Endings) (G : State → State → Type 0) (
 
   silent_good : {m m' : State → Res} → Good m m' → Good (λ s. without_answer (m s)) (λ s. without_answer (m' s))
   silent_good a = inside_good without_answer (λ o o' q. silent_same q) silent_later a
+
+  switch_later : (o : Res) → G (state_of o) (state_of (after_switch o))
+  switch_later (value v s) = kept.same_later s
+  switch_later (on s) = kept.same_later s
+  switch_later (broke s) = kept.same_later s
+  switch_later (continued s) = kept.same_later s
+  switch_later (went l s) = kept.same_later s
+  switch_later (back v s) = kept.same_later s
+  switch_later (over e s) = kept.same_later s
+
+  switch_same : {o o' : Res} → Like o o' → Like (after_switch o) (after_switch o')
+  switch_same (same_value p) = same_value p
+  switch_same (same_on p) = same_on p
+  switch_same (same_broke p) = same_on p
+  switch_same (same_continued p) = same_continued p
+  switch_same (same_went p) = same_went p
+  switch_same (same_back p) = same_back p
+  switch_same (same_over b p) = same_over b p
+  switch_same (stops_first {e = a} {s = s} {o = o} p e) =
+      stops_first p (kept.first_later a s (state_of o) (state_of (after_switch o)) e (switch_later o))
+
+  switch_good : {m m' : State → Res} → Good m m' → Good (λ s. after_switch (m s)) (λ s. after_switch (m' s))
+  switch_good a = inside_good after_switch (λ o o' q. switch_same q) switch_later a
 
   closing_later : (n : ℕ) (o : Res) → G (state_of o) (state_of (closing n o))
   closing_later n (value v s) = kept.same_later s
@@ -530,6 +558,7 @@ module _ (P : State → Type 0) (E : Endings) (G : State → State → Type 0) (
             value_then (eval_good c a) (λ x. bool_good (is_true x) (value_then (eval_good c b) (λ y. value_good (truth (is_true y)))) (value_good (truth false)))
         eval_good c (either a b) =
             value_then (eval_good c a) (λ x. bool_good (is_true x) (value_good (truth true)) (value_then (eval_good c b) (λ y. value_good (truth (is_true y)))))
+        eval_good c (choice e a b) = value_then (eval_good c e) (λ v. bool_good (is_true v) (eval_good c a) (eval_good c b))
         eval_good c (call f used es) = collect_good c [] es (λ vs. answered_good c.line used (call_good c.line f vs))
         eval_good c (known f es) = collect_good c [] es (λ vs. effect_good c.line (λ m. effect_of f m vs))
         eval_good c (library_call n es) = collect_good c [] es (λ vs. silent_good (agree.libraries w w' related c n vs))
@@ -557,7 +586,7 @@ module _ (P : State → Type 0) (E : Endings) (G : State → State → Type 0) (
       settle_later c b (on s) = kept.same_later s
       settle_later c b (broke s) = kept.same_later s
       settle_later c b (continued s) = kept.same_later s
-      settle_later c b (went l s) = went_later c l b s (holds_any l (written_all text b))
+      settle_later c b (went l s) = went_later c l b s (holds_any (named l) (written_all text b))
       settle_later c b (back v s) = kept.same_later s
       settle_later c b (over e s) = kept.same_later s
 
@@ -567,7 +596,7 @@ module _ (P : State → Type 0) (E : Endings) (G : State → State → Type 0) (
       settle_same c b (same_broke p) = same_broke p
       settle_same c b (same_continued p) = same_continued p
       settle_same c b (same_went {l = l} {s = s} {s' = s'} p) =
-          pick_same (holds_any l b) (holds_any l (written_all text b)) (any_written text agree.no_label l b) (λ e. related.same (look_for c l b) s s' p) (λ e. same_went p)
+          pick_same (holds_any (named l) b) (holds_any (named l) (written_all text b)) (any_written text agree.no_label (named l) b) (λ e. related.same (look_for c l b) s s' p) (λ e. same_went p)
       settle_same c b (same_back p) = same_back p
       settle_same c b (same_over own p) = same_over own p
       settle_same c b (stops_first {e = a} {s = s} {o = o} p e) =
@@ -594,6 +623,16 @@ module _ (P : State → Type 0) (E : Endings) (G : State → State → Type 0) (
       returning_good c None = returned_good c.first None
       returning_good c (Some e) = value_then (eval_good c e) (λ v. returned_good c.first (Some v))
 
+      -- the statement that a `switch` chooses, if it does the same from each mark that it holds
+      found_good : (l : Mark) (c : Context) (x : Stm) {y y' : State → Res} → (holds l x ≡ true → Good (λ s. look step w l c x s) (λ s. look step' w' l c (written text x) s)) → Good y y'
+          → Good (λ s. elim (holds l x) [ true ↦ after_switch (look step w l c x s) | false ↦ y s ]) (λ s. elim (holds l (written text x)) [ true ↦ after_switch (look step' w' l c (written text x) s) | false ↦ y' s ])
+      found_good l c x h g =
+          pick_good (holds l x) (holds l (written text x)) (holds_written text agree.no_label l x) (λ i. switch_good (h i)) (λ i. g)
+
+      chosen_good : (c : Context) (z : ℤ) (x : Stm) → ((l : Mark) → holds l x ≡ true → Good (λ s. look step w l c x s) (λ s. look step' w' l c (written text x) s))
+          → Good (λ s. elim (holds (case z) x) [ true ↦ after_switch (look step w (case z) c x s) | false ↦ elim (holds default x) [ true ↦ after_switch (look step w default c x s) | false ↦ on s ] ]) (λ s. elim (holds (case z) (written text x)) [ true ↦ after_switch (look step' w' (case z) c (written text x) s) | false ↦ elim (holds default (written text x)) [ true ↦ after_switch (look step' w' default c (written text x) s) | false ↦ on s ] ])
+      chosen_good c z x h = found_good (case z) c x (h (case z)) (found_good default c x (h default) on_good)
+
       mutual
         pub run_good : (c : Context) (x : Stm) → Good (λ s. run step w c x s) (λ s. run step' w' c (written text x) s)
         run_good c (on_line n x) = run_good (record c { line = n }) x
@@ -610,13 +649,14 @@ module _ (P : State → Type 0) (E : Endings) (G : State → State → Type 0) (
         run_good c (return e) = returning_good c e
         run_good c (goto l) = goto_good l
         run_good c (label l x) = run_good c x
+        run_good c (select e x) = value_then (eval_good c e) (λ v. number_good v (λ z. chosen_good c z x (λ l i. look_good l c x i)))
         run_good c (embedded_statement n) = agree.embeds w w' related c n
 
         pub run_all_good : (c : Context) (x : Stms) → Good (λ s. run_all step w c x s) (λ s. run_all step' w' c (written_all text x) s)
         run_all_good c no_stms = on_good
         run_all_good c (stms a b) = done_then (run_good c a) (run_all_good c b)
 
-        look_good : (l : ℕ) (c : Context) (x : Stm) → holds l x ≡ true → Good (λ s. look step w l c x s) (λ s. look step' w' l c (written text x) s)
+        look_good : (l : Mark) (c : Context) (x : Stm) → holds l x ≡ true → Good (λ s. look step w l c x s) (λ s. look step' w' l c (written text x) s)
         look_good l c (on_line n x) h = look_good l (record c { line = n }) x h
         look_good l c nothing h = on_good
         look_good l c (evaluate e) h = on_good
@@ -633,10 +673,11 @@ module _ (P : State → Type 0) (E : Endings) (G : State → State → Type 0) (
         look_good l c (return e) h = on_good
         look_good l c (goto m) h = on_good
         look_good l c (label m x) h =
-            pick_good (nat_eq m l) (nat_eq m l) refl (λ i. run_good c x) (λ i. look_good l c x (the_other (nat_eq m l) (holds l x) h i))
+            pick_good (same m l) (same m l) refl (λ i. run_good c x) (λ i. look_good l c x (the_other (same m l) (holds l x) h i))
+        look_good l c (select e x) h = switch_good (look_good l c x (both_true (is_named l) (holds l x) h))
         look_good l c (embedded_statement n) h = cc
 
-        pub look_all_good : (l : ℕ) (c : Context) (x : Stms) → Good (λ s. look_all step w l c x s) (λ s. look_all step' w' l c (written_all text x) s)
+        pub look_all_good : (l : Mark) (c : Context) (x : Stms) → Good (λ s. look_all step w l c x s) (λ s. look_all step' w' l c (written_all text x) s)
         look_all_good l c no_stms = on_good
         look_all_good l c (stms a b) =
             pick_good (holds l a) (holds l (written text a)) (holds_written text agree.no_label l a)
@@ -657,7 +698,7 @@ module _ (P : State → Type 0) (E : Endings) (G : State → State → Type 0) (
       act_good fs (calls line f vs) =
           subst (λ o. Good (λ s. called step w line (slice_get fs f) vs s) (λ s. called step' w' line o vs s)) (sym (function_written text fs f)) (called_good line (slice_get fs f) vs)
       act_good fs (turn_of c test behind x) = body_then (run_good c x) (again_good c test behind x)
-      act_good fs (look_for c l b) = settle_good c b (look_all_good l c b)
+      act_good fs (look_for c l b) = settle_good c b (look_all_good (named l) c b)
 
       main_good : (f : Option Function) → Good (λ s. main_run step w f s) (λ s. main_run step' w' (option_map (written_function text) f) s)
       main_good None = over_good stuck tt

@@ -3,7 +3,7 @@ use Rattle.std.proofs.Common.{◌≡◌, ℕ, zero, suc, ◌+◌, ◌≤◌, inl
 use Rattle.std.specs.Prelude.{slice_get, Option}
 use Rattle.ec_link.specs.declared.request.Request.{Request}
 use Rattle.ec_meaning_defs.specs.resolved.Programs.{Function, Program, opening_objects}
-use Rattle.ec_meaning_defs.specs.resolved.Resolved.{Stm, on_line, nothing, evaluate, declare, initialize, block, choose, loop, leave, next, return, goto, label, embedded_statement, Stms, no_stms, stms}
+use Rattle.ec_meaning_defs.specs.resolved.Resolved.{Stm, on_line, nothing, evaluate, declare, initialize, block, choose, loop, leave, next, return, goto, label, select, embedded_statement, Stms, no_stms, stms}
 use Rattle.ec_meaning_defs.specs.evaluation.State.{Answer, State, Ending, exited, trapped, turns_spent, waits, stuck}
 use Rattle.ec_meaning_defs.specs.evaluation.Results.{Res, value, on, broke, continued, went, back, over, turn}
 use Rattle.ec_meaning_defs.specs.evaluation.Evaluate.{Task, calls, turn_of, look_for, World, Step}
@@ -106,6 +106,7 @@ mutual
   unwritten (return e) = refl
   unwritten (goto l) = refl
   unwritten (label l x) = ap (label l) (unwritten x)
+  unwritten (select e x) = ap (select e) (unwritten x)
   unwritten (embedded_statement n) = refl
 
   all_unwritten : (x : Stms) → written_all itself x ≡ x

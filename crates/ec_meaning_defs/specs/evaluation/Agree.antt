@@ -4,7 +4,7 @@ use Rattle.ec_link.specs.declared.logged.Logged.{Logged}
 use Rattle.ec_link.specs.declared.request.Request.{Request}
 use Rattle.ec_memory_defs.specs.Memory.{Memory, ValueData}
 use Rattle.ec_meaning_defs.specs.resolved.Labels.{holds}
-use Rattle.ec_meaning_defs.specs.resolved.Resolved.{embedded, library, Stm}
+use Rattle.ec_meaning_defs.specs.resolved.Resolved.{Mark, embedded, library, Stm}
 use Rattle.ec_meaning_defs.specs.evaluation.State.{Answer, State, Ending, exited, trapped, turns_spent, waits, stuck}
 use Rattle.ec_meaning_defs.specs.evaluation.Results.{Res, value, on, broke, continued, went, back, over}
 use Rattle.ec_meaning_defs.specs.evaluation.Evaluate.{Context, Task, calls, turn_of, look_for, World, Step}
@@ -105,7 +105,7 @@ pub record Related (P : State → Type 0) (E : Endings) (G : State → State →
 -- Each embedded statement does what the statement in its place does, and each call of the library does the same, whenever the tasks do.
 pub record Agree (P : State → Type 0) (E : Endings) (G : State → State → Type 0) (d : ℕ)
     (more : List Answer) (step step' : Step) (text : ℕ → Stm) : Type 0 where
-  pub no_label : (l n : ℕ) → holds l (text n) ≡ false
+  pub no_label : (l : Mark) (n : ℕ) → holds l (text n) ≡ false
   pub embeds : (w w' : World) → Related P E G d more text w w' → (c : Context) (n : ℕ)
       → Alike P E G d more (step w c (embedded n)) (run step' w' c (text n))
   pub libraries : (w w' : World) → Related P E G d more text w w'

@@ -3,7 +3,7 @@ use Rattle.std.specs.Prelude.{ℕ, pos, Bool, true, false, not as negation, List
 use Rattle.ec_meaning_defs.specs.functions.Functions.{effect_of}
 use Rattle.ec_memory_defs.specs.Memory.{ValueData, number, address, pointer_to, moved, cells_at, load as loaded, store as stored, copy as copied, put as put_bytes}
 use Rattle.ec_meaning_defs.specs.resolved.Operations.{is_true, truth, value_as, negated, flipped, number_worked, worked}
-use Rattle.ec_meaning_defs.specs.resolved.Resolved.{Update, Exp, object, slot, member, constant, load, whole, store, copy, put, update, convert, negate, flip, not, operate, both, either, call, known, library_call, faulty, Exps, no_exps, exps, Atom, library, Stm, Stms}
+use Rattle.ec_meaning_defs.specs.resolved.Resolved.{Update, Exp, object, slot, member, constant, load, whole, store, copy, put, update, convert, negate, flip, not, operate, both, either, choice, call, known, library_call, faulty, Exps, no_exps, exps, Atom, library, Stm, Stms}
 use Rattle.ec_meaning_defs.specs.evaluation.State.{State, stuck}
 use Rattle.ec_meaning_defs.specs.evaluation.Results.{Res, value, over, on_value, tried, changed, worked_out, at_address, on_number, present, done_there, without_answer, answered}
 
@@ -87,6 +87,9 @@ abbrev mutual
         | true ↦ value (truth true) t
         | false ↦ on_value (eval step w c b t) (λ y u. value (truth (is_true y)) u)
       ])
+  eval step w c (choice e a b) s =
+      on_value (eval step w c e s) (λ x t.
+      elim (is_true x) [ true ↦ eval step w c a t | false ↦ eval step w c b t ])
   eval step w c (call f used es) s =
       collect step w c [] es s (λ vs t. answered c.line used (w (calls c.line f vs) t))
   eval step w c (known f es) s =

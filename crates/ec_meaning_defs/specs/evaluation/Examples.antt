@@ -8,9 +8,9 @@ use Rattle.ec_link.specs.declared.request.Request.TheVariants.{Close}
 use Rattle.ec_memory_defs.specs.Memory.{Memory, number, address, ScalarType, integer_type}
 use Rattle.ec_meaning_defs.specs.resolved.Operations.{Operation, plus, divided, compare, less, integers, pointer_plus}
 use Rattle.ec_meaning_defs.specs.resolved.Programs.{Function, Program}
-use Rattle.ec_meaning_defs.specs.resolved.Resolved.{Exp, object, constant, load, store, update, convert, operate, known, library_call, Exps, no_exps, exps, Stm, on_line, evaluate, block, loop, return, Stms, no_stms, stms}
+use Rattle.ec_meaning_defs.specs.resolved.Resolved.{Exp, object, constant, load, store, update, convert, operate, known, library_call, Exps, no_exps, exps, Mark, case, Stm, on_line, evaluate, block, loop, return, Stms, no_stms, stms}
 use Rattle.ec_meaning_defs.specs.evaluation.State.{Answer, State, Ending, waits}
-use Rattle.ec_meaning_defs.specs.evaluation.Results.{Res, on, over, turn}
+use Rattle.ec_meaning_defs.specs.evaluation.Results.{Res, on, broke, over, turn}
 use Rattle.ec_meaning_defs.specs.evaluation.Evaluate.{Step}
 use Rattle.ec_meaning_defs.specs.evaluation.Whole.{Observed, program_meaning, without_atoms}
 
@@ -125,6 +125,10 @@ while e s = loop true (Some e) None s
 abbrev pub braces : List Stm → Stm
 braces ss = block [] (all ss)
 
+-- a case of a `switch`
+abbrev pub when : ℕ → Mark
+when z = case (pos z)
+
 -- ---- programs
 
 abbrev pub main_with : List ℕ → List Stm → Function
@@ -201,6 +205,16 @@ broken = (None, Broken)
 
 abbrev pub asking_run : Program → ℕ → List Answer → Observed
 asking_run p turns answers = program_meaning asking p turns None answers
+
+-- each of its statements takes a turn, and then ends what is round it, or goes on
+abbrev pub breaking : Step
+breaking w c a s = turn s (λ t. broke t)
+
+abbrev pub passing : Step
+passing w c a s = turn s (λ t. on t)
+
+abbrev pub ends_with : Step → ℕ → Program → Ending
+ends_with step turns p = (program_meaning step p turns None []).ending
 
 -- an embedded statement as a call of the library
 abbrev pub as_call : ℕ → Stm

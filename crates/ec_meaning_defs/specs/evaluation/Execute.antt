@@ -1,12 +1,12 @@
 -- What a statement does (ISO/IEC 9899:1999, 6.8), run from its start or looking for a label. Embedded statements are the step's.
-use Rattle.std.specs.Prelude.{ℕ, zero, suc, nat_eq, Bool, true, false, List, [], slice_get, map, Option, Some, None}
+use Rattle.std.specs.Prelude.{ℕ, zero, suc, Bool, true, false, List, [], slice_get, map, Option, Some, None}
 use Rattle.ec_memory_defs.specs.Memory.{ValueData, scalar_size, last_number, unset, fill}
-use Rattle.ec_meaning_defs.specs.resolved.Labels.{holds, holds_any}
+use Rattle.ec_meaning_defs.specs.resolved.Labels.{same, holds, holds_any}
 use Rattle.ec_meaning_defs.specs.resolved.Operations.{is_true}
 use Rattle.ec_meaning_defs.specs.resolved.Programs.{Function}
-use Rattle.ec_meaning_defs.specs.resolved.Resolved.{Exp, Exps, embedded, Stm, on_line, nothing, evaluate, declare, initialize, block, choose, loop, leave, next, return, goto, label, embedded_statement, Stms, no_stms, stms}
+use Rattle.ec_meaning_defs.specs.resolved.Resolved.{Mark, named, case, default, Exp, Exps, embedded, Stm, on_line, nothing, evaluate, declare, initialize, block, choose, loop, leave, next, return, goto, label, select, embedded_statement, Stms, no_stms, stms}
 use Rattle.ec_meaning_defs.specs.evaluation.State.{State, turns_spent, stuck}
-use Rattle.ec_meaning_defs.specs.evaluation.Results.{Res, value, on, broke, continued, went, back, over, on_value, on_done, after_body, changed, present, turn, made, given, closing, function_end, returned}
+use Rattle.ec_meaning_defs.specs.evaluation.Results.{Res, value, on, broke, continued, went, back, over, on_value, on_done, after_body, after_switch, on_number, changed, present, turn, made, given, closing, function_end, returned}
 use Rattle.ec_meaning_defs.specs.evaluation.Evaluate.{Context, Task, calls, turn_of, look_for, World, Step, eval, collect}
 
 -- a loop from its test. Without one it goes on
@@ -28,7 +28,7 @@ settle w c b (value v s) = value v s
 settle w c b (on s) = on s
 settle w c b (broke s) = broke s
 settle w c b (continued s) = continued s
-settle w c b (went l s) = elim (holds_any l b) [ true ↦ w (look_for c l b) s | false ↦ went l s ]
+settle w c b (went l s) = elim (holds_any (named l) b) [ true ↦ w (look_for c l b) s | false ↦ went l s ]
 settle w c b (back v s) = back v s
 settle w c b (over e s) = over e s
 
@@ -75,14 +75,23 @@ abbrev mutual
   run step w c (return e) s = returning step w c e s
   run step w c (goto l) s = turn s (λ t. went l t)
   run step w c (label l x) s = run step w c x s
+  run step w c (select e x) s =
+      on_value (eval step w c e s) (λ v t. on_number v t (λ z.
+      elim (holds (case z) x) [
+        | true ↦ after_switch (look step w (case z) c x t)
+        | false ↦ elim (holds default x) [
+          | true ↦ after_switch (look step w default c x t)
+          | false ↦ on t
+        ]
+      ]))
   run step w c (embedded_statement n) s = step w c (embedded n) s
 
   pub run_all : Step → World → Context → Stms → State → Res
   run_all step w c no_stms s = on s
   run_all step w c (stms a b) s = on_done (run step w c a s) (λ t. run_all step w c b t)
 
-  -- looking for a label, in a statement that holds it. What is passed does nothing
-  pub look : Step → World → ℕ → Context → Stm → State → Res
+  -- looking for a label (6.8.6.1) or a case (6.8.4.2), in a statement that holds it. What is passed does nothing, and a loop or a `switch` is entered without its test or operand
+  pub look : Step → World → Mark → Context → Stm → State → Res
   look step w l c (on_line n x) s = look step w l (record c { line = n }) x s
   look step w l c nothing s = on s
   look step w l c (evaluate e) s = on s
@@ -98,10 +107,11 @@ abbrev mutual
   look step w l c (return e) s = on s
   look step w l c (goto m) s = on s
   look step w l c (label m x) s =
-      elim (nat_eq m l) [ true ↦ run step w c x s | false ↦ look step w l c x s ]
+      elim (same m l) [ true ↦ run step w c x s | false ↦ look step w l c x s ]
+  look step w l c (select e x) s = after_switch (look step w l c x s)
   look step w l c (embedded_statement n) s = on s
 
-  pub look_all : Step → World → ℕ → Context → Stms → State → Res
+  pub look_all : Step → World → Mark → Context → Stms → State → Res
   look_all step w l c no_stms s = on s
   look_all step w l c (stms a b) s =
       elim (holds l a) [
@@ -129,7 +139,7 @@ abbrev pub act : Step → List Function → World → Task → State → Res
 act step fs w (calls line f vs) s = called step w line (slice_get fs f) vs s
 act step fs w (turn_of c test behind x) s =
     after_body (run step w c x s) (λ t. again step w c test behind x t)
-act step fs w (look_for c l b) s = settle w c b (look_all step w l c b s)
+act step fs w (look_for c l b) s = settle w c b (look_all step w (named l) c b s)
 
 -- a task, which takes its turn first. A `goto` has taken its turn where it stands
 abbrev pub started : Task → State → (State → Res) → Res

@@ -1,7 +1,7 @@
 -- A program with a statement in the place of each embedded one.
 use Rattle.std.specs.Prelude.{ℕ, map}
 use Rattle.ec_meaning_defs.specs.resolved.Programs.{Function, Program}
-use Rattle.ec_meaning_defs.specs.resolved.Resolved.{Stm, on_line, nothing, evaluate, declare, initialize, block, choose, loop, leave, next, return, goto, label, embedded_statement, Stms, no_stms, stms}
+use Rattle.ec_meaning_defs.specs.resolved.Resolved.{Stm, on_line, nothing, evaluate, declare, initialize, block, choose, loop, leave, next, return, goto, label, select, embedded_statement, Stms, no_stms, stms}
 use Rattle.ec_meaning_defs.specs.evaluation.Evaluate.{Task, calls, turn_of, look_for}
 
 module _ (text : ℕ → Stm) where
@@ -20,6 +20,7 @@ module _ (text : ℕ → Stm) where
     written (return e) = return e
     written (goto l) = goto l
     written (label l x) = label l (written x)
+    written (select e x) = select e (written x)
     written (embedded_statement n) = text n
 
     pub written_all : Stms → Stms

@@ -7,7 +7,7 @@ use Rattle.ec_memory_defs.specs.Memory.{Memory, ValueData, number, address, numb
 use Rattle.ec_meaning_defs.specs.resolved.Operations.{Worked, gives, traps, misfit}
 use Rattle.ec_meaning_defs.specs.evaluation.State.{State, Ending, exited, trapped, turns_spent, stuck}
 
--- an expression gives a value; a statement goes on, breaks or continues its loop, goes to a label, or returns; either may end the run
+-- an expression gives a value; a statement goes on, breaks its loop or `switch`, continues its loop, goes to a label, or returns; either may end the run
 pub data Res : Type 0 where
   value : ValueData → State → Res
   on : State → Res
@@ -52,6 +52,16 @@ after_body (continued s) k = k s
 after_body (went l s) k = went l s
 after_body (back v s) k = back v s
 after_body (over e s) k = over e s
+
+-- behind the body of a `switch` (6.8.6.3)
+abbrev pub after_switch : Res → Res
+after_switch (value v s) = value v s
+after_switch (on s) = on s
+after_switch (broke s) = on s
+after_switch (continued s) = continued s
+after_switch (went l s) = went l s
+after_switch (back v s) = back v s
+after_switch (over e s) = over e s
 
 -- what memory gives, at a line
 abbrev pub tried : {A : Type 0} → ℕ → Result A Trap → State → (A → Res) → Res

@@ -1,5 +1,5 @@
 -- What is left of a program once its names and types have done their work (ISO/IEC 9899:1999, 6.2.1, 6.3, 6.5, 6.7 and 6.8). An expression that is a place gives the address of its first byte, and so does one whose type is a struct or an array. A conversion is written out wherever there is one, and a type is there only as far as an access or an operation needs it.
-use Rattle.std.specs.Prelude.{ℕ, Bool, List, Option}
+use Rattle.std.specs.Prelude.{ℕ, ℤ, Bool, List, Option}
 use Rattle.ec_ctypes.specs.declared.types.arith.Arith.{Arith}
 use Rattle.ec_meaning_defs.specs.functions.Functions.{Known}
 use Rattle.ec_memory_defs.specs.Memory.{ScalarType, ValueData}
@@ -43,6 +43,8 @@ mutual
     -- `&&` and `||`
     both : Exp → Exp → Exp
     either : Exp → Exp → Exp
+    -- `a ? b : c`, whose second and third operand have the type of the whole (6.5.15)
+    choice : Exp → Exp → Exp → Exp
     -- of the function of this number, and whether its value is used
     call : ℕ → Bool → Exps → Exp
     known : Known → Exps → Exp
@@ -59,6 +61,12 @@ mutual
 pub data Atom : Type 0 where
   embedded : ℕ → Atom
   library : ℕ → List ValueData → Atom
+
+-- what a statement is marked with, and what is looked for (6.8.1): a label, by its number; `case`, with its value of the type of the operand; `default`
+pub data Mark : Type 0 where
+  named : ℕ → Mark
+  case : ℤ → Mark
+  default : Mark
 
 mutual
   pub data Stm : Type 0 where
@@ -79,7 +87,9 @@ mutual
     next : Stm
     return : Option Exp → Stm
     goto : ℕ → Stm
-    label : ℕ → Stm → Stm
+    label : Mark → Stm → Stm
+    -- `switch`: the operand, of its promoted type, and the body (6.8.4.2)
+    select : Exp → Stm → Stm
     -- an embedded statement, which only a step knows, by its number among these
     embedded_statement : ℕ → Stm
 

@@ -4,7 +4,7 @@ ghost use Rattle.std.specs.Prelude.{◌≡◌, true, false, pos, [], ◌∷◌, 
 ghost use Rattle.ec_base.specs.declared.stop.Trap.TheVariants as trap;
 ghost use Rattle.ec_memory_defs.specs.Cells.{set_cells, unset_cells};
 ghost use Rattle.ec_memory_defs.specs.Memory.{alive, ended, pointer_type};
-ghost use Rattle.ec_meaning_defs.specs.resolved.Resolved.{slot, member, load, store, not, call, on_line, nothing, declare, initialize, block, choose, loop, leave, next, return, goto, label};
+ghost use Rattle.ec_meaning_defs.specs.resolved.Resolved.{named, slot, member, load, store, not, call, on_line, nothing, declare, initialize, block, choose, loop, leave, next, return, goto, label};
 ghost use Rattle.ec_meaning_defs.specs.evaluation.State.{exited, trapped, turns_spent};
 ghost use Rattle.ec_meaning_defs.specs.evaluation.Examples.{int, lit, get, set, add, divide, is_less, increase, args, put, print_int, all, at, does, gives, while, braces, program, with_functions, function, global, shows, ends, leaves};
 
@@ -13,11 +13,11 @@ pub fn declaration_examples()
     ensures unset { ends 0 (program (4 ∷ []) (on_line 3 (declare 0 4) ∷ on_line 4 (gives (get
         (slot 0))) ∷ []))
         ≡ trapped trap.Unset 4 }
-    ensures unset_again { ends 1 (program (4 ∷ []) (label 1 (declare 0 4) ∷ choose (not (get
+    ensures unset_again { ends 1 (program (4 ∷ []) (label (named 1) (declare 0 4) ∷ choose (not (get
         global)) (braces (does (set (slot 0) (lit 5)) ∷ does (set global (lit 1)) ∷ goto 1 ∷ []))
         nothing ∷ on_line 5 (gives (get (slot 0))) ∷ []))
         ≡ trapped trap.Unset 5 }
-    ensures kept_behind { ends 1 (program (4 ∷ []) (declare 0 4 ∷ label 1 nothing ∷ choose (not
+    ensures kept_behind { ends 1 (program (4 ∷ []) (declare 0 4 ∷ label (named 1) nothing ∷ choose (not
         (get global)) (braces (does (set (slot 0) (lit 5)) ∷ does (set global (lit 1)) ∷ goto 1 ∷
         [])) nothing ∷ gives (get (slot 0)) ∷ []))
         ≡ exited 5 }
@@ -33,7 +33,7 @@ pub fn declaration_examples()
         ∷ []))
         ≡ (codes "8;9;", exited 0) }
     ensures passed_by { ends 1 (program (4 ∷ []) (goto 1 ∷ initialize 0 4 (args (set (slot 0) (lit
-        5) ∷ [])) ∷ label 1 (on_line 4 (gives (get (slot 0)))) ∷ []))
+        5) ∷ [])) ∷ label (named 1) (on_line 4 (gives (get (slot 0)))) ∷ []))
         ≡ trapped trap.Unset 4 }
     ensures line_of_a_declaration { ends 0 (program (4 ∷ []) (on_line 2 (initialize 0 4 (args (set
         (slot 0) (divide (lit 1) (lit 0)) ∷ []))) ∷ []))
@@ -50,7 +50,7 @@ pub fn block_examples()
     ensures by_continue { leaves 1 (program [] (while (not (get global)) (block (4 ∷ []) (all
         (does (set global (lit 1)) ∷ next ∷ []))) ∷ []))
         ≡ ended ∷ [] }
-    ensures by_goto { leaves 1 (program [] (block (4 ∷ []) (all (goto 1 ∷ [])) ∷ label 1 nothing ∷
+    ensures by_goto { leaves 1 (program [] (block (4 ∷ []) (all (goto 1 ∷ [])) ∷ label (named 1) nothing ∷
         []))
         ≡ ended ∷ [] }
     ensures by_return { leaves 1 (with_functions (function [] [] (block (4 ∷ []) (all (return None
@@ -65,46 +65,46 @@ pub fn block_examples()
     ensures in_order { leaves 0 (program (1 ∷ 2 ∷ []) [])
         ≡ alive (unset_cells 1) ∷ alive (unset_cells 2) ∷ [] }
     ensures kept_by_an_inner_goto { ends 1 (program [] (block (4 ∷ []) (all (does (set (slot 0)
-        (lit 6)) ∷ braces (goto 1 ∷ []) ∷ label 1 (gives (get (slot 0))) ∷ [])) ∷ []))
+        (lit 6)) ∷ braces (goto 1 ∷ []) ∷ label (named 1) (gives (get (slot 0))) ∷ [])) ∷ []))
         ≡ exited 6 }
 {}
 
 /// `goto` goes out of blocks and into them, and into loops without their condition and without a turn.
 pub fn goto_examples()
     ensures into_a_loop { ends 2 (program [] (goto 1 ∷ while (is_less (get global) (lit 3))
-        (braces (does (increase global (lit 10)) ∷ label 1 (does (increase global (lit 1))) ∷ []))
+        (braces (does (increase global (lit 10)) ∷ label (named 1) (does (increase global (lit 1))) ∷ []))
         ∷ gives (get global) ∷ []))
         ≡ exited 12 }
     ensures one_turn_is_too_few { ends 1 (program [] (goto 1 ∷ while (is_less (get global) (lit
-        3)) (braces (does (increase global (lit 10)) ∷ label 1 (does (increase global (lit 1))) ∷
+        3)) (braces (does (increase global (lit 10)) ∷ label (named 1) (does (increase global (lit 1))) ∷
         [])) ∷ gives (get global) ∷ []))
         ≡ turns_spent }
     ensures into_a_for { shows 3 (program [] (goto 1 ∷ loop true (Some (is_less (get global) (lit
-        3))) (Some (increase global (lit 1))) (braces (does (put 97) ∷ label 1 (does (put 98)) ∷
+        3))) (Some (increase global (lit 1))) (braces (does (put 97) ∷ label (named 1) (does (put 98)) ∷
         [])) ∷ []))
         ≡ (codes "babab", exited 0) }
     ensures into_a_do { shows 1 (program [] (goto 1 ∷ loop false (Some (lit 0)) None (braces (does
-        (put 97) ∷ label 1 (does (put 98)) ∷ [])) ∷ []))
+        (put 97) ∷ label (named 1) (does (put 98)) ∷ [])) ∷ []))
         ≡ (codes "b", exited 0) }
     ensures into_a_branch { shows 1 (program [] (goto 1 ∷ choose (lit 0) (braces (does (put 97) ∷
-        label 1 (does (put 98)) ∷ [])) (does (put 99)) ∷ does (put 100) ∷ []))
+        label (named 1) (does (put 98)) ∷ [])) (does (put 99)) ∷ does (put 100) ∷ []))
         ≡ (codes "bd", exited 0) }
-    ensures into_the_other { shows 1 (program [] (goto 1 ∷ choose (lit 1) (does (put 97)) (label 1
+    ensures into_the_other { shows 1 (program [] (goto 1 ∷ choose (lit 1) (does (put 97)) (label (named 1)
         (does (put 98))) ∷ []))
         ≡ (codes "b", exited 0) }
     ensures into_a_block { leaves 1 (program [] (goto 1 ∷ block (4 ∷ []) (all (initialize 0 4
-        (args (set (slot 0) (lit 5) ∷ [])) ∷ label 1 (gives (lit 0)) ∷ [])) ∷ []))
+        (args (set (slot 0) (lit 5) ∷ [])) ∷ label (named 1) (gives (lit 0)) ∷ [])) ∷ []))
         ≡ alive (unset_cells 4) ∷ [] }
-    ensures past_expressions { shows 1 (program [] (goto 1 ∷ does (put 97) ∷ label 1 (does (put
+    ensures past_expressions { shows 1 (program [] (goto 1 ∷ does (put 97) ∷ label (named 1) (does (put
         98)) ∷ []))
         ≡ (codes "b", exited 0) }
     ensures out_of_two_loops { shows 3 (program [] (while (lit 1) (while (lit 1) (braces (does
-        (put 97) ∷ goto 1 ∷ []))) ∷ label 1 (does (put 98)) ∷ []))
+        (put 97) ∷ goto 1 ∷ []))) ∷ label (named 1) (does (put 98)) ∷ []))
         ≡ (codes "ab", exited 0) }
-    ensures back { shows 2 (program [] (label 1 (does (increase global (lit 1))) ∷ does (print_int
+    ensures back { shows 2 (program [] (label (named 1) (does (increase global (lit 1))) ∷ does (print_int
         (get global)) ∷ choose (is_less (get global) (lit 3)) (goto 1) nothing ∷ []))
         ≡ (codes "1;2;3;", exited 0) }
-    ensures label_of_a_label { shows 1 (program [] (goto 2 ∷ label 1 (label 2 (does (put 97))) ∷
+    ensures label_of_a_label { shows 1 (program [] (goto 2 ∷ label (named 1) (label (named 2) (does (put 97))) ∷
         []))
         ≡ (codes "a", exited 0) }
 {}
@@ -158,9 +158,9 @@ pub fn turn_examples()
         []) (program [] (does (call 1 false (args (lit 1 ∷ []))) ∷ [])))
         ≡ [] }
     ensures goto_where_it_stands { leaves 0 (program [] (block (4 ∷ []) (all (goto 1 ∷ [])) ∷
-        label 1 nothing ∷ []))
+        label (named 1) nothing ∷ []))
         ≡ alive (unset_cells 4) ∷ [] }
-    ensures goto_that_is_not_taken { ends 0 (program [] (choose (lit 0) (goto 1) nothing ∷ label 1
+    ensures goto_that_is_not_taken { ends 0 (program [] (choose (lit 0) (goto 1) nothing ∷ label (named 1)
         (gives (lit 3)) ∷ []))
         ≡ exited 3 }
     ensures main_needs_none { ends 0 (program [] (gives (lit 3) ∷ [])) ≡ exited 3 }
@@ -182,7 +182,7 @@ pub fn line_examples()
     ensures behind_a_function { ends 1 (with_functions (function [] [] (on_line 7 (gives (lit 0))
         ∷ []) ∷ []) (program [] (at 2 (divide (lit 1) (call 1 true (args []))) ∷ [])))
         ≡ trapped trap.Zero 2 }
-    ensures behind_a_goto { ends 1 (program [] (on_line 2 (goto 1) ∷ on_line 4 (label 1 (at 5
+    ensures behind_a_goto { ends 1 (program [] (on_line 2 (goto 1) ∷ on_line 4 (label (named 1) (at 5
         (divide (lit 1) (lit 0)))) ∷ []))
         ≡ trapped trap.Zero 5 }
 {}

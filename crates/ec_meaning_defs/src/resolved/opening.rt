@@ -6,7 +6,7 @@ ghost use Rattle.ec_memory_defs.specs.Cells.{part_of};
 ghost use Rattle.ec_memory_defs.specs.Memory.{number, little_endian};
 ghost use Rattle.ec_meaning_defs.specs.resolved.Labels.{holds};
 ghost use Rattle.ec_meaning_defs.specs.resolved.Programs.{sqlca_bytes, global_bytes, literal_bytes, opening_objects};
-ghost use Rattle.ec_meaning_defs.specs.resolved.Resolved.{constant, on_line, nothing, block, choose, loop, goto, label, embedded_statement, no_stms, stms};
+ghost use Rattle.ec_meaning_defs.specs.resolved.Resolved.{named, constant, on_line, nothing, block, choose, loop, goto, label, embedded_statement, no_stms, stms};
 
 /// Object 1 is `sqlca` with its opening values, then come the globals, then the string literals.
 pub fn opening_examples()
@@ -37,14 +37,14 @@ pub fn opening_examples()
 
 /// Labels stand in bodies, branches and blocks, however deep. A `goto` holds none.
 pub fn label_examples()
-    ensures itself { holds 3 (label 3 nothing) ≡ true }
-    ensures behind_another { holds 3 (label 4 (on_line 1 (label 3 nothing))) ≡ true }
-    ensures other { holds 3 (label 4 nothing) ≡ false }
-    ensures going_there { holds 3 (goto 3) ≡ false }
-    ensures in_branch { holds 3 (choose (constant (number (pos 0))) nothing (label 3 nothing))
+    ensures itself { holds (named 3) (label (named 3) nothing) ≡ true }
+    ensures behind_another { holds (named 3) (label (named 4) (on_line 1 (label (named 3) nothing))) ≡ true }
+    ensures other { holds (named 3) (label (named 4) nothing) ≡ false }
+    ensures going_there { holds (named 3) (goto 3) ≡ false }
+    ensures in_branch { holds (named 3) (choose (constant (number (pos 0))) nothing (label (named 3) nothing))
         ≡ true }
-    ensures in_loop { holds 3 (loop false None None (block [] (stms nothing (stms (label 3
+    ensures in_loop { holds (named 3) (loop false None None (block [] (stms nothing (stms (label (named 3)
         nothing) no_stms))))
         ≡ true }
-    ensures in_embedded_statement { holds 3 (embedded_statement 3) ≡ false }
+    ensures in_embedded_statement { holds (named 3) (embedded_statement 3) ≡ false }
 {}

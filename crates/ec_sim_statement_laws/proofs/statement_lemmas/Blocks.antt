@@ -9,7 +9,7 @@ use Rattle.ec_ctypes.specs.trees.Checked.{TypedData}
 use Rattle.ec_ctypes.specs.trees.Types.{StructData}
 use Rattle.ec_memory_defs.specs.Memory.{ValueData, number, address, last_number}
 use Rattle.ec_meaning_defs.specs.resolved.Labels.{holds, holds_any}
-use Rattle.ec_meaning_defs.specs.resolved.Resolved.{Exp, Stms, no_stms, stms}
+use Rattle.ec_meaning_defs.specs.resolved.Resolved.{Mark, named, Exp, Stms, no_stms, stms}
 use Rattle.ec_resolving_defs.specs.Storage.{StatementForm, LibraryCall, ActionForm, goes_on, jumps, prints, stops, leaves, continues, calls_function, ActionForms}
 use Rattle.ec_meaning_defs.specs.evaluation.State.{State, Ending, turns_spent}
 use Rattle.ec_meaning_defs.specs.evaluation.Results.{Res, value, on, broke, continued, went, back, over, on_value, on_done, at_address, without_answer, turn, closing}
@@ -86,7 +86,7 @@ settled_as_statement line (outcome.over halt s) = refl
 
 -- ---- no test has a label
 
-action_bare : (l : ℕ) (a : ActionForm) → holds l (action_stm a) ≡ false
+action_bare : (l : Mark) (a : ActionForm) → holds l (action_stm a) ≡ false
 action_bare l goes_on = refl
 action_bare l (jumps m) = refl
 action_bare l prints = refl
@@ -95,7 +95,7 @@ action_bare l leaves = refl
 action_bare l continues = refl
 action_bare l (calls_function e) = refl
 
-before_bare : (l n : ℕ) (condition : Cond) (a : ActionForm) (rest : Stms) → holds_any l rest ≡ false → holds_any l (test_before n condition a rest) ≡ false
+before_bare : (l : Mark) (n : ℕ) (condition : Cond) (a : ActionForm) (rest : Stms) → holds_any l rest ≡ false → holds_any l (test_before n condition a rest) ≡ false
 before_bare l n condition goes_on rest h = h
 before_bare l n condition (jumps m) rest h = h
 before_bare l n condition prints rest h = h
@@ -104,17 +104,17 @@ before_bare l n condition leaves rest h = h
 before_bare l n condition continues rest h = h
 before_bare l n condition (calls_function e) rest h = h
 
-pub tests_bare : (l n : ℕ) (actions : ActionForms) → holds_any l (tests_stms n actions) ≡ false
+pub tests_bare : (l : Mark) (n : ℕ) (actions : ActionForms) → holds_any l (tests_stms n actions) ≡ false
 tests_bare l n actions =
     before_bare l n NotFound actions.none_found _ (before_bare l n Warning actions.warning _ (before_bare l n Error actions.error no_stms refl))
 
 -- a block without labels answers no `goto`
-pub settle_bare : (w : World) (c : Context) (b : Stms) → ((l : ℕ) → holds_any l b ≡ false) → (o : Res) → settle w c b o ≡ o
+pub settle_bare : (w : World) (c : Context) (b : Stms) → ((l : Mark) → holds_any l b ≡ false) → (o : Res) → settle w c b o ≡ o
 settle_bare w c b h (value v s) = refl
 settle_bare w c b h (on s) = refl
 settle_bare w c b h (broke s) = refl
 settle_bare w c b h (continued s) = refl
-settle_bare w c b h (went l s) = λ j. elim (h l j) [ true ↦ w (look_for c l b) s | false ↦ went l s ]
+settle_bare w c b h (went l s) = λ j. elim (h (named l) j) [ true ↦ w (look_for c l b) s | false ↦ went l s ]
 settle_bare w c b h (back v s) = refl
 settle_bare w c b h (over e s) = refl
 

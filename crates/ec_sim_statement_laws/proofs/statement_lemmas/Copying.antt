@@ -1,18 +1,18 @@
 -- Two programs of which the second is a copy of the first do the same, if what stands in the place of each embedded statement does what the statement does: by induction over the copies and the turns.
 use Rattle.std.proofs.Common.{◌≡◌, ◌∙◌, ℕ, zero, suc, Bool, true, false, List, [], ◌∷◌, ◌++◌, map, Option, Some, None, refl, sym, subst, inl}
-use Rattle.std.specs.Prelude.{nat_eq, slice_get, ◌||◌}
+use Rattle.std.specs.Prelude.{ℤ, slice_get, ◌||◌, ◌&&◌}
 use Rattle.ec_memory_defs.specs.Memory.{ValueData, scalar_size, last_number, fill}
-use Rattle.ec_meaning_defs.specs.resolved.Labels.{holds, holds_any}
+use Rattle.ec_meaning_defs.specs.resolved.Labels.{same, is_named, holds, holds_any}
 use Rattle.ec_meaning_defs.specs.resolved.Operations.{is_true}
 use Rattle.ec_meaning_defs.specs.resolved.Programs.{Function, Program, sqlca_bytes, global_bytes, literal_bytes}
-use Rattle.ec_meaning_defs.specs.resolved.Resolved.{Exp, embedded, Stm, on_line, block, Stms, no_stms, stms}
+use Rattle.ec_meaning_defs.specs.resolved.Resolved.{Mark, named, case, default, Exp, embedded, Stm, on_line, block, Stms, no_stms, stms}
 use Rattle.ec_meaning_defs.specs.evaluation.State.{State}
-use Rattle.ec_meaning_defs.specs.evaluation.Results.{Res, value, on, broke, continued, went, back, over, on_value, on_done, after_body, changed, present, turn, made, given, closing, function_end, returned, finished}
+use Rattle.ec_meaning_defs.specs.evaluation.Results.{Res, value, on, broke, continued, went, back, over, on_value, on_done, after_body, after_switch, on_number, changed, present, turn, made, given, closing, function_end, returned, finished}
 use Rattle.ec_meaning_defs.specs.evaluation.Evaluate.{World, Context, Step, Task, calls, turn_of, look_for, eval}
 use Rattle.ec_meaning_defs.specs.evaluation.Execute.{tested, again, settle, inside, enter, returning, run, run_all, look, look_all, body_run, in_function, called, act, meaning}
 use Rattle.ec_meaning_defs.specs.evaluation.Whole.{opened, main_run, whole}
 use Rattle.ec_sim_statement_laws.specs.statement.Clean.{CallsNone, CallsNoneIn}
-use Rattle.ec_sim_statement_laws.specs.statement.Copies.{Declares, unset, filled, AreApart, ended, another, IsCopy, standing, empty, evaluated, declared, blocks, chooses, loops, leaves, continues, returns, jumps, labelled, embedded as stands_for, AreCopies, end, both, gone, apart, IsFunctionCopy, AreFunctionCopies, IsProgramCopy}
+use Rattle.ec_sim_statement_laws.specs.statement.Copies.{Declares, unset, filled, AreApart, ended, another, IsCopy, standing, empty, evaluated, declared, blocks, chooses, loops, leaves, continues, returns, jumps, labelled, selects, embedded as stands_for, AreCopies, end, both, gone, apart, IsFunctionCopy, AreFunctionCopies, IsProgramCopy}
 use Rattle.ec_sim_statement_laws.specs.statement.Lives.{TidyWorld, TidyStep}
 use Rattle.ec_sim_statement_laws.proofs.statement_lemmas.Blocks.{settle_bare}
 use Rattle.ec_sim_statement_laws.proofs.statement_lemmas.Plain.{eval_alike, collect_alike, clash_false, left_false, right_false}
@@ -30,11 +30,15 @@ the_other : {a b : Bool} → a ≡ false → (a || b) ≡ true → b ≡ true
 the_other {a} {b} is e = subst (λ t. (t || b) ≡ true) is e
 
 -- where no statement holds the label
-none_held : (step : Step) (w : World) (l : ℕ) (c : Context) (b : Stms) → holds_any l b ≡ false → (s : State) → look_all step w l c b s ≡ on s
+none_held : (step : Step) (w : World) (l : Mark) (c : Context) (b : Stms) → holds_any l b ≡ false → (s : State) → look_all step w l c b s ≡ on s
 none_held step w l c no_stms e s = refl
 none_held step w l c (stms a b) e s =
     (λ j. pick (left_false (holds l a) (holds_any l b) e j) (on_done (look step w l c a s) (λ t. run_all step w c b t)) (look_all step w l c b s))
     ∙ none_held step w l c b (right_false (holds l a) (holds_any l b) e) s
+
+inside_is : (a b : Bool) → (a && b) ≡ true → b ≡ true
+inside_is true b e = e
+inside_is false b e = clash_false e
 
 done_then : (o : Res) (f g : State → Res) → on_done (on_done o f) g ≡ on_done o (λ s. on_done (f s) g)
 done_then (value v s) f g = refl
@@ -47,28 +51,28 @@ done_then (over e s) f g = refl
 
 -- ---- declarations hold no label
 
-unlabelled : (l : ℕ) {x : Stm} → Declares x → holds l x ≡ false
+unlabelled : (l : Mark) {x : Stm} → Declares x → holds l x ≡ false
 unlabelled l (unset i size) = refl
 unlabelled l (filled i size es h) = refl
 
-none_together : (l : ℕ) {line : ℕ} {ds there rest : Stms} → AreApart line ds there rest → holds_any l ds ≡ false
+none_together : (l : Mark) {line : ℕ} {ds there rest : Stms} → AreApart line ds there rest → holds_any l ds ≡ false
 none_together l (ended rest) = refl
 none_together l (another d h) = λ j. unlabelled l d j || none_together l h j
 
-held_apart : (l : ℕ) {line : ℕ} {ds there rest : Stms} → AreApart line ds there rest → holds_any l there ≡ holds_any l rest
+held_apart : (l : Mark) {line : ℕ} {ds there rest : Stms} → AreApart line ds there rest → holds_any l there ≡ holds_any l rest
 held_apart l (ended rest) = refl
 held_apart l (another d h) = λ j. unlabelled l d j || held_apart l h j
 
-looked_past : (step : Step) (w : World) (l : ℕ) (c : Context) {line : ℕ} {ds there rest : Stms} → AreApart line ds there rest → (s : State)
+looked_past : (step : Step) (w : World) (l : Mark) (c : Context) {line : ℕ} {ds there rest : Stms} → AreApart line ds there rest → (s : State)
     → look_all step w l c there s ≡ look_all step w l c rest s
 looked_past step w l c (ended rest) s = refl
 looked_past step w l c {line} (another {x = x} {there = there} d h) s =
     (λ j. pick (unlabelled l d j) (on_done (look step w l c (on_line line x) s) (λ t. run_all step w c there t)) (look_all step w l c there s))
     ∙ looked_past step w l c h s
 
-module _ (P : ℕ → ℕ → Stm → Type 0) (labels : (line n : ℕ) (y : Stm) → P line n y → (l : ℕ) → holds l y ≡ false) where
+module _ (P : ℕ → ℕ → Stm → Type 0) (labels : (line n : ℕ) (y : Stm) → P line n y → (l : Mark) → holds l y ≡ false) where
   mutual
-    held : (l line : ℕ) {x y : Stm} → IsCopy P line x y → holds l y ≡ holds l x
+    held : (l : Mark) (line : ℕ) {x y : Stm} → IsCopy P line x y → holds l y ≡ holds l x
     held l line (standing n h) = held l n h
     held l line empty = refl
     held l line (evaluated e none) = refl
@@ -80,10 +84,11 @@ module _ (P : ℕ → ℕ → Stm → Type 0) (labels : (line n : ℕ) (y : Stm)
     held l line continues = refl
     held l line (returns e none) = refl
     held l line (jumps m) = refl
-    held l line (labelled m h) = λ j. nat_eq m l || held l line h j
+    held l line (labelled m h) = λ j. same m l || held l line h j
+    held l line (selects e none h) = λ j. is_named l && held l line h j
     held l line (stands_for n {y = y} h) = labels line n y h l
 
-    any_held : (l line : ℕ) {a b : Stms} → AreCopies P line a b → holds_any l b ≡ holds_any l a
+    any_held : (l : Mark) (line : ℕ) {a b : Stms} → AreCopies P line a b → holds_any l b ≡ holds_any l a
     any_held l line end = refl
     any_held l line (both h g) = λ j. held l line h j || any_held l line g j
     any_held l line (gone n g) = any_held l line g
@@ -144,7 +149,7 @@ module _ (P : ℕ → ℕ → Stm → Type 0) (labels : (line n : ℕ) (y : Stm)
       settle_same c a b h (broke s) = refl
       settle_same c a b h (continued s) = refl
       settle_same c a b h (went l s) = λ j.
-          elim (sym (any_held l c.line h) j) [ true ↦ worlds (look_for c l a) (look_for c l b) (same_look c l h) s j | false ↦ went l s ]
+          elim (sym (any_held (named l) c.line h) j) [ true ↦ worlds (look_for c l a) (look_for c l b) (same_look c l h) s j | false ↦ went l s ]
       settle_same c a b h (back v s) = refl
       settle_same c a b h (over e s) = refl
 
@@ -186,6 +191,17 @@ module _ (P : ℕ → ℕ → Stm → Type 0) (labels : (line n : ℕ) (y : Stm)
 
       -- ---- statements
 
+      -- the case of a value, or the default
+      found_same : (c : Context) (z : ℤ) {x y : Stm} → IsCopy P c.line x y → ((m : Mark) → holds m x ≡ true → (s : State) → look step w m c x s ≡ look step' w' m c y s) → (s : State)
+          → pick (holds (case z) x) (after_switch (look step w (case z) c x s)) (pick (holds default x) (after_switch (look step w default c x s)) (on s))
+          ≡ pick (holds (case z) y) (after_switch (look step' w' (case z) c y s)) (pick (holds default y) (after_switch (look step' w' default c y s)) (on s))
+      found_same c z {x} {y} h looks s =
+          pick_same (holds (case z) x) (holds (case z) y) (held (case z) c.line h)
+          (λ here. λ j. after_switch (looks (case z) here s j))
+          (λ none. pick_same (holds default x) (holds default y) (held default c.line h)
+          (λ here. λ j. after_switch (looks default here s j))
+          (λ none. refl))
+
       mutual
         run_same : (c : Context) {x y : Stm} → IsCopy P c.line x y → (s : State) → run step w c x s ≡ run step' w' c y s
         run_same c (standing n h) s = run_same (record c { line = n }) h s
@@ -204,6 +220,8 @@ module _ (P : ℕ → ℕ → Stm → Type 0) (labels : (line n : ℕ) (y : Stm)
         run_same c (returns e none) s = returning_same c e none s
         run_same c (jumps l) s = refl
         run_same c (labelled l h) s = run_same c h s
+        run_same c (selects e {x = x} {y = y} none h) s = λ j.
+            on_value (expression c e none s j) (λ v t. on_number v t (λ z. found_same c z h (λ m here u. look_same m c h here u) t j))
         run_same c (stands_for n {y = y} h) s = embeds c n y h s
 
         all_same : (c : Context) {a b : Stms} → AreCopies P c.line a b → (s : State) → run_all step w c a s ≡ run_all step' w' c b s
@@ -212,8 +230,7 @@ module _ (P : ℕ → ℕ → Stm → Type 0) (labels : (line n : ℕ) (y : Stm)
         all_same c (gone n g) s = all_same c g s
         all_same c (apart n {a = a} d g) s = apart_same c n d (λ t. run_all step w c a t) (λ t. all_same c g t) s
 
-      mutual
-        look_same : (l : ℕ) (c : Context) {x y : Stm} → IsCopy P c.line x y → holds l x ≡ true → (s : State) → look step w l c x s ≡ look step' w' l c y s
+        look_same : (l : Mark) (c : Context) {x y : Stm} → IsCopy P c.line x y → holds l x ≡ true → (s : State) → look step w l c x s ≡ look step' w' l c y s
         look_same l c (standing n h) is s = look_same l (record c { line = n }) h is s
         look_same l c empty is s = refl
         look_same l c (evaluated e none) is s = refl
@@ -232,12 +249,13 @@ module _ (P : ℕ → ℕ → Stm → Type 0) (labels : (line n : ℕ) (y : Stm)
         look_same l c (returns e none) is s = refl
         look_same l c (jumps m) is s = refl
         look_same l c (labelled m h) is s =
-            pick_same (nat_eq m l) (nat_eq m l) refl
+            pick_same (same m l) (same m l) refl
             (λ here. run_same c h s)
             (λ none. look_same l c h (the_other none is) s)
+        look_same l c (selects e {x = x} none h) is s = λ j. after_switch (look_same l c h (inside_is (is_named l) (holds l x) is) s j)
         look_same l c (stands_for n h) is s = clash_false is
 
-        all_looked : (l : ℕ) (c : Context) {a b : Stms} → AreCopies P c.line a b → holds_any l a ≡ true → (s : State) → look_all step w l c a s ≡ look_all step' w' l c b s
+        all_looked : (l : Mark) (c : Context) {a b : Stms} → AreCopies P c.line a b → holds_any l a ≡ true → (s : State) → look_all step w l c a s ≡ look_all step' w' l c b s
         all_looked l c end is s = refl
         all_looked l c (both {x = x} {y = y} h g) is s =
             pick_same (holds l x) (holds l y) (held l c.line h)
@@ -270,16 +288,16 @@ module _ (P : ℕ → ℕ → Stm → Type 0) (labels : (line n : ℕ) (y : Stm)
           called_same line (slice_get fs f) (slice_get gs f) (found_copy fs gs copies f) vs s
       act_same fs gs copies t u (same_turn c test behind {x = x} {y = y} none_tested none_behind h) s = λ j.
           after_body (run_same c h s j) (λ r. again_same c test behind x y none_tested none_behind h r j)
-      act_same fs gs copies t u (same_look c l {a = a} {b = b} h) s = by_test (holds_any l a) refl
+      act_same fs gs copies t u (same_look c l {a = a} {b = b} h) s = by_test (holds_any (named l) a) refl
         where
-          nothing_looked : holds_any l a ≡ false → look_all step w l c a s ≡ look_all step' w' l c b s
-          nothing_looked none = none_held step w l c a none s ∙ sym (none_held step' w' l c b (any_held l c.line h ∙ none) s)
+          nothing_looked : holds_any (named l) a ≡ false → look_all step w (named l) c a s ≡ look_all step' w' (named l) c b s
+          nothing_looked none = none_held step w (named l) c a none s ∙ sym (none_held step' w' (named l) c b (any_held (named l) c.line h ∙ none) s)
 
-          by_test : (t : Bool) → holds_any l a ≡ t → settle w c a (look_all step w l c a s) ≡ settle w' c b (look_all step' w' l c b s)
+          by_test : (t : Bool) → holds_any (named l) a ≡ t → settle w c a (look_all step w (named l) c a s) ≡ settle w' c b (look_all step' w' (named l) c b s)
           by_test true is =
-              (λ j. settle w c a (all_looked l c h is s j)) ∙ settle_same c a b h (look_all step' w' l c b s)
+              (λ j. settle w c a (all_looked (named l) c h is s j)) ∙ settle_same c a b h (look_all step' w' (named l) c b s)
           by_test false none =
-              (λ j. settle w c a (nothing_looked none j)) ∙ settle_same c a b h (look_all step' w' l c b s)
+              (λ j. settle w c a (nothing_looked none j)) ∙ settle_same c a b h (look_all step' w' (named l) c b s)
 
     -- ---- whole programs
 

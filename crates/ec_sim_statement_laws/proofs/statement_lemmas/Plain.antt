@@ -1,13 +1,13 @@
 -- An expression gives a value, or the run is over; and one without a call of the library does the same under every step.
-use Rattle.std.proofs.Common.{◌≡◌, ◌∙◌, ℕ, zero, suc, Bool, true, false, ℤ, List, [], ◌∷◌, ◌++◌, Option, Some, None, Result, Ok, Err, refl, sym, subst, ◌⊎◌, inl, inr}
+use Rattle.std.proofs.Common.{◌≡◌, ℕ, Bool, true, false, ℤ, List, [], ◌∷◌, ◌++◌, Option, Some, None, Result, Ok, Err, refl, subst, ◌⊎◌, inl, inr}
 use Rattle.std.specs.Prelude.{pos, not as negation, slice_get, ◌||◌}
 use Rattle.ec_base.specs.declared.stop.Trap.{Trap}
 use Rattle.ec_ctypes.specs.declared.embedded.emb.Cond.{Cond}
 use Rattle.ec_ctypes.specs.declared.embedded.emb.Cond.TheVariants.{NotFound, Warning, Error}
 use Rattle.ec_meaning_defs.specs.functions.Functions.{Effect, answers, traps as traps_there, ends, misfit as no_call, effect_of}
-use Rattle.ec_memory_defs.specs.Memory.{Memory, ValueData, number, address, moved, cells_at, load as loaded, store as stored, copy as copied, put as put_bytes}
+use Rattle.ec_memory_defs.specs.Memory.{ValueData, number, address, moved, cells_at, load as loaded, store as stored, copy as copied, put as put_bytes}
 use Rattle.ec_meaning_defs.specs.resolved.Operations.{Worked, gives, traps, misfit, is_true, truth, value_as, negated, flipped, number_worked, worked}
-use Rattle.ec_meaning_defs.specs.resolved.Resolved.{Update, Exp, object, slot, member, constant, load, whole, store, copy, put, update, convert, negate, flip, not, operate, both, either, call, known, library_call, faulty, Exps, no_exps, exps, library}
+use Rattle.ec_meaning_defs.specs.resolved.Resolved.{Exp, object, slot, member, constant, load, whole, store, copy, put, update, convert, negate, flip, not, operate, both, either, choice, call, known, library_call, faulty, Exps, no_exps, exps, library}
 use Rattle.ec_resolving_defs.specs.Storage.{ActionForm, goes_on, jumps, prints, stops, leaves, continues, calls_function, ActionForms}
 use Rattle.ec_meaning_defs.specs.evaluation.State.{State}
 use Rattle.ec_meaning_defs.specs.evaluation.Results.{Res, value, on, broke, continued, went, back, over, on_value, on_done, tried, changed, worked_out, at_address, on_number, present, done_there, without_answer, answered, without_value}
@@ -132,6 +132,8 @@ module _ (step : Step) (w : World) (c : Context) where
     eval_plain (either a b) s =
         behind_value (eval step w c a s) _ (eval_plain a s) (λ x t.
         test_plain (is_true x) _ _ tt (behind_value (eval step w c b t) _ (eval_plain b t) (λ y u. tt)))
+    eval_plain (choice e a b) s =
+        behind_value (eval step w c e s) _ (eval_plain e s) (λ x t. test_plain (is_true x) _ _ (eval_plain a t) (eval_plain b t))
     eval_plain (call f used es) s = collect_plain [] es s _ (λ vs t. answered_plain c.line used (w (calls c.line f vs) t))
     eval_plain (known f es) s = collect_plain [] es s _ (λ vs t. effect_plain c.line (effect_of f t.memory vs) t)
     eval_plain (library_call n es) s = collect_plain [] es s _ (λ vs t. silent_plain (step w c (library n vs) t))
@@ -231,6 +233,11 @@ module _ (step step' : Step) (w w' : World) (c : Context)
         on_value (eval_alike a (first (has_call a) (has_call b) h) s j) (λ x t. elim (is_true x) [
           | true ↦ value (truth true) t
           | false ↦ on_value (eval_alike b (second (has_call a) (has_call b) h) t j) (λ y u. value (truth (is_true y)) u)
+        ])
+    eval_alike (choice e a b) h s = λ j.
+        on_value (eval_alike e (first (has_call e) (has_call a || has_call b) h) s j) (λ x t. elim (is_true x) [
+          | true ↦ eval_alike a (first (has_call a) (has_call b) (second (has_call e) (has_call a || has_call b) h)) t j
+          | false ↦ eval_alike b (second (has_call a) (has_call b) (second (has_call e) (has_call a || has_call b) h)) t j
         ])
     eval_alike (call f used es) h s =
         collect_alike [] es h s _ _ (λ vs t. λ j. answered c.line used (functions c.line f vs t j))

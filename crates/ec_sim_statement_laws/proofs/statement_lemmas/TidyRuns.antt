@@ -1,17 +1,17 @@
 -- What a program makes has ended where it goes on behind it: by induction over the trees and the turns.
 use Rattle.std.proofs.Common.{◌≡◌, ℕ, zero, suc, Bool, true, false, ℤ, List, [], ◌∷◌, ◌++◌, length, map, Option, Some, None, Result, Ok, Err, codes, refl}
 use Rattle.ec_ctypes.specs.declared.types.arith.Arith.TheVariants.{Int}
-use Rattle.std.specs.Prelude.{pos, nat_eq, slice_get, unsigned_abs, ◌+◌}
+use Rattle.std.specs.Prelude.{pos, slice_get, unsigned_abs, ◌+◌}
 use Rattle.ec_base.specs.declared.stop.Trap.{Trap}
 use Rattle.ec_meaning_defs.specs.functions.Functions.{Channel, standard_output, standard_error, Known, print, puts, putchar, strlen, strcmp, strncmp, memcmp, strcpy, strncpy, strcat, memcpy, memset, exit, sqlprint, Effect, answers, traps as traps_there, ends, misfit as no_call, effect_of, tried as tried_effect, puts_bytes, printing, taking_nothing, taking_number, taking_address, taking_addresses, taking_sizes, taking_byte, writing, answers_number, error_printed, message_length, message_bytes, message_size, byte_of}
 use Rattle.ec_memory_defs.specs.Memory.{Memory, ValueData, number, address, ScalarType, integer_type, span, scalar_size, moved, cells_at, load as loaded, store as stored, copy as copied, put as put_bytes, fill, unset, text_at, text_up_to, last_number, make}
 use Rattle.ec_memory_defs.specs.Cells.{set_cells, filled_cells, unset_cells}
 use Rattle.ec_meaning_defs.specs.resolved.Operations.{Worked, gives, traps, misfit, is_true, value_as, negated, number_worked, worked}
-use Rattle.ec_meaning_defs.specs.resolved.Labels.{holds, holds_any}
+use Rattle.ec_meaning_defs.specs.resolved.Labels.{same, holds, holds_any}
 use Rattle.ec_meaning_defs.specs.resolved.Programs.{Function}
-use Rattle.ec_meaning_defs.specs.resolved.Resolved.{Exp, object, slot, member, constant, load, whole, store, copy, put, update, convert, negate, flip, not, operate, both, either, call, known, library_call, faulty, Exps, no_exps, exps, embedded, library, Stm, on_line, nothing, evaluate, declare, initialize, block, choose, loop, leave, next, return, goto, label, embedded_statement, Stms, no_stms, stms}
+use Rattle.ec_meaning_defs.specs.resolved.Resolved.{Mark, named, case, default, Exp, object, slot, member, constant, load, whole, store, copy, put, update, convert, negate, flip, not, operate, both, either, choice, call, known, library_call, faulty, Exps, no_exps, exps, embedded, library, Stm, on_line, nothing, evaluate, declare, initialize, block, choose, loop, leave, next, return, goto, label, select, embedded_statement, Stms, no_stms, stms}
 use Rattle.ec_meaning_defs.specs.evaluation.State.{State, turns_spent}
-use Rattle.ec_meaning_defs.specs.evaluation.Results.{Res, value, on, broke, continued, went, back, over, on_value, on_done, after_body, tried, changed, worked_out, at_address, on_number, present, done_there, without_answer, answered, without_value, turn, made, given, closing, function_end, returned, exits_with}
+use Rattle.ec_meaning_defs.specs.evaluation.Results.{Res, value, on, broke, continued, went, back, over, on_value, on_done, after_body, after_switch, tried, changed, worked_out, at_address, on_number, present, done_there, without_answer, answered, without_value, turn, made, given, closing, function_end, returned, exits_with}
 use Rattle.ec_meaning_defs.specs.evaluation.Evaluate.{World, Context, Step, Task, calls, turn_of, look_for, eval, collect}
 use Rattle.ec_meaning_defs.specs.evaluation.Execute.{tested, again, settle, inside, enter, declared, initialized, returning, run, run_all, look, look_all, in_function, called, act, meaning}
 use Rattle.ec_meaning_defs.specs.functions.Strings.{text_length, texts_compared, fronts_compared, bytes_compared, text_copied, front_copied, text_appended, bytes_copied, bytes_filled}
@@ -150,6 +150,19 @@ body_leaves m (continued s) k h f = leaves_then m s.memory (k s) h (f s)
 body_leaves m (went l s) k h f = h
 body_leaves m (back v s) k h f = h
 body_leaves m (over e s) k h f = tt
+
+switch_leaves : (m : Memory) (o : Res) → LeavesTidy m o → LeavesTidy m (after_switch o)
+switch_leaves m (value v s) h = tt
+switch_leaves m (on s) h = h
+switch_leaves m (broke s) h = h
+switch_leaves m (continued s) h = h
+switch_leaves m (went l s) h = h
+switch_leaves m (back v s) h = h
+switch_leaves m (over e s) h = tt
+
+number_leaves : (m : Memory) (v : ValueData) (s : State) (k : ℤ → Res) → ((z : ℤ) → LeavesTidy m (k z)) → LeavesTidy m (on_number v s k)
+number_leaves m (number z) s k f = f z
+number_leaves m (address p) s k f = tt
 
 pub at_leaves : (m : Memory) (v : ValueData) (s : State) (k : ℕ → Res) → ((p : ℕ) → LeavesTidy m (k p)) → LeavesTidy m (at_address v s k)
 at_leaves m (address p) s k f = f p
@@ -380,6 +393,9 @@ module _ (step : Step) (tidy_step : TidyStep step) (w : World) (tidy : TidyWorld
       eval_gives (either a b) s =
           value_gives s.memory (eval step w c a s) _ (eval_gives a s) (λ x t.
           test_gives t.memory (is_true x) _ _ (tidy_same t.memory) (value_gives t.memory (eval step w c b t) _ (eval_gives b t) (λ y u. tidy_same u.memory)))
+      eval_gives (choice e a b) s =
+          value_gives s.memory (eval step w c e s) _ (eval_gives e s) (λ x t.
+          test_gives t.memory (is_true x) _ _ (eval_gives a t) (eval_gives b t))
       eval_gives (call f used es) s = collect_gives [] es s _ (λ vs t. answered_gives t.memory c.line used (w (calls c.line f vs) t) (tidy (calls c.line f vs) t))
       eval_gives (known f es) s = collect_gives [] es s _ (λ vs t. effect_gives c.line (effect_of f t.memory vs) t (effect_tidy f t.memory vs))
       eval_gives (library_call n es) s = collect_gives [] es s _ (λ vs t. silent_gives t.memory (step w c (library n vs) t) (tidy_step w tidy c (library n vs) t))
@@ -413,7 +429,7 @@ module _ (step : Step) (tidy_step : TidyStep step) (w : World) (tidy : TidyWorld
     settle_leaves b m (on s) h = h
     settle_leaves b m (broke s) h = h
     settle_leaves b m (continued s) h = h
-    settle_leaves b m (went l s) h = test_leaves m (holds_any l b) _ _ (leaves_then m s.memory (w (look_for c l b) s) h (tidy (look_for c l b) s)) h
+    settle_leaves b m (went l s) h = test_leaves m (holds_any (named l) b) _ _ (leaves_then m s.memory (w (look_for c l b) s) h (tidy (look_for c l b) s)) h
     settle_leaves b m (back v s) h = h
     settle_leaves b m (over e s) h = tt
 
@@ -448,14 +464,17 @@ module _ (step : Step) (tidy_step : TidyStep step) (w : World) (tidy : TidyWorld
     run_leaves c (return e) s = returning_leaves c e s
     run_leaves c (goto l) s = turn_leaves s (λ t. went l t) (λ n. tidy_same s.memory)
     run_leaves c (label l x) s = run_leaves c x s
+    run_leaves c (select e x) s =
+        value_leaves s.memory (eval step w c e s) _ (eval_gives c e s) (λ v t. number_leaves t.memory v t _ (λ z.
+        test_leaves t.memory (holds (case z) x) _ _ (switch_leaves t.memory (look step w (case z) c x t) (look_leaves (case z) c x t))
+        (test_leaves t.memory (holds default x) _ _ (switch_leaves t.memory (look step w default c x t) (look_leaves default c x t)) (tidy_same t.memory))))
     run_leaves c (embedded_statement n) s = tidy_step w tidy c (embedded n) s
 
     pub all_leave : (c : Context) (b : Stms) (s : State) → LeavesTidy s.memory (run_all step w c b s)
     all_leave c no_stms s = tidy_same s.memory
     all_leave c (stms a b) s = done_leaves s.memory (run step w c a s) _ (run_leaves c a s) (λ t. all_leave c b t)
 
-  mutual
-    look_leaves : (l : ℕ) (c : Context) (x : Stm) (s : State) → LeavesTidy s.memory (look step w l c x s)
+    look_leaves : (l : Mark) (c : Context) (x : Stm) (s : State) → LeavesTidy s.memory (look step w l c x s)
     look_leaves l c (on_line n x) s = look_leaves l (record c { line = n }) x s
     look_leaves l c nothing s = tidy_same s.memory
     look_leaves l c (evaluate e) s = tidy_same s.memory
@@ -468,10 +487,11 @@ module _ (step : Step) (tidy_step : TidyStep step) (w : World) (tidy : TidyWorld
     look_leaves l c next s = tidy_same s.memory
     look_leaves l c (return e) s = tidy_same s.memory
     look_leaves l c (goto m) s = tidy_same s.memory
-    look_leaves l c (label m x) s = test_leaves s.memory (nat_eq m l) _ _ (run_leaves c x s) (look_leaves l c x s)
+    look_leaves l c (label m x) s = test_leaves s.memory (same m l) _ _ (run_leaves c x s) (look_leaves l c x s)
+    look_leaves l c (select e x) s = switch_leaves s.memory (look step w l c x s) (look_leaves l c x s)
     look_leaves l c (embedded_statement n) s = tidy_same s.memory
 
-    all_looked : (l : ℕ) (c : Context) (b : Stms) (s : State) → LeavesTidy s.memory (look_all step w l c b s)
+    all_looked : (l : Mark) (c : Context) (b : Stms) (s : State) → LeavesTidy s.memory (look_all step w l c b s)
     all_looked l c no_stms s = tidy_same s.memory
     all_looked l c (stms a b) s =
         test_leaves s.memory (holds l a) _ _ (done_leaves s.memory (look step w l c a s) _ (look_leaves l c a s) (λ t. all_leave c b t)) (all_looked l c b s)
@@ -488,7 +508,7 @@ module _ (step : Step) (tidy_step : TidyStep step) (w : World) (tidy : TidyWorld
   act_leaves : (fs : List Function) (t : Task) (s : State) → LeavesTidy s.memory (act step fs w t s)
   act_leaves fs (calls line f vs) s = called_leaves line (slice_get fs f) vs s
   act_leaves fs (turn_of c test behind x) s = body_leaves s.memory (run step w c x s) _ (run_leaves c x s) (λ t. again_leaves c test behind x t)
-  act_leaves fs (look_for c l b) s = settle_leaves c b s.memory (look_all step w l c b s) (all_looked l c b s)
+  act_leaves fs (look_for c l b) s = settle_leaves c b s.memory (look_all step w (named l) c b s) (all_looked (named l) c b s)
 
 pub meaning_tidy : (step : Step) → TidyStep step → (fs : List Function) (k : ℕ) → TidyWorld (meaning step fs k)
 meaning_tidy step h fs zero t s = tt

@@ -8,7 +8,7 @@ use Rattle.ec_meaning_defs.specs.functions.Functions.{sqlprint}
 use Rattle.ec_memory_defs.specs.Memory.{ValueData, load, number_of, integer_type, last_number}
 use Rattle.ec_meaning_defs.specs.resolved.Labels.{holds}
 use Rattle.ec_meaning_defs.specs.resolved.Programs.{Program}
-use Rattle.ec_meaning_defs.specs.resolved.Resolved.{Exp, known, no_exps, embedded, library, Stm}
+use Rattle.ec_meaning_defs.specs.resolved.Resolved.{Mark, Exp, known, no_exps, embedded, library, Stm}
 use Rattle.ec_resolving_defs.specs.Storage.{ActionForm, goes_on, jumps, prints, stops, leaves, continues, calls_function, ActionForms, LibraryCall, StatementForm}
 use Rattle.ec_ctypes.specs.declared.embedded.emb.Cond.{Cond}
 use Rattle.ec_ctypes.specs.declared.embedded.emb.Cond.TheVariants.{NotFound, Warning, Error}
@@ -120,7 +120,7 @@ module _ (t : TypedData) (forms : List StatementForm) (calls : List LibraryCall)
   abbrev pub Stands : ℕ → ℕ → Stm → Type 0
   Stands line n x = IsWrittenAt t forms calls (λ _. x) line n
 
-  no_labels : (line n : ℕ) (y : Stm) → Stands line n y → (l : ℕ) → holds l y ≡ false
+  no_labels : (line n : ℕ) (y : Stm) → Stands line n y → (l : Mark) → holds l y ≡ false
   no_labels line n y h l = (λ j. holds l (h.is_text j)) ∙ tests_bare l line h.form.actions
 
   in_place : (w w' : World) → TidyWorld w → ((line f : ℕ) (vs : List ValueData) (s : State) → w (calls_task line f vs) s ≡ w' (calls_task line f vs) s)

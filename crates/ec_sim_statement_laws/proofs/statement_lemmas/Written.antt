@@ -1,10 +1,10 @@
 -- A program with a statement in the place of each embedded one is a copy of it.
 use Rattle.std.proofs.Common.{ℕ, zero, suc, List, [], ◌∷◌, map, refl}
 use Rattle.ec_meaning_defs.specs.resolved.Programs.{Function, Program}
-use Rattle.ec_meaning_defs.specs.resolved.Resolved.{Stm, on_line, nothing, evaluate, declare, initialize, block, choose, loop, leave, next, return, goto, label, embedded_statement, Stms, no_stms, stms}
+use Rattle.ec_meaning_defs.specs.resolved.Resolved.{Stm, on_line, nothing, evaluate, declare, initialize, block, choose, loop, leave, next, return, goto, label, select, embedded_statement, Stms, no_stms, stms}
 use Rattle.ec_meaning_defs.specs.evaluation.Expanded.{written, written_all, written_function, written_program}
 use Rattle.ec_sim_statement_laws.specs.statement.Clean.{Clean, AllClean, CleanFunctions, CleanProgram}
-use Rattle.ec_sim_statement_laws.specs.statement.Copies.{unset, filled, IsCopy, standing, empty, evaluated, declared, blocks, chooses, loops, leaves, continues, returns, jumps, labelled, embedded, AreCopies, end, both, AreFunctionCopies, IsProgramCopy}
+use Rattle.ec_sim_statement_laws.specs.statement.Copies.{unset, filled, IsCopy, standing, empty, evaluated, declared, blocks, chooses, loops, leaves, continues, returns, jumps, labelled, selects, embedded, AreCopies, end, both, AreFunctionCopies, IsProgramCopy}
 
 module _ (P : ℕ → ℕ → Type 0) (Q : ℕ → ℕ → Stm → Type 0) (text : ℕ → Stm) (stands : (line n : ℕ) → P line n → Q line n (text n)) where
   mutual
@@ -22,6 +22,7 @@ module _ (P : ℕ → ℕ → Type 0) (Q : ℕ → ℕ → Stm → Type 0) (text
     stm_copy line (return e) h = returns e h
     stm_copy line (goto l) h = jumps l
     stm_copy line (label l x) h = labelled l (stm_copy line x h)
+    stm_copy line (select e x) h = selects e h.0 (stm_copy line x h.1)
     stm_copy line (embedded_statement n) h = embedded n (stands line n h)
 
     stms_copy : (line : ℕ) (b : Stms) → AllClean P line b → AreCopies Q line b (written_all text b)

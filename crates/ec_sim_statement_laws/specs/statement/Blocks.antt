@@ -1,6 +1,6 @@
 -- The block that is written for a statement, as it is resolved: its call, and the tests behind it. All have the line of the statement.
 use Rattle.std.specs.Prelude.{ℕ, Bool, true, false, ◌||◌, []}
-use Rattle.ec_meaning_defs.specs.resolved.Resolved.{Exp, object, slot, member, constant, load, whole, store, copy, put, update, convert, negate, flip, not, operate, both, either, call, known, library_call, faulty, Exps, no_exps, exps, Stm, on_line, evaluate, block, Stms, stms}
+use Rattle.ec_meaning_defs.specs.resolved.Resolved.{Exp, object, slot, member, constant, load, whole, store, copy, put, update, convert, negate, flip, not, operate, both, either, choice, call, known, library_call, faulty, Exps, no_exps, exps, Stm, on_line, evaluate, block, stms}
 use Rattle.ec_resolving_defs.specs.Storage.{ActionForm, goes_on, jumps, prints, stops, leaves, continues, calls_function, ActionForms}
 use Rattle.ec_sim_statement_laws.specs.statement.Tests.{tests_stms}
 
@@ -32,6 +32,7 @@ abbrev mutual
   has_call (operate op a b) = has_call a || has_call b
   has_call (both a b) = has_call a || has_call b
   has_call (either a b) = has_call a || has_call b
+  has_call (choice e a b) = has_call e || (has_call a || has_call b)
   has_call (call f used es) = have_call es
   has_call (known f es) = have_call es
   has_call (library_call n es) = true

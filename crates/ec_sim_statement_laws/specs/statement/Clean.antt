@@ -1,7 +1,7 @@
 -- Programs whose expressions call no library, and whose embedded statements stand where something holds of their line and number.
 use Rattle.std.specs.Prelude.{◌≡◌, ℕ, false, List, Option, Some, None, slice_get}
 use Rattle.ec_meaning_defs.specs.resolved.Programs.{Function, Program}
-use Rattle.ec_meaning_defs.specs.resolved.Resolved.{Exp, Stm, on_line, nothing, evaluate, declare, initialize, block, choose, loop, leave, next, return, goto, label, embedded_statement, Stms, no_stms, stms}
+use Rattle.ec_meaning_defs.specs.resolved.Resolved.{Exp, Stm, on_line, nothing, evaluate, declare, initialize, block, choose, loop, leave, next, return, goto, label, select, embedded_statement, Stms, no_stms, stms}
 use Rattle.ec_meaning_defs.specs.evaluation.Evaluate.{Task, calls, turn_of, look_for}
 use Rattle.ec_sim_statement_laws.specs.statement.Blocks.{has_call, have_call}
 
@@ -30,6 +30,7 @@ module _ (P : ℕ → ℕ → Type 0) where
     Clean line (return e) = CallsNoneIn e
     Clean line (goto l) = Unit {0}
     Clean line (label l x) = Clean line x
+    Clean line (select e x) = CallsNone e × Clean line x
     Clean line (embedded_statement n) = P line n
 
     pub AllClean : ℕ → Stms → Type 0

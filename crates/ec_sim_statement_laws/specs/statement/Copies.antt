@@ -1,7 +1,7 @@
 -- When a resolved program is what is written for a source, as it is resolved: its block stands in the place of each embedded statement, what directives and marks leave is gone, and the objects of one declaration may be declared one by one.
 use Rattle.std.specs.Prelude.{◌≡◌, ℕ, Bool, false, List, [], ◌∷◌, Option}
 use Rattle.ec_meaning_defs.specs.resolved.Programs.{Function, Program}
-use Rattle.ec_meaning_defs.specs.resolved.Resolved.{Exp, Exps, Stm, on_line, nothing, evaluate, declare, initialize, block, choose, loop, leave, next, return, goto, label, embedded_statement, Stms, no_stms, stms}
+use Rattle.ec_meaning_defs.specs.resolved.Resolved.{Exp, Exps, Mark, Stm, on_line, nothing, evaluate, declare, initialize, block, choose, loop, leave, next, return, goto, label, select, embedded_statement, Stms, no_stms, stms}
 use Rattle.ec_sim_statement_laws.specs.statement.Blocks.{have_call}
 use Rattle.ec_sim_statement_laws.specs.statement.Clean.{CallsNone, CallsNoneIn}
 
@@ -37,8 +37,10 @@ module _ (P : ℕ → ℕ → Stm → Type 0) where
       continues : {line : ℕ} → IsCopy line next next
       returns : {line : ℕ} (e : Option Exp) → CallsNoneIn e → IsCopy line (return e) (return e)
       jumps : {line : ℕ} (l : ℕ) → IsCopy line (goto l) (goto l)
-      labelled : {line : ℕ} (l : ℕ) {x y : Stm} → IsCopy line x y
+      labelled : {line : ℕ} (l : Mark) {x y : Stm} → IsCopy line x y
           → IsCopy line (label l x) (label l y)
+      selects : {line : ℕ} (e : Exp) {x y : Stm} → CallsNone e → IsCopy line x y
+          → IsCopy line (select e x) (select e y)
       embedded : {line : ℕ} (n : ℕ) {y : Stm} → P line n y
           → IsCopy line (embedded_statement n) y
 
