@@ -26,6 +26,7 @@ fn head_without_use(head: Head) -> Head
         Head::Begun(plain) => Head::Begun(plain),
         Head::Known(known, arguments) => Head::Known(known, arguments),
         Head::LibraryCall(number, pointers) => Head::LibraryCall(number, pointers),
+        Head::Choice(test, first, second) => Head::Choice(test, first, second),
     }
 }
 

@@ -8,7 +8,7 @@ ghost use Rattle.ec_resolving_defs.specs.Statements as rule;
 ghost use Rattle.ec_resolve_parts.specs.Made.{listed_view, optional_view};
 
 use ec_base::{Boxed, Line, List, OutOfMemory};
-use ec_code::{Expression, Loop, ObjectSize, Statement};
+use ec_code::{Expression, Loop, Mark, ObjectSize, Statement};
 use std::alloc::Global;
 
 /// A statement on this line.
@@ -158,9 +158,9 @@ pub fn labelled(
     label: u32,
     s: Boxed<Statement>,
 ) -> Result<Boxed<Statement>, OutOfMemory>
-    ensures { IfOk result (λ made. statement_view made ≡ of.label label (statement_view s)) }
+    ensures { IfOk result (λ made. statement_view made ≡ of.label (of.named label) (statement_view s)) }
 {
-    Boxed::new(alloc, Statement::Label(label, s))
+    Boxed::new(alloc, Statement::Label(Mark::Named(label), s))
 }
 
 /// The embedded statement of this number.

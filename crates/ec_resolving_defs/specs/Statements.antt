@@ -12,7 +12,7 @@ use Rattle.ec_typing_defs.specs.Operands.{declared_type}
 use Rattle.ec_typing_defs.specs.Expressions.{has_init, is_varchar, varchar_object}
 use Rattle.ec_typing_defs.specs.Statements as checked
 use Rattle.ec_typing_defs.specs.Statements.{type_or_void}
-use Rattle.ec_meaning_defs.specs.resolved.Resolved.{Exp, slot, Stm, on_line, nothing, evaluate, declare as declare_unset, initialize, block, choose, loop, leave, next, return, goto, label, embedded_statement, Stms, no_stms, stms}
+use Rattle.ec_meaning_defs.specs.resolved.Resolved.{Exp, slot, Stm, on_line, nothing, evaluate, declare as declare_unset, initialize, block, choose, loop, leave, next, return, goto, label, named, embedded_statement, Stms, no_stms, stms}
 use Rattle.ec_resolving_defs.specs.Conversions.{size_in, as_known_type}
 use Rattle.ec_resolving_defs.specs.Storage.{Site, numbered, slotted, nowhere, next_site, with_site, with_global, with_object_of, Resolving, ◌>>=◌, ◌>>◌, pure, checks, ask, stored, arrange, in_block}
 use Rattle.ec_resolving_defs.specs.Operands.{place_in, value_rule, done_alone}
@@ -234,7 +234,7 @@ abbrev mutual
   statement_kind a at (label_stmt l s) = do
     checks (declare_label at l)
     x ← statement a s
-    pure (label (place_in l a.labels) x)
+    pure (label (named (place_in l a.labels)) x)
   statement_kind a at (decl_stmt d) = do
     ss ← declaration false d
     pure (together ss)

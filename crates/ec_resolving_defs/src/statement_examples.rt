@@ -9,7 +9,7 @@ ghost use Rattle.ec_arguments.specs.Arguments.{symbol, literal as literal_arg, n
 ghost use Rattle.ec_meaning_defs.specs.functions.Functions.{puts};
 ghost use Rattle.ec_memory_defs.specs.Memory.{number, pointer_to, little_endian_bytes};
 ghost use Rattle.ec_meaning_defs.specs.resolved.Operations.{plus, integers, pointer_plus};
-ghost use Rattle.ec_meaning_defs.specs.resolved.Resolved.{object, slot, member, load, whole, store, copy, put, convert, operate, call, known, on_line, nothing, evaluate, declare, initialize, block, choose, loop, leave, next, return, goto, label, embedded_statement, library_call, faulty};
+ghost use Rattle.ec_meaning_defs.specs.resolved.Resolved.{object, slot, member, load, whole, store, copy, put, convert, operate, call, known, named, on_line, nothing, evaluate, declare, initialize, block, choose, loop, leave, next, return, goto, label, embedded_statement, library_call, faulty};
 ghost use Rattle.ec_meaning_defs.specs.evaluation.State.{stuck};
 ghost use Rattle.ec_meaning_defs.specs.evaluation.Examples.{int, char, short, bool, lit, get, set, is_less, bump, read_as, args, all, at, does};
 ghost use Rattle.ec_ctypes.specs.trees.Types.{arithmetic};
@@ -45,8 +45,8 @@ pub fn statement_forms()
         (together (does (call 0 false cl) ∷ loop true (Some (call 0 true cl))
         (Some (call 0 false cl)) (on_line 1 nothing) ∷ [])) ∷ [] }
     ensures labels_by_their_order { statements_of "goto b; a: goto a; { b: ; }"
-        ≡ on_line 1 (goto 1) ∷ on_line 1 (label 0 (on_line 1 (goto 0)))
-        ∷ on_line 1 (block [] (all (on_line 1 (label 1 (on_line 1 nothing)) ∷ []))) ∷ [] }
+        ≡ on_line 1 (goto 1) ∷ on_line 1 (label (named 0) (on_line 1 (goto 0)))
+        ∷ on_line 1 (block [] (all (on_line 1 (label (named 1) (on_line 1 nothing)) ∷ []))) ∷ [] }
     ensures return_converts { body_in 0 "long f(char c) { return c; } int main(void) { }"
         ≡ on_line 1 (return (Some (as_read char long (slot 0)))) ∷ [] }
     ensures return_nothing { body_in 0 "void f(void) { return; } int main(void) { }"

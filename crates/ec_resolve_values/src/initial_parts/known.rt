@@ -90,7 +90,7 @@ fn known_plain(plain: &Plain) -> Option<Word>
     value
 }
 
-/// The value where an expression begins that holds a call: that of a call isn't known.
+/// The value where an expression begins that holds a call or `?:`: that of neither is known.
 fn known_head(head: &Head) -> Option<Word>
     ensures { option_map word_view result ≡ known_value (head_view head.now) }
 {
@@ -99,6 +99,7 @@ fn known_head(head: &Head) -> Option<Word>
         Head::Call(_, _, _) => None,
         Head::Known(_, _) => None,
         Head::LibraryCall(_, _) => None,
+        Head::Choice(_, _, _) => None,
     }
 }
 
