@@ -23,6 +23,7 @@ use Rattle.ec_sim_program_laws.proofs.types_lemmas.Rules.{EntryIn, name_typed}
 use Rattle.ec_sound_defs.specs.Sorts.{Sort, Takes, number_sort, address_sort, any_sort}
 use Rattle.ec_sound_defs.specs.Sound.{Signature, Has, HasEach, Called, call_gives, count_of, no_atoms}
 use Rattle.ec_sound_defs.specs.Types.{type_sort}
+use Rattle.ec_sound_form_laws.specs.Names.{signature_of}
 use Rattle.ec_sound_form_laws.specs.Fits.{IsValue, AreValues}
 use Rattle.ec_sound_form_laws.specs.Formats.{IsTakenApart}
 use Rattle.ec_sound_form_laws.specs.Laws.{IsKnownAs}
@@ -31,7 +32,7 @@ use Rattle.ec_sound_form_laws.proofs.Formats.{formats_are_taken_apart}
 use Rattle.ec_sound_form_laws.proofs.Known.{known_is}
 use Rattle.ec_sound_form_laws.proofs.Found.{AreAllSome, computed_is, passed_any, passed_each, passed_count, operands_count, formatted_each}
 use Rattle.ec_sound_expression_laws.specs.Arguments.{ArgumentsServe}
-use Rattle.ec_sound_expression_laws.specs.Standing.{Serves, ServesAsValue, signature_of}
+use Rattle.ec_sound_expression_laws.specs.Standing.{Serves, ServesAsValue}
 use Rattle.ec_sound_expression_laws.proofs.Basics.{clash, left, right}
 use Rattle.ec_sound_expression_laws.proofs.Done.{no_assignable}
 use Rattle.ec_sound_expression_laws.proofs.Names.{free_forms, no_symbols, plain_no_stream}

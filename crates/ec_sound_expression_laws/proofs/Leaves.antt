@@ -25,11 +25,12 @@ use Rattle.ec_sim_program_laws.proofs.types_lemmas.Rules.{EntryIn, name_typed}
 use Rattle.ec_sim_program_laws.proofs.types_lemmas.Structs.{whole_complete, type_shaped}
 use Rattle.ec_sound_defs.specs.Sorts.{address_sort}
 use Rattle.ec_sound_defs.specs.Sound.{Signature, Has, no_atoms}
+use Rattle.ec_sound_form_laws.specs.Names.{SiteStands}
 use Rattle.ec_sound_form_laws.specs.Fits.{IsValue, FoundFits}
 use Rattle.ec_sound_form_laws.specs.Laws.{assigns, gives_value}
 use Rattle.ec_sound_form_laws.proofs.Answered.{Tells, told, pure_tells, asked, fault, member_tells, arrow_tells, size_tells}
 use Rattle.ec_sound_form_laws.proofs.Found.{computed_is, place_is, member_is, arrow_is, size_is}
-use Rattle.ec_sound_expression_laws.specs.Standing.{SiteStands, Serves, ServesAsValue}
+use Rattle.ec_sound_expression_laws.specs.Standing.{Serves, ServesAsValue}
 use Rattle.ec_sound_expression_laws.proofs.Basics.{clash, none_not}
 use Rattle.ec_sound_expression_laws.proofs.Done.{value_serves, address_serves, target_serves, sign_serves, binary_serves, index_serves, assign_serves, compound_serves, bump_serves, cast_serves}
 use Rattle.ec_sound_expression_laws.proofs.Offsets.{has_offset, member_typed, is_there}

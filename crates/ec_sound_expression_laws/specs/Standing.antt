@@ -1,43 +1,20 @@
 -- What stands where an expression does: each name in scope is that of an object in scope, or of a function that has its signature.
-use Rattle.std.specs.Prelude.{◌≡◌, ◌<◌, ◌⊎◌, ℕ, Bool, true, false, List, length, slice_get, Option, Some, None, is_some}
-use Rattle.ec_ctypes.specs.trees.Types.{TyData, void}
+use Rattle.std.specs.Prelude.{◌≡◌, ◌⊎◌, ℕ, Bool, false, List, Some}
+use Rattle.ec_ctypes.specs.trees.Types.{void}
 use Rattle.ec_language.specs.Letters.{Text}
 use Rattle.ec_typing_defs.specs.Known.{is_reserved}
-use Rattle.ec_typing_defs.specs.Tables.{Named, find}
-use Rattle.ec_typing_defs.specs.Worlds.{EntryData, object, function, World, look_up}
-use Rattle.ec_resolving_defs.specs.Operands.{Found, place_in}
-use Rattle.ec_resolving_defs.specs.Storage.{Storage, Site, numbered, slotted, nowhere, LibraryCall}
+use Rattle.ec_typing_defs.specs.Tables.{Named}
+use Rattle.ec_typing_defs.specs.Worlds.{EntryData, World, look_up}
+use Rattle.ec_resolving_defs.specs.Operands.{Found}
+use Rattle.ec_resolving_defs.specs.Storage.{Storage, Site, LibraryCall}
 use Rattle.ec_sim_program_laws.proofs.types_lemmas.Rules.{Sound}
-use Rattle.ec_sound_defs.specs.Sorts.{Sort, any_sort}
+use Rattle.ec_sound_defs.specs.Sorts.{any_sort}
 use Rattle.ec_sound_defs.specs.Sound.{Signature, Has, no_atoms}
-use Rattle.ec_sound_defs.specs.Types.{type_sort}
 use Rattle.ec_sound_defs.specs.Written.{library_atoms}
+use Rattle.ec_sound_form_laws.specs.Names.{EntryStands}
 use Rattle.ec_sound_form_laws.specs.Fits.{IsValue, FoundFits}
 
 -- ---- names
-
--- the sort of what a function gives
-abbrev pub gives_of : Option TyData → Sort
-gives_of None = any_sort
-gives_of (Some t) = type_sort t
-
-abbrev pub signature_of : Option TyData → List (Option TyData) → Signature
-signature_of r ps = record { takes = length ps; gives = gives_of r }
-
--- an object of the program, or one of so many that are in scope
-abbrev pub SiteStands : ℕ → Option Site → Type 0
-SiteStands n None = ⊥
-SiteStands n (Some (numbered k)) = Unit {0}
-SiteStands n (Some (slotted i)) = i < n
-SiteStands n (Some nowhere) = ⊥
-
--- A function has the signature of its parameters, which are known.
-abbrev pub EntryStands : List Signature → ℕ → List Site → Named (Unit {0}) → Text → EntryData → Type 0
-EntryStands gs n sites defined name (object k global t) = SiteStands n (slice_get sites k)
-EntryStands gs n sites defined name (function k done r None) = ⊥
-EntryStands gs n sites defined name (function k done r (Some ps)) =
-    is_some (find name defined) ≡ true
-    → slice_get gs (place_in name defined) ≡ Some (signature_of r ps)
 
 -- Each name that stands for something does so with so many objects in scope, and is not reserved.
 pub record NamesStand (gs : List Signature) (n : ℕ) (sites : List Site) (defined : Named (Unit {0}))

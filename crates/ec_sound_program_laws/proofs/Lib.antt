@@ -1,8 +1,16 @@
 pub mod Bodies
 pub mod Declarations
+pub mod Ends
+pub mod Functions
+pub mod Heads
 pub mod Initials
+pub mod Making
+pub mod Parameters
+pub mod Programs
 pub mod Runs
 pub mod Sides
+pub mod Signatures
 pub mod Starting
 pub mod Statements
+pub mod Typed
 pub mod Values

@@ -1,31 +1,32 @@
 -- Parts of the walk through statements: where nothing is wrong, names have types and are not reserved behind each, and its answer is sound.
-use Rattle.std.proofs.Common.{◌≡◌, ◌∙◌, ℕ, ◌+◌, ◌≤◌, Bool, List, [], ◌∷◌, length, Option, Some, None, refl, sym, ap, subst, slice_get, arith}
+use Rattle.std.proofs.Common.{◌≡◌, ◌∙◌, ℕ, ◌+◌, ◌≤◌, Bool, List, [], ◌∷◌, length, Option, Some, None, refl, sym, ap, subst, arith}
 use Rattle.ec_language.specs.Letters.{Text}
 use Rattle.ec_typing_defs.specs.Tables.{Named, find}
 use Rattle.ec_typing_defs.specs.Worlds.{EntryData, object, function, ScopeData, World, Rule, Out, look_up, look_up_in, or_else, entered, left, enter, leave, change, chain as check_chain, pure as check_pure}
 use Rattle.ec_typing_defs.specs.Worlds as checked
 use Rattle.ec_meaning_defs.specs.observed.Run.{IsFront}
 use Rattle.ec_resolving_defs.specs.Statements.{scoped}
-use Rattle.ec_resolving_defs.specs.Storage.{Site, numbered, slotted, nowhere, Storage, Reached, Resolving, LibraryCall, inside_block, in_block, chain, pure, checks, stored, arrange}
+use Rattle.ec_resolving_defs.specs.Storage.{Site, Storage, Reached, Resolving, LibraryCall, inside_block, in_block, chain, pure, checks, stored, arrange}
 use Rattle.ec_sim_world_laws.specs.growth.Growth.{Grows}
 use Rattle.ec_sim_world_laws.proofs.growth_lemmas.Rules.{grows_itself, grows_further, begins_itself, begins_further, enter_grows, leave_grows}
 use Rattle.ec_sim_world_laws.proofs.known_lemmas.NamesRules.{NamesStay, Staying}
 use Rattle.ec_sim_world_laws.proofs.known_lemmas.SitesIdle.{Idle}
 use Rattle.ec_resolving_defs.specs.Agreement.{Finds}
+use Rattle.ec_sound_form_laws.specs.Names.{EntryStands}
 use Rattle.ec_sound_expression_laws.proofs.Storing.{Stores}
 use Rattle.ec_sim_program_laws.proofs.types_lemmas.Rules.{Sound, Shallow, shallow_before, both_none, Stays, Typing, leave_types}
 use Rattle.ec_sound_defs.specs.Sound.{Signature}
 use Rattle.ec_sound_expression_laws.specs.Standing as mine
 use Rattle.ec_sound_expression_laws.proofs.Basics.{none_not}
 use Rattle.ec_sound_expression_laws.proofs.Walks.{Walk}
-use Rattle.ec_sound_statement_laws.specs.Sites.{SiteStands, EntryStands, NamesStand, ScopesStand, in_scope, Room}
+use Rattle.ec_sound_statement_laws.specs.Sites.{NamesStand, ScopesStand, in_scope, Room}
 use Rattle.ec_sound_statement_laws.proofs.Making.{in_block_full}
 use Rattle.ec_sound_statement_laws.proofs.Scopes.{left_here, left_outer}
 use Rattle.ec_sound_statement_laws.proofs.Sites.{Quiet, Sites, quiet, quiet_pure, quiet_checks, scope_kept, room_kept, scoped_sites, block_sites, sites_stand, names_grow, scopes_grow}
 use Rattle.ec_sound_statement_laws.proofs.Sites as sites
 use Rattle.ec_sound_program_laws.specs.Standing.{Free, IsGood, IsKnown}
 
-same_names : (w z : World) → NamesStay w z → (name : Text) → look_up name z ≡ look_up name w
+pub same_names : (w z : World) → NamesStay w z → (name : Text) → look_up name z ≡ look_up name w
 same_names w z h name = λ j. or_else (find name (h.here j)) (look_up_in (h.outer j) name)
 
 module _ (gs : List Signature) (calls : List LibraryCall) (written : Bool) where
@@ -37,32 +38,21 @@ module _ (gs : List Signature) (calls : List LibraryCall) (written : Bool) where
 
   -- ---- names, by scopes
 
-  same_site : (n : ℕ) (o : Option Site) → SiteStands n o → mine.SiteStands n o
-  same_site n None h = h
-  same_site n (Some (numbered k)) h = h
-  same_site n (Some (slotted i)) h = h
-  same_site n (Some nowhere) h = h
-
-  same_entry : (n : ℕ) (xs : List Site) (ds : Named (Unit {0})) (name : Text) (entry : EntryData) → EntryStands gs n xs ds name entry → mine.EntryStands gs n xs ds name entry
-  same_entry n xs ds name (object k global t) h = same_site n (slice_get xs k) h
-  same_entry n xs ds name (function k done r None) h = h
-  same_entry n xs ds name (function k done r (Some ps)) h = h
-
-  found_either : (n : ℕ) (xs : List Site) (ds : Named (Unit {0})) (name : Text) (entry : EntryData) (a b : Option EntryData) → (a ≡ Some entry → mine.EntryStands gs n xs ds name entry)
-      → (b ≡ Some entry → mine.EntryStands gs n xs ds name entry) → or_else a b ≡ Some entry → mine.EntryStands gs n xs ds name entry
+  found_either : (n : ℕ) (xs : List Site) (ds : Named (Unit {0})) (name : Text) (entry : EntryData) (a b : Option EntryData) → (a ≡ Some entry → EntryStands gs n xs ds name entry)
+      → (b ≡ Some entry → EntryStands gs n xs ds name entry) → or_else a b ≡ Some entry → EntryStands gs n xs ds name entry
   found_either n xs ds name entry None b f g e = g e
   found_either n xs ds name entry (Some x) b f g e = f e
 
-  found_outside : (n : ℕ) (xs : List Site) (ds : Named (Unit {0})) (ss : List ScopeData) → ScopesStand gs n xs ds ss → (name : Text) (entry : EntryData) → look_up_in ss name ≡ Some entry → mine.EntryStands gs n xs ds name entry
+  found_outside : (n : ℕ) (xs : List Site) (ds : Named (Unit {0})) (ss : List ScopeData) → ScopesStand gs n xs ds ss → (name : Text) (entry : EntryData) → look_up_in ss name ≡ Some entry → EntryStands gs n xs ds name entry
   found_outside n xs ds [] h name entry e = none_not e
   found_outside n xs ds (s ∷ ss) h name entry e =
-      found_either n xs ds name entry (find name s.names) (look_up_in ss name) (λ f. same_entry n xs ds name entry (h.0 name entry f)) (λ f. found_outside n xs ds ss h.1 name entry f) e
+      found_either n xs ds name entry (find name s.names) (look_up_in ss name) (λ f. h.0 name entry f) (λ f. found_outside n xs ds ss h.1 name entry f) e
 
   -- what names stand for, by the scopes
   pub scopes_stand : (n : ℕ) (xs : List Site) (ds : Named (Unit {0})) (w : World) → NamesStand gs n xs ds w.here.names → ScopesStand gs n xs ds w.outer
-      → (name : Text) (entry : EntryData) → look_up name w ≡ Some entry → mine.EntryStands gs n xs ds name entry
+      → (name : Text) (entry : EntryData) → look_up name w ≡ Some entry → EntryStands gs n xs ds name entry
   scopes_stand n xs ds w h g name entry is =
-      found_either n xs ds name entry (find name w.here.names) (look_up_in w.outer name) (λ f. same_entry n xs ds name entry (h name entry f)) (λ f. found_outside n xs ds w.outer g name entry f) is
+      found_either n xs ds name entry (find name w.here.names) (look_up_in w.outer name) (λ f. h name entry f) (λ f. found_outside n xs ds w.outer g name entry f) is
 
   pub known_stands : (n : ℕ) (s : Storage) (w : World) → in_scope s ≡ n → Known s w → mine.IsStanding gs n written s w
   known_stands n s w e h = record {
@@ -71,7 +61,7 @@ module _ (gs : List Signature) (calls : List LibraryCall) (written : Bool) where
     names = subst (λ k. mine.NamesStand gs k s.sites s.defined w) e (record {
       defined_there = h.defined;
       stand = λ name entry is. found_either (in_scope s) s.sites s.defined name entry (find name w.here.names) (look_up_in w.outer name)
-          (λ f. same_entry (in_scope s) s.sites s.defined name entry (h.standing.here name entry f)) (λ f. found_outside (in_scope s) s.sites s.defined w.outer h.standing.outer name entry f) is;
+          (λ f. h.standing.here name entry f) (λ f. found_outside (in_scope s) s.sites s.defined w.outer h.standing.outer name entry f) is;
       free = h.good.free;
     });
   }

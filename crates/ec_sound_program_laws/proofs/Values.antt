@@ -22,11 +22,12 @@ use Rattle.ec_sound_defs.specs.Sorts.{address_sort, any_sort}
 use Rattle.ec_sound_defs.specs.Sound.{Signature, Atoms, Has, HasOption, Around, Sound, no_atoms}
 use Rattle.ec_sound_defs.specs.Types.{type_sort}
 use Rattle.ec_sound_defs.specs.Written.{library_atoms}
+use Rattle.ec_sound_form_laws.specs.Names.{gives_of}
 use Rattle.ec_sound_form_laws.specs.Fits.{IsValue, FormFits, FoundFits}
 use Rattle.ec_sound_form_laws.proofs.Forms.{as_any}
 use Rattle.ec_sound_form_laws.proofs.Found.{alone_is}
 use Rattle.ec_sound_expression_laws.specs.Plain.{IsPlain}
-use Rattle.ec_sound_expression_laws.specs.Standing.{Serves, ServesAsValue, gives_of}
+use Rattle.ec_sound_expression_laws.specs.Standing.{Serves, ServesAsValue}
 use Rattle.ec_sound_expression_laws.proofs.Basics.{clash, both_false, with_atoms}
 use Rattle.ec_sound_expression_laws.proofs.Expressions.{expr_walks}
 use Rattle.ec_sound_expression_laws.proofs.Leaves.{value_walks}

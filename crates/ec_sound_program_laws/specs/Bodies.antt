@@ -16,7 +16,7 @@ use Rattle.ec_sim_program_laws.proofs.types_lemmas.Rules.{Shallow}
 use Rattle.ec_sim_world_laws.specs.closing.Closing.{IsTyped}
 use Rattle.ec_sound_defs.specs.Sound.{Signature, SoundAll}
 use Rattle.ec_sound_defs.specs.Written.{library_atoms}
-use Rattle.ec_sound_expression_laws.specs.Standing.{gives_of}
+use Rattle.ec_sound_form_laws.specs.Names.{gives_of}
 use Rattle.ec_sound_statement_laws.specs.Sites.{in_scope}
 use Rattle.ec_sound_program_laws.specs.Plain.{StmtsArePlain}
 use Rattle.ec_sound_program_laws.specs.Standing.{IsKnown, here_in}

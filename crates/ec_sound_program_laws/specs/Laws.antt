@@ -16,9 +16,9 @@ use Rattle.ec_sim_world_laws.specs.closing.Closing.{IsTyped}
 use Rattle.ec_sound_defs.specs.Sorts.{Sort, any_sort}
 use Rattle.ec_sound_defs.specs.Sound.{Signature, Around, Has, Sound, SoundAll}
 use Rattle.ec_sound_defs.specs.Written.{library_atoms}
+use Rattle.ec_sound_form_laws.specs.Names.{gives_of}
 use Rattle.ec_sound_expression_laws.specs.Laws.{FitsFrom, IsFit}
 use Rattle.ec_sound_expression_laws.specs.Plain.{IsPlain}
-use Rattle.ec_sound_expression_laws.specs.Standing.{gives_of}
 use Rattle.ec_sound_statement_laws.specs.Values.{AreStored}
 use Rattle.ec_sound_program_laws.specs.Plain.{OptionIsPlain, InitIsPlain, StmtsArePlain}
 use Rattle.ec_sound_program_laws.specs.Standing.{IsKnown, IsInside, here_in}

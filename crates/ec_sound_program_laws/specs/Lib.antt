@@ -1,4 +1,5 @@
 pub mod Bodies
 pub mod Laws
 pub mod Plain
+pub mod Programs
 pub mod Standing

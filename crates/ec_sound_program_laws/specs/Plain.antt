@@ -1,7 +1,8 @@
 -- Initializers, declarations, statements and programs as they are read, without embedded statements.
-use Rattle.std.specs.Prelude.{Option, Some, None}
+use Rattle.std.specs.Prelude.{List, [], ◌∷◌, Option, Some, None}
 use Rattle.ec_ctypes.specs.trees.Exprs.{ExprData, InitData, one, many, InitList, no_inits, inits, InitOption, no_init, some_init, DeclaratorData, declarator, DeclaratorList, no_declarators, declarators, DeclData, decl}
 use Rattle.ec_ctypes.specs.trees.Stmts.{StmtData, stmt, StmtKindData, empty_stmt, expr_stmt, block_stmt, if_stmt, while_stmt, do_stmt, for_stmt, break_stmt, continue_stmt, return_stmt, goto_stmt, label_stmt, decl_stmt, emb_stmt, mark_stmt, StmtList, no_stmts, stmts, StmtOption, no_stmt, some_stmt}
+use Rattle.ec_ctypes.specs.trees.Units.{TopData, include_top, directive_top, decl_top, func_top, mark_top}
 use Rattle.ec_sound_expression_laws.specs.Plain.{IsPlain}
 
 abbrev pub OptionIsPlain : Option ExprData → Type 0
@@ -59,3 +60,19 @@ abbrev mutual
   pub OtherIsPlain : StmtOption → Type 0
   OtherIsPlain no_stmt = Unit {0}
   OtherIsPlain (some_stmt s) = StmtIsPlain s
+
+abbrev pub BodyIsPlain : Option StmtList → Type 0
+BodyIsPlain None = Unit {0}
+BodyIsPlain (Some ss) = StmtsArePlain ss
+
+-- without directives, which are embedded
+abbrev pub TopIsPlain : TopData → Type 0
+TopIsPlain (include_top bytes) = Unit {0}
+TopIsPlain (directive_top n) = ⊥
+TopIsPlain (decl_top d) = DeclIsPlain d
+TopIsPlain (func_top f) = BodyIsPlain f.body
+TopIsPlain (mark_top opens line) = Unit {0}
+
+abbrev pub TopsArePlain : List TopData → Type 0
+TopsArePlain [] = Unit {0}
+TopsArePlain (t ∷ ts) = TopIsPlain t × TopsArePlain ts

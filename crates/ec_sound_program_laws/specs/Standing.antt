@@ -16,7 +16,7 @@ use Rattle.ec_sim_program_laws.proofs.types_lemmas.Rules.{Sound}
 use Rattle.ec_sim_world_laws.specs.closing.Closing.{IsTyped}
 use Rattle.ec_sound_defs.specs.Sorts.{Sort}
 use Rattle.ec_sound_defs.specs.Sound.{Signature, Around}
-use Rattle.ec_sound_expression_laws.specs.Standing.{gives_of}
+use Rattle.ec_sound_form_laws.specs.Names.{gives_of}
 use Rattle.ec_sound_statement_laws.specs.Sites.{Standing}
 
 -- no name that is in scope is reserved

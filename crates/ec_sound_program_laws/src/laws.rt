@@ -4,6 +4,7 @@ ghost use Rattle.std.specs.Prelude.{List, Bool};
 ghost use Rattle.ec_resolving_defs.specs.Storage.{LibraryCall};
 ghost use Rattle.ec_sound_defs.specs.Sound.{Signature};
 ghost use Rattle.ec_sound_program_laws.specs.Bodies.{BodiesAreSound};
+ghost use Rattle.ec_sound_program_laws.specs.Programs.{ProgramsAreSound};
 ghost use Rattle.ec_sound_program_laws.specs.Standing.{StartIsKnown};
 ghost use Rattle.ec_sound_program_laws.specs.Laws.{ConditionsFit, UnusedFit, ReturnsFit, InitialsFit, StatementsAreSound};
 
@@ -39,4 +40,10 @@ pub fn bodies_are_sound()
 /// What these laws ask of what is known holds where a program begins.
 pub fn starts_are_known()
     ensures { StartIsKnown }
+{}
+
+/// So is a whole program with which nothing is wrong, as written C or not, where it is read without embedded statements: each
+/// function has the signature by which it is known at the program's end, and calls of it everywhere agree with that.
+pub fn programs_are_sound()
+    ensures { (written : Bool) → ProgramsAreSound written }
 {}

@@ -68,12 +68,12 @@ in_block_gives n m h = record {
 
 -- ---- one function
 
-params_count : (at : Place) (defined : Bool) (qs : List ParamData) (s : Storage) (w : World) → length (params at defined qs s w).answer ≡ length qs
+pub params_count : (at : Place) (defined : Bool) (qs : List ParamData) (s : Storage) (w : World) → length (params at defined qs s w).answer ≡ length qs
 unfolding chain pure
 params_count at defined [] s w = refl
 params_count at defined (q ∷ qs) s w = ap (λ n. suc n) (params_count at defined qs (param at defined q s w).storage (param at defined q s w).world)
 
-mapped_count : {A B : Type 0} (g : A → B) (xs : List A) → length (map g xs) ≡ length xs
+pub mapped_count : {A B : Type 0} (g : A → B) (xs : List A) → length (map g xs) ≡ length xs
 mapped_count g [] = refl
 mapped_count g (x ∷ xs) = ap (λ n. suc n) (mapped_count g xs)
 

@@ -102,7 +102,7 @@ unfolding declare free_name chain ask change
 declared_world at name entry w = growth.demand_same at F12 (not (is_reserved name)) (demand at F10 (not (is_some (find name w.here.names))) (with_name name entry w)).world
     ∙ growth.demand_same at F10 (not (is_some (find name w.here.names))) (with_name name entry w)
 
-declared_new : (at : Place) (name : Text) (entry : EntryData) (w : World) → (declare at name entry w).found ≡ [] → is_some (find name w.here.names) ≡ false
+pub declared_new : (at : Place) (name : Text) (entry : EntryData) (w : World) → (declare at name entry w).found ≡ [] → is_some (find name w.here.names) ≡ false
 unfolding declare free_name chain ask change
 declared_new at name entry w found =
     let b = is_some (find name w.here.names) in
@@ -114,7 +114,7 @@ pub first_none : {A B : Type 0} (m : Rule A) (f : A → Rule B) (w : World) → 
 unfolding chain
 first_none m f w e = (both_none (m w).found (f (m w).answer (m w).world).found e).0
 
-second_none : {A B : Type 0} (m : Rule A) (f : A → Rule B) (w : World) → (chain m f w).found ≡ [] → (f (m w).answer (m w).world).found ≡ []
+pub second_none : {A B : Type 0} (m : Rule A) (f : A → Rule B) (w : World) → (chain m f w).found ≡ [] → (f (m w).answer (m w).world).found ≡ []
 unfolding chain
 second_none m f w e = (both_none (m w).found (f (m w).answer (m w).world).found e).1
 
@@ -133,7 +133,7 @@ stay : {ds : Named (Unit {0})} {A : Type 0} {m : Rule A} → Staying m → Walks
 stay {ds} {m = m} h = record { walks = λ w level found. same_level ds w (m w).world (h.stays w).here (h.stays w).outer level }
 
 -- behind the type of a declarator
-abbrev item_behind : Place → Bool → DeclaratorData → Option TyData → Rule (Unit {0})
+abbrev pub item_behind : Place → Bool → DeclaratorData → Option TyData → Rule (Unit {0})
 item_behind at global (declarator stars name ns init) before =
     chain (ask next_number) (λ k. chain (declare at name (object k global before)) (λ _. chain (initial at global before init) (λ ty. chain (within_rule at ty) (λ _. chain (know_better name (object k global ty)) (λ _. number_as (type_or_void ty))))))
 

@@ -118,12 +118,12 @@ names_have_places written u e n f is = ap (λ ds. place_in f.name ds) (all_defin
 
 -- ---- main
 
-record MainIs (fs : List FuncData) : Type 0 where
-  number : ℕ
-  function : FuncData
-  is : slice_get fs number ≡ Some function
-  named : same_text function.name (codes "main") ≡ true
-  alone : has_no_params function.params ≡ true
+pub record MainIs (fs : List FuncData) : Type 0 where
+  pub number : ℕ
+  pub function : FuncData
+  pub is : slice_get fs number ≡ Some function
+  pub named : same_text function.name (codes "main") ≡ true
+  pub alone : has_no_params function.params ≡ true
 
 behind_own : (b : Option StmtList) (f : FuncData) (fs : List FuncData) → MainIs fs → MainIs (if_defined b f ++ fs)
 behind_own None f fs h = h
@@ -143,7 +143,7 @@ own_main (Some ss) f fs e =
     let q = both_true (same_text f.name (codes "main") && true) (is_int f.base f.stars) p.0 in
     record { number = 0; function = f; is = refl; named = (both_true (same_text f.name (codes "main")) true q.0).0; alone = p.1 }
 
-main_is : (ts : List TopData) → has_main ts ≡ true → MainIs (definitions ts)
+pub main_is : (ts : List TopData) → has_main ts ≡ true → MainIs (definitions ts)
 main_is [] e = absurd (cc)
 main_is (include_top bytes ∷ ts) e = main_is ts e
 main_is (directive_top n ∷ ts) e = main_is ts e
@@ -174,7 +174,7 @@ none_counted : {A : Type 0} (xs : List A) → length xs ≡ 0 → xs ≡ []
 none_counted [] e = refl
 none_counted (x ∷ xs) e = absurd (omega (arith, e))
 
-unit_has_main : (written : Bool) (u : UnitData) → violations written u ≡ [] → has_main u.tops ≡ true
+pub unit_has_main : (written : Bool) (u : UnitData) → violations written u ≡ [] → has_main u.tops ≡ true
 unfolding chain place main_rule
 unit_has_main written u e =
     let o = tops_rule u.embs u.tops (start written u) in

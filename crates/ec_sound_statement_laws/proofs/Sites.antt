@@ -40,8 +40,9 @@ use Rattle.ec_sim_world_laws.proofs.known_lemmas.SitesRules as counting
 use Rattle.ec_sim_world_laws.proofs.known_lemmas.SitesRules.{Leads, then_leads, stands_lead, counts_one, counts_same}
 use Rattle.ec_sim_world_laws.proofs.known_lemmas.SitesChecks.{declare_still, better_still, declare_param_still, enter_still, leave_still}
 use Rattle.ec_sound_defs.specs.Sound.{Signature}
+use Rattle.ec_sound_form_laws.specs.Names.{SiteStands, EntryStands}
 use Rattle.ec_sound_statement_laws.specs.Objects.{Spares, Makes}
-use Rattle.ec_sound_statement_laws.specs.Sites.{SiteStands, EntryStands, NamesStand, ScopesStand, in_scope, Room, Stands}
+use Rattle.ec_sound_statement_laws.specs.Sites.{NamesStand, ScopesStand, in_scope, Room, Stands}
 use Rattle.ec_sound_statement_laws.proofs.Sparing as sparing
 use Rattle.ec_sound_statement_laws.proofs.Sparing.{expr_spares, base_spares, lengths_spare, last_spares, outer_spare, initializer_spares, checks_spare, ask_spares, pure_spares, stored_spares}
 use Rattle.ec_sound_statement_laws.proofs.Making as making

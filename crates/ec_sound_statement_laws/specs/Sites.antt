@@ -1,48 +1,23 @@
 -- Names in scope: an object has its place among those in scope, and a function the signature of its parameters.
-use Rattle.std.specs.Prelude.{◌≡◌, ◌<◌, ◌+◌, ℕ, Bool, true, false, List, [], ◌∷◌, length, slice_get, Option, Some, None, is_some}
+use Rattle.std.specs.Prelude.{◌≡◌, ◌+◌, ℕ, Bool, true, false, List, [], ◌∷◌, length, Some}
 use Rattle.ec_ctypes.specs.trees.Exprs.{ExprData, DeclData}
 use Rattle.ec_ctypes.specs.trees.Stmts.{StmtData, StmtList}
-use Rattle.ec_ctypes.specs.trees.Types.{TyData}
 use Rattle.ec_ctypes.specs.trees.Units.{ParamData}
 use Rattle.ec_language.specs.Letters.{Text}
 use Rattle.ec_typing_defs.specs.Tables.{Named, find}
-use Rattle.ec_typing_defs.specs.Worlds.{Place, EntryData, object, function, ScopeData, World}
+use Rattle.ec_typing_defs.specs.Worlds.{Place, EntryData, ScopeData, World}
 use Rattle.ec_resolving_defs.specs.Expressions.{expr}
-use Rattle.ec_resolving_defs.specs.Operands.{place_in}
 use Rattle.ec_resolving_defs.specs.Programs.{params}
 use Rattle.ec_resolving_defs.specs.Statements.{Around, declaration, objects_of_decl, objects_in, objects_in_all, statement, statements}
-use Rattle.ec_resolving_defs.specs.Storage.{Site, numbered, slotted, nowhere, Storage, Resolving}
-use Rattle.ec_sound_defs.specs.Sorts.{Sort, any_sort}
+use Rattle.ec_resolving_defs.specs.Storage.{Site, Storage, Resolving}
 use Rattle.ec_sound_defs.specs.Sound.{Signature}
-use Rattle.ec_sound_defs.specs.Types.{type_sort}
-
--- the sort of what a function gives
-abbrev pub gives_of : Option TyData → Sort
-gives_of None = any_sort
-gives_of (Some t) = type_sort t
-
-abbrev pub signature_of : Option TyData → List (Option TyData) → Signature
-signature_of r ps = record { takes = length ps; gives = gives_of r }
-
--- an object of the program, or one of so many that are in scope
-abbrev pub SiteStands : ℕ → Option Site → Type 0
-SiteStands n None = ⊥
-SiteStands n (Some (numbered k)) = Unit {0}
-SiteStands n (Some (slotted i)) = i < n
-SiteStands n (Some nowhere) = ⊥
+use Rattle.ec_sound_form_laws.specs.Names.{EntryStands}
 
 -- by the signatures, how many objects are in scope, where declarations are, and the functions that are defined
 module _ (gs : List Signature) (n : ℕ) (sites : List Site) (defined : Named (Unit {0})) where
-  -- A function that is defined has the signature of its parameters, which are known.
-  abbrev pub EntryStands : Text → EntryData → Type 0
-  EntryStands name (object k global t) = SiteStands n (slice_get sites k)
-  EntryStands name (function k done r None) = ⊥
-  EntryStands name (function k done r (Some ps)) = is_some (find name defined) ≡ true
-      → slice_get gs (place_in name defined) ≡ Some (signature_of r ps)
-
   abbrev pub NamesStand : Named EntryData → Type 0
   NamesStand names = (x : Text) (entry : EntryData) → find x names ≡ Some entry
-      → EntryStands x entry
+      → EntryStands gs n sites defined x entry
 
   abbrev pub ScopesStand : List ScopeData → Type 0
   ScopesStand [] = Unit {0}

@@ -40,7 +40,7 @@ not_kept : (t : Option TyData) (b : Bool) → b ≡ true → IsTyped t → IsTyp
 not_kept t true e h = h
 not_kept t false e h = absurd (false≢true e)
 
-result_types : (at : Place) (t : Option TyData) → Typing (λ w. IsTyped t) (λ w s. IsTyped s) (result_rule at t)
+pub result_types : (at : Place) (t : Option TyData) → Typing (λ w. IsTyped t) (λ w s. IsTyped s) (result_rule at t)
 unfolding result_rule
 result_types at t = demanded _ _ (may_be_result t) (λ u. pure_types _ (λ w r. not_kept t (may_be_result t) r.0 r.1))
 
@@ -71,28 +71,28 @@ param_types at defined q h =
     typing.chained (typing.to (λ w a r. r.0) (typing.from (λ w r. (r, r)) (typing.beside (λ w. IsTyped t) (constant (IsTyped t)) (declare_param_types at defined q.name k t)))) (λ a.
     typing.chained (typing.to (λ w a r. r.0) (carried (λ w. IsTyped t) (constant (IsTyped t)) (number_types (type_or_void t)))) (λ c. pure_types t (λ w r. r))))))))
 
-params_types : (at : Place) (defined : Bool) (qs : List ParamData) → FitParams qs → Typing Any (λ w ts. AreAllTyped ts) (params at defined qs)
+pub params_types : (at : Place) (defined : Bool) (qs : List ParamData) → FitParams qs → Typing Any (λ w ts. AreAllTyped ts) (params at defined qs)
 params_types at defined [] h = pure_types [] (λ w r. tt)
 params_types at defined (q ∷ qs) h =
     typing.chained (param_types at defined q h.0) (λ t. typing.chained (carried (λ w. IsTyped t) (constant (IsTyped t)) (params_types at defined qs h.1)) (λ ts. pure_types (t ∷ ts) (λ w r. r)))
 
 -- ---- the names of functions
 
-begin_types : (name : Text) (k : ℕ) (done : Bool) (r : Option TyData) → Typing (λ w. IsTyped r) NoMore (begin_function name (function k done r None))
+pub begin_types : (name : Text) (k : ℕ) (done : Bool) (r : Option TyData) → Typing (λ w. IsTyped r) NoMore (begin_function name (function k done r None))
 unfolding begin_function
 begin_types name k done r = change_types _ (growth.names_grow _ (λ w. refl)) (λ w. refl) (λ w sound h.
     (record { here = put_typed name (function k done r None) w.here.names (h, tt) sound.here; outer = sound.outer; structs = sound.structs }, tt))
 
-outside_typed : (name : Text) (entry : EntryData) (ss : List ScopeData) → IsTypedEntry entry → AreTypedScopes ss → AreTypedScopes (put_outside name entry ss)
+pub outside_typed : (name : Text) (entry : EntryData) (ss : List ScopeData) → IsTypedEntry entry → AreTypedScopes ss → AreTypedScopes (put_outside name entry ss)
 outside_typed name entry [] h all = tt
 outside_typed name entry (s ∷ ss) h all = (put_typed name entry s.names h all.0, all.1)
 
-know_types : (name : Text) (k : ℕ) (done : Bool) (r : Option TyData) (ps : List (Option TyData)) → Typing (λ w. IsTyped r × AreAllTyped ps) NoMore (know_function name (function k done r (Some ps)))
+pub know_types : (name : Text) (k : ℕ) (done : Bool) (r : Option TyData) (ps : List (Option TyData)) → Typing (λ w. IsTyped r × AreAllTyped ps) NoMore (know_function name (function k done r (Some ps)))
 unfolding know_function
 know_types name k done r ps = change_types _ (growth.names_grow _ (λ w. refl)) (λ w. refl) (λ w sound h.
     (record { here = sound.here; outer = outside_typed name (function k done r (Some ps)) w.outer h sound.outer; structs = sound.structs }, tt))
 
-labels_types : Typing Any NoMore (change (λ w. record w { labels = [] }))
+pub labels_types : Typing Any NoMore (change (λ w. record w { labels = [] }))
 labels_types = change_types _ (growth.names_grow _ (λ w. refl)) (λ w. refl) (λ w sound r. (record { here = sound.here; outer = sound.outer; structs = sound.structs }, tt))
 
 -- ---- by a program whose statements are read so

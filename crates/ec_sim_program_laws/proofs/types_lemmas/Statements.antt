@@ -37,13 +37,13 @@ waits_open w has (arithmetic a) e = tt
 waits_open w has (pointer t) e = tt
 waits_open w has (structure k) e = absurd (false≢true e)
 
-object_open : (at : Place) (has : Bool) (t : Option TyData) → Typing (λ w. IsWithin max_nesting t) (λ w s. OpenIn w.structs s) (object_rule at has t)
+pub object_open : (at : Place) (has : Bool) (t : Option TyData) → Typing (λ w. IsWithin max_nesting t) (λ w s. OpenIn w.structs s) (object_rule at has t)
 unfolding object_rule
 object_open at has None = pure_types None (λ w r. absurd r)
 object_open at has (Some t) = asked _ _ (λ w waits. (waits ≡ true → Open w.structs t) × IsFlatType t) (λ w sound r. (waits_open w has t, r)) (λ waits.
     chosen waits (pure_types (Some t) (λ w r. (r.1.0 r.0, r.1.1))) (to (λ w s r. open_of w (Some t) s r.0 r.1.0 r.1.1) (from (λ w r. (tt, r.1.1)) (complete_kept at (Some t)))))
 
-initial_types : (at : Place) (global : Bool) (t : Option TyData) (i : InitOption) → FitsInit i → Typing (λ w. OpenIn w.structs t) (λ w s. IsTyped s) (initial at global t i)
+pub initial_types : (at : Place) (global : Bool) (t : Option TyData) (i : InitOption) → FitsInit i → Typing (λ w. OpenIn w.structs t) (λ w s. IsTyped s) (initial at global t i)
 initial_types at global t no_init h = pure_types t (λ w r. open_typed w.structs t r)
 initial_types at global t (some_init i) h = initializer_types at global t i h
 
@@ -70,7 +70,7 @@ declared_types : (tag : Text) (k : Option ℕ) → Typing Any NoMore (declared_t
 declared_types tag None = chained (tagged_sound tag) (λ a. pure_types _ (λ w r. tt))
 declared_types tag (Some k) = pure_types _ (λ w r. tt)
 
-alone_types : (at : Place) (tag : Text) → Typing Any NoMore (tag_alone at tag)
+pub alone_types : (at : Place) (tag : Text) → Typing Any NoMore (tag_alone at tag)
 unfolding tag_alone
 alone_types at tag = chained (free_tag_types at tag) (λ a. asked_any _ _ (λ known. declared_types tag known))
 
