@@ -1,8 +1,14 @@
+pub mod Blocks
+pub mod Bound
 pub mod Derived
+pub mod Endings
 pub mod Fitting
 pub mod Parts
 pub mod Plain
 pub mod Shallow
+pub mod Shapes
+pub mod Sources
 pub mod Steps
 pub mod Texts
 pub mod Tokens
+pub mod WrittenTrees

@@ -1,10 +1,11 @@
 -- What is read is plain.
-use Rattle.std.proofs.Common.{Option, Some, None}
+use Rattle.std.proofs.Common.{List, [], ◌∷◌, Option, Some, None}
 use Rattle.ec_ctypes.specs.trees.Exprs.{ExprData, integer, character, string, identifier, unary, binary, assign, bump, call, call_other, index, member, arrow, cast, size_type, size_expr, ExprList, no_exprs, exprs, InitData, one, many, InitList, no_inits, inits, InitOption, no_init, some_init, DeclaratorData, declarator, DeclaratorList, no_declarators, declarators, DeclData, decl}
 use Rattle.ec_ctypes.specs.trees.Stmts.{StmtData, stmt, StmtKindData, empty_stmt, expr_stmt, block_stmt, if_stmt, while_stmt, do_stmt, for_stmt, break_stmt, continue_stmt, return_stmt, goto_stmt, label_stmt, decl_stmt, emb_stmt, mark_stmt, StmtList, no_stmts, stmts, StmtOption, no_stmt, some_stmt}
+use Rattle.ec_ctypes.specs.trees.Units.{TopData, include_top, directive_top, decl_top, func_top, mark_top}
 use Rattle.ec_sound_expression_laws.specs.Plain.{IsPlain, ArePlain}
-use Rattle.ec_sound_program_laws.specs.Plain.{OptionIsPlain, PartIsPlain, PartsArePlain, InitIsPlain, ItemIsPlain, ItemsArePlain, DeclIsPlain, StmtIsPlain, KindIsPlain, StmtsArePlain, OtherIsPlain}
-use Rattle.ec_sound_text_laws.specs.Read.{ReadExpr, ReadExprs, ReadInit, ReadInits, ReadInitializer, ReadDeclarator, ReadDeclarators, ReadDecl, ReadOption, ReadStmt, ReadKind, ReadStmts, ReadOther}
+use Rattle.ec_sound_program_laws.specs.Plain.{OptionIsPlain, PartIsPlain, PartsArePlain, InitIsPlain, ItemIsPlain, ItemsArePlain, DeclIsPlain, StmtIsPlain, KindIsPlain, StmtsArePlain, OtherIsPlain, BodyIsPlain, TopIsPlain, TopsArePlain}
+use Rattle.ec_sound_text_laws.specs.Read.{ReadExpr, ReadExprs, ReadInit, ReadInits, ReadInitializer, ReadDeclarator, ReadDeclarators, ReadDecl, ReadOption, ReadStmt, ReadKind, ReadStmts, ReadOther, ReadBody, ReadTop, ReadTops}
 
 mutual
   expr_plain : (e : ExprData) → ReadExpr e → IsPlain e
@@ -85,3 +86,18 @@ mutual
   other_plain : (o : StmtOption) → ReadOther o → OtherIsPlain o
   other_plain no_stmt h = tt
   other_plain (some_stmt s) h = stmt_plain s h
+
+body_plain : (b : Option StmtList) → ReadBody b → BodyIsPlain b
+body_plain None h = tt
+body_plain (Some ss) h = stmts_plain ss h
+
+top_plain : (t : TopData) → ReadTop t → TopIsPlain t
+top_plain (include_top bytes) h = tt
+top_plain (directive_top n) h = h
+top_plain (decl_top d) h = decl_plain d h
+top_plain (func_top f) h = body_plain f.body h.2
+top_plain (mark_top opens line) h = tt
+
+pub tops_plain : (ts : List TopData) → ReadTops ts → TopsArePlain ts
+tops_plain [] h = tt
+tops_plain (t ∷ ts) h = (top_plain t h.0, tops_plain ts h.1)

@@ -1,3 +1,5 @@
+pub mod Endings
 pub mod Laws
 pub mod Read
+pub mod Runs
 pub mod Texts

@@ -204,6 +204,11 @@ unfolding demand note
 main_found at true w e = refl
 main_found at false w e = absurd (some_found e)
 
+same_world : (at : Place) (has : Bool) (w : World) → (demand at F20 has w).world ≡ w
+unfolding demand note check_pure
+same_world at true w = refl
+same_world at false w = refl
+
 found_main : (at : Place) (has : Bool) (w : World) → has ≡ true → (demand at F20 has w).found ≡ []
 unfolding demand note check_pure
 found_main at true w e = refl
@@ -284,9 +289,22 @@ module _ (stands : ℕ → ℕ → Stm → Type 0) (embedded : ℕ → Option St
     main = λ i. place_in (codes "main") (found.storages.defined i);
   }
 
+  -- no struct is made at the end
+  structs_before : (b : Bool) (q : UnitData) → (programs.tops_rule q.embs q.tops (start b q)).world.structs ≡ (answers.checked b q).world.structs
+  unfolding check_chain place main_rule
+  structs_before b q =
+      let w = (programs.tops_rule q.embs q.tops (start b q)).world in
+      sym (λ i. (same_world (at_end q w) (has_main q.tops) (passed w) i).structs)
+
+  structs_alike : SameStructs (answers.checked false u).world.structs (answers.checked true v).world.structs
+  structs_alike =
+      subst (λ ss. SameStructs ss (answers.checked true v).world.structs) ((λ i. (found.checked_world i).structs) ∙ structs_before false u)
+      (subst (λ ss. SameStructs (walked false u).world.structs ss) ((λ i. (found.checked_world_there i).structs) ∙ structs_before true v) found.worlds.structs)
+
   pub program_copied : IsWrittenCopy stands u v
   program_copied = record {
     without_fault = no_fault;
+    structs = structs_alike;
     found = record { in_order = found.to_come.in_order; found = found.to_come.found };
     copy = subst (λ vs. IsProgramCopy stands (resolved_by vs (program_by (walked false u).storage)) (resolve true v)) (sym none)
         (subst (λ vs. IsProgramCopy stands (program_by (walked false u).storage) (resolved_by vs (program_by (walked true v).storage))) (sym no_fault) copy);

@@ -11,6 +11,7 @@ use Rattle.ec_typing_defs.specs.Worlds.{World}
 use Rattle.ec_meaning_defs.specs.resolved.Resolved.{Stm}
 use Rattle.ec_resolving_defs.specs.Programs.{walked, resolve, embedded_statements_of, library_calls_of}
 use Rattle.ec_resolving_defs.specs.Storage.{LibraryCall, StatementForm}
+use Rattle.ec_sim_statement_laws.specs.expression.Worlds.{SameStructs}
 use Rattle.ec_sim_statement_laws.specs.statement.Copies.{IsProgramCopy}
 use Rattle.ec_sim_statement_laws.specs.statement.Whole.{IsWrittenAt}
 use Rattle.ec_sim_world_laws.specs.known.Known.{AreFound}
@@ -38,11 +39,12 @@ pub record AreAllFound (u : UnitData) : Type 0 where
   pub found : AreFound u (walked false u).storage (walked false u).world
       (walked false u).storage.statements (walked false u).world.denoted
 
--- nothing is wrong with what is written, it is resolved to a copy, and each embedded statement of the source was found
+-- Nothing is wrong with what is written, it is resolved to a copy, and each embedded statement of the source was found. The same structs are known behind both
 pub record IsWrittenCopy (stands : ℕ → ℕ → Stm → Type 0) (u v : UnitData) : Type 0 where
   pub without_fault : violations true v ≡ []
   pub copy : IsProgramCopy stands (resolve false u) (resolve true v)
   pub found : AreAllFound u
+  pub structs : SameStructs (checked false u).world.structs (checked true v).world.structs
 
 -- where the block of an embedded statement stands, with these forms and calls
 abbrev pub blocks_of : TypedData → List StatementForm → List LibraryCall → ℕ → ℕ → Stm → Type 0

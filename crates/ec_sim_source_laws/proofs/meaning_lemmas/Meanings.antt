@@ -1,5 +1,6 @@
 -- An accepted source means what is written of it means.
-use Rattle.std.proofs.Common.{◌≡◌, ◌∙◌, ℕ, true, false, List, [], length, refl, sym, subst, ap, Option, Ok, Result, Err}
+use Rattle.std.proofs.Common.{◌≡◌, ◌≤◌, ◌∙◌, ℕ, zero, suc, true, false, List, [], ◌∷◌, length, refl, sym, subst, ap, Option, Some, Ok, Result, Err}
+use Rattle.std.specs.Prelude.{slice_get}
 use Rattle.ec_base.specs.declared.stop.Stop.{Stop}
 use Rattle.ec_ctypes.specs.trees.Checked.{TypedData, BoundData}
 use Rattle.ec_ctypes.specs.trees.Embedded.{EmbData}
@@ -13,6 +14,7 @@ use Rattle.ec_host_defs.specs.sections.Answers.{hosts_answer}
 use Rattle.ec_written_laws.specs.source.SourceShape.{is_source_shape}
 use Rattle.ec_typing_defs.specs.statement_parts.Handlers.{marks_in}
 use Rattle.ec_typing_defs.specs.Answers.{checked, violations, typed_of}
+use Rattle.ec_typing_defs.specs.Worlds.{StructInfo}
 use Rattle.ec_whenever.specs.Tables.{table_of, are_in_order}
 use Rattle.ec_writing_defs.specs.Shapes.{is_byte}
 use Rattle.ec_meaning_defs.specs.resolved.Programs.{Program}
@@ -23,6 +25,7 @@ use Rattle.ec_meaning_defs.specs.evaluation.Whole.{Observed, program_meaning}
 use Rattle.ec_call_defs.specs.Steps.{library_step}
 use Rattle.ec_direct_defs.specs.Direct.{direct_meaning}
 use Rattle.ec_direct_defs.specs.simulation.Written.{meaning_by, meaning_of_written}
+use Rattle.ec_sim_statement_laws.specs.expression.Worlds.{SameStructs}
 use Rattle.ec_sim_statement_laws.specs.statement.Copies.{IsProgramCopy}
 use Rattle.ec_sim_world_laws.specs.known.Laws.{WalkKeeps}
 use Rattle.ec_sim_host_laws.specs.table.Laws.{TablesAreSound}
@@ -31,7 +34,7 @@ use Rattle.ec_sim_program_laws.specs.program.Laws.{PartsAreAlike}
 use Rattle.ec_sim_program_laws.specs.program.Programs.{written_of, whole_of, blocks_of, blocks_in, IsWrittenCopy}
 use Rattle.ec_sim_program_laws.specs.program.Shape.{TopsStand}
 use Rattle.ec_sim_host_laws.specs.reference.Rows.{IndexesAreTyped}
-use Rattle.ec_sim_program_laws.specs.types.Types.{HasAllTypes, SourcesHaveTypes}
+use Rattle.ec_sim_program_laws.specs.types.Types.{max_nesting, StructsAreShallow, HasAllTypes, SourcesHaveTypes}
 use Rattle.ec_sim_source_laws.specs.object.Objects.{CursorsAreOfObjects}
 use Rattle.ec_sim_program_laws.specs.flat.Laws.{SourcesAreFlat, SourcesAreShallow}
 use Rattle.ec_written_laws.specs.bound.Counts.{are_counted}
@@ -44,6 +47,15 @@ use Rattle.ec_sim_source_laws.proofs.meaning_lemmas.Accepted.{OfTree, OfSource, 
 
 same_program : (t : TypedData) (u : UnitData) (hosts : List ℕ) → t ≡ typed_of u hosts (table_of (marks_in u.embs)) (checked false u).world → t ≡ typed_of u t.hosts t.handlers (checked false u).world
 same_program t u hosts e = e ∙ (λ i. typed_of u (sym e i).hosts (sym e i).handlers (checked false u).world)
+
+-- structs that are the same begin with as many types
+as_shallow : (ss ts : List StructInfo) → SameStructs ss ts → ((k : ℕ) (info : StructInfo) → slice_get ss k ≡ Some info → length info.first ≤ max_nesting)
+    → (k : ℕ) (info : StructInfo) → slice_get ts k ≡ Some info → length info.first ≤ max_nesting
+as_shallow [] [] same h k info e = absurd (cc)
+as_shallow [] (t ∷ ts) same h k info e = absurd same
+as_shallow (s ∷ ss) [] same h k info e = absurd same
+as_shallow (s ∷ ss) (t ∷ ts) same h zero info e = let is : t ≡ info = cc in subst (λ (i : StructInfo). length i.first ≤ max_nesting) is (subst (λ f. length f ≤ max_nesting) (sym same.0.first) (h 0 s refl))
+as_shallow (s ∷ ss) (t ∷ ts) same h (suc k) info e = as_shallow ss ts same.1 (λ j x i. h (suc j) x i) k info e
 
 module _ (numbers_of : (text : Text) (v : UnitData) → ReadsTree text (Ok v) → tops_numbers v.tops [] ≡ numbers_from 0 (length v.embs))
     (shape_of : (text : Text) (v : UnitData) → each is_byte text ≡ true → ReadsTree text (Ok v) → is_source_shape v ≡ true)
@@ -94,6 +106,11 @@ module _ (numbers_of : (text : Text) (v : UnitData) → ReadsTree text (Ok v) �
 
   pub without_violation : (text : Text) (p : BoundProgram) → IsAcceptedText text p → violations true (written_program p.program p.bounds) ≡ []
   without_violation text p h = (copy text p h).without_fault
+
+  pub written_shallow : (text : Text) (p : BoundProgram) → IsAcceptedText text p → StructsAreShallow (checked true (written_program p.program p.bounds)).world
+  written_shallow text p h =
+      as_shallow (checked false p.program.unit).world.structs (checked true (written_program p.program p.bounds)).world.structs (copy text p h).structs
+      (shallow text p.program.unit (of_source text p h.reads).tree (accepted text p h).without_violation)
 
   by_bounds : (t : TypedData) (bs : Result (List BoundData) Stop) (bounds : List BoundData) → bs ≡ Ok bounds → (turns : ℕ) (ready : Option (ℕ × List ℕ)) (answers : List Answer)
       → meaning_by t turns ready answers bs ≡ meaning_by t turns ready answers (Ok bounds)

@@ -5,8 +5,9 @@ ghost use Rattle.ec_written_laws.specs.bound.Counts.{are_counted};
 ghost use Rattle.ec_expansion_defs.specs.Programs.{written_program};
 ghost use Rattle.ec_language.specs.Letters.{Text};
 ghost use Rattle.ec_phases_defs.specs.Sources.{BoundProgram};
-ghost use Rattle.ec_typing_defs.specs.Answers.{violations};
+ghost use Rattle.ec_typing_defs.specs.Answers.{checked, violations};
 ghost use Rattle.ec_phases_defs.specs.translation.Accepted.{IsAcceptedText};
+ghost use Rattle.ec_sim_program_laws.specs.types.Types.{StructsAreShallow};
 ghost use Rattle.ec_sim_source_laws.specs.meaning.Meanings.{MeanTheSame};
 
 use crate::block::embedded_statements_are_copied;
@@ -33,13 +34,17 @@ use ec_written_laws::bound::all_statements_stand_in_trees;
 use ec_written_laws::source::{derived_trees_have_source_shape, sources_have_source_shape};
 
 /// The C that is written of an accepted source means what the source means: run over the library, it asks the same, prints the
-/// same bytes, leaves the same in every object and ends the same as the source by its embedded statements. The checks of written C find nothing wrong in it, and the sizes and counts of its hosts are of type long.
+/// same bytes, leaves the same in every object and ends the same as the source by its embedded statements. The checks of
+/// written C find nothing wrong in it, no struct in it begins with more than 2^30 types, one in another, and the sizes and
+/// counts of its hosts are of type long.
 #[tactic(none)]
 pub fn sources_mean_what_is_written()
     ensures meanings { (text : Text) (p : BoundProgram) → IsAcceptedText text p
         → MeanTheSame p.program }
     ensures checks { (text : Text) (p : BoundProgram) → IsAcceptedText text p
         → violations true (written_program p.program p.bounds) ≡ [] }
+    ensures shallow { (text : Text) (p : BoundProgram) → IsAcceptedText text p
+        → StructsAreShallow (checked true (written_program p.program p.bounds)).world }
     ensures counted { (text : Text) (p : BoundProgram) → IsAcceptedText text p
         → are_counted p.bounds ≡ true }
 {

@@ -1,6 +1,6 @@
 use Rattle.ec_sim_source_laws.specs.block.Accepted.{StatementLaws}
 use Rattle.ec_sim_source_laws.proofs.meaning_lemmas.Accepted.{numbers_of, shape_of}
-use Rattle.ec_sim_source_laws.proofs.meaning_lemmas.Meanings.{without_violation, means, counted}
+use Rattle.ec_sim_source_laws.proofs.meaning_lemmas.Meanings.{without_violation, written_shallow, means, counted}
 use Rattle.ec_sim_source_laws.proofs.meaning.sources.sources_mean_what_is_written.Goals as goal
 
 pub returns : goal.returns
@@ -29,6 +29,8 @@ returns c =
       meanings = means (numbers_of numbered tokens derived) (shape_of numbered tokens derived) c.statements_have_places.ensures.order c.statements_are_read.ensures c.tables_are_sound.ensures
           c.what_is_known_is_kept.ensures c.written_parts_are_alike.ensures c.sources_stand.ensures c.sources_have_types.ensures c.trees_are_flat.ensures.sources c.structs_are_shallow.ensures c.cursors_are_of_objects.ensures laws c.embedded_statements_are_copied.ensures c.written_programs_are_copies.ensures c.copies_do_what_sources_do.ensures.meanings;
       checks = without_violation (numbers_of numbered tokens derived) (shape_of numbered tokens derived) c.statements_have_places.ensures.order c.statements_are_read.ensures c.tables_are_sound.ensures
+          c.what_is_known_is_kept.ensures c.written_parts_are_alike.ensures c.sources_stand.ensures c.sources_have_types.ensures c.trees_are_flat.ensures.sources c.structs_are_shallow.ensures c.cursors_are_of_objects.ensures laws c.embedded_statements_are_copied.ensures c.written_programs_are_copies.ensures c.copies_do_what_sources_do.ensures.meanings;
+      shallow = written_shallow (numbers_of numbered tokens derived) (shape_of numbered tokens derived) c.statements_have_places.ensures.order c.statements_are_read.ensures c.tables_are_sound.ensures
           c.what_is_known_is_kept.ensures c.written_parts_are_alike.ensures c.sources_stand.ensures c.sources_have_types.ensures c.trees_are_flat.ensures.sources c.structs_are_shallow.ensures c.cursors_are_of_objects.ensures laws c.embedded_statements_are_copied.ensures c.written_programs_are_copies.ensures c.copies_do_what_sources_do.ensures.meanings;
       counted = counted (numbers_of numbered tokens derived) (shape_of numbered tokens derived) c.statements_have_places.ensures.order c.statements_are_read.ensures c.tables_are_sound.ensures
           c.what_is_known_is_kept.ensures c.written_parts_are_alike.ensures c.sources_stand.ensures c.sources_have_types.ensures c.trees_are_flat.ensures.sources c.structs_are_shallow.ensures c.cursors_are_of_objects.ensures laws c.embedded_statements_are_copied.ensures c.written_programs_are_copies.ensures c.copies_do_what_sources_do.ensures.meanings c.statements_are_counted.ensures c.sources_are_counted.ensures;
