@@ -16,11 +16,12 @@ piece_bytes field (piece.Text taken zeros) = take taken field ++ replicate zeros
 piece_bytes field (piece.Counted taken zeros) =
     integer_bytes Int (pos taken) ++ take taken field ++ replicate zeros 0
 
--- what is taken is there, and numbers fit
+-- what is taken is there, numbers fit, and zero bytes are as few as a VARCHAR has
 abbrev pub IsPiece : List ℕ → Piece → Type 0
 IsPiece field (piece.Number t z) = IsValue t z
-IsPiece field (piece.Text taken zeros) = taken ≤ length field
-IsPiece field (piece.Counted taken zeros) = (taken ≤ length field) × (taken < 2 ^ 31)
+IsPiece field (piece.Text taken zeros) = (taken ≤ length field) × (zeros ≤ 2 ^ 24)
+IsPiece field (piece.Counted taken zeros) =
+    (taken ≤ length field) × (taken < 2 ^ 31) × (zeros ≤ 2 ^ 24)
 
 -- the bytes, or what is wrong
 abbrev pub bytes_or : List ℕ → Result Piece Finding → Result (List ℕ) Finding

@@ -1,6 +1,8 @@
 //! The bytes that a field stores in an element.
 
-ghost use Rattle.std.specs.Prelude.{◌≡◌, ◌≤◌, ◌<◌, ◌^◌, ℕ, length, pos, Ok, Err, IfOk, OnErr};
+ghost use Rattle.std.specs.Prelude.{◌≡◌, ◌≤◌, ◌<◌, ◌^◌, ◌++◌, ℕ, length, replicate, pos, Ok, Err, IfOk, OnErr};
+ghost use Rattle.std.specs.Int.{w32};
+ghost use Rattle.ec_bytes.specs.Scalars.{signed_bytes};
 ghost use Rattle.ec_ctypes.specs.declared.types.arith.Arith.TheVariants.{Int};
 ghost use Rattle.ec_ctypes.specs.Arithmetic.{IsValue};
 ghost use Rattle.ec_convert.specs.Elements.{held_by};
@@ -115,11 +117,47 @@ pub(crate) fn put_piece(store: &mut Store, at: Ptr, piece: Piece, field: &[u8]) 
 {
     match piece {
         Piece::Number(ty, number) => put_number(store, at, ty, number),
-        Piece::Text(taken, zeros) => store.put_padded(at, &[], &field[..taken], zeros),
-        Piece::Counted(taken, zeros) => {
-            store.put_padded(at, &length_bytes(taken), &field[..taken as usize], zeros)
-        }
+        Piece::Text(taken, zeros) => put_text(store, at, &field[..taken], zeros),
+        Piece::Counted(taken, zeros) => put_counted(store, at, &field[..taken as usize], zeros),
     }
+}
+
+/// Puts a text, and zero bytes behind it. All of its bytes are lent, after one test of them.
+fn put_text(store: &mut Store, at: Ptr, text: &[u8], zeros: u64) -> Result<(), Trap>
+    requires { zeros ≤ 2 ^ 24 }
+    ensures outcome { outcome result store.new ≡ put store.old at.0 (text.now ++ replicate zeros 0) }
+    ensures unchanged { OnErr result (store.new ≡ store.old) }
+{
+    let length = text.len() as u64;
+    let mut bytes = store.lend(at, length + zeros)?;
+    bytes.put(0, text);
+    bytes.fill(length, zeros, 0);
+    Ok(())
+}
+
+/// Puts the length of a text, the text, and zero bytes behind it. All bytes of the VARCHAR are lent, after one test of
+/// them: the length is set as an element, and the text is put behind it.
+fn put_counted(store: &mut Store, at: Ptr, text: &[u8], zeros: u64) -> Result<(), Trap>
+    requires length { length text.now < 2 ^ 31 }
+    requires zeros { zeros ≤ 2 ^ 24 }
+    ensures outcome { outcome result store.new ≡ put store.old at.0
+        (integer_bytes Int (pos (length text.now)) ++ text.now ++ replicate zeros 0) }
+    ensures unchanged { OnErr result (store.new ≡ store.old) }
+{
+    let length = text.len() as u64;
+    let mut bytes = store.lend(at, 4 + length + zeros)?;
+    bytes.set(0, counted_length(length));
+    bytes.put(4, text);
+    bytes.fill(4 + length, zeros, 0);
+    Ok(())
+}
+
+/// A length as an `int`.
+fn counted_length(length: u64) -> I32
+    requires { length < 2 ^ 31 }
+    ensures { signed_bytes w32 result.0 ≡ integer_bytes Int (pos length) }
+{
+    I32(length as i32)
 }
 
 /// Puts the bytes of a number at a pointer.
@@ -149,11 +187,4 @@ fn set_element<T: Scalar>(store: &mut Store, at: Ptr, value: T) -> Result<(), Tr
     let mut element = store.elements::<T>(at, 1, T::SIZE as u64)?;
     element.set(0, value);
     Ok(())
-}
-
-/// The bytes of a length as an `int`.
-fn length_bytes(length: u32) -> [u8; 4]
-    ensures { result ≡ integer_bytes Int (pos length) }
-{
-    length.to_le_bytes()
 }

@@ -23,7 +23,7 @@ use Rattle.ec_memory_defs.specs.Memory.{alive, Memory, and_then, object_of, offs
 pub rising_of : (made : ℕ) (cells : List Cell) (places now : List Place) → Kept made cells places → now ≡ places → IsRising now
 rising_of made cells places now kept e = subst IsRising (sym e) (rising 1 0 made (length cells) places kept.line)
 
-placed_of : (places now : List Place) (p n at : ℕ) → now ≡ places → Placed now p n at → Placed places p n at
+pub placed_of : (places now : List Place) (p n at : ℕ) → now ≡ places → Placed now p n at → Placed places p n at
 placed_of places now p n at e placed = let P : List Place → Type 0 = λ ps. Placed ps p n at in subst P e placed
 
 holds_of : (places now : List Place) (n : ℕ) (q : Place) → now ≡ places → Holds now n q → Holds places n q

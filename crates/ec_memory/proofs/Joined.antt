@@ -18,27 +18,23 @@ written_behind xs at k a b fits is =
     ∙ ap (λ t. t ++ drop (at + length (a ++ b)) xs) (append_assoc (take at xs) a b)
 
 -- zero bytes are cells that are filled
-filled : (n b : ℕ) → set_cells (replicate n b) ≡ filled_cells n b
+pub filled : (n b : ℕ) → set_cells (replicate n b) ≡ filled_cells n b
 filled zero b = refl
 filled (suc n) b = ap (λ cells. Some b ∷ cells) (filled n b)
 
--- two pieces and zero bytes, each behind the one before
-pub three_parts : (cells first second third : List Cell) (at behind end : ℕ) (a b : List ℕ) (n : ℕ) → at ≤ length cells → first ≡ written cells at (set_cells a) → second ≡ written first behind (set_cells b) → third ≡ written second end (filled_cells n 0) → behind ≡ at + length a → end ≡ behind + length b → third ≡ written cells at (set_cells (a ++ b ++ replicate n 0))
-three_parts cells first second third at behind end a b n fits is1 is2 is3 begins ends =
-    let many : length (set_cells a) ≡ length a = length-set a in
-    let both : length (set_cells a ++ set_cells b) ≡ length a + length b = length-append (set_cells a) (set_cells b) ∙ ap (λ k. k + length (set_cells b)) (length-set a) ∙ ap (λ k. length a + k) (length-set b) in
-    is3 ∙ ap (λ t. written t end (filled_cells n 0)) (is2 ∙ ap (λ t. written t behind (set_cells b)) is1 ∙ written_behind cells at behind (set_cells a) (set_cells b) fits (omega (arith, begins, many)))
-    ∙ written_behind cells at end (set_cells a ++ set_cells b) (filled_cells n 0) fits (omega (arith, begins, ends, both))
-    ∙ ap (λ t. written cells at (set_cells a ++ set_cells b ++ t)) (sym (filled n 0))
-    ∙ ap (λ t. written cells at (t ++ set_cells (replicate n 0))) (sym (map-append Some a b))
-    ∙ ap (written cells at) (sym (map-append Some (a ++ b) (replicate n 0)))
-  where
-    length-set : (xs : List ℕ) → length (set_cells xs) ≡ length xs
-    length-set [] = refl
-    length-set (x ∷ xs) = ap suc (length-set xs)
+-- as many cells as bytes
+length-set : (xs : List ℕ) → length (set_cells xs) ≡ length xs
+length-set [] = refl
+length-set (x ∷ xs) = ap suc (length-set xs)
+
+-- a piece, and zero bytes behind it
+pub two_parts : (cells first second : List Cell) (at end : ℕ) (a : List ℕ) (n : ℕ) → at ≤ length cells → first ≡ written cells at (set_cells a) → second ≡ written first end (filled_cells n 0) → end ≡ at + length a → second ≡ written cells at (set_cells (a ++ replicate n 0))
+two_parts cells first second at end a n fits is1 is2 ends =
+    is2 ∙ ap (λ t. written t end (filled_cells n 0)) is1
+    ∙ written_behind cells at end (set_cells a) (filled_cells n 0) fits (omega (arith, ends, length-set a))
+    ∙ ap (λ t. written cells at (set_cells a ++ t)) (sym (filled n 0))
+    ∙ ap (written cells at) (sym (map-append Some a (replicate n 0)))
 
 -- how many bytes they are
-pub parts_length : (a b : List ℕ) (n : ℕ) → length (a ++ b ++ replicate n 0) ≡ length a + length b + n
-parts_length a b n =
-    let zeros : List ℕ = replicate n 0 in
-    length-append (a ++ b) zeros ∙ ap (λ k. k + length zeros) (length-append a b) ∙ ap (λ k. length a + length b + k) (length-replicate n 0)
+pub parts_length : (a : List ℕ) (n : ℕ) → length (a ++ replicate n 0) ≡ length a + n
+parts_length a n = length-append a (replicate n 0) ∙ ap (λ k. length a + k) (length-replicate n 0)

@@ -10,3 +10,5 @@ pub mod Counts
 pub mod Strides
 pub mod Singles
 pub mod Sums
+pub mod Lending
+pub mod Parts

@@ -7,3 +7,4 @@ pub mod Sums
 pub mod Room
 pub mod Values
 pub mod Elements
+pub mod Lent

@@ -3,7 +3,7 @@ use Rattle.std.specs.Prelude.{◌≡◌, ◌≢◌, ℕ, zero, suc, ◌+◌, ◌
 use Rattle.ec_base.specs.declared.stop.Trap.{Trap}
 use Rattle.ec_memory.specs.declared.place.Place.{Place}
 use Rattle.ec_memory_defs.specs.Cells.{Cell}
-use Rattle.ec_memory_defs.specs.Memory.{alive, ended, Memory, object_of, offset_of, object_cells, extent}
+use Rattle.ec_memory_defs.specs.Memory.{alive, ended, Memory, object_of, offset_of, object_cells, extent, live_bytes}
 
 -- the objects from a number on, of which so many are left: each has the next place and its cells, or has ended
 abbrev pub objects_of : ℕ → ℕ → List Cell → List Place → Memory
@@ -93,3 +93,15 @@ pub record Reaches (m : Memory) (p count step size : ℕ) : Type 0 where
   pub lives : is_ok (object_cells m (object_of p)) ≡ true
   pub inside : offset_of p + extent count step size ≤ length (cells_of_pointer m p)
   pub few : length (cells_of_pointer m p) ≤ 2 ^ 28
+
+-- n bytes at a pointer lie in an object, and begin at this place of the region, however the memory is kept. The object is small enough that no offset leads to another
+pub record LiesAt (m : Memory) (p n at : ℕ) : Type 0 where
+  pub placed : (made : ℕ) (cells : List Cell) (places : List Place) →
+      Kept made cells places → memory_of made cells places ≡ m → Placed places p n at
+  pub inside : at + n ≤ live_bytes m
+  pub few : live_bytes m ≤ 2 ^ 28
+  pub near : offset_of p + n ≤ 2 ^ 28
+
+-- what lies at a place before lies there behind
+abbrev pub KeepsPlaces : Memory → Memory → Type 0
+KeepsPlaces m after = (p n at : ℕ) → LiesAt m p n at → LiesAt after p n at

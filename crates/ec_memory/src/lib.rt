@@ -3,6 +3,7 @@
 
 mod elements;
 mod ints;
+mod lent;
 mod moves;
 mod padded;
 mod place;
@@ -14,6 +15,7 @@ mod texts;
 mod value;
 
 pub use elements::Elements;
+pub use lent::LentBytes;
 pub use pointers::{difference, order};
 pub use store::{MakeStop, Store};
 pub use value::Value;

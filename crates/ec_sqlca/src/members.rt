@@ -36,7 +36,7 @@ pub(crate) fn put_zeros(store: &mut Store, offset: u64, count: u64)
     ensures member { store.new ≡ with_member store.old (at offset (replicate count 0)) }
     ensures kept { IsArea store.new }
 {
-    let _ = store.put_padded(place(offset), &[], &[], count);
+    let _ = store.put_padded(place(offset), &[], count);
 }
 
 /// Writes a member of type `long`.

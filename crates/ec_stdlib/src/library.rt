@@ -296,7 +296,7 @@ fn written(
         (of.writing first.0 (put store.old at.0 (buffer.old ++ replicate zeros 0))) }
     ensures unchanged { OnErr result (store.new ≡ store.old) }
 {
-    let outcome = store.put_padded(at, &[], buffer.as_slice(), zeros);
+    let outcome = store.put_padded(at, buffer.as_slice(), zeros);
     buffer.clear();
     match outcome {
         Ok(()) => Ok(silent(Word::Address(first))),

@@ -13,5 +13,5 @@ write_parts-requires c = room_of _ _ _ _ _ _ _ c.self.invariant c.deref.ensures.
 
 pub returns-clause-outcome : goal.returns-clause-outcome
 returns-clause-outcome c =
-    let bytes = c.args.head.now ++ c.args.piece.now ++ replicate c.args.zeros 0 in
-    wrote _ _ _ _ _ c.args.ptr.0 _ _ (map Some bytes) _ c.self.view_is c.self.invariant c.deref.ensures.value c.in_ok-at.ensures (length-map bytes Some ∙ parts_length c.args.head.now c.args.piece.now c.args.zeros) c.write_parts.ensures.cells
+    let bytes = c.args.piece.now ++ replicate c.args.zeros 0 in
+    wrote _ _ _ _ _ c.args.ptr.0 _ _ (map Some bytes) _ c.self.view_is c.self.invariant c.deref.ensures.value c.in_ok-at.ensures (length-map bytes Some ∙ parts_length c.args.piece.now c.args.zeros) c.write_parts.ensures.cells
