@@ -1,5 +1,5 @@
 -- What expressions that hold calls do, one form at a time.
-use Rattle.std.proofs.Common.{◌≡◌, ◌∙◌, sym, ap, ℕ, List, [], ◌∷◌, map, Bool}
+use Rattle.std.proofs.Common.{◌≡◌, ◌∙◌, sym, ap, ℕ, List, [], ◌∷◌, map, Bool, true, false}
 use Rattle.ec_code.specs.declared.expression.Expression.{Expression}
 use Rattle.ec_code.specs.declared.expression.Expression.TheVariants as expression
 use Rattle.ec_code.specs.declared.expression.Full.{Full, out-Full}
@@ -19,10 +19,10 @@ use Rattle.ec_printf.specs.formats.Known.{known_view}
 use Rattle.ec_meaning_defs.specs.functions.Functions.{effect_of}
 use Rattle.ec_plain.specs.Steps.{followed, one_on, two_on}
 use Rattle.ec_plain.proofs.Walks.{walk_leads}
-use Rattle.ec_meaning_defs.specs.resolved.Resolved.{library}
+use Rattle.ec_meaning_defs.specs.resolved.Resolved.{choice, library}
 use Rattle.ec_values.specs.Words.{word_view}
 use Rattle.ec_values.specs.declared.word.Word.{Word}
-use Rattle.ec_machine.proofs.Views.{view-Plain, view-Full, view-full, view-Begun, view-Call, view-Known, view-LibraryCall, view-One, view-Two}
+use Rattle.ec_machine.proofs.Views.{view-Plain, view-Full, view-full, view-Begun, view-Call, view-Known, view-LibraryCall, view-Choice, view-One, view-Two}
 
 module _ (knowing : Knowing) (w : World) (c : Context) (s : State) where
   pub to_Plain : (x : Expression) (p : Plain) → x ≡ expression.Plain p → eval knowing w c (expression_view x) s ≡ eval knowing w c (plain_view p) s
@@ -30,6 +30,14 @@ module _ (knowing : Knowing) (w : World) (c : Context) (s : State) where
 
   pub to_Full : (x : Expression) (p : Full) → x ≡ expression.Full p → eval knowing w c (expression_view x) s ≡ eval knowing w c (full_view p) s
   to_Full x p i = ap (λ z. eval knowing w c z s) (ap expression_view i ∙ view-Full p)
+
+  pub to_Choice : (h : Head) (x y z x' y' z' : Expression) → h ≡ head.Choice x y z → x' ≡ x → y' ≡ y → z' ≡ z → eval knowing w c (head_view h) s ≡ eval knowing w c (choice (expression_view x') (expression_view y') (expression_view z')) s
+  to_Choice h x y z x' y' z' p i j k = ap (λ q. eval knowing w c q s) (ap head_view p ∙ view-Choice x y z) ∙ (λ n. eval knowing w c (choice (expression_view (sym i n)) (expression_view (sym j n)) (expression_view (sym k n))) s)
+
+  -- the operand of `?:` that a value chooses
+  pub chosen_leads : (b : Bool) (x y z : Expression) → z ≡ elim b [ true ↦ x | false ↦ y ] → elim b [ true ↦ eval knowing w c (expression_view x) s | false ↦ eval knowing w c (expression_view y) s ] ≡ eval knowing w c (expression_view z) s
+  chosen_leads true x y z p = ap (λ z. eval knowing w c (expression_view z) s) (sym p)
+  chosen_leads false x y z p = ap (λ z. eval knowing w c (expression_view z) s) (sym p)
 
   -- an expression leads to what its steps make of what its beginning leads to
   pub full_leads : (x : Full) (h : Head) (xs : List FullStep) → (out-Full x).head ≡ h → xs ≡ (out-Full x).steps → eval knowing w c (full_view x) s ≡ followed knowing w c (map full_step_view xs) (eval knowing w c (head_view h) s)

@@ -108,6 +108,12 @@ module _ (m new : Machine) (part : Knowing → World → State → Res) (r : Opt
   pub alone_value : (v : Word) → r ≡ Some v → Stays m (env_of m) m.line new → ((knowing : Knowing) (w : World) (s : State) → part knowing w (at s m) ≡ value (word_view v) (at s new)) → FindsAlone m part r left new
   alone_value v p a h = subst (λ r. FindsAlone m part r left new) (sym p) (a, h)
 
+  pub alone_some : (v : Word) → r ≡ Some v → FindsAlone m part r left new → Stays m (env_of m) m.line new × ((knowing : Knowing) (w : World) (s : State) → part knowing w (at s m) ≡ value (word_view v) (at s new))
+  alone_some v p h = subst (λ r. FindsAlone m part r left new) p h
+
+  pub alone_none : r ≡ None → FindsAlone m part r left new → (x : Stop) × ((left ≡ Err x) × ((knowing : Knowing) (w : World) (s : State) → Stops x (at s new) (part knowing w (at s m))))
+  alone_none p h = subst (λ r. FindsAlone m part r left new) p h
+
   pub alone_stop : (x : Stop) → r ≡ None → left ≡ Err x → ((knowing : Knowing) (w : World) (s : State) → Stops x (at s new) (part knowing w (at s m))) → FindsAlone m part r left new
   alone_stop x p q h = subst (λ r. FindsAlone m part r left new) (sym p) (x, (q, h))
 

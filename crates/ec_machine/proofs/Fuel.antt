@@ -1,7 +1,7 @@
 -- A task among tasks of more turns than are left is what its parts do among these same tasks.
 use Rattle.std.proofs.Common.{◌≡◌, ℕ, zero, suc, ◌+◌, ◌<◌, ◌≤◌, inr, List, [], ◌∷◌, map, refl, sym, ap, ◌∙◌, subst, arith}
 use Rattle.ec_meaning_defs.specs.resolved.Programs.{Function}
-use Rattle.ec_meaning_defs.specs.resolved.Resolved.{Stm, on_line, nothing, evaluate, declare, initialize, block, choose, loop, leave, next, return, goto, label, embedded_statement, Stms, no_stms, stms}
+use Rattle.ec_meaning_defs.specs.resolved.Resolved.{Stm, on_line, nothing, evaluate, declare, initialize, block, choose, loop, leave, next, return, goto, label, select, embedded_statement, Stms, no_stms, stms}
 use Rattle.ec_meaning_defs.specs.evaluation.State.{Answer, State, turns_spent}
 use Rattle.ec_meaning_defs.specs.evaluation.Results.{Res, over, turn}
 use Rattle.ec_meaning_defs.specs.evaluation.Evaluate.{Task, calls, turn_of, look_for, World, Step}
@@ -28,6 +28,7 @@ mutual
   unwritten (return e) = refl
   unwritten (goto l) = refl
   unwritten (label l x) = ap (label l) (unwritten x)
+  unwritten (select e x) = ap (select e) (unwritten x)
   unwritten (embedded_statement n) = refl
 
   pub all_unwritten : (x : Stms) → written_all itself x ≡ x

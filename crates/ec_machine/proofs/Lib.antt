@@ -8,6 +8,7 @@ pub mod Parts
 pub mod Plainly
 pub mod Quickly
 pub mod Running
+pub mod Switching
 pub mod Turns
 pub mod Views
 pub mod Weighing

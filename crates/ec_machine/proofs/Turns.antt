@@ -8,6 +8,7 @@ use Rattle.ec_meaning_defs.specs.evaluation.Execute.{act, started, settle, look_
 use Rattle.ec_meaning_defs.specs.evaluation.Results.{Res, went}
 use Rattle.ec_meaning_defs.specs.evaluation.State.{State}
 use Rattle.ec_meaning_defs.specs.resolved.Labels.{holds_any}
+use Rattle.ec_meaning_defs.specs.resolved.Resolved.{named}
 use Rattle.ec_machine.specs.declared.machine.Machine.{Machine}
 use Rattle.ec_machine.specs.declared.stop.Stop.{Stop}
 use Rattle.ec_machine.specs.Goes.{Fits, Stops, at, tasks}
@@ -21,8 +22,8 @@ pub stops_by : (x : Stop) (s : State) (o o' : Res) → o ≡ o' → Stops x s o'
 stops_by x s o o' p h = subst (Stops x s) (sym p) h
 
 -- a block that holds the label answers
-pub found : (knowing : Knowing) (fits : Fits knowing) (fs : List Function) (k : ℕ) (s : State) (m : Machine) (c : Context) (l : ℕ) (b : List Statement) → m.turns < k → holds_any l (statements_view b) ≡ true → settle (tasks knowing fs k) c (statements_view b) (went l (at s m)) ≡ settle (tasks knowing fs k) c (statements_view b) (look_all knowing (tasks knowing fs k) l c (statements_view b) (at s m))
+pub found : (knowing : Knowing) (fits : Fits knowing) (fs : List Function) (k : ℕ) (s : State) (m : Machine) (c : Context) (l : ℕ) (b : List Statement) → m.turns < k → holds_any (named l) (statements_view b) ≡ true → settle (tasks knowing fs k) c (statements_view b) (went l (at s m)) ≡ settle (tasks knowing fs k) c (statements_view b) (look_all knowing (tasks knowing fs k) (named l) c (statements_view b) (at s m))
 found knowing fits fs k s m c l b h e = ap (λ t. elim t [ true ↦ tasks knowing fs k (look_for c l (statements_view b)) (at s m) | false ↦ went l (at s m) ]) e ∙ begins knowing fits fs k s m (look_for c l (statements_view b)) h
 
-pub passed : (w : World) (c : Context) (l : ℕ) (b : List Statement) (s : State) → holds_any l (statements_view b) ≡ false → settle w c (statements_view b) (went l s) ≡ went l s
+pub passed : (w : World) (c : Context) (l : ℕ) (b : List Statement) (s : State) → holds_any (named l) (statements_view b) ≡ false → settle w c (statements_view b) (went l s) ≡ went l s
 passed w c l b s e = ap (λ t. elim t [ true ↦ w (look_for c l (statements_view b)) s | false ↦ went l s ]) e

@@ -16,6 +16,8 @@ use Rattle.ec_code.specs.declared.statement.Statement.{Statement, the_lemmas}
 use Rattle.ec_code.specs.declared.statement.Statement.TheVariants as statement
 use Rattle.ec_code.specs.declared.step.Binary.{Binary}
 use Rattle.ec_code.specs.declared.step.Unary.{Unary}
+use Rattle.ec_code.specs.declared.mark.Mark.{Mark}
+use Rattle.ec_code.specs.Marks.{mark_view}
 use Rattle.ec_code.specs.Trees.{one, two, walked}
 use Rattle.ec_code.specs.Views.{expression_view, expressions_view, full_step_view, full_view, head_view, plain_view, size_view, statement_view, statements_view, loop_view}
 use Rattle.ec_printf.specs.declared.formats.known.Known.{Known}
@@ -62,8 +64,11 @@ view-Return e = search (rules, the_lemmas)
 pub view-Goto : (l : ℕ) → statement_view (statement.Goto l) ≡ of.goto l
 view-Goto l = search (rules, the_lemmas)
 
-pub view-Label : (l : ℕ) (x : Statement) → statement_view (statement.Label l x) ≡ of.label l (statement_view x)
+pub view-Label : (l : Mark) (x : Statement) → statement_view (statement.Label l x) ≡ of.label (mark_view l) (statement_view x)
 view-Label l x = search (rules, the_lemmas)
+
+pub view-Switch : (e : Expression) (x : Statement) → statement_view (statement.Switch e x) ≡ of.select (expression_view e) (statement_view x)
+view-Switch e x = search (rules, the_lemmas)
 
 pub view-Embedded : (n : ℕ) → statement_view (statement.Embedded n) ≡ of.embedded_statement n
 view-Embedded n = search (rules, the_lemmas)
@@ -88,6 +93,9 @@ view-Known f es = search (rules, head_lemmas)
 
 pub view-LibraryCall : (n : ℕ) (es : List Expression) → head_view (head.LibraryCall n es) ≡ of.library_call n (expressions_view es)
 view-LibraryCall n es = search (rules, head_lemmas)
+
+pub view-Choice : (e a b : Expression) → head_view (head.Choice e a b) ≡ of.choice (expression_view e) (expression_view a) (expression_view b)
+view-Choice e a b = search (rules, head_lemmas)
 
 pub view-One : (u : Unary) → full_step_view (step.One u) ≡ one u
 view-One u = search (rules, step_lemmas)

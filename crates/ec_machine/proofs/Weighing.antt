@@ -1,5 +1,5 @@
 -- What is left to do, one form at a time.
-use Rattle.std.proofs.Common.{◌≡◌, ◌∙◌, rules, refl, sym, ap, subst, arith, IsErrAnd, ℕ, zero, suc, ◌+◌, ◌-◌, ◌<◌, ◌≤◌, List, [], ◌∷◌, ◌++◌, length, get_or, take, drop, Option, Bool, Result, Ok, Err}
+use Rattle.std.proofs.Common.{◌≡◌, ◌∙◌, rules, refl, sym, ap, subst, arith, IsErrAnd, true, false, ℕ, zero, suc, ◌+◌, ◌-◌, ◌<◌, ◌≤◌, List, [], ◌∷◌, ◌++◌, length, get_or, take, drop, Option, Bool, Result, Ok, Err}
 use Rattle.ec_base.specs.declared.line.Line.{Line}
 use Rattle.ec_code.specs.declared.expression.Expression.{Expression, the_lemmas as expression_lemmas}
 use Rattle.ec_code.specs.declared.expression.Expression.TheVariants as expression
@@ -15,6 +15,7 @@ use Rattle.ec_code.specs.declared.statement.Statement.{Statement, the_lemmas}
 use Rattle.ec_code.specs.declared.statement.Statement.TheVariants as statement
 use Rattle.ec_code.specs.declared.step.Binary.{Binary}
 use Rattle.ec_code.specs.declared.step.Unary.{Unary}
+use Rattle.ec_code.specs.declared.mark.Mark.{Mark}
 use Rattle.ec_printf.specs.declared.formats.known.Known.{Known}
 use Rattle.ec_machine.specs.declared.frame.Flow.{Flow}
 use Rattle.ec_machine.specs.declared.frame.Flow.TheVariants as flow
@@ -84,9 +85,13 @@ pub weight-Goto : (l : ℕ) → statement_weight (statement.Goto l) ≡ 1
 unfolding statement_weight loop_weight
 weight-Goto l = search (rules, the_lemmas)
 
-pub weight-Label : (l : ℕ) (x : Statement) → statement_weight (statement.Label l x) ≡ suc (statement_weight x)
+pub weight-Label : (l : Mark) (x : Statement) → statement_weight (statement.Label l x) ≡ suc (statement_weight x)
 unfolding statement_weight loop_weight
 weight-Label l x = search (rules, the_lemmas)
+
+pub weight-Switch : (e : Expression) (x : Statement) → statement_weight (statement.Switch e x) ≡ 3 + expression_weight e + statement_weight x
+unfolding statement_weight loop_weight
+weight-Switch e x = search (rules, the_lemmas)
 
 pub weight-Embedded : (n : ℕ) → statement_weight (statement.Embedded n) ≡ 1
 unfolding statement_weight loop_weight
@@ -120,6 +125,10 @@ pub weight-LibraryCall : (n : ℕ) (es : List Expression) → head_weight (head.
 unfolding expression_weight full_weight head_weight full_step_weight
 weight-LibraryCall n es = search (rules, head_lemmas)
 
+pub weight-Choice : (e a b : Expression) → head_weight (head.Choice e a b) ≡ 3 + expression_weight e + expression_weight a + expression_weight b
+unfolding expression_weight full_weight head_weight full_step_weight
+weight-Choice e a b = search (rules, head_lemmas)
+
 pub weight-One : (u : Unary) → full_step_weight (step.One u) ≡ 0
 unfolding expression_weight full_weight head_weight full_step_weight
 weight-One u = search (rules, step_lemmas)
@@ -127,6 +136,11 @@ weight-One u = search (rules, step_lemmas)
 pub weight-Two : (b : Binary) (e : Expression) → full_step_weight (step.Two b e) ≡ suc (expression_weight e)
 unfolding expression_weight full_weight head_weight full_step_weight
 weight-Two b e = search (rules, step_lemmas)
+
+-- the operand of `?:` that a value chooses is no larger than both
+pub chosen_weight : (b : Bool) (x y z : Expression) → z ≡ elim b [ true ↦ x | false ↦ y ] → expression_weight z ≤ expression_weight x + expression_weight y
+chosen_weight true x y z p = omega (arith, ap expression_weight p)
+chosen_weight false x y z p = omega (arith, ap expression_weight p)
 
 -- ---- frames
 
@@ -220,6 +234,9 @@ some_weight (frame.Called line n xs) = omega arith
 some_weight frame.Do = omega arith
 some_weight frame.Give = omega arith
 some_weight (frame.Choose line a b) = omega arith
+some_weight (frame.Choice line a b) = omega arith
+some_weight (frame.Select line x) = omega arith
+some_weight frame.Switch = omega arith
 some_weight (frame.Test line x) = omega arith
 some_weight (frame.Behind line x) = omega arith
 some_weight (frame.Body line x) = omega arith

@@ -4,18 +4,20 @@ use Rattle.std.specs.Option.{option_map}
 use Rattle.ec_bytes.specs.declared.scalar.address.Ptr.{Ptr}
 use Rattle.ec_code.specs.declared.expression.FullStep.{FullStep}
 use Rattle.ec_code.specs.declared.statement.Loop.{Loop, out-Loop}
+use Rattle.ec_code.specs.Marks.{mark_view}
 use Rattle.ec_code.specs.Views.{expression_view, expressions_view, full_step_view, statement_view, statements_view}
 use Rattle.ec_meaning_defs.specs.evaluation.Evaluate.{Context, World, Step as Knowing, calls, turn_of, eval, collect}
 use Rattle.ec_meaning_defs.specs.evaluation.Execute.{run, run_all, look, tested, again, settle}
-use Rattle.ec_meaning_defs.specs.evaluation.Results.{Res, value, on, broke, continued, went, back, on_value, on_done, after_body, closing, function_end, answered, without_answer, returned, finished, done_there}
+use Rattle.ec_meaning_defs.specs.evaluation.Results.{Res, value, on, broke, continued, went, back, on_value, on_number, on_done, after_body, after_switch, closing, function_end, answered, without_answer, returned, finished, done_there}
 use Rattle.ec_meaning_defs.specs.evaluation.State.{State}
 use Rattle.ec_printf.specs.formats.Known.{channel_view, known_view}
 use Rattle.ec_meaning_defs.specs.functions.Functions.{effect_of, puts_bytes}
 use Rattle.ec_memory_defs.specs.Memory.{ValueData}
 use Rattle.ec_plain.specs.Answered.{context}
 use Rattle.ec_plain.specs.Steps.{followed, both_on}
+use Rattle.ec_meaning_defs.specs.resolved.Labels.{holds}
 use Rattle.ec_meaning_defs.specs.resolved.Operations.{is_true}
-use Rattle.ec_meaning_defs.specs.resolved.Resolved.{Exp, Stm, library}
+use Rattle.ec_meaning_defs.specs.resolved.Resolved.{Exp, Stm, Mark, case, default, library}
 use Rattle.ec_values.specs.Words.{word_view}
 use Rattle.ec_values.specs.declared.word.Word.{Word}
 use Rattle.ec_base.specs.declared.line.Line.{Line}
@@ -72,6 +74,19 @@ behind_of x = option_map expression_view (out-Loop x).behind
 
 abbrev pub body_of : Loop → Stm
 body_of x = statement_view (out-Loop x).body
+
+-- ---- `switch`
+
+-- the body from a case, or from `default` where it holds no such (6.8.4.2)
+abbrev pub selected : Knowing → World → Context → Stm → Mark → State → Res
+selected knowing w c x l t =
+    elim (holds l x) [
+      | true ↦ after_switch (look knowing w l c x t)
+      | false ↦ elim (holds default x) [
+        | true ↦ after_switch (look knowing w default c x t)
+        | false ↦ on t
+      ]
+    ]
 
 -- ---- frames
 
@@ -130,6 +145,15 @@ plug knowing w e (frame.Choose line a b) o =
       | true ↦ run knowing w (here e line) (statement_view a.now) t
       | false ↦ run knowing w (here e line) (statement_view b.now) t
     ])
+plug knowing w e (frame.Choice line a b) o =
+    on_value o (λ v t. elim (is_true v) [
+      | true ↦ eval knowing w (here e line) (expression_view a.now) t
+      | false ↦ eval knowing w (here e line) (expression_view b.now) t
+    ])
+plug knowing w e (frame.Select line x) o =
+    on_value o
+    (λ v t. on_number v t (λ z. selected knowing w (here e line) (statement_view x.now) (case z) t))
+plug knowing w e frame.Switch o = after_switch o
 plug knowing w e (frame.Test line x) o =
     on_value o (λ v t. elim (is_true v) [
       | true ↦ w (turn_of (here e line) (test_of x.now) (behind_of x.now) (body_of x.now)) t
@@ -168,7 +192,7 @@ led (flow.Back v) s = back (option_map word_view v) s
 abbrev pub denote : Knowing → World → Env → Line → List ℕ → Focus → State → Res
 denote knowing w e line text (focus.Runs x) s = run knowing w (here e line) (statement_view x.now) s
 denote knowing w e line text (focus.Looks l x) s =
-    look knowing w l (here e line) (statement_view x.now) s
+    look knowing w (mark_view l) (here e line) (statement_view x.now) s
 denote knowing w e line text (focus.Evaluates x) s =
     eval knowing w (here e line) (expression_view x.now) s
 denote knowing w e line text (focus.Value v) s = value (word_view v) s

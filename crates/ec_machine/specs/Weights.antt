@@ -40,6 +40,7 @@ head_step (Head-F.Begun p) = 1
 head_step (Head-F.Call f used es) = 3 + each es
 head_step (Head-F.Known f es) = 3 + each es
 head_step (Head-F.LibraryCall n es) = 3 + each es
+head_step (Head-F.Choice e a b) = 3 + e + a + b
 
 abbrev pub full_step_step : FullStep-F ℕ ℕ ℕ ℕ → ℕ
 full_step_step (FullStep-F.One u) = 0
@@ -83,6 +84,7 @@ statement_step Statement-F.Next = 1
 statement_step (Statement-F.Return e) = 2 + optional_weight e
 statement_step (Statement-F.Goto l) = 1
 statement_step (Statement-F.Label l x) = suc x
+statement_step (Statement-F.Switch e x) = 3 + expression_weight e + x
 statement_step (Statement-F.Embedded n) = 1
 
 abbrev pub loop_step : Loop-F ℕ ℕ → ℕ
@@ -117,6 +119,9 @@ frame_weight (frame.Called line n xs) = steps_weight xs.now
 frame_weight frame.Do = 1
 frame_weight frame.Give = 1
 frame_weight (frame.Choose line a b) = 1 + statement_weight a.now + statement_weight b.now
+frame_weight (frame.Choice line a b) = 1 + expression_weight a.now + expression_weight b.now
+frame_weight (frame.Select line x) = 2 + statement_weight x.now
+frame_weight frame.Switch = 1
 frame_weight (frame.Test line x) = 1
 frame_weight (frame.Behind line x) = 1 + test_weight x.now
 frame_weight (frame.Body line x) = 1 + again_weight x.now
@@ -138,6 +143,9 @@ frame_answer (frame.Called line n xs) = 0
 frame_answer frame.Do = 0
 frame_answer frame.Give = 0
 frame_answer (frame.Choose line a b) = 0
+frame_answer (frame.Choice line a b) = 0
+frame_answer (frame.Select line x) = 0
+frame_answer frame.Switch = 0
 frame_answer (frame.Test line x) = 0
 frame_answer (frame.Behind line x) = 0
 frame_answer (frame.Body line x) = 0

@@ -1,28 +1,31 @@
 //! Frames that are given an answer.
 
-ghost use Rattle.std.specs.Prelude.{◌≡◌, ◌≤◌, ◌+◌, List, Err, true, false};
+ghost use Rattle.std.specs.Prelude.{◌≡◌, ◌≤◌, ◌+◌, ℕ, List, Err, true, false};
 ghost use Rattle.std.specs.Option.{option_map};
 ghost use Rattle.ec_code.specs.declared.program.Function.{Function as FunctionData};
-ghost use Rattle.ec_code.specs.Views.{statement_view, statements_view};
-ghost use Rattle.ec_meaning_defs.specs.evaluation.Evaluate.{turn_of};
-ghost use Rattle.ec_meaning_defs.specs.evaluation.Execute.{again, look_all, run, run_all, settle};
-ghost use Rattle.ec_meaning_defs.specs.evaluation.Results.{after_body, back, on, on_done, value as valued, went};
+ghost use Rattle.ec_code.specs.Marks.{mark_view};
+ghost use Rattle.ec_code.specs.Views.{expression_view, statement_view, statements_view};
+ghost use Rattle.ec_meaning_defs.specs.evaluation.Evaluate.{eval, turn_of};
+ghost use Rattle.ec_meaning_defs.specs.evaluation.Execute.{again, look, look_all, run, run_all, settle};
+ghost use Rattle.ec_meaning_defs.specs.evaluation.Results.{after_body, after_switch, back, on, on_done, on_number, value as valued, went};
+ghost use Rattle.ec_meaning_defs.specs.evaluation.State.{State};
+ghost use Rattle.ec_meaning_defs.specs.resolved.Resolved.{case, named};
 ghost use Rattle.ec_meaning_defs.specs.resolved.Operations.{is_true};
 ghost use Rattle.ec_values.specs.Words.{word_view};
-ghost use Rattle.ec_machine.specs.Frames.{behind_by, behind_of, below, body_of, here, led, left_by, outside, plug, test_of};
+ghost use Rattle.ec_machine.specs.Frames.{behind_by, behind_of, below, body_of, here, led, left_by, outside, plug, selected, test_of};
 ghost use Rattle.ec_machine.specs.Goes.{Goes, env_of};
 ghost use Rattle.ec_machine.specs.declared.stop.End.TheVariants as ends;
 ghost use Rattle.ec_machine.specs.declared.stop.Stop.TheVariants as stops;
 ghost use Rattle.ec_memory_defs.specs.Memory.{end_to};
-ghost use Rattle.ec_machine.specs.Weights.{statement_weight, again_weight, flow_weight, frame_answer, frame_weight, frames_answer, frames_weight, remaining, statements_weight, steps_weight};
+ghost use Rattle.ec_machine.specs.Weights.{expression_weight, statement_weight, again_weight, flow_weight, frame_answer, frame_weight, frames_answer, frames_weight, remaining, statements_weight, steps_weight};
 
 use crate::calls::drop_last;
 use crate::frame::{Flow, Focus, Frame, Way};
-use crate::labels::holds_any;
+use crate::labels::{holds, holds_any};
 use crate::machine::Machine;
 use crate::statements::gives;
 use crate::stop::{End, Stop};
-use ec_code::{Function, Loop, Statement};
+use ec_code::{Expression, Function, Loop, Mark, Statement};
 use ec_values::Word;
 
 impl<'p> Machine<'p> {
@@ -66,6 +69,15 @@ impl<'p> Machine<'p> {
                 self.line = line;
                 self.choose(first, second, value)
             }
+            Frame::Choice(line, first, second) => {
+                self.line = line;
+                self.pick(first, second, value)
+            }
+            Frame::Select(line, body) => {
+                self.line = line;
+                self.select(body, value)
+            }
+            Frame::Switch => Ok(Focus::Value(value)),
             Frame::Test(line, inner) => {
                 self.line = line;
                 self.tested(functions, inner, value)
@@ -132,6 +144,9 @@ impl<'p> Machine<'p> {
             Frame::Do => Ok(Focus::Leads(flow)),
             Frame::Give => Ok(Focus::Leads(flow)),
             Frame::Choose(_, _, _) => Ok(Focus::Leads(flow)),
+            Frame::Choice(_, _, _) => Ok(Focus::Leads(flow)),
+            Frame::Select(_, _) => Ok(Focus::Leads(flow)),
+            Frame::Switch => Ok(Focus::Leads(after_switch(flow))),
             Frame::Test(_, _) => Ok(Focus::Leads(flow)),
             Frame::Behind(_, _) => Ok(Focus::Leads(flow)),
         }
@@ -202,10 +217,10 @@ impl<'p> Machine<'p> {
             statements_weight way.entry.function.now.body }
     {
         let body = way.function.body.as_slice();
-        if holds_any(label, body) {
+        if holds_any(Mark::Named(label), body) {
             self.line = way.line;
             self.frames.push(Frame::Call(way))?;
-            self.look_list(label, body)
+            self.look_list(Mark::Named(label), body)
         } else {
             self.go_astray(way)
         }
@@ -246,6 +261,80 @@ impl<'p> Machine<'p> {
         } else {
             Ok(Focus::Runs(second))
         }
+    }
+
+    /// The operand of `?:` that a value chooses is evaluated.
+    #[tactic(auto, using(crate::proofs::Weighing::weights))]
+    pub(crate) fn pick(
+        &self,
+        first: &'p Expression,
+        second: &'p Expression,
+        value: Word,
+    ) -> Result<Focus<'p>, Stop>
+        ensures goes { (functions : List FunctionData) → Goes functions self.now (env_of self.now)
+            (λ knowing w t. elim (is_true (word_view value)) [
+              | true ↦ eval knowing w (here (env_of self.now) self.now.line) (expression_view
+                  first.now) t
+              | false ↦ eval knowing w (here (env_of self.now) self.now.line) (expression_view
+                  second.now) t
+            ]) result self.now }
+        ensures nears { remaining self.now.turns result self.now ≤
+            1 + frames_weight self.now.frames + expression_weight first.now + expression_weight
+            second.now }
+    {
+        if value.is_true() {
+            Ok(Focus::Evaluates(first))
+        } else {
+            Ok(Focus::Evaluates(second))
+        }
+    }
+
+    /// The operand of a `switch` has this value, and the body is run from its case, or from `default`.
+    #[inline(never)]
+    pub(crate) fn select(&mut self, body: &'p Statement, value: Word) -> Result<Focus<'p>, Stop>
+        ensures goes { (functions : List FunctionData) → Goes functions self.old (env_of self.old)
+            (λ knowing w t. on_number (word_view value) t (λ z. selected knowing w
+            (here (env_of self.old) self.old.line) (statement_view body.now) (case z) t)) result
+            self.new }
+        ensures turns { self.new.turns ≤ self.old.turns }
+        ensures nears { remaining self.old.turns result self.new ≤
+            2 + frames_weight self.old.frames + statement_weight body.now }
+    {
+        match Mark::case_of(value) {
+            Some(case) => self.go_from(case, body),
+            None => Err(Stop::Over(End::Stuck)),
+        }
+    }
+
+    /// The body of a `switch` is run from this case, or from `default` where it holds no such.
+    fn go_from(&mut self, label: Mark, body: &'p Statement) -> Result<Focus<'p>, Stop>
+        ensures goes { (functions : List FunctionData) → Goes functions self.old (env_of self.old)
+            (λ knowing w t. selected knowing w (here (env_of self.old) self.old.line)
+            (statement_view body.now) (mark_view label) t) result self.new }
+        ensures turns { self.new.turns ≤ self.old.turns }
+        ensures nears { remaining self.old.turns result self.new ≤
+            2 + frames_weight self.old.frames + statement_weight body.now }
+    {
+        if holds(label, body) {
+            return self.go_to(label, body);
+        }
+        if holds(Mark::Default, body) {
+            return self.go_to(Mark::Default, body);
+        }
+        Ok(Focus::Leads(Flow::On))
+    }
+
+    /// The body of a `switch` is run from this case, which it holds.
+    fn go_to(&mut self, label: Mark, body: &'p Statement) -> Result<Focus<'p>, Stop>
+        ensures goes { (functions : List FunctionData) → Goes functions self.old (env_of self.old)
+            (λ knowing w t. after_switch (look knowing w (mark_view label) (here (env_of self.old)
+            self.old.line) (statement_view body.now) t)) result self.new }
+        ensures turns { self.new.turns ≤ self.old.turns }
+        ensures nears { remaining self.old.turns result self.new ≤
+            2 + frames_weight self.old.frames + statement_weight body.now }
+    {
+        self.frames.push(Frame::Switch)?;
+        Ok(Focus::Looks(label, body))
     }
 
     /// The test of a loop has this value.
@@ -334,7 +423,7 @@ impl<'p> Machine<'p> {
     {
         match flow {
             Flow::Went(label) => {
-                if holds_any(label, statements) {
+                if holds_any(Mark::Named(label), statements) {
                     self.answer(label, statements)
                 } else {
                     Ok(Focus::Leads(Flow::Went(label)))
@@ -352,13 +441,27 @@ impl<'p> Machine<'p> {
     fn answer(&mut self, label: u32, statements: &'p [Statement]) -> Result<Focus<'p>, Stop>
         ensures goes { (functions : List FunctionData) → Goes functions self.old (env_of self.old)
             (λ knowing w t. settle w (here (env_of self.old) self.old.line) (statements_view
-            statements.now) (look_all knowing w label (here (env_of self.old) self.old.line)
+            statements.now) (look_all knowing w (named label) (here (env_of self.old) self.old.line)
             (statements_view statements.now) t)) result self.new }
         ensures turns { self.new.turns ≤ self.old.turns }
         ensures nears { remaining self.old.turns result self.new ≤
             2 + frames_weight self.old.frames + statements_weight statements.now }
     {
         self.frames.push(Frame::Settle(self.line, statements))?;
-        self.look_list(label, statements)
+        self.look_list(Mark::Named(label), statements)
+    }
+}
+
+/// What a `switch` leads to whose body leads to this: a `break` ends it (ISO/IEC 9899:1999, 6.8.6.3).
+fn after_switch(flow: Flow) -> Flow
+    ensures leads { (t : State) → led result t ≡ after_switch (led flow t) }
+    ensures weighs { (n : ℕ) → flow_weight result n ≤ flow_weight flow n }
+{
+    match flow {
+        Flow::Broke => Flow::On,
+        Flow::On => flow,
+        Flow::Continued => flow,
+        Flow::Went(_) => flow,
+        Flow::Back(_) => flow,
     }
 }

@@ -1,10 +1,12 @@
 //! Expressions that hold calls.
 
-ghost use Rattle.std.specs.Prelude.{◌≡◌, ◌≤◌, ◌+◌, ◌∷◌, ◌++◌, [], ℕ, List, map};
+ghost use Rattle.std.specs.Prelude.{◌≡◌, ◌≤◌, ◌+◌, ◌∷◌, ◌++◌, [], ℕ, List, map, true, false};
 ghost use Rattle.ec_code.specs.declared.program.Function.{Function as FunctionData};
 ghost use Rattle.ec_code.specs.Views.{expression_view, expressions_view, full_step_view, full_view, head_view, plain_view};
 ghost use Rattle.ec_meaning_defs.specs.evaluation.Evaluate.{collect, eval};
 ghost use Rattle.ec_meaning_defs.specs.evaluation.Results.{on, on_value, value as valued};
+ghost use Rattle.ec_meaning_defs.specs.resolved.Operations.{is_true};
+ghost use Rattle.ec_meaning_defs.specs.resolved.Resolved as of;
 ghost use Rattle.ec_plain.specs.Steps.{both_on, followed, one_on, step_on, two_on};
 ghost use Rattle.ec_values.specs.Words.{word_view};
 ghost use Rattle.ec_machine.specs.Found.{Finds, FindsAlone, LeavesNear, found_view};
@@ -160,6 +162,9 @@ impl<'p> Machine<'p> {
                     left,
                 )
             }
+            Head::Choice(test, first, second) => {
+                self.choice(test.get(), first.get(), second.get(), steps, left)
+            }
         }
     }
 
@@ -175,6 +180,99 @@ impl<'p> Machine<'p> {
             Ok(value) => Found::value(value),
             Err(why) => waits(left, Err(stopped(self.line, why))),
         }
+    }
+
+    /// `a ? b : c` is evaluated. Where an operand holds a call, frames wait for it. These steps are behind it.
+    #[inline(never)]
+    fn choice(
+        &mut self,
+        test: &'p Expression,
+        first: &'p Expression,
+        second: &'p Expression,
+        steps: &'p [FullStep],
+        left: &mut Result<Focus<'p>, Stop>,
+    ) -> Found
+        ensures finds { (functions : List FunctionData) → Finds functions self.old (env_of self.old)
+            self.old.line (behind_by (here (env_of self.old) self.old.line) steps.now)
+            (λ knowing w t. eval knowing w (here (env_of self.old) self.old.line) (of.choice
+            (expression_view test.now) (expression_view first.now) (expression_view second.now)) t)
+            (found_view result) left.new self.new }
+        ensures turns { self.new.turns ≡ self.old.turns }
+        ensures nears { LeavesNear self.old.turns (found_view result) left.new self.new
+            (3 + frames_weight self.old.frames + expression_weight test.now + expression_weight
+            first.now + expression_weight second.now + steps_weight steps.now) }
+    {
+        match test {
+            Expression::Plain(plain) => match self.at_first(plain, left).get() {
+                Some(value) => self.operand(chosen(value, first, second), steps, left),
+                None => Found::Waits,
+            },
+            Expression::Full(_) => waits(left, self.ask_first(test, first, second, steps)),
+        }
+    }
+
+    /// An operand of `?:` is evaluated. Where it holds a call, a frame waits for it. These steps are behind it.
+    fn operand(
+        &mut self,
+        operand: &'p Expression,
+        steps: &'p [FullStep],
+        left: &mut Result<Focus<'p>, Stop>,
+    ) -> Found
+        ensures finds { (functions : List FunctionData) → Finds functions self.old (env_of self.old)
+            self.old.line (behind_by (here (env_of self.old) self.old.line) steps.now)
+            (λ knowing w t. eval knowing w (here (env_of self.old) self.old.line) (expression_view
+            operand.now) t) (found_view result) left.new self.new }
+        ensures turns { self.new.turns ≡ self.old.turns }
+        ensures nears { LeavesNear self.old.turns (found_view result) left.new self.new
+            (1 + frames_weight self.old.frames + expression_weight operand.now + steps_weight
+            steps.now) }
+    {
+        match operand {
+            Expression::Plain(plain) => self.at_first(plain, left),
+            Expression::Full(_) => waits(left, self.wait_for(operand, steps)),
+        }
+    }
+
+    /// An expression is evaluated, and these steps wait for it.
+    fn wait_for(
+        &mut self,
+        expression: &'p Expression,
+        steps: &'p [FullStep],
+    ) -> Result<Focus<'p>, Stop>
+        ensures goes { (functions : List FunctionData) → Goes functions self.old (env_of self.old)
+            (λ knowing w t. behind_by (here (env_of self.old) self.old.line) steps.now knowing w
+            (eval knowing w (here (env_of self.old) self.old.line) (expression_view expression.now)
+            t)) result self.new }
+        ensures turns { self.new.turns ≡ self.old.turns }
+        ensures nears { remaining self.old.turns result self.new ≤
+            1 + frames_weight self.old.frames + expression_weight expression.now + steps_weight
+            steps.now }
+    {
+        self.frames.push(Frame::Steps(self.line, steps))?;
+        Ok(Focus::Evaluates(expression))
+    }
+
+    /// The first operand of `?:` is evaluated, and the others wait for it, and these steps behind them.
+    fn ask_first(
+        &mut self,
+        test: &'p Expression,
+        first: &'p Expression,
+        second: &'p Expression,
+        steps: &'p [FullStep],
+    ) -> Result<Focus<'p>, Stop>
+        ensures goes { (functions : List FunctionData) → Goes functions self.old (env_of self.old)
+            (λ knowing w t. behind_by (here (env_of self.old) self.old.line) steps.now knowing w
+            (eval knowing w (here (env_of self.old) self.old.line) (of.choice
+            (expression_view test.now) (expression_view first.now) (expression_view second.now))
+            t)) result self.new }
+        ensures turns { self.new.turns ≡ self.old.turns }
+        ensures nears { remaining self.old.turns result self.new ≤
+            2 + frames_weight self.old.frames + expression_weight test.now + expression_weight
+            first.now + expression_weight second.now + steps_weight steps.now }
+    {
+        self.frames.push(Frame::Steps(self.line, steps))?;
+        self.frames.push(Frame::Choice(self.line, first, second))?;
+        Ok(Focus::Evaluates(test))
     }
 
     /// All values of an object are stored that is initialized.
@@ -561,4 +659,19 @@ impl<'p> Machine<'p> {
             Err(why) => Err(stopped(self.line, why)),
         }
     }
+}
+
+/// The operand of `?:` that a value chooses (ISO/IEC 9899:1999, 6.5.15).
+#[inline(always)]
+pub(crate) fn chosen<'p>(
+    value: Word,
+    first: &'p Expression,
+    second: &'p Expression,
+) -> &'p Expression
+    ensures { result.now ≡ elim (is_true (word_view value)) [
+      | true ↦ first.now
+      | false ↦ second.now
+    ] }
+{
+    if value.is_true() { first } else { second }
 }

@@ -1,7 +1,7 @@
 //! What the machine looks at, and what waits for its answer.
 
 use ec_base::Line;
-use ec_code::{Binary, Expression, FullStep, Function, Loop, Statement};
+use ec_code::{Binary, Expression, FullStep, Function, Loop, Mark, Statement};
 use ec_printf::formats::{Channel, Known};
 use ec_values::Word;
 
@@ -33,8 +33,8 @@ pub enum Flow {
 #[derive(Clone, Copy)]
 pub enum Focus<'p> {
     Runs(&'p Statement),
-    /// A statement that holds the label is run from there.
-    Looks(u32, &'p Statement),
+    /// A statement that holds the label or case is run from there.
+    Looks(Mark, &'p Statement),
     Evaluates(&'p Expression),
     Value(Word),
     /// The bytes of the machine's text go out, and the call that put them has this value.
@@ -77,6 +77,12 @@ pub enum Frame<'p> {
     /// `return`
     Give,
     Choose(Line, &'p Statement, &'p Statement),
+    /// The first operand of `?:`, and the others.
+    Choice(Line, &'p Expression, &'p Expression),
+    /// The operand of a `switch`, and its body.
+    Select(Line, &'p Statement),
+    /// The body of a `switch`.
+    Switch,
     /// The test of a loop.
     Test(Line, &'p Loop),
     /// What a loop evaluates behind its body.

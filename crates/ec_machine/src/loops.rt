@@ -3,6 +3,7 @@
 ghost use Rattle.std.specs.Prelude.{◌≡◌, ◌≤◌, ◌<◌, ◌+◌, ℕ, List, map, IfSome, OnOk};
 ghost use Rattle.ec_meaning_defs.specs.resolved.Resolved.{evaluate as evaluated};
 ghost use Rattle.ec_code.specs.declared.program.Function.{Function as FunctionData};
+ghost use Rattle.ec_code.specs.Marks.{mark_view};
 ghost use Rattle.ec_code.specs.Views.{expression_view, full_view, size_view, statement_view, statements_view};
 ghost use Rattle.ec_meaning_defs.specs.evaluation.Evaluate.{Context, World, Step as Knowing, eval, turn_of};
 ghost use Rattle.ec_meaning_defs.specs.evaluation.Execute.{again, enter, look_all, run, run_all, tested};
@@ -22,7 +23,7 @@ use crate::making::{make_objects, no_room, take_turn};
 use crate::quick::{Asked, Done, ask, pass_behind, quick, quick_list};
 use crate::stop::Stop;
 use ec_base::Line;
-use ec_code::{Expression, Full, Function, Loop, ObjectSize, Statement};
+use ec_code::{Expression, Full, Function, Loop, Mark, ObjectSize, Statement};
 
 impl<'p> Machine<'p> {
     /// Statements are run, one after the other.
@@ -72,14 +73,14 @@ impl<'p> Machine<'p> {
         }
     }
 
-    /// A label is looked for in statements.
+    /// A label or a case is looked for in statements.
     pub(crate) fn look_list(
         &mut self,
-        label: u32,
+        label: Mark,
         statements: &'p [Statement],
     ) -> Result<Focus<'p>, Stop>
         ensures goes { (functions : List FunctionData) → Goes functions self.old (env_of self.old)
-            (λ knowing w t. look_all knowing w label (here (env_of self.old) self.old.line)
+            (λ knowing w t. look_all knowing w (mark_view label) (here (env_of self.old) self.old.line)
             (statements_view statements.now) t) result self.new }
         ensures turns { self.new.turns ≤ self.old.turns }
         ensures nears { remaining self.old.turns result self.new ≤

@@ -3,6 +3,7 @@
 ghost use Rattle.std.specs.Prelude.{◌≡◌, ◌≤◌, ◌+◌, ℕ, List, map, IfOk};
 ghost use Rattle.std.specs.Option.{option_map};
 ghost use Rattle.ec_code.specs.declared.program.Function.{Function as FunctionData};
+ghost use Rattle.ec_code.specs.Marks.{mark_view};
 ghost use Rattle.ec_code.specs.Views.{expression_view, expressions_view, full_view, loop_view, plain_view, size_view, statement_view, statements_view};
 ghost use Rattle.ec_meaning_defs.specs.evaluation.Evaluate.{eval};
 ghost use Rattle.ec_meaning_defs.specs.evaluation.Execute.{declared, enter, initialized, look, look_all, returning, run, run_all};
@@ -22,7 +23,7 @@ use crate::machine::Machine;
 use crate::making::{place, stopped, take_turn};
 use crate::quick::{Done, quick};
 use crate::stop::{End, Stop};
-use ec_code::{Expression, Full, Function, Loop, ObjectSize, Plain, Statement};
+use ec_code::{Expression, Full, Function, Loop, Mark, ObjectSize, Plain, Statement};
 use ec_plain::evaluate;
 use ec_values::Word;
 
@@ -63,6 +64,7 @@ impl<'p> Machine<'p> {
             Statement::Return(value) => self.run_return(functions, value),
             Statement::Goto(label) => self.jump(*label),
             Statement::Label(_, inner) => Ok(Focus::Runs(inner.get())),
+            Statement::Switch(operand, body) => self.switch(operand, body.get()),
             Statement::Embedded(_) => Err(Stop::Over(End::Stuck)),
         }
     }
@@ -234,6 +236,41 @@ impl<'p> Machine<'p> {
         }
     }
 
+    /// A `switch` is reached.
+    #[inline(never)]
+    fn switch(&mut self, operand: &'p Expression, body: &'p Statement) -> Result<Focus<'p>, Stop>
+        ensures goes { (functions : List FunctionData) → Goes functions self.old (env_of self.old)
+            (evaluated_for (env_of self.old) self.old.line (expression_view operand.now)
+            (frame.Select self.old.line body.entry)) result self.new }
+        ensures turns { self.new.turns ≤ self.old.turns }
+        ensures nears { remaining self.old.turns result self.new ≤
+            3 + frames_weight self.old.frames + expression_weight operand.now +
+            statement_weight body.now }
+    {
+        match operand {
+            Expression::Plain(plain) => self.switch_at_once(plain, body),
+            Expression::Full(_) => {
+                self.frames.push(Frame::Select(self.line, body))?;
+                Ok(Focus::Evaluates(operand))
+            }
+        }
+    }
+
+    /// A `switch` is reached whose operand has no calls.
+    fn switch_at_once(&mut self, operand: &Plain, body: &'p Statement) -> Result<Focus<'p>, Stop>
+        ensures goes { (functions : List FunctionData) → Goes functions self.old (env_of self.old)
+            (evaluated_for (env_of self.old) self.old.line (plain_view operand.now)
+            (frame.Select self.old.line body.entry)) result self.new }
+        ensures turns { self.new.turns ≤ self.old.turns }
+        ensures nears { remaining self.old.turns result self.new ≤
+            2 + frames_weight self.old.frames + statement_weight body.now }
+    {
+        match evaluate(&mut self.store, self.scope.objects(), operand).get() {
+            Ok(value) => self.select(body, value),
+            Err(why) => Err(stopped(self.line, why)),
+        }
+    }
+
     /// `return` of an expression.
     fn give(&mut self, functions: &'p [Function], value: &'p Expression) -> Result<Focus<'p>, Stop>
         ensures goes { Goes functions.now self.old (env_of self.old)
@@ -285,11 +322,11 @@ impl<'p> Machine<'p> {
         }
     }
 
-    /// A statement that holds a label is run from there.
+    /// A statement that holds a label or a case is run from there.
     #[inline(never)]
-    pub(crate) fn look(&mut self, label: u32, statement: &'p Statement) -> Result<Focus<'p>, Stop>
+    pub(crate) fn look(&mut self, label: Mark, statement: &'p Statement) -> Result<Focus<'p>, Stop>
         ensures goes { (functions : List FunctionData) → Goes functions self.old (env_of self.old)
-            (λ knowing w t. look knowing w label (here (env_of self.old) self.old.line)
+            (λ knowing w t. look knowing w (mark_view label) (here (env_of self.old) self.old.line)
             (statement_view statement.now) t) result self.new }
         ensures turns { self.new.turns ≤ self.old.turns }
         ensures nears { remaining self.old.turns result self.new ≤
@@ -316,8 +353,12 @@ impl<'p> Machine<'p> {
                 self.frames.push(Frame::Body(self.line, inner))?;
                 Ok(Focus::Looks(label, &inner.body))
             }
-            Statement::Label(number, inner) => {
-                if *number == label {
+            Statement::Switch(_, body) => {
+                self.frames.push(Frame::Switch)?;
+                Ok(Focus::Looks(label, body.get()))
+            }
+            Statement::Label(mark, inner) => {
+                if mark.is_same(label) {
                     Ok(Focus::Runs(inner.get()))
                 } else {
                     Ok(Focus::Looks(label, inner.get()))
@@ -360,16 +401,16 @@ impl<'p> Machine<'p> {
         }
     }
 
-    /// A block that holds a label is run from there.
+    /// A block that holds a label or a case is run from there.
     fn look_block(
         &mut self,
-        label: u32,
+        label: Mark,
         sizes: &'p [ObjectSize],
         body: &'p [Statement],
     ) -> Result<Focus<'p>, Stop>
         ensures goes { (functions : List FunctionData) → Goes functions self.old (env_of self.old)
             (λ knowing w t. enter w (here (env_of self.old) self.old.line) (map size_view sizes.now)
-            (statements_view body.now) (λ d u. look_all knowing w label d (statements_view
+            (statements_view body.now) (λ d u. look_all knowing w (mark_view label) d (statements_view
             body.now) u) t) result self.new }
         ensures turns { self.new.turns ≤ self.old.turns }
         ensures nears { remaining self.old.turns result self.new ≤

@@ -4,9 +4,9 @@ use Rattle.ec_memory_defs.specs.Memory.{ValueData, number, address}
 use Rattle.ec_meaning_defs.specs.resolved.Labels.{holds_any}
 use Rattle.ec_meaning_defs.specs.resolved.Operations.{Operation, integers, shift_left, shift_right, compare, pointer_plus, plus_pointer, pointer_minus, pointers_apart}
 use Rattle.ec_meaning_defs.specs.resolved.Programs.{Function, Program}
-use Rattle.ec_meaning_defs.specs.resolved.Resolved.{Exp, object, slot, member, constant, load, whole, store, copy, put, update, convert, negate, flip, not, operate, both, either, call, known, library_call, faulty, Exps, no_exps, exps, Stm, on_line, nothing, evaluate, declare, initialize, block, choose, loop, leave, next, return, goto, label, embedded_statement, Stms, no_stms, stms}
+use Rattle.ec_meaning_defs.specs.resolved.Resolved.{Exp, object, slot, member, constant, load, whole, store, copy, put, update, convert, negate, flip, not, operate, both, either, choice, call, known, library_call, faulty, Exps, no_exps, exps, Stm, on_line, nothing, evaluate, declare, initialize, block, choose, loop, leave, next, return, goto, label, named, select, embedded_statement, Stms, no_stms, stms}
 use Rattle.ec_sound_defs.specs.Sorts.{Sort, number_sort, address_sort, any_sort, sort_of, sort_of_value, left_of, right_of, result_sort, known_takes, known_gives}
-use Rattle.ec_sound_defs.specs.Sound.{Signature, Around, call_gives, count_of, looping, within, in_body}
+use Rattle.ec_sound_defs.specs.Sound.{Signature, Around, call_gives, count_of, looping, switching, within, in_body}
 
 abbrev pub takes : Sort → Sort → Bool
 takes any_sort k = true
@@ -72,6 +72,7 @@ module _ (signatures : List Signature) where
         || (is_comparison op && (has n address_sort a && has n address_sort b)))
     has n k (both a b) = takes k number_sort && (has n any_sort a && has n any_sort b)
     has n k (either a b) = takes k number_sort && (has n any_sort a && has n any_sort b)
+    has n k (choice e a b) = has n any_sort e && (has n k a && has n k b)
     has n k (call f used es) =
         is_called (slice_get signatures f) used (count_of es) k
         && has_each n (replicate (count_of es) any_sort) es
@@ -105,11 +106,12 @@ module _ (signatures : List Signature) where
     is_sound a (choose e x y) = has a.count any_sort e && (is_sound a x && is_sound a y)
     is_sound a (loop first test behind x) =
         has_option a.count test && (has_option a.count behind && is_sound (looping a) x)
-    is_sound a leave = a.loops
+    is_sound a leave = a.breaks
     is_sound a next = a.loops
     is_sound a (return e) = may_return a e
-    is_sound a (goto l) = holds_any l a.body
+    is_sound a (goto l) = holds_any (named l) a.body
     is_sound a (label l x) = is_sound a x
+    is_sound a (select e x) = has a.count number_sort e && is_sound (switching a) x
     is_sound a (embedded_statement n) = false
 
     pub all_sound : Around → Stms → Bool

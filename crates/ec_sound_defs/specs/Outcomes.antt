@@ -2,7 +2,7 @@
 use Rattle.std.specs.Prelude.{◌≡◌, ℕ, Bool, true, false, List, length, replicate, slice_get, Option, Some}
 use Rattle.ec_memory_defs.specs.Memory.{ValueData}
 use Rattle.ec_meaning_defs.specs.resolved.Labels.{holds_any}
-use Rattle.ec_meaning_defs.specs.resolved.Resolved.{Exp, embedded, library, Stm, Stms}
+use Rattle.ec_meaning_defs.specs.resolved.Resolved.{Exp, embedded, library, named, Stm, Stms}
 use Rattle.ec_meaning_defs.specs.evaluation.State.{State, Ending, exited, trapped, turns_spent, waits, stuck}
 use Rattle.ec_meaning_defs.specs.evaluation.Results.{Res, value, on, broke, continued, went, back, over}
 use Rattle.ec_meaning_defs.specs.evaluation.Evaluate.{Context, calls, turn_of, look_for, World, Step}
@@ -50,9 +50,9 @@ Goes (over e s) = IsNotStuck e
 abbrev pub Leads : Bool → Around → Res → Type 0
 Leads first a (value v s) = ⊥
 Leads first a (on s) = Unit {0}
-Leads first a (broke s) = a.loops ≡ true
+Leads first a (broke s) = a.breaks ≡ true
 Leads first a (continued s) = a.loops ≡ true
-Leads first a (went l s) = holds_any l a.body ≡ true
+Leads first a (went l s) = holds_any (named l) a.body ≡ true
 Leads first a (back v s) = (first ≡ false) × MayReturn a.gives v
 Leads first a (over e s) = IsNotStuck e
 
@@ -60,9 +60,9 @@ Leads first a (over e s) = IsNotStuck e
 abbrev pub Settled : Bool → Around → Stms → Res → Type 0
 Settled first a b (value v s) = ⊥
 Settled first a b (on s) = Unit {0}
-Settled first a b (broke s) = a.loops ≡ true
+Settled first a b (broke s) = a.breaks ≡ true
 Settled first a b (continued s) = a.loops ≡ true
-Settled first a b (went l s) = (holds_any l a.body ≡ true) × (holds_any l b ≡ false)
+Settled first a b (went l s) = (holds_any (named l) a.body ≡ true) × (holds_any (named l) b ≡ false)
 Settled first a b (back v s) = (first ≡ false) × MayReturn a.gives v
 Settled first a b (over e s) = IsNotStuck e
 

@@ -1,10 +1,10 @@
--- Sound programs: those in which each part has the sort that the part round it wants, each slot is in scope, each function and each label is there, and what leaves a loop stands in one. Nothing faulty is in them. Every program that is accepted is resolved to a sound one.
+-- Sound programs: those in which each part has the sort that the part round it wants, each slot is in scope, each function and each label is there, and what leaves a loop or a `switch` stands in one. Nothing faulty is in them. Every program that is accepted is resolved to a sound one.
 use Rattle.std.specs.Prelude.{◌≡◌, ◌⊎◌, ◌<◌, ◌+◌, ℕ, suc, Bool, true, false, List, [], ◌∷◌, length, replicate, slice_get, Option, Some, None}
 use Rattle.ec_memory_defs.specs.Memory.{ValueData}
 use Rattle.ec_meaning_defs.specs.resolved.Labels.{holds_any}
 use Rattle.ec_meaning_defs.specs.resolved.Operations.{Operation, integers, shift_left, shift_right, compare, pointer_plus, plus_pointer, pointer_minus, pointers_apart}
 use Rattle.ec_meaning_defs.specs.resolved.Programs.{Function, Program}
-use Rattle.ec_meaning_defs.specs.resolved.Resolved.{Exp, object, slot, member, constant, load, whole, store, copy, put, update, convert, negate, flip, not, operate, both, either, call, known, library_call, faulty, Exps, no_exps, exps, Stm, on_line, nothing, evaluate, declare, initialize, block, choose, loop, leave, next, return, goto, label, embedded_statement, Stms, no_stms, stms}
+use Rattle.ec_meaning_defs.specs.resolved.Resolved.{Exp, object, slot, member, constant, load, whole, store, copy, put, update, convert, negate, flip, not, operate, both, either, choice, call, known, library_call, faulty, Exps, no_exps, exps, Stm, on_line, nothing, evaluate, declare, initialize, block, choose, loop, leave, next, return, goto, label, named, select, embedded_statement, Stms, no_stms, stms}
 use Rattle.ec_sound_defs.specs.Sorts.{Sort, number_sort, address_sort, any_sort, OfSort, Takes, sort_of, sort_of_value, left_of, right_of, result_sort, known_takes, known_gives}
 
 -- a function as calls see it: how many arguments it takes, and the sort of its value. One without a result gives any
@@ -12,10 +12,11 @@ pub record Signature : Type 0 where
   pub takes : ℕ
   pub gives : Sort
 
--- where a statement stands: how many objects are in scope, whether in a loop, the body of its function, and the sort of the function's value
+-- where a statement stands: how many objects are in scope, whether in a loop, whether in what `break` ends (a loop or a `switch`), the body of its function, and the sort of the function's value
 pub record Around : Type 0 where
   pub count : ℕ
   pub loops : Bool
+  pub breaks : Bool
   pub body : Stms
   pub gives : Sort
 
@@ -30,7 +31,10 @@ call_gives true g = g.gives
 call_gives false g = any_sort
 
 abbrev pub looping : Around → Around
-looping a = record a { loops = true }
+looping a = record a { loops = true; breaks = true }
+
+abbrev pub switching : Around → Around
+switching a = record a { breaks = true }
 
 abbrev pub within : Around → List ℕ → Around
 within a sizes = record a { count = a.count + length sizes }
@@ -50,6 +54,7 @@ abbrev pub in_body : Signature → Function → Around
 in_body g f = record {
   count = length f.parameters + length f.objects;
   loops = false;
+  breaks = false;
   body = f.body;
   gives = g.gives;
 }
@@ -101,6 +106,7 @@ module _ (signatures : List Signature) (atoms : Atoms) where
         ⊎ (IsComparison op × Has n address_sort a × Has n address_sort b))
     Has n k (both a b) = Takes k number_sort × Has n any_sort a × Has n any_sort b
     Has n k (either a b) = Takes k number_sort × Has n any_sort a × Has n any_sort b
+    Has n k (choice e a b) = Has n any_sort e × Has n k a × Has n k b
     Has n k (call f used es) =
         Called (slice_get signatures f) used (count_of es) k
         × HasEach n (replicate (count_of es) any_sort) es
@@ -137,11 +143,12 @@ module _ (signatures : List Signature) (atoms : Atoms) where
     Sound a (choose e x y) = Has a.count any_sort e × Sound a x × Sound a y
     Sound a (loop first test behind x) =
         HasOption a.count test × HasOption a.count behind × Sound (looping a) x
-    Sound a leave = a.loops ≡ true
+    Sound a leave = a.breaks ≡ true
     Sound a next = a.loops ≡ true
     Sound a (return e) = Returns a e
-    Sound a (goto l) = holds_any l a.body ≡ true
+    Sound a (goto l) = holds_any (named l) a.body ≡ true
     Sound a (label l x) = Sound a x
+    Sound a (select e x) = Has a.count number_sort e × Sound (switching a) x
     Sound a (embedded_statement n) = atoms.embeds a n
 
     pub SoundAll : Around → Stms → Type 0

@@ -1,7 +1,7 @@
 -- Tests that are both, values that aren't there, and forms in which no call of the library is.
 use Rattle.std.proofs.Common.{◌≡◌, ◌⊎◌, inl, inr, ℕ, Bool, true, false, ◌&&◌, ◌||◌, List, [], ◌∷◌, replicate, Option, Some, None, refl, sym, slice_get}
 use Rattle.std.proofs.lemmas.Bool.{false≢true}
-use Rattle.ec_meaning_defs.specs.resolved.Resolved.{Exp, object, slot, member, constant, load, whole, store, copy, put, update, convert, negate, flip, not, operate, both, either, call, known, library_call, faulty, Exps, no_exps, exps}
+use Rattle.ec_meaning_defs.specs.resolved.Resolved.{Exp, object, slot, member, constant, load, whole, store, copy, put, update, convert, negate, flip, not, operate, both, either, choice, call, known, library_call, faulty, Exps, no_exps, exps}
 use Rattle.ec_meaning_defs.specs.resolved.Operations.{Operation}
 use Rattle.ec_sound_defs.specs.Sorts.{Sort, known_takes, any_sort, address_sort, left_of, right_of}
 use Rattle.ec_sound_defs.specs.Sound.{Signature, Atoms, Has, HasEach, Called, IsComparison, count_of, no_atoms}
@@ -56,6 +56,7 @@ module _ (gs : List Signature) (atoms : Atoms) (n : ℕ) where
     with_atoms (operate op a b) k h = (h.0, two_ways op a b h.1 (λ j i. with_atoms a j i) (λ j i. with_atoms b j i))
     with_atoms (both a b) k h = (h.0, with_atoms a any_sort h.1, with_atoms b any_sort h.2)
     with_atoms (either a b) k h = (h.0, with_atoms a any_sort h.1, with_atoms b any_sort h.2)
+    with_atoms (choice e a b) k h = (with_atoms e any_sort h.0, with_atoms a k h.1, with_atoms b k h.2)
     with_atoms (call f used es) k h = (called_so (slice_get gs f) used (count_of es) k h.0, each_with_atoms (replicate (count_of es) any_sort) es h.1)
     with_atoms (known f es) k h = (h.0, each_with_atoms (known_takes f) es h.1)
     with_atoms (library_call i es) k h = absurd h.1

@@ -11,7 +11,7 @@ use Rattle.ec_ctypes.specs.trees.Types.{TyData, void, arithmetic, pointer, array
 use Rattle.ec_typing_defs.specs.Types.{only_if, integer_operation, pointers_operation, pointer_operation, reversed_operation, int_type, is_compound}
 use Rattle.ec_typing_defs.specs.Worlds.{World}
 use Rattle.ec_memory_defs.specs.Memory.{ScalarType, integer_type, pointer_type}
-use Rattle.ec_meaning_defs.specs.resolved.Resolved.{Exp, object, slot, member, constant, load, whole, store, copy, put, update, convert, negate, flip, not, operate, both, either, call, known, library_call, faulty}
+use Rattle.ec_meaning_defs.specs.resolved.Resolved.{Exp, object, slot, member, constant, load, whole, store, copy, put, update, convert, negate, flip, not, operate, both, either, choice, call, known, library_call, faulty}
 use Rattle.ec_resolving_defs.specs.Conversions.{same_kind, converted_to, as_arith, as_pointer, left_type, right_type, integers_exp, pointers_exp, pointer_exp, reversed_exp, size_in, unary_exp, compound}
 use Rattle.ec_sound_defs.specs.Sorts.{Sort, number_sort, address_sort, any_sort, sort_of, Takes}
 use Rattle.ec_sound_defs.specs.Sound.{Signature, Atoms, Has, Called, count_of}
@@ -49,6 +49,7 @@ module _ (signatures : List Signature) (atoms : Atoms) (n : ℕ) where
   as_any (operate op a b) k h = (tt, h.1)
   as_any (both a b) k h = (tt, h.1, h.2)
   as_any (either a b) k h = (tt, h.1, h.2)
+  as_any (choice e a b) k h = (h.0, as_any a k h.1, as_any b k h.2)
   as_any (call f used es) k h = (called_any (slice_get signatures f) used (count_of es) k h.0, h.1)
   as_any (known f es) k h = (tt, h.1)
   as_any (library_call i es) k h = (refl, h.1, h.2)

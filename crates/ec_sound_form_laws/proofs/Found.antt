@@ -16,7 +16,7 @@ use Rattle.ec_typing_defs.specs.Formats.{NeedData, exact_int, short_integer, lon
 use Rattle.ec_typing_defs.specs.Operands.{OperandData, address, size_operand, is_null, all_fit, types_of, unary_type}
 use Rattle.ec_typing_defs.specs.Worlds.{World, is_complete, shape_in, members_of}
 use Rattle.ec_memory_defs.specs.Memory.{number}
-use Rattle.ec_meaning_defs.specs.resolved.Resolved.{Exp, member, constant, whole, call, known, faulty, object, slot, load, store, copy, put, update, convert, negate, flip, not, operate, both, either, library_call}
+use Rattle.ec_meaning_defs.specs.resolved.Resolved.{Exp, member, constant, whole, call, known, faulty, object, slot, load, store, copy, put, update, convert, negate, flip, not, operate, both, either, choice, library_call}
 use Rattle.ec_resolving_defs.specs.Conversions.{binary_exp, element_exp, unary_exp, assigned, compound, bumped, as_known_type, promoted_value, read_at, size_in}
 use Rattle.ec_resolving_defs.specs.Operands.{Found, found, value_exp, over_type, over_types, discarded, member_at, member_exp, offset_among, target_struct, cast_form, size_exp, exps_of, passed, operands_of, is_call_alone, without_use, done_alone}
 use Rattle.ec_sound_defs.specs.Sorts.{Sort, number_sort, address_sort, any_sort}
@@ -250,6 +250,7 @@ module _ (signatures : List Signature) (atoms : Atoms) (n : ℕ) where
   unused_is (operate op a b) h = h
   unused_is (both a b) h = h
   unused_is (either a b) h = h
+  unused_is (choice e a b) h = h
   unused_is (known f es) h = h
   unused_is (library_call i es) h = h
   unused_is faulty h = h

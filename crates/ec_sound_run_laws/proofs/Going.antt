@@ -10,17 +10,17 @@ use Rattle.ec_meaning_defs.specs.functions.Strings.{text_length, texts_compared,
 use Rattle.ec_ctypes.specs.declared.types.arith.Arith.TheVariants.{Int}
 use Rattle.ec_memory_defs.specs.Cells.{set_cells}
 use Rattle.ec_memory_defs.specs.Memory.{Memory, ValueData, number, address, ScalarType, integer_type, pointer_type, scalar_size, last_number, make, moved, difference, cells_at, span, decoded, and_then, load as loaded, store as stored, copy as copied, put as put_bytes, unset, fill, with_object, text_at, pointer_to}
-use Rattle.ec_meaning_defs.specs.resolved.Labels.{holds, holds_any}
+use Rattle.ec_meaning_defs.specs.resolved.Labels.{same as same_mark, holds, holds_any}
 use Rattle.ec_meaning_defs.specs.resolved.Operations.{is_true, truth, value_as, negated, flipped, number_worked, address_worked, Worked, gives, traps, misfit, worked, compared, pointers_worked, on_numbers, on_pointer, Operation, integers, shift_left, shift_right, compare, pointer_plus, plus_pointer, pointer_minus, pointers_apart, Comparison}
 use Rattle.ec_meaning_defs.specs.resolved.Programs.{Function, Program, opening_objects}
-use Rattle.ec_meaning_defs.specs.resolved.Resolved.{Update, Exp, object, slot, member, constant, load, whole as all_of, store, copy, put, update, convert, negate, flip, not, operate, both, either, call, known, library_call, faulty, Exps, no_exps, exps, library, Stm, on_line, nothing, evaluate, declare, initialize, block, choose, loop, leave, next, return, goto, label, embedded_statement, Stms, no_stms, stms}
+use Rattle.ec_meaning_defs.specs.resolved.Resolved.{Update, Exp, object, slot, member, constant, load, whole as all_of, store, copy, put, update, convert, negate, flip, not, operate, both, either, choice, call, known, library_call, faulty, Exps, no_exps, exps, library, Mark, named, case, default, Stm, on_line, nothing, evaluate, declare, initialize, block, choose, loop, leave, next, return, goto, label, select, embedded_statement, Stms, no_stms, stms}
 use Rattle.ec_meaning_defs.specs.evaluation.State.{Answer, State, Ending, trapped, turns_spent}
-use Rattle.ec_meaning_defs.specs.evaluation.Results.{no_value, or_no_value, Res, value, on, broke, continued, went, back, over, on_value, on_done, after_body, tried, changed, worked_out, at_address, on_number, present, done_there, turn, made, given, closing, function_end, without_answer, answered, exits_with, returned, finished}
+use Rattle.ec_meaning_defs.specs.evaluation.Results.{no_value, or_no_value, Res, value, on, broke, continued, went, back, over, on_value, on_done, after_body, after_switch, tried, changed, worked_out, at_address, on_number, present, done_there, turn, made, given, closing, function_end, without_answer, answered, exits_with, returned, finished}
 use Rattle.ec_meaning_defs.specs.evaluation.Evaluate.{Context, calls, turn_of, look_for, World, Step, updated, eval, collect}
 use Rattle.ec_meaning_defs.specs.evaluation.Execute.{tested, again, settle, inside, enter, declared, initialized, returning, run, run_all, look, look_all, body_run, in_function, called, act, meaning}
 use Rattle.ec_meaning_defs.specs.evaluation.Whole.{opened, main_run, whole_within, observed, opening_state, program_meaning}
 use Rattle.ec_sound_defs.specs.Sorts.{Sort, number_sort, address_sort, any_sort, OfSort, OfSorts, Takes, sort_of, sort_of_value, left_of, right_of, result_sort, amount_needs, part_needs, parts_need, known_takes, known_gives}
-use Rattle.ec_sound_defs.specs.Sound.{Signature, Around, Atoms, call_gives, looping, within, MayReturn, MayEnd, Called, count_of, IsComparison, Has, HasEach, HasOption, Returns, Sound, SoundAll, in_body, SoundFunction, SoundFunctions, main_signature, EndsWithValue, SoundProgram}
+use Rattle.ec_sound_defs.specs.Sound.{Signature, Around, Atoms, call_gives, looping, switching, within, MayReturn, MayEnd, Called, count_of, IsComparison, Has, HasEach, HasOption, Returns, Sound, SoundAll, in_body, SoundFunction, SoundFunctions, main_signature, EndsWithValue, SoundProgram}
 use Rattle.ec_sound_defs.specs.Outcomes.{IsNotStuck, Gives, Answers, Goes, Leads, Settled, Stands, CallsAnswer, LibrariesGo, SoundWorld, Serves}
 
 -- ---- sorts
@@ -532,6 +532,10 @@ module _ (signatures : List Signature) (atoms : Atoms) (step : Step) where
           (taken k number_sort h.0 (truth true) tt)
           (value_in (Gives k) (gives_over k) any_sort (eval step w c b t) (eval_in c any_sort b h.2 t) (λ y u. value (truth (is_true y)) u) (λ y u f.
           taken k number_sort h.0 (truth (is_true y)) (truth_sort (is_true y)))))
+      eval_in c k (choice e a b) h s =
+          value_in (Gives k) (gives_over k) any_sort (eval step w c e s) (eval_in c any_sort e h.0 s)
+          (λ x t. elim (is_true x) [ true ↦ eval step w c a t | false ↦ eval step w c b t ]) (λ x t g.
+          pick_in (Gives k) (is_true x) (eval step w c a t) (eval step w c b t) (eval_in c k a h.1 t) (eval_in c k b h.2 t))
       eval_in c k (call f used es) h s =
           collect_in (Gives k) (gives_over k) step w c (replicate (count_of es) any_sort) es (each_in c (replicate (count_of es) any_sort) es h.1) [] [] tt s (λ vs t. answered c.line used (w (calls c.line f vs) t)) (λ vs t g.
           called_in k c.line f used (count_of es) (slice_get signatures f) refl h.0 vs g t)
@@ -587,6 +591,15 @@ body_then first a (went l s) h f go = h
 body_then first a (back v s) h f go = h
 body_then first a (over e s) h f go = h
 
+switch_then : (first : Bool) (a : Around) (r : Res) → Leads first (switching a) r → Leads first a (after_switch r)
+switch_then first a (value v s) h = absurd h
+switch_then first a (on s) h = tt
+switch_then first a (broke s) h = tt
+switch_then first a (continued s) h = h
+switch_then first a (went l s) h = h
+switch_then first a (back v s) h = h
+switch_then first a (over e s) h = h
+
 nothing_returned : (first : Bool) (a : Around) → (first ≡ true → a.gives ≡ number_sort) → a.gives ≡ any_sort → (s : State) → Leads first a (returned first None s)
 nothing_returned true a n h s = let e = n refl in cc (e, h)
 nothing_returned false a n h s = (refl, h)
@@ -597,6 +610,9 @@ value_returned false a v h s = (refl, h)
 
 in_loop : (c : Context) (a : Around) → Stands c a → Stands c (looping a)
 in_loop c a st = record { objects = st.objects; first = st.first }
+
+in_switch : (c : Context) (a : Around) → Stands c a → Stands c (switching a)
+in_switch c a st = record { objects = st.objects; first = st.first }
 
 module _ (signatures : List Signature) (atoms : Atoms) (step : Step) (serves : Serves signatures atoms step) where
   module _ (w : World) (sound : SoundWorld signatures atoms w) where
@@ -619,7 +635,7 @@ module _ (signatures : List Signature) (atoms : Atoms) (step : Step) (serves : S
         value_in (Leads c.first a) (leads_over c.first a) any_sort (eval step w c e s) (eval_at c a st any_sort e g s)
         (λ v t. tested step w c test (Some e) x t) (λ v t d. tested_in c a st test (Some e) x h g f t)
 
-    jump_in : (c : Context) (a : Around) → Stands c a → (b : Stms) → SoundAll signatures atoms a b → (l : ℕ) → holds_any l a.body ≡ true → (s : State) (t : Bool) → holds_any l b ≡ t → Settled c.first a b (elim t [ true ↦ w (look_for c l b) s | false ↦ went l s ])
+    jump_in : (c : Context) (a : Around) → Stands c a → (b : Stms) → SoundAll signatures atoms a b → (l : ℕ) → holds_any (named l) a.body ≡ true → (s : State) (t : Bool) → holds_any (named l) b ≡ t → Settled c.first a b (elim t [ true ↦ w (look_for c l b) s | false ↦ went l s ])
     jump_in c a st b h l e s true f = sound.looked a c st l b h s
     jump_in c a st b h l e s false f = (e, f)
 
@@ -628,7 +644,7 @@ module _ (signatures : List Signature) (atoms : Atoms) (step : Step) (serves : S
     settle_in c a st b h (on s) g = tt
     settle_in c a st b h (broke s) g = g
     settle_in c a st b h (continued s) g = g
-    settle_in c a st b h (went l s) g = jump_in c a st b h l g s (holds_any l b) refl
+    settle_in c a st b h (went l s) g = jump_in c a st b h l g s (holds_any (named l) b) refl
     settle_in c a st b h (back v s) g = g
     settle_in c a st b h (over e s) g = g
 
@@ -686,6 +702,15 @@ module _ (signatures : List Signature) (atoms : Atoms) (step : Step) (serves : S
       run_in (return e) c a st h s = returning_in c a st e h s
       run_in (goto l) c a st h s = turn_in (Leads c.first a) (leads_over c.first a) s (λ t. went l t) (λ t. h)
       run_in (label l x) c a st h s = run_in x c a st h s
+      run_in (select e x) c a st h s =
+          value_in (Leads c.first a) (leads_over c.first a) number_sort (eval step w c e s) (eval_at c a st number_sort e h.0 s)
+          (λ v t. on_number v t (λ z. elim (holds (case z) x) [ true ↦ after_switch (look step w (case z) c x t) | false ↦ elim (holds default x) [ true ↦ after_switch (look step w default c x t) | false ↦ on t ] ])) (λ v t d.
+          number_in (Leads c.first a) (leads_over c.first a) v d t
+          (λ z. elim (holds (case z) x) [ true ↦ after_switch (look step w (case z) c x t) | false ↦ elim (holds default x) [ true ↦ after_switch (look step w default c x t) | false ↦ on t ] ]) (λ z.
+          pick_in (Leads c.first a) (holds (case z) x) (after_switch (look step w (case z) c x t)) (elim (holds default x) [ true ↦ after_switch (look step w default c x t) | false ↦ on t ])
+          (switch_then c.first a (look step w (case z) c x t) (look_in x (case z) c (switching a) (in_switch c a st) h.1 t))
+          (pick_in (Leads c.first a) (holds default x) (after_switch (look step w default c x t)) (on t)
+          (switch_then c.first a (look step w default c x t) (look_in x default c (switching a) (in_switch c a st) h.1 t)) tt)))
       run_in (embedded_statement n) c a st h s = serves.embeds w sound a c st n h s
 
       pub run_all_in : (b : Stms) (c : Context) (a : Around) → Stands c a → SoundAll signatures atoms a b → (s : State) → Leads c.first a (run_all step w c b s)
@@ -693,8 +718,7 @@ module _ (signatures : List Signature) (atoms : Atoms) (step : Step) (serves : S
       run_all_in (stms x xs) c a st h s =
           done_in c.first a (run step w c x s) (run_in x c a st h.0 s) (λ t. run_all step w c xs t) (λ t. run_all_in xs c a st h.1 t)
 
-    mutual
-      pub look_in : (x : Stm) (l : ℕ) (c : Context) (a : Around) → Stands c a → Sound signatures atoms a x → (s : State) → Leads c.first a (look step w l c x s)
+      pub look_in : (x : Stm) (l : Mark) (c : Context) (a : Around) → Stands c a → Sound signatures atoms a x → (s : State) → Leads c.first a (look step w l c x s)
       look_in (on_line n x) l c a st h s = look_in x l (record c { line = n }) a (on_this_line c a st n) h s
       look_in nothing l c a st h s = tt
       look_in (evaluate e) l c a st h s = tt
@@ -712,10 +736,12 @@ module _ (signatures : List Signature) (atoms : Atoms) (step : Step) (serves : S
       look_in (return e) l c a st h s = tt
       look_in (goto m) l c a st h s = tt
       look_in (label m x) l c a st h s =
-          pick_in (Leads c.first a) (nat_eq m l) (run step w c x s) (look step w l c x s) (run_in x c a st h s) (look_in x l c a st h s)
+          pick_in (Leads c.first a) (same_mark m l) (run step w c x s) (look step w l c x s) (run_in x c a st h s) (look_in x l c a st h s)
+      look_in (select e x) l c a st h s =
+          switch_then c.first a (look step w l c x s) (look_in x l c (switching a) (in_switch c a st) h.1 s)
       look_in (embedded_statement n) l c a st h s = tt
 
-      pub look_all_in : (b : Stms) (l : ℕ) (c : Context) (a : Around) → Stands c a → SoundAll signatures atoms a b → (s : State) → Leads c.first a (look_all step w l c b s)
+      pub look_all_in : (b : Stms) (l : Mark) (c : Context) (a : Around) → Stands c a → SoundAll signatures atoms a b → (s : State) → Leads c.first a (look_all step w l c b s)
       look_all_in no_stms l c a st h s = tt
       look_all_in (stms x xs) l c a st h s =
           pick_in (Leads c.first a) (holds l x) (on_done (look step w l c x s) (λ t. run_all step w c xs t)) (look_all step w l c xs s)
@@ -747,14 +773,14 @@ ends_closed k n (back v s) h = h
 ends_closed k n (over e s) h = h
 
 -- a jump to a label of the body is answered there
-body_ends : (first : Bool) (a : Around) → a.loops ≡ false → (r : Res) → Settled first a a.body r → Ends a.gives r
-body_ends first a n (value v s) h = absurd h
-body_ends first a n (on s) h = tt
-body_ends first a n (broke s) h = cc (n, h)
-body_ends first a n (continued s) h = cc (n, h)
-body_ends first a n (went l s) h = let f = h.0 in let g = h.1 in cc (f, g)
-body_ends first a n (back v s) h = h.1
-body_ends first a n (over e s) h = h
+body_ends : (first : Bool) (a : Around) → a.loops ≡ false → a.breaks ≡ false → (r : Res) → Settled first a a.body r → Ends a.gives r
+body_ends first a n b (value v s) h = absurd h
+body_ends first a n b (on s) h = tt
+body_ends first a n b (broke s) h = cc (b, h)
+body_ends first a n b (continued s) h = cc (n, h)
+body_ends first a n b (went l s) h = let f = h.0 in let g = h.1 in cc (f, g)
+body_ends first a n b (back v s) h = h.1
+body_ends first a n b (over e s) h = h
 
 back_ends : (k : Sort) (v : Option ValueData) → MayReturn k v → MayEnd k v
 back_ends k None h = tt
@@ -782,14 +808,14 @@ Finishes (over e s) = IsNotStuck e
 finishes_over : Over Finishes
 finishes_over e s h = h
 
-main_finishes : (a : Around) → a.loops ≡ false → (r : Res) → Settled true a a.body r → Finishes r
-main_finishes a n (value v s) h = absurd h
-main_finishes a n (on s) h = tt
-main_finishes a n (broke s) h = cc (n, h)
-main_finishes a n (continued s) h = cc (n, h)
-main_finishes a n (went l s) h = let f = h.0 in let g = h.1 in cc (f, g)
-main_finishes a n (back v s) h = let f = h.0 in cc f
-main_finishes a n (over e s) h = h
+main_finishes : (a : Around) → a.loops ≡ false → a.breaks ≡ false → (r : Res) → Settled true a a.body r → Finishes r
+main_finishes a n b (value v s) h = absurd h
+main_finishes a n b (on s) h = tt
+main_finishes a n b (broke s) h = cc (b, h)
+main_finishes a n b (continued s) h = cc (n, h)
+main_finishes a n b (went l s) h = let f = h.0 in let g = h.1 in cc (f, g)
+main_finishes a n b (back v s) h = let f = h.0 in cc f
+main_finishes a n b (over e s) h = h
 
 -- a whole run
 abbrev IsOver : Res → Type 0
@@ -855,7 +881,7 @@ module _ (signatures : List Signature) (atoms : Atoms) where
           made_in (Ends g.gives) (ends_over g.gives) line (map scalar_size f.parameters) [] s (λ ps t. given line f.parameters ps vs t (λ u. made line f.objects ps u (λ objects r. body_run step w (in_function line objects false) f r))) (λ ps t d.
           given_in (Ends g.gives) (ends_over g.gives) line f.parameters ps vs (many ps d) (let x = h.takes in cc (e, x)) t (λ u. made line f.objects ps u (λ objects r. body_run step w (in_function line objects false) f r)) (λ u.
           made_in (Ends g.gives) (ends_over g.gives) line f.objects ps u (λ objects r. body_run step w (in_function line objects false) f r) (λ objects r y.
-          body_ends false (in_body g f) refl (body_run step w (in_function line objects false) f r)
+          body_ends false (in_body g f) refl refl (body_run step w (in_function line objects false) f r)
           (body_settled (in_function line objects false) g f (stands ps objects (many ps d) y) h.body r))))
         where
           many : (ps : List ℕ) → length ps ≡ length {A = ℕ} [] + length (map scalar_size f.parameters) → length ps ≡ length f.parameters
@@ -877,7 +903,7 @@ module _ (signatures : List Signature) (atoms : Atoms) where
       main_over (Some f) h x s =
           finished_over f.otherwise x.0 x.1 (made 1 f.objects [] s (λ objects t. body_run step w (in_function 1 objects true) f t))
           (made_in Finishes finishes_over 1 f.objects [] s (λ objects t. body_run step w (in_function 1 objects true) f t) (λ objects t e.
-          main_finishes (in_body main_signature f) refl (body_run step w (in_function 1 objects true) f t)
+          main_finishes (in_body main_signature f) refl refl (body_run step w (in_function 1 objects true) f t)
           (body_settled (in_function 1 objects true) main_signature f (stands objects e) h.body t)))
         where
           stands : (objects : List ℕ) → length objects ≡ length {A = ℕ} [] + length f.objects → Stands (in_function 1 objects true) (in_body main_signature f)
@@ -896,8 +922,8 @@ module _ (signatures : List Signature) (atoms : Atoms) where
             (λ u. again step (meaning step fs n) c test behind x u)
             (λ u. again_in signatures atoms step serves (meaning step fs n) sound c a st test behind x h g f u));
         looked = λ a c st l b h s.
-            settle_in signatures atoms step serves (meaning step fs n) sound c a st b h (look_all step (meaning step fs n) l c b s)
-            (look_all_in signatures atoms step serves (meaning step fs n) sound b l c a st h s);
+            settle_in signatures atoms step serves (meaning step fs n) sound c a st b h (look_all step (meaning step fs n) (named l) c b s)
+            (look_all_in signatures atoms step serves (meaning step fs n) sound b (named l) c a st h s);
       }
 
       tasks_sound : (n : ℕ) → SoundWorld signatures atoms (meaning step fs n)

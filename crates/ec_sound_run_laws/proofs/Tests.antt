@@ -5,9 +5,9 @@ use Rattle.std.specs.Prelude.{◌&&◌, ◌||◌, ◌⊎◌, nat_lt, nat_eq, sli
 use Rattle.ec_memory_defs.specs.Memory.{ValueData, number, address}
 use Rattle.ec_meaning_defs.specs.resolved.Operations.{Operation, integers, shift_left, shift_right, compare, pointer_plus, plus_pointer, pointer_minus, pointers_apart}
 use Rattle.ec_meaning_defs.specs.resolved.Programs.{Function, Program}
-use Rattle.ec_meaning_defs.specs.resolved.Resolved.{Exp, object, slot, member, constant, load, whole, store, copy, put, update, convert, negate, flip, not, operate, both, either, call, known, library_call, faulty, Exps, no_exps, exps, Stm, on_line, nothing, evaluate, declare, initialize, block, choose, loop, leave, next, return, goto, label, embedded_statement, Stms, no_stms, stms}
+use Rattle.ec_meaning_defs.specs.resolved.Resolved.{Exp, object, slot, member, constant, load, whole, store, copy, put, update, convert, negate, flip, not, operate, both, either, choice, call, known, library_call, faulty, Exps, no_exps, exps, Stm, on_line, nothing, evaluate, declare, initialize, block, choose, loop, leave, next, return, goto, label, select, embedded_statement, Stms, no_stms, stms}
 use Rattle.ec_sound_defs.specs.Sorts.{Sort, number_sort, address_sort, any_sort, Takes, sort_of, sort_of_value, left_of, right_of, result_sort, known_takes, known_gives}
-use Rattle.ec_sound_defs.specs.Sound.{Signature, Around, call_gives, looping, within, MayEnd, Called, count_of, IsComparison, Has, HasEach, HasOption, Returns, Sound, SoundAll, in_body, SoundFunction, SoundFunctions, main_signature, EndsWithValue, SoundProgram, no_atoms}
+use Rattle.ec_sound_defs.specs.Sound.{Signature, Around, call_gives, looping, switching, within, MayEnd, Called, count_of, IsComparison, Has, HasEach, HasOption, Returns, Sound, SoundAll, in_body, SoundFunction, SoundFunctions, main_signature, EndsWithValue, SoundProgram, no_atoms}
 use Rattle.ec_sound_defs.specs.Computed.{takes, same_sort, is_comparison, may_end, is_called, has, has_each, has_option, may_return, is_sound, all_sound, is_sound_function, are_sound, is_main, ends_with_value, is_sound_program}
 
 no : {A : Type 0} → false ≡ true → A
@@ -122,6 +122,10 @@ module _ (signatures : List Signature) where
         let a = has signatures n any_sort x in let b = has signatures n any_sort y in
         let f = right (takes k number_sort) (a && b) e in
         (taken k number_sort (left (takes k number_sort) (a && b) e), has_so n any_sort x (left a b f), has_so n any_sort y (right a b f))
+    has_so n k (choice x y z) e =
+        let a = has signatures n any_sort x in let b = has signatures n k y in let c = has signatures n k z in
+        let f = right a (b && c) e in
+        (has_so n any_sort x (left a (b && c) e), has_so n k y (left b c f), has_so n k z (right b c f))
     has_so n k (call f used es) e =
         let a = is_called signatures (slice_get signatures f) used (count_of es) k in let b = has_each signatures n (replicate (count_of es) any_sort) es in
         (called_so (slice_get signatures f) used (count_of es) k (left a b e), each_so n (replicate (count_of es) any_sort) es (right a b e))
@@ -169,6 +173,9 @@ module _ (signatures : List Signature) where
     sound_so (return x) a e = returns_so a x e
     sound_so (goto l) a e = e
     sound_so (label l x) a e = sound_so x a e
+    sound_so (select x y) a e =
+        let b = has signatures a.count number_sort x in let c = is_sound signatures (switching a) y in
+        (has_so a.count number_sort x (left b c e), sound_so y (switching a) (right b c e))
     sound_so (embedded_statement n) a e = no e
 
     all_so : (b : Stms) (a : Around) → all_sound signatures a b ≡ true → SoundAll signatures no_atoms a b

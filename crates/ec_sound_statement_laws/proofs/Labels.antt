@@ -8,7 +8,7 @@ use Rattle.ec_typing_defs.specs.Tables.{Named, find, put}
 use Rattle.ec_typing_defs.specs.Worlds.{Place, World}
 use Rattle.ec_typing_defs.specs.Statements.{labels_in, labels_in_kind, labels_in_all, labels_in_option}
 use Rattle.ec_meaning_defs.specs.resolved.Labels.{holds, holds_any}
-use Rattle.ec_meaning_defs.specs.resolved.Resolved.{Exp, Stm, loop}
+use Rattle.ec_meaning_defs.specs.resolved.Resolved.{Mark, named as by_number, Exp, Stm, loop}
 use Rattle.ec_resolving_defs.specs.Storage.{Storage, Resolving, chain, pure, stored, arrange, in_block, inside_block}
 use Rattle.ec_resolving_defs.specs.Operands.{place_in}
 use Rattle.ec_resolving_defs.specs.Statements.{Around, scoped, behind_first_part, statement, statement_kind, statements, otherwise}
@@ -77,7 +77,7 @@ either_right : (a b : Bool) → b ≡ true → (a || b) ≡ true
 either_right true b e = refl
 either_right false b e = e
 
-behind_first_holds : (l : ℕ) (first : Option Exp) (x : Stm) → holds l x ≡ true → holds l (behind_first_part first x) ≡ true
+behind_first_holds : (l : Mark) (first : Option Exp) (x : Stm) → holds l x ≡ true → holds l (behind_first_part first x) ≡ true
 behind_first_holds l None x e = e
 behind_first_holds l (Some y) x e = either_left (holds l x) false e
 
@@ -86,11 +86,14 @@ abbrev Found : Text → Named (Unit {0}) → Type 0
 Found l ls = is_some (find l ls) ≡ true
 
 module _ (a : Around) (l : Text) where
-  abbrev here : ℕ
-  here = place_in l a.labels
+  abbrev there : ℕ
+  there = place_in l a.labels
 
-  labelled : (name : Text) (x : Stm) → l ≡ name → (nat_eq (place_in name a.labels) here || holds here x) ≡ true
-  labelled name x e = either_left (nat_eq (place_in name a.labels) here) (holds here x) (subst (λ n. nat_eq (place_in n a.labels) here ≡ true) e (eq-eqb here here refl))
+  abbrev here : Mark
+  here = by_number there
+
+  labelled : (name : Text) (x : Stm) → l ≡ name → (nat_eq (place_in name a.labels) there || holds here x) ≡ true
+  labelled name x e = either_left (nat_eq (place_in name a.labels) there) (holds here x) (subst (λ n. nat_eq (place_in n a.labels) there ≡ true) e (eq-eqb there there refl))
 
   or_before : {A B : Type 0} {C : Type 0} → (A ⊎ B) → (B → C) → A ⊎ C
   or_before (inl p) f = inl p
@@ -123,7 +126,7 @@ module _ (a : Around) (l : Text) where
 
         go : Found l (put name tt ls) ⊎ Has (holds here) (statement a s) → Found l ls ⊎ ((at : Place) → Has (holds here) (statement_kind a at (label_stmt name s)))
         go (inl p) = named (found_put l name ls p)
-        go (inr h) = inr (λ at. behind _ (λ u. first (holds here) h (λ x p. last _ (either_right (nat_eq (place_in name a.labels) here) (holds here x) p))))
+        go (inr h) = inr (λ at. behind _ (λ u. first (holds here) h (λ x p. last _ (either_right (nat_eq (place_in name a.labels) there) (holds here x) p))))
     kind_has empty_stmt ls e = inl e
     kind_has (expr_stmt x) ls e = inl e
     kind_has break_stmt ls e = inl e
@@ -150,9 +153,9 @@ module _ (a : Around) (l : Text) where
     otherwise_has no_stmt ls e = inl e
     otherwise_has (some_stmt s) ls e = or_before (statement_has s ls e) (λ h. scoped_has h)
 
-pub labels_stand : (a : Around) (xs : StmtList) (l : Text) → Found l (labels_in_all xs []) → (s : Storage) (w : World) → holds_any (place_in l a.labels) (statements a xs s w).answer ≡ true
+pub labels_stand : (a : Around) (xs : StmtList) (l : Text) → Found l (labels_in_all xs []) → (s : Storage) (w : World) → holds_any (by_number (place_in l a.labels)) (statements a xs s w).answer ≡ true
 labels_stand a xs l e = go (statements_have a l xs [] e)
   where
-    go : Found l [] ⊎ Has (holds_any (place_in l a.labels)) (statements a xs) → (s : Storage) (w : World) → holds_any (place_in l a.labels) (statements a xs s w).answer ≡ true
+    go : Found l [] ⊎ Has (holds_any (by_number (place_in l a.labels))) (statements a xs) → (s : Storage) (w : World) → holds_any (by_number (place_in l a.labels)) (statements a xs s w).answer ≡ true
     go (inl p) = absurd (cc)
     go (inr h) = h.is

@@ -6,6 +6,7 @@ use Rattle.ec_typing_defs.specs.Tables.{find}
 use Rattle.ec_typing_defs.specs.Worlds.{World}
 use Rattle.ec_typing_defs.specs.Statements.{labels_in_all}
 use Rattle.ec_meaning_defs.specs.resolved.Labels.{holds_any}
+use Rattle.ec_meaning_defs.specs.resolved.Resolved.{named}
 use Rattle.ec_resolving_defs.specs.Storage.{Storage}
 use Rattle.ec_resolving_defs.specs.Operands.{place_in}
 use Rattle.ec_resolving_defs.specs.Statements.{Around, statements}
@@ -14,4 +15,4 @@ use Rattle.ec_resolving_defs.specs.Statements.{Around, statements}
 abbrev pub LabelsStand : Type 0
 LabelsStand = (a : Around) (xs : StmtList) (l : Text)
     → is_some (find l (labels_in_all xs [])) ≡ true → (s : Storage) (w : World)
-    → holds_any (place_in l a.labels) (statements a xs s w).answer ≡ true
+    → holds_any (named (place_in l a.labels)) (statements a xs s w).answer ≡ true

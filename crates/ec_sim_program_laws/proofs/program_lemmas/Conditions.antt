@@ -11,7 +11,7 @@ use Rattle.ec_typing_defs.specs.Expressions as checked_parts
 use Rattle.ec_typing_defs.specs.Statements as checked
 use Rattle.ec_typing_defs.specs.Types.{is_scalar}
 use Rattle.ec_typing_defs.specs.Worlds.{Place, World, Rule, chain as check_chain, pure as check_pure, demand}
-use Rattle.ec_meaning_defs.specs.resolved.Resolved.{Exp, object, slot, member as member_exp, constant, load, whole, store, copy, put, update, convert, negate, flip, not as negation, operate, both, either, call as call_exp, known, library_call, faulty, Stm, return}
+use Rattle.ec_meaning_defs.specs.resolved.Resolved.{Exp, object, slot, member as member_exp, constant, load, whole, store, copy, put, update, convert, negate, flip, not as negation, operate, both, either, choice, call as call_exp, known, library_call, faulty, Stm, return}
 use Rattle.ec_resolving_defs.specs.Agreement.{nothing_of, operand_of}
 use Rattle.ec_resolving_defs.specs.Conversions.{as_known_type}
 use Rattle.ec_resolving_defs.specs.Operands.{Found, as_value, value_exp, value_rule, discarded, is_call_alone, without_use, done_alone}
@@ -156,6 +156,7 @@ unused_silent (negation e) h = h
 unused_silent (operate op a b) h = h
 unused_silent (both a b) h = h
 unused_silent (either a b) h = h
+unused_silent (choice e a b) h = h
 unused_silent (call_exp f used es) h = h
 unused_silent (known f es) h = h
 unused_silent (library_call n es) h = h

@@ -14,7 +14,7 @@ use Rattle.ec_expansion_defs.specs.Statements.{before_stmts, written_stmt, writt
 use Rattle.ec_typing_defs.specs.Tables.{Named, find}
 use Rattle.ec_typing_defs.specs.Statements as checked
 use Rattle.ec_typing_defs.specs.Worlds.{Place}
-use Rattle.ec_meaning_defs.specs.resolved.Resolved.{Exp, Stm, on_line, nothing, evaluate, block, choose, loop, leave, next, goto, label, no_stms}
+use Rattle.ec_meaning_defs.specs.resolved.Resolved.{Exp, Stm, on_line, nothing, evaluate, block, choose, loop, leave, next, goto, label, named, no_stms}
 use Rattle.ec_resolving_defs.specs.Agreement.{around_of}
 use Rattle.ec_resolving_defs.specs.Operands.{place_in}
 use Rattle.ec_resolving_defs.specs.Statements.{objects_in_all, behind_first_part, with_sizes, scoped, statement, statement_kind, statements, otherwise}
@@ -138,7 +138,7 @@ module _ (g : Whole) (walk : WalkKeeps g.source) (es : List EmbData) (embedded :
         quiet_copied g _ _ (goto (place_in k ls)) (goto (place_in k ls)) (demand_quietly at there F18 (is_some (find k ls)) (is_some (find k ls)) (λ e. e)) (jumps (place_in k ls))
     kind_copied b p ls r l (label_stmt k s) h at there ns =
         alike_first g _ _ _ _ _ _ _ _ (checks_alike _ _ (label_alike at there k)) (label_denotes at k) (walk.labels at k) (λ _ _.
-        copied_then g (label (place_in k ls)) (label (place_in k ls)) (statement_copied true p ls r s h l.0 ns) (λ x y c. labelled (place_in k ls) c))
+        copied_then g (label (named (place_in k ls))) (label (named (place_in k ls))) (statement_copied true p ls r s h l.0 ns) (λ x y c. labelled (named (place_in k ls)) c))
     kind_copied b p ls r l (decl_stmt d) h at there ns = absurd h
     kind_copied b p ls r l (emb_stmt n) h at there ns = embedded_copied g walk es b p ls r embedded are l n h at there ns
     kind_copied b p ls r l (mark_stmt opens) h at there ns = pure_copied g nothing nothing empty

@@ -1,4 +1,5 @@
 use Rattle.std.proofs.Common.{◌≡◌, ◌≤◌, length}
+use Rattle.ec_code.specs.Marks.{mark_view}
 use Rattle.ec_code.specs.Views.{statements_view}
 use Rattle.ec_meaning_defs.specs.evaluation.Evaluate.{Context, World, Step as Knowing}
 use Rattle.ec_meaning_defs.specs.evaluation.Execute.{look_all}
@@ -9,7 +10,7 @@ use Rattle.ec_machine.proofs.labels.first_holding.Given as goal
 abbrev pub invariant-loop-left : goal.invariant-loop-left
 invariant-loop-left l = record {
   same : (knowing : Knowing) (w : World) (c : Context) (t : State) →
-      look_all knowing w l.label c (statements_view l.statements) t ≡ look_all knowing w l.label c (statements_view l.left) t;
+      look_all knowing w (mark_view l.label) c (statements_view l.statements) t ≡ look_all knowing w (mark_view l.label) c (statements_view l.left) t;
   smaller : statements_weight l.left ≤ statements_weight l.statements;
 }
 

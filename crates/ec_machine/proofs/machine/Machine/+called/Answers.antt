@@ -9,14 +9,14 @@ use Rattle.ec_meaning_defs.specs.evaluation.Results.{Res, answered, back, closin
 use Rattle.ec_meaning_defs.specs.evaluation.State.{State}
 use Rattle.ec_printf.specs.formats.Known.{known_view}
 use Rattle.ec_meaning_defs.specs.functions.Functions.{effect_of}
-use Rattle.ec_machine.proofs.Evaluating.{full_leads, to_Full, to_Plain}
+use Rattle.ec_machine.proofs.Evaluating.{full_leads, to_Choice, to_Full, to_Plain}
 use Rattle.ec_machine.proofs.Finding.{alone_finds, alone_near, ended_with, finds_after, finds_as, finds_at, finds_from, finds_left, finds_none, finds_some, finds_stop, finds_value, front_back, goes_after, leaves_as, leaves_fewer, near_left, near_none, near_stop, near_value, no_values_found, stays_on, taken_back}
 use Rattle.ec_machine.proofs.Moves.{back_again, closed, followed_led, goes_as, goes_at, no_objects, pushed, stands_by}
 use Rattle.ec_machine.proofs.Parts.{front_is, none_left, stops_through}
 use Rattle.ec_machine.proofs.Quickly.{answers_none, answers_some, answers_stops, keeps_not, keeps_on, list_none, list_some, list_stops, remaining_less, stops_as, stops_over}
 use Rattle.ec_machine.proofs.Turns.{begins, stops_by}
 use Rattle.ec_machine.proofs.Views.{view-Begun, view-Call, view-Known, view-LibraryCall, view-One, view-Two}
-use Rattle.ec_machine.proofs.Weighing.{front_expressions, front_steps, pushed_weight, pushes, weight-Call, weight-Full, weight-Known, weight-LibraryCall, weight-Two, weight-full}
+use Rattle.ec_machine.proofs.Weighing.{front_expressions, front_steps, pushed_weight, pushes, weight-Call, weight-Choice, weight-Full, weight-Known, weight-LibraryCall, weight-Two, weight-full}
 use Rattle.ec_machine.specs.Found.{Finds, found_view}
 use Rattle.ec_machine.specs.Frames.{Grown, behind_by, cut, here, left_by, objects_of, outside, received, resume, waiting}
 use Rattle.ec_machine.specs.Goes.{at, env_of, taken, tasks}
@@ -28,7 +28,7 @@ use Rattle.ec_plain.proofs.Walks.{followed_over}
 use Rattle.ec_plain.specs.Answered.{at as over_memory, context, ending_of, scope_view}
 use Rattle.ec_plain.specs.Ready.{readied}
 use Rattle.ec_plain.specs.Steps.{both_on, one_on, step_on, two_on}
-use Rattle.ec_meaning_defs.specs.resolved.Resolved.{library}
+use Rattle.ec_meaning_defs.specs.resolved.Resolved.{choice, library}
 use Rattle.ec_values.specs.Words.{word_view}
 use Rattle.ec_machine.specs.declared.frame.Callee.TheVariants as callee
 use Rattle.ec_plain.specs.declared.both.Ready.TheVariants as ready
@@ -140,6 +140,19 @@ begun-returns-in-LibraryCall-clause-finds t c =
     ∙ ap (λ es. collect knowing w d [] (expressions_view es) t (received knowing w d g)) (sym c.as_slice-in-LibraryCall.ensures))
     (no_values_found fs m c.pass-in-LibraryCall.new.self (behind_by d xs) (found_view c.pass-in-LibraryCall.result) c.pass-in-LibraryCall.new.left (λ vs knowing w t. collect knowing w d vs (expressions_view es) t (received knowing w d g)) c.pass-in-LibraryCall.ensures.finds)
 
+pub begun-returns-in-Choice-clause-finds : goal.begun-returns-in-Choice-clause-finds
+begun-returns-in-Choice-clause-finds t c =
+    let fs = c.args.functions.now in
+    let m = c.args.self.now in
+    let d = here (env_of m) m.line in
+    let xs = c.args.steps.now in
+    let a = c.get.result.now in
+    let b = c.get-in-Choice.result.now in
+    let e = c.get-in-Choice-2.result.now in
+    finds_as fs m c.choice.new.self (env_of m) m.line (behind_by d xs) (λ knowing w t. eval knowing w d (head_view c.args.head.now) t) (λ knowing w t. eval knowing w d (choice (expression_view a) (expression_view b) (expression_view e)) t) (found_view c.choice.result) c.choice.new.left
+    (λ knowing w t. to_Choice knowing w d t c.args.head.now c.in-Choice.test c.in-Choice.first c.in-Choice.second a b e c.in-Choice.is c.get.ensures c.get-in-Choice.ensures c.get-in-Choice-2.ensures)
+    (c.choice.ensures.finds fs)
+
 pub begun-returns-in-Begun-clause-nears : goal.begun-returns-in-Begun-clause-nears
 begun-returns-in-Begun-clause-nears t c = alone_near c.args.self.now.turns _ c.args.self.now c.at_first.new.self (λ knowing w t. eval knowing w (here (env_of c.args.self.now) c.args.self.now.line) (plain_view c.in-Begun.plain) t) (found_view c.at_first.result) c.at_first.new.left c.at_first.ensures.finds
 
@@ -151,6 +164,9 @@ begun-returns-in-Known-clause-nears t c = leaves_as c.args.self.now.turns c.args
 
 pub begun-returns-in-LibraryCall-clause-nears : goal.begun-returns-in-LibraryCall-clause-nears
 begun-returns-in-LibraryCall-clause-nears t c = leaves_as c.args.self.now.turns c.args.self.now.turns _ _ (found_view c.pass-in-LibraryCall.result) c.pass-in-LibraryCall.new.left c.pass-in-LibraryCall.new.self (omega arith) (omega (arith, ap head_weight c.in-LibraryCall.is ∙ weight-LibraryCall _ _, ap expressions_weight c.as_slice-in-LibraryCall.ensures)) c.pass-in-LibraryCall.ensures.nears
+
+pub begun-returns-in-Choice-clause-nears : goal.begun-returns-in-Choice-clause-nears
+begun-returns-in-Choice-clause-nears t c = leaves_as c.args.self.now.turns c.args.self.now.turns _ _ (found_view c.choice.result) c.choice.new.left c.choice.new.self (omega arith) (omega (arith, ap head_weight c.in-Choice.is ∙ weight-Choice _ _ _, ap expression_weight c.get.ensures, ap expression_weight c.get-in-Choice.ensures, ap expression_weight c.get-in-Choice-2.ensures)) c.choice.ensures.nears
 
 pub call-returns-in-Ok-clause-finds : goal.call-returns-in-Ok-clause-finds
 call-returns-in-Ok-clause-finds t c =

@@ -10,7 +10,7 @@ use Rattle.ec_machine.specs.Goes.{at, env_of, tasks}
 use Rattle.ec_machine.proofs.Moves.{closing_led, followed_led, led_passes, right_led}
 use Rattle.ec_machine.proofs.Parts.{given_as}
 use Rattle.ec_machine.specs.Weights.{frames_answer}
-use Rattle.ec_machine.proofs.Weighing.{flow_given, passes_on, flow_more}
+use Rattle.ec_machine.proofs.Weighing.{flow_given, nearer, passes_on, flow_more}
 use Rattle.ec_machine.proofs.machine.Machine.give_flow.Goals as goal
 
 pub returns-in-Arguments-clause-goes : goal.returns-in-Arguments-clause-goes
@@ -108,6 +108,30 @@ returns-in-Choose-clause-goes c = λ knowing fits k s l.
     ap (λ f. resume knowing w (below (env_of m) f) (reverse m.frames) (plug knowing w (env_of m) f (led c.args.flow (at s m)))) c.in-Choose.is
     ∙ ap (resume knowing w (env_of m) (reverse m.frames)) (led_passes c.args.flow (at s m) _)
 
+pub returns-in-Choice-clause-goes : goal.returns-in-Choice-clause-goes
+returns-in-Choice-clause-goes c = λ knowing fits k s l.
+    let fs = c.args.functions.now in
+    let w = tasks knowing fs k in
+    let m = c.args.self.now in
+    ap (λ f. resume knowing w (below (env_of m) f) (reverse m.frames) (plug knowing w (env_of m) f (led c.args.flow (at s m)))) c.in-Choice.is
+    ∙ ap (resume knowing w (env_of m) (reverse m.frames)) (led_passes c.args.flow (at s m) _)
+
+pub returns-in-Select-clause-goes : goal.returns-in-Select-clause-goes
+returns-in-Select-clause-goes c = λ knowing fits k s l.
+    let fs = c.args.functions.now in
+    let w = tasks knowing fs k in
+    let m = c.args.self.now in
+    ap (λ f. resume knowing w (below (env_of m) f) (reverse m.frames) (plug knowing w (env_of m) f (led c.args.flow (at s m)))) c.in-Select.is
+    ∙ ap (resume knowing w (env_of m) (reverse m.frames)) (led_passes c.args.flow (at s m) _)
+
+pub returns-in-Switch-clause-goes : goal.returns-in-Switch-clause-goes
+returns-in-Switch-clause-goes c = λ knowing fits k s l.
+    let fs = c.args.functions.now in
+    let w = tasks knowing fs k in
+    let m = c.args.self.now in
+    ap (λ f. resume knowing w (below (env_of m) f) (reverse m.frames) (plug knowing w (env_of m) f (led c.args.flow (at s m)))) c.in-Switch.is
+    ∙ ap (resume knowing w (env_of m) (reverse m.frames)) (sym (c.after_switch.ensures.leads (at s m)))
+
 pub returns-in-Test-clause-goes : goal.returns-in-Test-clause-goes
 returns-in-Test-clause-goes c = λ knowing fits k s l.
     let fs = c.args.functions.now in
@@ -159,6 +183,17 @@ returns-in-Give-clause-nears c = passes_on _ _ _ _
 
 pub returns-in-Choose-clause-nears : goal.returns-in-Choose-clause-nears
 returns-in-Choose-clause-nears c = passes_on _ _ _ _
+
+pub returns-in-Choice-clause-nears : goal.returns-in-Choice-clause-nears
+returns-in-Choice-clause-nears c = passes_on _ _ _ _
+
+pub returns-in-Select-clause-nears : goal.returns-in-Select-clause-nears
+returns-in-Select-clause-nears c = passes_on _ _ _ _
+
+pub returns-in-Switch-clause-nears : goal.returns-in-Switch-clause-nears
+returns-in-Switch-clause-nears c =
+    let m = c.args.self.now in
+    flow_given m.frames c.args.flow c.args.frame frame.Switch _ c.in-Switch.is (nearer _ _ _ _ (omega (arith, c.after_switch.ensures.weighs (frames_answer m.frames), flow_more c.args.flow (frames_answer m.frames) (0 + frames_answer m.frames) (omega arith))))
 
 pub returns-in-Test-clause-nears : goal.returns-in-Test-clause-nears
 returns-in-Test-clause-nears c = passes_on _ _ _ _

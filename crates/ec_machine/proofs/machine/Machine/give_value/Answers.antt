@@ -75,6 +75,26 @@ returns-in-Choose-clause-goes c =
     given_as fs m (record m { line = c.in-Choose.line }) (env_of m) c.args.frame (frame.Choose c.in-Choose.line c.in-Choose.first c.in-Choose.second) c.choose.result (λ t. value (word_view c.args.value) t) c.in-Choose.is
     (c.choose.ensures.goes fs)
 
+pub returns-in-Choice-clause-goes : goal.returns-in-Choice-clause-goes
+returns-in-Choice-clause-goes c =
+    let fs = c.args.functions.now in
+    let m = c.args.self.now in
+    given_as fs m (record m { line = c.in-Choice.line }) (env_of m) c.args.frame (frame.Choice c.in-Choice.line c.in-Choice.first c.in-Choice.second) c.pick.result (λ t. value (word_view c.args.value) t) c.in-Choice.is
+    (c.pick.ensures.goes fs)
+
+pub returns-in-Select-clause-goes : goal.returns-in-Select-clause-goes
+returns-in-Select-clause-goes c =
+    let fs = c.args.functions.now in
+    let m = c.args.self.now in
+    given_as fs m c.select.new.self (env_of m) c.args.frame (frame.Select c.in-Select.line c.in-Select.body) c.select.result (λ t. value (word_view c.args.value) t) c.in-Select.is
+    (c.select.ensures.goes fs)
+
+pub returns-in-Switch-clause-goes : goal.returns-in-Switch-clause-goes
+returns-in-Switch-clause-goes c = λ knowing fits k s l.
+    let w = tasks knowing c.args.functions.now k in
+    let m = c.args.self.now in
+    ap (λ f. resume knowing w (below (env_of m) f) (reverse m.frames) (plug knowing w (env_of m) f (value (word_view c.args.value) (at s m)))) c.in-Switch.is
+
 pub returns-in-Test-clause-goes : goal.returns-in-Test-clause-goes
 returns-in-Test-clause-goes c =
     let fs = c.args.functions.now in
@@ -137,6 +157,15 @@ returns-in-Give-clause-nears c = value_given c.args.self.now.frames c.args.frame
 
 pub returns-in-Choose-clause-nears : goal.returns-in-Choose-clause-nears
 returns-in-Choose-clause-nears c = value_given c.args.self.now.frames c.args.frame _ _ c.in-Choose.is (omega (arith, c.choose.ensures.nears))
+
+pub returns-in-Choice-clause-nears : goal.returns-in-Choice-clause-nears
+returns-in-Choice-clause-nears c = value_given c.args.self.now.frames c.args.frame _ _ c.in-Choice.is (omega (arith, c.pick.ensures.nears))
+
+pub returns-in-Select-clause-nears : goal.returns-in-Select-clause-nears
+returns-in-Select-clause-nears c = value_given c.args.self.now.frames c.args.frame _ _ c.in-Select.is (omega (arith, c.select.ensures.nears))
+
+pub returns-in-Switch-clause-nears : goal.returns-in-Switch-clause-nears
+returns-in-Switch-clause-nears c = value_given c.args.self.now.frames c.args.frame _ _ c.in-Switch.is (nearer _ _ _ _ (omega arith))
 
 pub returns-in-Test-clause-nears : goal.returns-in-Test-clause-nears
 returns-in-Test-clause-nears c = value_given c.args.self.now.frames c.args.frame _ _ c.in-Test.is (omega (arith, c.tested.ensures.nears))

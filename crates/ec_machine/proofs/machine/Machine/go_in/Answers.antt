@@ -3,6 +3,7 @@ use Rattle.std.specs.Prelude.{reverse}
 use Rattle.ec_code.specs.Views.{statements_view}
 use Rattle.ec_meaning_defs.specs.evaluation.Execute.{look_all, settle}
 use Rattle.ec_meaning_defs.specs.evaluation.Results.{went}
+use Rattle.ec_meaning_defs.specs.resolved.Resolved.{named}
 use Rattle.ec_machine.specs.declared.frame.Frame.TheVariants as frame
 use Rattle.ec_machine.specs.Frames.{behind_by, here, left_by, outside, resume}
 use Rattle.ec_machine.specs.Goes.{at, env_of, tasks}
@@ -24,8 +25,8 @@ returns-in_ok-push-clause-goes c = λ fs knowing fits k s l.
     stands_by knowing w s c.look_list.new.self c.look_list.result _ _
     (ap (λ z. resume knowing w (outside x e) (reverse m.frames) (behind_by (here (outside x e) x.line) x.steps.now knowing w (left_by x (settle w d (statements_view z) (went c.args.label (at s m)))))) (sym c.as_slice-body.ensures)
     ∙ ap (λ o. resume knowing w (outside x e) (reverse m.frames) (behind_by (here (outside x e) x.line) x.steps.now knowing w (left_by x o))) (found knowing fits fs k s m d c.args.label b l (sym c.holds_any.ensures ∙ c.if-holds_any.true))
-    ∙ ap (λ z. resume knowing w (outside x e) (reverse m.frames) (behind_by (here (outside x e) x.line) x.steps.now knowing w (left_by x (settle w d (statements_view z) (look_all knowing w c.args.label d (statements_view b) (at s m)))))) c.as_slice-body.ensures
-    ∙ pushed knowing w e m.frames c.push.new.self (frame.Call x) (look_all knowing w c.args.label d (statements_view b) (at s m)) c.in_ok-push.ensures.ok)
+    ∙ ap (λ z. resume knowing w (outside x e) (reverse m.frames) (behind_by (here (outside x e) x.line) x.steps.now knowing w (left_by x (settle w d (statements_view z) (look_all knowing w (named c.args.label) d (statements_view b) (at s m)))))) c.as_slice-body.ensures
+    ∙ pushed knowing w e m.frames c.push.new.self (frame.Call x) (look_all knowing w (named c.args.label) d (statements_view b) (at s m)) c.in_ok-push.ensures.ok)
     (c.look_list.ensures.goes fs knowing fits k s l)
 
 pub returns-else-holds_any-clause-goes : goal.returns-else-holds_any-clause-goes

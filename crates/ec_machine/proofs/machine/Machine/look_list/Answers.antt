@@ -1,5 +1,6 @@
 use Rattle.std.proofs.Common.{◌∙◌, ap, arith}
 use Rattle.std.specs.Prelude.{reverse}
+use Rattle.ec_code.specs.Marks.{mark_view}
 use Rattle.ec_code.specs.Views.{statement_view}
 use Rattle.ec_meaning_defs.specs.evaluation.Execute.{look}
 use Rattle.ec_machine.specs.declared.frame.Frame.TheVariants as frame
@@ -16,7 +17,7 @@ returns-in_ok-push-in-Some-clause-goes c = λ fs knowing fits k s l.
     let d = here (env_of m) m.line in
     let x = c.in-Some.found in
     ap (resume knowing w (env_of m) (reverse m.frames)) (c.in-Some.ensures.found knowing w d (at s m))
-    ∙ pushed knowing w (env_of m) m.frames c.push.new.self (frame.Rest m.line x.rest) (look knowing w c.args.label d (statement_view x.first.now) (at s m)) c.in_ok-push-in-Some.ensures.ok
+    ∙ pushed knowing w (env_of m) m.frames c.push.new.self (frame.Rest m.line x.rest) (look knowing w (mark_view c.args.label) d (statement_view x.first.now) (at s m)) c.in_ok-push-in-Some.ensures.ok
 
 pub returns-in-None-clause-goes : goal.returns-in-None-clause-goes
 returns-in-None-clause-goes c = λ fs knowing fits k s l.

@@ -7,12 +7,13 @@ use Rattle.ec_meaning_defs.specs.evaluation.Execute.{declared, enter, initialize
 use Rattle.ec_meaning_defs.specs.evaluation.Results.{on, on_value, turn, went}
 use Rattle.ec_meaning_defs.specs.evaluation.State.{stuck}
 use Rattle.ec_meaning_defs.specs.resolved.Operations.{is_true}
-use Rattle.ec_machine.specs.Frames.{here, resume}
+use Rattle.ec_machine.specs.declared.frame.Frame.TheVariants as frame
+use Rattle.ec_machine.specs.Frames.{here, plug, resume}
 use Rattle.ec_machine.specs.Goes.{at, env_of, tasks}
 use Rattle.ec_machine.proofs.Moves.{goes_as, resume_over}
-use Rattle.ec_machine.proofs.Running.{to_OnLine, to_Nothing, to_Evaluate, to_Declare, to_Initialize, to_Block, to_Choose, to_Loop, to_Leave, to_Next, to_Return, to_Goto, to_Label, to_Embedded}
+use Rattle.ec_machine.proofs.Running.{to_OnLine, to_Nothing, to_Evaluate, to_Declare, to_Initialize, to_Block, to_Choose, to_Loop, to_Leave, to_Next, to_Return, to_Goto, to_Label, to_Switch, to_Embedded}
 use Rattle.ec_machine.specs.Weights.{expressions_weight, statement_weight, statements_weight, test_weight}
-use Rattle.ec_machine.proofs.Weighing.{err_near, nearer, weight-OnLine, weight-Nothing, weight-Evaluate, weight-Declare, weight-Initialize, weight-Block, weight-Choose, weight-Loop, weight-Leave, weight-Next, weight-Return, weight-Label}
+use Rattle.ec_machine.proofs.Weighing.{err_near, nearer, weight-OnLine, weight-Nothing, weight-Evaluate, weight-Declare, weight-Initialize, weight-Block, weight-Choose, weight-Loop, weight-Leave, weight-Next, weight-Return, weight-Label, weight-Switch}
 use Rattle.ec_machine.proofs.machine.Machine.run.Goals as goal
 
 pub returns-in-OnLine-clause-goes : goal.returns-in-OnLine-clause-goes
@@ -120,6 +121,15 @@ returns-in-Label-clause-goes c = λ knowing fits k s l.
     let m = c.args.self.now in
     ap (resume knowing w (env_of m) (reverse m.frames)) (to_Label knowing w (env_of m) (at s m) m.line c.args.statement.now c.in-Label.field-0 c.in-Label.inner c.get-in-Label.result.now c.in-Label.is c.get-in-Label.ensures)
 
+pub returns-in-Switch-clause-goes : goal.returns-in-Switch-clause-goes
+returns-in-Switch-clause-goes c =
+    let fs = c.args.functions.now in
+    let m = c.args.self.now in
+    goes_as fs m c.switch.new.self (env_of m) c.switch.result _
+    (λ knowing w t. plug knowing w (env_of m) (frame.Select m.line c.get-in-Switch.result) (eval knowing w (here (env_of m) m.line) (expression_view c.in-Switch.operand) t))
+    (λ knowing w t. to_Switch knowing w (env_of m) t m.line c.args.statement.now c.in-Switch.operand c.in-Switch.body c.get-in-Switch.result c.in-Switch.is c.get-in-Switch.ensures)
+    (c.switch.ensures.goes fs)
+
 pub returns-in-Embedded-clause-goes : goal.returns-in-Embedded-clause-goes
 returns-in-Embedded-clause-goes c = λ knowing fits k s l.
     let w = tasks knowing c.args.functions.now k in
@@ -165,6 +175,9 @@ returns-in-Goto-clause-nears c = omega (arith, c.jump.ensures.nears)
 
 pub returns-in-Label-clause-nears : goal.returns-in-Label-clause-nears
 returns-in-Label-clause-nears c = nearer _ _ _ _ (omega (arith, ap statement_weight c.in-Label.is ∙ weight-Label _ _, ap statement_weight c.get-in-Label.ensures))
+
+pub returns-in-Switch-clause-nears : goal.returns-in-Switch-clause-nears
+returns-in-Switch-clause-nears c = omega (arith, c.switch.ensures.nears, ap statement_weight c.in-Switch.is ∙ weight-Switch _ _, ap statement_weight c.get-in-Switch.ensures)
 
 pub returns-in-Embedded-clause-nears : goal.returns-in-Embedded-clause-nears
 returns-in-Embedded-clause-nears c = err_near _ _ _ _
