@@ -19,6 +19,7 @@ use Rattle.ec_link.specs.Rack.{slots_of, log_of}
 use Rattle.ec_link.specs.Slot.{states, link_at, talk_at}
 use Rattle.ec_link.specs.SlotState.{SlotState, Slots, ready_slot}
 use Rattle.ec_link.specs.Told.{KeepsTalks, SparesDropped}
+use Rattle.ec_language.specs.Letters.{each}
 use Rattle.ec_meaning_defs.specs.observed.Headline.{ReadsWithin}
 use Rattle.ec_meaning_defs.specs.observed.Observed.{answers_in}
 use Rattle.ec_meaning_defs.specs.evaluation.State as evaluation
@@ -45,7 +46,11 @@ use Rattle.ec_cli.specs.declared.form.Form.TheVariants.{Source, Written, Recorde
 use Rattle.ec_execute.specs.source.Answers.{TellsRunnable}
 use Rattle.ec_cli.specs.declared.ending.Ending.{Ending}
 use Rattle.ec_cli.specs.declared.ending.Ending.TheVariants.{Wrote, Exited, Trapped, TurnsSpent, Usage, Refused, Limit, ReadFault, WriteFault, OutOfMemory}
+use Rattle.ec_sound_text_laws.specs.Endings.{IsNeverStuck}
+use Rattle.ec_sound_text_laws.specs.Runs.{WrittenTextsAreNeverStuck, SourcesAreNeverStuck}
+use Rattle.ec_writing_defs.specs.Shapes.{is_byte}
 use Rattle.ec_replay_laws.specs.Runs.{Ran as ReplayRan, SaysTheSame, taken_first as replay_first}
+use Rattle.ec_cli.proofs.Runnable.{runnable_never}
 use Rattle.ec_cli.proofs.Recordings.{front_unchanged}
 use Rattle.ec_cli.proofs.SameRack.{same_log, same_talks, same_links, same_dropped}
 use Rattle.ec_cli.proofs.Sessions as session
@@ -101,29 +106,35 @@ limit_same L11 h k = refl
 
 -- ---- a text that is read
 
-pub source_told : (text : List ℕ) (answer : Result execute.Executable Stop) → TellsRunnable text answer → TellsRun Source text answer
-source_told text (Ok executable) r = record { program = r.program; is = r.is; means = r.means }
-source_told text (Err (stops.Refused kind line)) h = h
-source_told text (Err (stops.Limit kind)) h = h
-source_told text (Err stops.OutOfMemory) h = h
+module _ (never : SourcesAreNeverStuck) (text : List ℕ) (bytes : each is_byte text ≡ true) where
+  pub source_told : (answer : Result execute.Executable Stop) → TellsRunnable text answer → TellsRun Source text answer
+  source_told (Ok executable) r = record { program = r.program; is = r.is; means = r.means; never_stuck = runnable_never never text bytes r.program r.is }
+  source_told (Err (stops.Refused kind line)) h = h
+  source_told (Err (stops.Limit kind)) h = h
+  source_told (Err stops.OutOfMemory) h = h
 
-pub generated_told : (number : ℕ) (text : List ℕ) (answer : Result execute.Executable Stop) → TellsRunnable text answer → TellsRun (Generated number) text answer
-generated_told number text (Ok executable) r = record { program = r.program; is = r.is; means = r.means }
-generated_told number text (Err (stops.Refused kind line)) h = h
-generated_told number text (Err (stops.Limit kind)) h = h
-generated_told number text (Err stops.OutOfMemory) h = h
+  pub generated_told : (number : ℕ) (answer : Result execute.Executable Stop) → TellsRunnable text answer → TellsRun (Generated number) text answer
+  generated_told number (Ok executable) r = record { program = r.program; is = r.is; means = r.means; never_stuck = runnable_never never text bytes r.program r.is }
+  generated_told number (Err (stops.Refused kind line)) h = h
+  generated_told number (Err (stops.Limit kind)) h = h
+  generated_told number (Err stops.OutOfMemory) h = h
 
-pub recorded_told : (text : List ℕ) (answer : Result execute.Executable Stop) → TellsRunnable text answer → TellsRun Recorded text answer
-recorded_told text (Ok executable) r = record { program = r.program; is = r.is; means = r.means }
-recorded_told text (Err (stops.Refused kind line)) h = h
-recorded_told text (Err (stops.Limit kind)) h = h
-recorded_told text (Err stops.OutOfMemory) h = h
+  pub recorded_told : (answer : Result execute.Executable Stop) → TellsRunnable text answer → TellsRun Recorded text answer
+  recorded_told (Ok executable) r = record { program = r.program; is = r.is; means = r.means; never_stuck = runnable_never never text bytes r.program r.is }
+  recorded_told (Err (stops.Refused kind line)) h = h
+  recorded_told (Err (stops.Limit kind)) h = h
+  recorded_told (Err stops.OutOfMemory) h = h
 
-pub written_told : (text : List ℕ) (answer : Result execute.Executable Stop) → TellsProgram text answer → TellsRun Written text answer
-written_told text (Ok executable) h = record { program = executable_view executable; is = h; means = λ turns ready answers. refl }
-written_told text (Err (stops.Refused kind line)) h = h
-written_told text (Err (stops.Limit kind)) h = h
-written_told text (Err stops.OutOfMemory) h = h
+pub written_told : WrittenTextsAreNeverStuck → (text : List ℕ) (answer : Result execute.Executable Stop) → TellsProgram text answer → TellsRun Written text answer
+written_told never text (Ok executable) h = record {
+  program = executable_view executable;
+  is = h;
+  means = λ turns ready answers. refl;
+  never_stuck = never text (executable_view executable) h;
+}
+written_told never text (Err (stops.Refused kind line)) h = h
+written_told never text (Err (stops.Limit kind)) h = h
+written_told never text (Err stops.OutOfMemory) h = h
 
 -- ---- a text that is refused
 
@@ -342,6 +353,7 @@ module _ {O E X : Type 0} {F : X → Type 0} (held : O → Option (List ℕ)) (p
             (r.means turns (ready_slot (states (slots_of rack))) (answers_in (grown rack rack'))) c,
         told_as,
         subst SaysTheSame (λ i ready answers. r.means turns ready answers i) again,
+        r.never_stuck,
       )
   text_carried form text executable turns out out' err err' rack rack' ending r (inr w) told_as again = inr (subst (RefusesText form text) (sym w.0) tt, w.1)
 
@@ -454,11 +466,11 @@ module _ {O E X : Type 0} {F : X → Type 0} (held : O → Option (List ℕ)) (p
     -- its program was run
     text_run : (ending : Ending) (text : List ℕ) (p : Program form) → (IsCrowded rack → ⊥) → Takes left reads form input input' text → IsRunAs form text (Ok p)
         → Carries held puts told tells talk faults (shown_over form (program_meaning form p) turns rack rack') out out' err err' rack rack' ending
-        → RecordsAs told tells form err err' rack rack' → SaysTheSame (program_meaning form p turns) → Done ending
-    text_run ending text p room t is c told_as r = record {
-      whole = λ h. record { text = text; from = t.from; program = p; is = is; carried = c.whole h; again = says_again ending p (c.whole h) r };
-      part = λ h. record { text = text; from = t.from; program = p; is = is; carried = c.part (inl h) };
-      want = λ h. inr (record { text = text; from = t.from; program = p; is = is; carried = c.part (inr h) });
+        → RecordsAs told tells form err err' rack rack' → SaysTheSame (program_meaning form p turns) → IsNeverStuck (program_meaning form p) → Done ending
+    text_run ending text p room t is c told_as r never = record {
+      whole = λ h. record { text = text; from = t.from; program = p; is = is; carried = c.whole h; again = says_again ending p (c.whole h) r; never_stuck = never };
+      part = λ h. record { text = text; from = t.from; program = p; is = is; carried = c.part (inl h); never_stuck = never };
+      want = λ h. inr (record { text = text; from = t.from; program = p; is = is; carried = c.part (inr h); never_stuck = never });
       other = other_of ending (sorted ending c.ends);
       ends = carried_is_own ending c.ends;
       crowded = no_crowd ending room (λ e. subst IsOfCarried e c.ends);
@@ -485,7 +497,7 @@ module _ {O E X : Type 0} {F : X → Type 0} (held : O → Option (List ℕ)) (p
     -- the text was taken
     pub executes : (ending : Ending) (text : List ℕ) → (IsCrowded rack → ⊥) → Takes left reads form input input' text
         → ExecutesText held puts told tells talk faults form turns text out out' err err' rack rack' ending → Done ending
-    executes ending text room t (inl ran) = text_run ending text ran.0 room t ran.1 ran.2 ran.3 ran.4
+    executes ending text room t (inl ran) = text_run ending text ran.0 room t ran.1 ran.2 ran.3 ran.4 ran.5
     executes ending text room t (inr h) = text_refused ending text room t h.0 h.1
 
     -- there is no text

@@ -1,6 +1,7 @@
 pub mod Executions
 pub mod Recordings
 pub mod Reports
+pub mod Runnable
 pub mod SameRack
 pub mod Sessions
 pub mod Tasks

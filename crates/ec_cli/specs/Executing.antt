@@ -23,6 +23,7 @@ use Rattle.ec_meaning_defs.specs.evaluation.State.{Answer}
 use Rattle.ec_meaning_defs.specs.evaluation.Whole.{Observed}
 use Rattle.ec_execution_defs.specs.Runs.{Runs, RunsPart}
 use Rattle.ec_runtime.specs.Racks.{KeepsLinks}
+use Rattle.ec_sound_text_laws.specs.Endings.{IsNeverStuck}
 use Rattle.ec_execute.specs.declared.running.RunEnd.{RunEnd}
 use Rattle.ec_execute.specs.declared.running.RunEnd.TheVariants as ends
 use Rattle.ec_cli.specs.Answers.{IsCrowded, Announces, ComesWhere, grown}
@@ -251,7 +252,8 @@ module _ {O E X : Type 0} {F : X → Type 0} (held : O → Option (List ℕ)) (p
       ((program : Program form) × IsRunAs form text (Ok program)
       × Carries (shown_over form (program_meaning form program) turns rack rack')
       out out' err err' rack rack' ending × RecordsAs told tells form err err' rack rack'
-      × SaysTheSame (program_meaning form program turns))
+      × SaysTheSame (program_meaning form program turns)
+      × IsNeverStuck (program_meaning form program))
       ⊎ (RefusesText form text ending × Untouched out out' err err' rack rack')
 
   module _ {I : Type 0} (left : I → Option (List ℕ)) where
@@ -265,6 +267,7 @@ module _ {O E X : Type 0} {F : X → Type 0} (held : O → Option (List ℕ)) (p
       pub carried : CarriedOut (shown_over form (program_meaning form program) turns rack rack')
           out out' err err' rack rack' ending
       pub again : SaysAgain (program_meaning form program) turns rack rack'
+      pub never_stuck : IsNeverStuck (program_meaning form program)
 
     -- a part of it was
     pub record ExecutesPart (form : Form) (turns : ℕ) (input input' : I) (out out' : O)
@@ -275,6 +278,7 @@ module _ {O E X : Type 0} {F : X → Type 0} (held : O → Option (List ℕ)) (p
       pub is : IsRunAs form text (Ok program)
       pub carried : CarriedPart (shown_over form (program_meaning form program) turns rack rack')
           out out' err err' rack rack'
+      pub never_stuck : IsNeverStuck (program_meaning form program)
 
     -- nothing was run, or a part
     abbrev pub MayExecute : Form → ℕ → I → I → O → O → E → E → Rack X F → Rack X F → Type 0

@@ -12,6 +12,7 @@ use Rattle.ec_execution_defs.specs.Programs as execution
 use Rattle.ec_execution_defs.specs.Programs.{IsProgram, meaning}
 use Rattle.ec_phases_defs.specs.Sources.{BoundProgram}
 use Rattle.ec_execute.specs.source.Runnable.{IsRunnable, source_meaning}
+use Rattle.ec_sound_text_laws.specs.Endings.{IsNeverStuck}
 use Rattle.ec_cli.specs.declared.form.Form.{Form}
 use Rattle.ec_cli.specs.declared.form.Form.TheVariants.{Source, Written, Recorded, Generated}
 use Rattle.ec_cli.specs.Recordings.{with_transcript}
@@ -49,13 +50,14 @@ shown Written slots o = o
 shown Recorded slots o = with_transcript slots o
 shown (Generated number) slots o = with_report number o
 
--- an executable that means what the text means
+-- an executable that means what the text means, which is never stuck
 pub record RunsText (form : Form) (text : List ℕ) (executable : Executable) : Type 0 where
   pub program : Program form
   pub is : IsRunAs form text (Ok program)
   pub means : (turns : ℕ) (ready : Option (ℕ × List ℕ)) (answers : List Answer)
       → meaning (executable_view executable) turns ready answers
       ≡ program_meaning form program turns ready answers
+  pub never_stuck : IsNeverStuck (program_meaning form program)
 
 -- the answer is what the text is run as
 abbrev pub TellsRun : Form → List ℕ → Result Executable Stop → Type 0

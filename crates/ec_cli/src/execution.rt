@@ -24,6 +24,7 @@ use ec_execute::source::read_source;
 use ec_execute::{Executable, RunEnd, read_program, run};
 use ec_link::{Link, Logged, Rack};
 use ec_replay_laws::runs_are_replayed;
+use ec_sound_text_laws::accepted_programs_are_never_stuck;
 use std::alloc::Global;
 
 // The ending of a run.
@@ -69,10 +70,11 @@ fn run_over<O: Sink, E: Sink>(
     ended(run(alloc, executable, turns, rack, out, err))
 }
 
-// Reads a text to run it.
+// Reads a text to run it. Its program is never stuck.
 fn read_text(alloc: Global, form: Form, text: &[u8]) -> Result<Executable, Stop>
     ensures { TellsRun form text.now result }
 {
+    accepted_programs_are_never_stuck();
     match form {
         Form::Source => read_source(alloc, text),
         Form::Written => read_program(alloc, text),

@@ -137,7 +137,8 @@ pub fn ec_main<I: Source, O: Sink, E: Sink>(
     // What a generated program prints ends with the line that tells of its run, and a recording has the transcript in place of
     // what its program puts on standard error (`shown`). The first ready slot is taken, each exchange does to the slots what it
     // says, and the connections are given back at the end (`RunsOver`). Where the links say what they would say that replay
-    // a recorded run of the same program, it is that run (`SaysAgain`).
+    // a recorded run of the same program, it is that run (`SaysAgain`). And whatever its turns, its connection and its answers,
+    // the program is never stuck: it exits, is trapped, spends its turns or waits for an answer (`IsNeverStuck`).
     ensures whole { (form : Form) (turns : ℕ) → HasTurns words.now form turns → IsOfProgram result →
         BeforeLine E.held E.faults err.new (line_for words.now result) (λ between.
         ExecutesWhole O.held O.faults E.held E.faults
