@@ -7,8 +7,10 @@ mod area;
 mod call;
 mod giving;
 mod making;
+mod resuming;
 mod serving;
 mod session;
+mod starting;
 
 pub use call::{Argument, Call};
 pub use session::Session;

@@ -1,68 +1,74 @@
 //! The library of a program, over its rack of links.
 
-ghost use Rattle.std.specs.Prelude.{◌≡◌, true, map, slice_get, option_map};
-ghost use Rattle.std.specs.Option.{option_copied};
-ghost use Rattle.ec_calling.specs.Held.{is_held};
-ghost use Rattle.ec_calling.specs.Views.{call_view};
+ghost use Rattle.std.specs.Prelude.{◌≡◌, true, length};
+ghost use Rattle.ec_link.specs.Rack.{log_of};
+ghost use Rattle.ec_calling.specs.Held.{are_within, is_fit, is_held};
 
 use crate::call::Call;
-use crate::making::make;
-use ec_base::Line;
+use crate::resuming::go_on;
+use crate::starting::begin_call;
+use ec_base::{Line, List};
 use ec_bytes::Ptr;
-use ec_interp::running::Library;
+use ec_interp::running::{Library, Progress};
 use ec_link::{Link, Rack};
-use ec_machine::{End, Stop};
+use ec_machine::Stop;
 use ec_memory::Store;
 use ec_runtime::Library as Runtime;
 use ec_values::Word;
 use std::alloc::Global;
 use std::marker::PhantomData;
 
-/// The library of a program whose calls are these, over a rack of links.
+/// The library of a program whose calls are these, over a rack of links that others may use too: the exchanges of this
+/// program have these places in its log.
 ///
-/// It can't be dropped, since the library's connections have to be given back. It names the links,
-/// which the rack has inside, so that its ghost members can speak of what they tell.
+/// It names the links, which the rack has inside, so that its ghost members can speak of what they tell.
 pub struct Session<'p, 'r> {
     pub alloc: Global,
     pub calls: &'p [Call],
     pub rack: &'r mut Rack,
-    pub library: Runtime,
+    pub library: &'r mut Runtime,
+    pub places: &'r mut List<u64>,
     pub links: PhantomData<Box<dyn Link>>,
-    ghost holds: { is_held library rack.now ≡ true },
-}
-
-// The call of this number.
-fn call_at<'p>(calls: &'p [Call], number: u32) -> Option<&'p Call>
-    ensures { option_map call_view (option_copied result)
-        ≡ slice_get (map call_view calls.now) number }
-{
-    calls.get(number as usize)
+    ghost holds: { is_held library.now rack.now ≡ true },
+    ghost within: { are_within (length (log_of rack.now)) places.now ≡ true },
+    ghost fits: { is_fit library.now ≡ true },
 }
 
 impl Library for Session<'_, '_> {
     ghost use Rattle.std.specs.Prelude.{map};
     ghost use Rattle.ec_call_defs.specs.Steps.{library_step};
-    ghost use Rattle.ec_calling.specs.Laws.{library_suits, session_goes_on, session_stays};
+    ghost use Rattle.ec_runtime.specs.Proceeding.{asked_of, left_of, waiting_of};
+    ghost use Rattle.ec_calling.specs.Laws.{calls_add, calls_wait, library_suits, session_goes_on, session_stays};
     ghost use Rattle.ec_calling.specs.Leading.{Leads};
-    ghost use Rattle.ec_calling.specs.Making.{known_of};
+    ghost use Rattle.ec_calling.specs.Making.{going_of, known_of};
     ghost use Rattle.ec_calling.specs.Views.{call_view};
 
     ghost knowing = { λ it. library_step (map call_view it.calls.now) };
 
-    ghost session = { λ it. known_of it.rack.now it.library };
+    ghost session = { λ it. known_of it.rack.now it.library.now it.places.now };
+
+    ghost going = { λ it. going_of it.library.now };
+
+    ghost asking = { λ it. asked_of (waiting_of it.library.now) };
+
+    ghost left = { λ it. left_of (waiting_of it.library.now) };
 
     ghost leads = { λ old new. Leads (λ b. (Link-box b).talk b.value)
-        (λ b. (Link-box b).faults b.value) old.calls.now old.rack old.library
-        new.calls.now new.rack new.library };
+        (λ b. (Link-box b).faults b.value) old.calls.now old.rack old.library old.places
+        new.calls.now new.rack new.library new.places };
 
     ghost suits = { λ it. library_suits (map call_view it.calls.now) };
 
-    ghost stays = { λ it. session_stays _ _ it.calls.now it.rack it.library };
+    ghost adds = { λ it. calls_add (waiting_of it.library.now) };
+
+    ghost waits = { λ it. calls_wait (waiting_of it.library.now) };
+
+    ghost stays = { λ it. session_stays _ _ it.calls.now it.rack it.library it.places };
 
     ghost goes_on = { λ x y z. session_goes_on _ _ x.calls.now y.calls.now z.calls.now
-        x.rack y.rack z.rack x.library y.library z.library };
+        x.rack y.rack z.rack x.library y.library z.library x.places y.places z.places };
 
-    fn call(
+    fn start(
         &mut self,
         store: &mut Store,
         turns: &mut u64,
@@ -70,43 +76,51 @@ impl Library for Session<'_, '_> {
         scope: &[Ptr],
         number: u32,
         given: &[Word],
-    ) -> Result<(), Stop> {
-        match call_at(self.calls, number) {
-            Some(call) => make(
-                self.alloc,
-                store,
-                turns,
-                line,
-                scope,
-                self.rack,
-                &mut self.library,
-                call,
-                given,
-            ),
-            None => Err(Stop::Over(End::Stuck)),
-        }
+    ) -> Result<Progress, Stop> {
+        begin_call(
+            self.alloc,
+            store,
+            turns,
+            line,
+            scope,
+            self.library,
+            self.calls,
+            number,
+            given,
+        )
+    }
+
+    fn resume(&mut self, store: &mut Store, line: Line) -> Result<Progress, Stop> {
+        go_on(self.alloc, store, self.rack, self.library, self.places, line)
     }
 }
 
 impl<'p, 'r> Session<'p, 'r> {
-    /// The library over a rack. It takes no memory.
+    /// The library over a rack, with the places of its exchanges. It takes no memory.
     pub fn new(
         alloc: Global,
         calls: &'p [Call],
         rack: &'r mut Rack,
-        library: Runtime,
+        library: &'r mut Runtime,
+        places: &'r mut List<u64>,
     ) -> Session<'p, 'r>
-        requires { is_held library rack.old ≡ true }
+        requires holds { is_held library.old rack.old ≡ true }
+        requires within { are_within (length (log_of rack.old)) places.old ≡ true }
+        requires fits { is_fit library.old ≡ true }
         ensures calls { result.calls.now ≡ calls.now }
-        ensures library { result.library ≡ library }
-        ensures same_reference { result.rack.ghost_name ≡ rack.entry.ghost_name }
         ensures rack { result.rack.now ≡ rack.old }
+        ensures library { result.library.now ≡ library.old }
+        ensures places { result.places.now ≡ places.old }
+        ensures same_rack { result.rack.ghost_name ≡ rack.entry.ghost_name }
+        ensures same_library { result.library.ghost_name ≡ library.entry.ghost_name }
+        ensures same_places { result.places.ghost_name ≡ places.entry.ghost_name }
     {
         Session {
             alloc,
             calls,
             rack,
             library,
+            places,
             links: PhantomData,
         }
     }

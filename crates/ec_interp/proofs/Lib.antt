@@ -1,3 +1,4 @@
+pub mod Stepping
 pub mod Whole
 pub mod opening_lemmas
 pub mod running_lemmas

@@ -1,4 +1,4 @@
--- The ends of runs, as the machine names them.
+-- Where runs are left, as the machine names it.
 use Rattle.ec_base.specs.declared.stop.Trap.TheVariants as traps
 use Rattle.ec_machine.specs.declared.stop.End.TheVariants as ends
 use Rattle.ec_memory.specs.declared.store.MakeStop.{MakeStop}
@@ -7,14 +7,18 @@ use Rattle.ec_interp.specs.declared.running.halt.Halt.{Halt}
 use Rattle.ec_interp.specs.declared.running.halt.Halt.TheVariants as halt
 use Rattle.ec_interp.specs.declared.end.RunEnd.{RunEnd}
 use Rattle.ec_interp.specs.declared.end.RunEnd.TheVariants as end
+use Rattle.ec_interp.specs.declared.end.Step.{Step}
+use Rattle.ec_interp.specs.declared.end.Step.TheVariants as step
 
-abbrev pub halt_of : RunEnd → Halt
-halt_of (end.Exited n) = halt.Over (ends.Exited n)
-halt_of (end.Trapped trap line) = halt.Over (ends.Trapped trap line)
-halt_of end.TurnsSpent = halt.Over ends.TurnsSpent
-halt_of end.Stuck = halt.Over ends.Stuck
-halt_of end.WriteFault = halt.WriteFault
-halt_of end.OutOfMemory = halt.OutOfMemory
+-- where a run was left
+abbrev pub halt_of : Step → Halt
+halt_of step.Asks = halt.Asks
+halt_of (step.Ended (end.Exited n)) = halt.Over (ends.Exited n)
+halt_of (step.Ended (end.Trapped trap line)) = halt.Over (ends.Trapped trap line)
+halt_of (step.Ended end.TurnsSpent) = halt.Over ends.TurnsSpent
+halt_of (step.Ended end.Stuck) = halt.Over ends.Stuck
+halt_of (step.Ended end.WriteFault) = halt.WriteFault
+halt_of (step.Ended end.OutOfMemory) = halt.OutOfMemory
 
 -- where an object of the program was not made, on line 1
 abbrev pub stopped : MakeStop → RunEnd

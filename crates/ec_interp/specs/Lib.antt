@@ -1,4 +1,4 @@
 pub mod Ends
-pub mod Ran
+pub mod Stepping
 pub mod opening
 pub mod running

@@ -1,4 +1,4 @@
-//! How a run ended.
+//! How far a run came, and how it ended.
 
 ghost use Rattle.std.specs.Prelude.{◌≡◌};
 ghost use Rattle.ec_interp.specs.Ends.{halt_of, stopped};
@@ -25,17 +25,27 @@ pub enum RunEnd {
     OutOfMemory,
 }
 
-/// The end of a run that was left so.
-pub(crate) fn end_of(halt: Halt) -> RunEnd
+/// How far a run came.
+#[derive(Clone, Copy)]
+pub enum Step {
+    /// A request of it waits.
+    Asks,
+    /// It isn't gone on with.
+    Ended(RunEnd),
+}
+
+/// How far a run came that was left so.
+pub(crate) fn step_of(halt: Halt) -> Step
     ensures { halt_of result ≡ halt }
 {
     match halt {
-        Halt::Over(End::Exited(status)) => RunEnd::Exited(status),
-        Halt::Over(End::Trapped(trap, line)) => RunEnd::Trapped(trap, line),
-        Halt::Over(End::TurnsSpent) => RunEnd::TurnsSpent,
-        Halt::Over(End::Stuck) => RunEnd::Stuck,
-        Halt::WriteFault => RunEnd::WriteFault,
-        Halt::OutOfMemory => RunEnd::OutOfMemory,
+        Halt::Asks => Step::Asks,
+        Halt::Over(End::Exited(status)) => Step::Ended(RunEnd::Exited(status)),
+        Halt::Over(End::Trapped(trap, line)) => Step::Ended(RunEnd::Trapped(trap, line)),
+        Halt::Over(End::TurnsSpent) => Step::Ended(RunEnd::TurnsSpent),
+        Halt::Over(End::Stuck) => Step::Ended(RunEnd::Stuck),
+        Halt::WriteFault => Step::Ended(RunEnd::WriteFault),
+        Halt::OutOfMemory => Step::Ended(RunEnd::OutOfMemory),
     }
 }
 

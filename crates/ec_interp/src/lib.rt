@@ -7,5 +7,5 @@ mod machine;
 pub mod opening;
 pub mod running;
 
-pub use end::RunEnd;
+pub use end::{RunEnd, Step};
 pub use machine::Machine;

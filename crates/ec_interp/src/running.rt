@@ -7,6 +7,6 @@ mod halt;
 mod library;
 mod printing;
 
-pub use driving::{run_main, run_on};
+pub use driving::{resume_with, run_main, run_on};
 pub use halt::Halt;
-pub use library::Library;
+pub use library::{Library, Progress};

@@ -47,7 +47,7 @@ pub enum Progress {
 }
 
 /// A request that has no answer yet.
-#[derive(Debug)]
+#[derive(Debug, Drop)]
 pub struct Pending<'l> {
     /// The slot of the connection that it is made over. A request for a connection has none.
     pub slot: Option<u32>,
@@ -134,6 +134,7 @@ impl Library {
         ensures log { log_of rack.new ≡ log_of rack.old }
         ensures holds { Holds self.new.connections rack.new }
         ensures descriptors { self.new.areas ≡ self.old.areas }
+        ensures under_way { self.new.under_way ≡ self.old.under_way }
     {
         self.connections.open_ready(rack)
     }

@@ -1,5 +1,5 @@
 -- Runs that go on from where others came to.
-use Rattle.std.proofs.Common.{◌≡◌, ◌∙◌, refl, sym, ap, subst, arith, ℕ, ◌<◌, ◌≤◌, List, [], ◌∷◌, ◌++◌, append_assoc, append-nil, Option, Some, None, Result, Ok, Err, inl, inr, map}
+use Rattle.std.proofs.Common.{◌≡◌, ◌∙◌, refl, sym, ap, subst, arith, ℕ, ◌<◌, ◌≤◌, List, [], ◌∷◌, ◌++◌, append_assoc, append-nil, Option, Some, None, Bool, true, Result, Ok, Err, inl, inr, map}
 use Rattle.std.specs.Prelude.{◌⊎◌, reverse, OnOk, OnErr}
 use Rattle.std.specs.Option.{option_map}
 use Rattle.ec_base.specs.Causes.{Rose}
@@ -11,8 +11,8 @@ use Rattle.ec_link.specs.declared.logged.Logged.{Logged}
 use Rattle.ec_meaning_defs.specs.observed.Observed.{answers_in}
 use Rattle.ec_meaning_defs.specs.resolved.Resolved.{library}
 use Rattle.ec_meaning_defs.specs.evaluation.Agree.{Grows, state_of}
-use Rattle.ec_meaning_defs.specs.evaluation.Evaluate.{Step as Knowing}
-use Rattle.ec_meaning_defs.specs.evaluation.Results.{value, over, no_value, or_no_value, without_answer}
+use Rattle.ec_meaning_defs.specs.evaluation.Evaluate.{World, Step as Knowing}
+use Rattle.ec_meaning_defs.specs.evaluation.Results.{Res, value, on, over, no_value, or_no_value, without_answer}
 use Rattle.ec_meaning_defs.specs.evaluation.State.{Answer, State, stuck}
 use Rattle.ec_meaning_defs.specs.evaluation.Whole.{main_run}
 use Rattle.ec_printf.specs.declared.formats.known.Channel.{Channel}
@@ -34,19 +34,25 @@ use Rattle.ec_values.specs.Words.{word_view}
 use Rattle.ec_values.specs.declared.word.Word.{Word}
 use Rattle.ec_interp.specs.declared.running.halt.Halt.{Halt}
 use Rattle.ec_interp.specs.declared.running.halt.Halt.TheVariants as halt
+use Rattle.ec_interp.specs.declared.running.library.Progress.{Progress}
+use Rattle.ec_interp.specs.declared.running.library.Progress.TheVariants as progress
 use Rattle.ec_interp.specs.running.Halts.{halt_of}
-use Rattle.ec_interp.specs.running.LibraryRuns.{BeginsWith, ComesWith, EndsWith, HaltsWith, LeadsWith, grown}
+use Rattle.ec_interp.specs.running.LibraryRuns.{AsksWith, BeginsWith, ComesWith, EndsWith, GoesWith, HaltsOnce, HaltsWith, Idle, LeadsWith, Nears, TakesTurn, grown}
 use Rattle.ec_interp.specs.running.Printing.{Prints, PrintsPart, on_errors, on_output}
-use Rattle.ec_interp.specs.running.Runs.{Run, added, answer_with}
-use Rattle.ec_interp.specs.running.Sessions.{Adds, Answers, Called, Said, Session, holding, placed, saying}
+use Rattle.ec_interp.specs.running.Runs.{Run, added, answer_going, answer_with}
+use Rattle.ec_interp.specs.running.Sessions.{Adds, AsksOnce, Carried, Going, Leads, OneMore, Part, Said, SameLog, Session, Started, holding, placed, saying}
 use Rattle.ec_interp.proofs.running_lemmas.Growing.{calls_grow, grows_on, mains_grow, resumes_grows, stands_grows, unanswered_grows}
 
 -- ---- what was printed and said
 
+-- some state
+empty : State
+empty = record { memory = []; output = []; errors = []; connections = []; current = None; descriptors = []; conversation = []; answers = []; turns = 0 }
+
 pub grown_none : (s : State) → grown [] [] [] s ≡ s
 grown_none s = λ i. record s { output = append-nil s.output i; errors = append-nil s.errors i; conversation = append-nil s.conversation i }
 
-grown_twice : (p c : List ℕ) (g : List Logged) (q d : List ℕ) (h : List Logged) (s : State) → grown q d h (grown p c g s) ≡ grown (p ++ q) (c ++ d) (g ++ h) s
+pub grown_twice : (p c : List ℕ) (g : List Logged) (q d : List ℕ) (h : List Logged) (s : State) → grown q d h (grown p c g s) ≡ grown (p ++ q) (c ++ d) (g ++ h) s
 grown_twice p c g q d h s = λ i. record s { output = append_assoc s.output p q i; errors = append_assoc s.errors c d i; conversation = append_assoc s.conversation g h i }
 
 -- nothing was printed
@@ -58,7 +64,7 @@ pub added_grown : (p c : List ℕ) (s : State) → grown p c [] s ≡ added p c 
 added_grown p c s = λ i. record s { output = s.output ++ p; errors = s.errors ++ c; conversation = append-nil s.conversation i }
 
 -- the answers of two logs, and others
-answers_twice : (g h : List Logged) (rest : List Answer) → answers_in (g ++ h) ++ rest ≡ answers_in g ++ (answers_in h ++ rest)
+pub answers_twice : (g h : List Logged) (rest : List Answer) → answers_in (g ++ h) ++ rest ≡ answers_in g ++ (answers_in h ++ rest)
 answers_twice [] h rest = refl
 answers_twice (x ∷ g) h rest = λ i. (x.slot, x.reply) ∷ answers_twice g h rest i
 
@@ -122,6 +128,10 @@ module _ (knowing : Knowing) (fs : List Function) (turns : ℕ) (run : Run) wher
     leads_on new f' b = λ k s rest l.
         to_mid k s rest l ∙ b k (grown p c g s) rest (omega (arith, fewer, l)) ∙ ap (λ t. answer_with knowing fs k new f' (placed z rest t)) (grown_twice p c g q d h s)
 
+    goes_on : (new : Machine) (g' : Going) → GoesWith mid.turns (λ k s. answer_with knowing fs k mid f s) y z q d h knowing fs new g' → GoesWith turns run x z (p ++ q) (c ++ d) (g ++ h) knowing fs new g'
+    goes_on new g' b = λ k s rest l.
+        to_mid k s rest l ∙ b k (grown p c g s) rest (omega (arith, fewer, l)) ∙ ap (λ t. answer_going knowing fs k new g' (placed z rest t)) (grown_twice p c g q d h s)
+
     ends_on : (new : Machine) (e : End) → EndsWith mid.turns (λ k s. answer_with knowing fs k mid f s) y z q d h new e → EndsWith turns run x z (p ++ q) (c ++ d) (g ++ h) new e
     ends_on new e b = λ k s rest l.
         to_mid k s rest l ∙ b k (grown p c g s) rest (omega (arith, fewer, l)) ∙ ap (λ t. over (ending_view e) (at (placed z rest t) new)) (grown_twice p c g q d h s)
@@ -182,52 +192,156 @@ module _ (knowing : Knowing) (adds : Adds knowing) (fs : List Function) (x y : O
 -- ---- calls of the library
 
 -- what is equal is put in place
-pub called_with : {knowing : Knowing} {n line turns turns' : ℕ} {given given' : List Word} {scope scope' : List Ptr} {m m' : Memory} {x y : Option Session} {r : Result (Unit {0}) Stop} → scope ≡ scope' → given ≡ given'
-    → Called knowing n (map word_view given) line scope m turns x m' turns' y r → Called knowing n (map word_view given') line scope' m turns x m' turns' y r
-called_with {knowing} {n} {line} {turns} {turns'} {given} {given'} {scope} {scope'} {m} {m'} {x} {y} {r} p q h =
-    subst (λ sc. Called knowing n (map word_view given') line sc m turns x m' turns' y r) p (subst (λ ws. Called knowing n (map word_view ws) line scope m turns x m' turns' y r) q h)
+pub started_with : (knowing : Knowing) (n : ℕ) {line turns turns' : ℕ} {given given' : List Word} {scope scope' : List Ptr} {m m' : Memory} {x y : Option Session} {g : Option Going} {r : Result Progress Stop} → scope ≡ scope' → given ≡ given'
+    → Started knowing n (map word_view given) line scope m turns x m' turns' y g r → Started knowing n (map word_view given') line scope' m turns x m' turns' y g r
+started_with knowing n {line} {turns} {turns'} {given} {given'} {scope} {scope'} {m} {m'} {x} {y} {g} {r} p q h =
+    subst (λ sc. Started knowing n (map word_view given') line sc m turns x m' turns' y g r) p (subst (λ ws. Started knowing n (map word_view ws) line scope m turns x m' turns' y g r) q h)
 
-module _ (knowing : Knowing) (fs : List Function) (x y : Option Session) (m : Machine) (n count : ℕ) (store : Memory) (turns : ℕ) where
+-- only a call that waits is kept
+pub leads_done : (line : ℕ) (g : Option Going) (o : Res) (s : State) → Leads line (Ok progress.Done) g o s → o ≡ on s
+leads_done line None o s h = h
+leads_done line (Some g) o s h = absurd h
+
+leads_over : (line : ℕ) (e : End) (g : Option Going) (o : Res) (s : State) → Leads line (Err (stop.Over e)) g o s → o ≡ over (ending_view e) s
+leads_over line e None o s h = h
+leads_over line e (Some g) o s h = absurd h
+
+leads_left : (line : ℕ) (g : Option Going) (o : Res) (s : State) → Leads line (Err stop.OutOfMemory) g o s → (more : List Logged) × ((state_of o).conversation ≡ s.conversation ++ more)
+leads_left line None o s h = h
+leads_left line (Some g) o s h = absurd h
+
+kept_none : (line : ℕ) (r : Result Progress Stop) (g : Option Going) (o : Res) (s : State) → (r ≡ Ok progress.Asks → ⊥) → Leads line r g o s → g ≡ None
+kept_none line r None o s n h = refl
+kept_none line (Ok progress.Done) (Some g) o s n h = absurd h
+kept_none line (Ok progress.Asks) (Some g) o s n h = absurd (n refl)
+kept_none line (Err (stop.Over e)) (Some g) o s n h = absurd h
+kept_none line (Err stop.OutOfMemory) (Some g) o s n h = absurd h
+
+module _ (knowing : Knowing) (fs : List Function) (x y : Option Session) (m : Machine) (part : Part) (store : Memory) (turns : ℕ) (g : Option Going) (growth : List Logged) where
   abbrev behind_call : Machine
   behind_call = record m { store = store; turns = turns }
 
-  -- what a call of this answer leads to
-  module _ (r r' : Result (Unit {0}) Stop) (e : r ≡ r') (called : Called knowing n (waiting count (env_of m)) m.line.0 (objects_of m.scope) m.store m.turns x store turns y r) where
-    call_does : (k : ℕ) (s : State) (rest : List Answer)
-        → Answers r' (knowing (tasks knowing fs k) (context m.line.0 (objects_of m.scope) m.first) (library n (waiting count (env_of m))) (holding m.store m.turns (placed x (answers_in called.growth ++ rest) s))) (holding store turns (placed y rest (saying called.growth s)))
-    call_does k s rest =
-        subst (λ r. Answers r (knowing (tasks knowing fs k) (context m.line.0 (objects_of m.scope) m.first) (library n (waiting count (env_of m))) (holding m.store m.turns (placed x (answers_in called.growth ++ rest) s))) (holding store turns (placed y rest (saying called.growth s)))) e
-        (called.does (tasks knowing fs k) m.first s rest)
+  -- the whole run, from the part of the call on
+  abbrev pub from_part : Run
+  from_part k s = resume knowing (tasks knowing fs k) (env_of m) (reverse m.frames) (without_answer (part (tasks knowing fs k) m.first (at s m)))
 
-  call_leads : (r : Result (Unit {0}) Stop) (u : Unit {0}) (e : r ≡ Ok u) (called : Called knowing n (waiting count (env_of m)) m.line.0 (objects_of m.scope) m.store m.turns x store turns y r) (v : Word) → word_view v ≡ no_value
-      → LeadsWith m.turns (λ k s. answer_with knowing fs k m (focus.Calls n count) s) x y [] [] called.growth knowing fs behind_call (focus.Value v)
-  call_leads r u e called v i = λ k s rest l.
-      ap (λ o. resume knowing (tasks knowing fs k) (env_of m) (reverse m.frames) (without_answer o)) (call_does r (Ok u) e called k s rest)
-      ∙ (λ j. resume knowing (tasks knowing fs k) (env_of m) (reverse m.frames) (value (sym i j) (holding store turns (placed y rest (sym (saying_grown called.growth s) j)))))
+  -- what a part of this answer leads to
+  module _ (r r' : Result Progress Stop) (e : r ≡ r') (carried : Carried part m.line.0 m.store m.turns x store turns y g r growth) where
+    part_does : (k : ℕ) (s : State) (rest : List Answer)
+        → Leads m.line.0 r' g (part (tasks knowing fs k) m.first (holding m.store m.turns (placed x (answers_in growth ++ rest) s))) (holding store turns (placed y rest (saying growth s)))
+    part_does k s rest =
+        subst (λ r. Leads m.line.0 r g (part (tasks knowing fs k) m.first (holding m.store m.turns (placed x (answers_in growth ++ rest) s))) (holding store turns (placed y rest (saying growth s)))) e
+        (carried.does (tasks knowing fs k) m.first s rest)
 
-  call_ends : (r : Result (Unit {0}) Stop) (z : End) (e : r ≡ Err (stop.Over z)) (called : Called knowing n (waiting count (env_of m)) m.line.0 (objects_of m.scope) m.store m.turns x store turns y r)
-      → EndsWith m.turns (λ k s. answer_with knowing fs k m (focus.Calls n count) s) x y [] [] called.growth behind_call z
-  call_ends r z e called = λ k s rest l.
-      ap (λ o. resume knowing (tasks knowing fs k) (env_of m) (reverse m.frames) (without_answer o)) (call_does r (Err (stop.Over z)) e called k s rest)
-      ∙ resume_over knowing (tasks knowing fs k) (env_of m) (reverse m.frames) (ending_view z) (holding store turns (placed y rest (saying called.growth s)))
-      ∙ ap (λ t. over (ending_view z) (holding store turns (placed y rest t))) (sym (saying_grown called.growth s))
+  part_leads : (r : Result Progress Stop) (e : r ≡ Ok progress.Done) (carried : Carried part m.line.0 m.store m.turns x store turns y g r growth) (v : Word) → word_view v ≡ no_value
+      → LeadsWith m.turns from_part x y [] [] growth knowing fs behind_call (focus.Value v)
+  part_leads r e carried v i = λ k s rest l.
+      ap (λ o. resume knowing (tasks knowing fs k) (env_of m) (reverse m.frames) (without_answer o)) (leads_done m.line.0 g (part (tasks knowing fs k) m.first (holding m.store m.turns (placed x (answers_in growth ++ rest) s))) (holding store turns (placed y rest (saying growth s))) (part_does r (Ok progress.Done) e carried k s rest))
+      ∙ (λ j. resume knowing (tasks knowing fs k) (env_of m) (reverse m.frames) (value (sym i j) (holding store turns (placed y rest (sym (saying_grown growth s) j)))))
 
-  call_begins : Adds knowing → (r : Result (Unit {0}) Stop) (e : r ≡ Err stop.OutOfMemory) (called : Called knowing n (waiting count (env_of m)) m.line.0 (objects_of m.scope) m.store m.turns x store turns y r)
-      → BeginsWith m.turns (λ k s. answer_with knowing fs k m (focus.Calls n count) s) x y [] [] called.growth
-  call_begins adds r e called = λ k s rest l.
+  part_asks : (r : Result Progress Stop) (e : r ≡ Ok progress.Asks) (a : Going) (i : g ≡ Some a) (carried : Carried part m.line.0 m.store m.turns x store turns y g r growth)
+      → GoesWith m.turns from_part x y [] [] growth knowing fs behind_call a
+  part_asks r e a i carried = λ k s rest l.
+      ap (λ o. resume knowing (tasks knowing fs k) (env_of m) (reverse m.frames) (without_answer o))
+      (subst (λ h. Leads m.line.0 (Ok progress.Asks) h (part (tasks knowing fs k) m.first (holding m.store m.turns (placed x (answers_in growth ++ rest) s))) (holding store turns (placed y rest (saying growth s)))) i
+      (part_does r (Ok progress.Asks) e carried k s rest))
+      ∙ (λ j. resume knowing (tasks knowing fs k) (env_of m) (reverse m.frames) (without_answer (a m.line.0 (holding store turns (placed y rest (sym (saying_grown growth s) j))))))
+
+  part_ends : (r : Result Progress Stop) (z : End) (e : r ≡ Err (stop.Over z)) (carried : Carried part m.line.0 m.store m.turns x store turns y g r growth)
+      → EndsWith m.turns from_part x y [] [] growth behind_call z
+  part_ends r z e carried = λ k s rest l.
+      ap (λ o. resume knowing (tasks knowing fs k) (env_of m) (reverse m.frames) (without_answer o)) (leads_over m.line.0 z g (part (tasks knowing fs k) m.first (holding m.store m.turns (placed x (answers_in growth ++ rest) s))) (holding store turns (placed y rest (saying growth s))) (part_does r (Err (stop.Over z)) e carried k s rest))
+      ∙ resume_over knowing (tasks knowing fs k) (env_of m) (reverse m.frames) (ending_view z) (holding store turns (placed y rest (saying growth s)))
+      ∙ ap (λ t. over (ending_view z) (holding store turns (placed y rest t))) (sym (saying_grown growth s))
+
+  part_begins : Adds knowing → ((k : ℕ) (s : State) → Grows s (state_of (part (tasks knowing fs k) m.first s))) → (r : Result Progress Stop) (e : r ≡ Err stop.OutOfMemory) (carried : Carried part m.line.0 m.store m.turns x store turns y g r growth)
+      → BeginsWith m.turns from_part x y [] [] growth
+  part_begins adds grows r e carried = λ k s rest l.
       let w = tasks knowing fs k in
-      let o = knowing w (context m.line.0 (objects_of m.scope) m.first) (library n (waiting count (env_of m))) (holding m.store m.turns (placed x (answers_in called.growth ++ rest) s)) in
+      let o = part w m.first (holding m.store m.turns (placed x (answers_in growth ++ rest) s)) in
       let p = without_answer o in
-      let b = grows_at x (answers_in called.growth ++ rest) s m (state_of o) (calls_grow knowing adds fs k (context m.line.0 (objects_of m.scope) m.first) n (waiting count (env_of m)) (holding m.store m.turns (placed x (answers_in called.growth ++ rest) s))) in
-      let a : Grows (saying called.growth s) (state_of o) = record {
+      let b = grows_at x (answers_in growth ++ rest) s m (state_of o) (grows k (holding m.store m.turns (placed x (answers_in growth ++ rest) s))) in
+      let a : Grows (saying growth s) (state_of o) = record {
         printed = b.printed;
         complained = b.complained;
-        said = said_at y rest (saying called.growth s) behind_call (state_of o) (call_does r (Err stop.OutOfMemory) e called k s rest);
+        said = said_at y rest (saying growth s) behind_call (state_of o) (leads_left m.line.0 g o (holding store turns (placed y rest (saying growth s))) (part_does r (Err stop.OutOfMemory) e carried k s rest));
       } in
-      subst (λ t. Grows t (state_of (resume knowing w (env_of m) (reverse m.frames) p))) (sym (saying_grown called.growth s))
-      (grows_on (saying called.growth s) (state_of p) (state_of (resume knowing w (env_of m) (reverse m.frames) p))
-      (grows_on (saying called.growth s) (state_of o) (state_of p) a (unanswered_grows o))
+      subst (λ t. Grows t (state_of (resume knowing w (env_of m) (reverse m.frames) p))) (sym (saying_grown growth s))
+      (grows_on (saying growth s) (state_of p) (state_of (resume knowing w (env_of m) (reverse m.frames) p))
+      (grows_on (saying growth s) (state_of o) (state_of p) a (unanswered_grows o))
       (resumes_grows knowing adds fs k (env_of m) (reverse m.frames) p))
+
+-- ---- what is kept
+
+-- a part of a call that doesn't wait keeps none
+pub part_idle : (part : Part) (line : ℕ) (m : Memory) (turns : ℕ) (x : Option Session) (m' : Memory) (turns' : ℕ) (y : Option Session) (g : Option Going) (r : Result Progress Stop) (growth : List Logged)
+    → Carried part line m turns x m' turns' y g r growth → (r ≡ Ok progress.Asks → ⊥) → World → g ≡ None
+part_idle part line m turns x m' turns' y g r growth carried n w =
+    kept_none line r g (part w true (holding m turns (placed x (answers_in growth ++ []) empty))) (holding m' turns' (placed y [] (saying growth empty))) n (carried.does w true empty [])
+
+pub never_asks : (r : Result Progress Stop) (z : Stop) → r ≡ Err z → r ≡ Ok progress.Asks → ⊥
+never_asks r z e i = cc
+
+pub done_asks : (r : Result Progress Stop) → r ≡ Ok progress.Done → r ≡ Ok progress.Asks → ⊥
+done_asks r e i = cc
+
+pub halts_idle : (z : Stop) (g : Option Going) → g ≡ None → Idle (halt_of z) g
+halts_idle (stop.Over x) g e = e
+halts_idle stop.OutOfMemory g e = e
+
+-- ---- turns and requests that are left
+
+pub never_turns : (z : Stop) (turns turns' n : ℕ) → TakesTurn (halt_of z) turns turns' n
+never_turns (stop.Over x) turns turns' n = tt
+never_turns stop.OutOfMemory turns turns' n = tt
+
+pub turn_before : (h : Halt) (turns turns' turns'' n : ℕ) → turns' ≤ turns → TakesTurn h turns' turns'' n → TakesTurn h turns turns'' n
+turn_before halt.Asks turns turns' turns'' n h t = (omega (arith, h, t.0), t.1)
+turn_before (halt.Over e) turns turns' turns'' n i t = tt
+turn_before halt.WriteFault turns turns' turns'' n i t = tt
+turn_before halt.OutOfMemory turns turns' turns'' n i t = tt
+
+pub nears_turn : (h : Halt) (turns turns' n n' : ℕ) → TakesTurn h turns turns' n' → Nears h turns turns' n n'
+nears_turn halt.Asks turns turns' n n' t = inl t
+nears_turn (halt.Over e) turns turns' n n' t = tt
+nears_turn halt.WriteFault turns turns' n n' t = tt
+nears_turn halt.OutOfMemory turns turns' n n' t = tt
+
+pub never_nears : (z : Stop) (turns turns' n n' : ℕ) → Nears (halt_of z) turns turns' n n'
+never_nears (stop.Over x) turns turns' n n' = tt
+never_nears stop.OutOfMemory turns turns' n n' = tt
+
+-- ---- logs
+
+pub same_log : (x : Option Session) → SameLog x x
+same_log None = tt
+same_log (Some x) = refl
+
+pub same_logs : (x y z : Option Session) → SameLog x y → SameLog y z → SameLog x z
+same_logs None None None a b = tt
+same_logs None None (Some z) a b = b
+same_logs None (Some y) z a b = absurd a
+same_logs (Some x) None z a b = absurd a
+same_logs (Some x) (Some y) None a b = absurd b
+same_logs (Some x) (Some y) (Some z) a b = b ∙ a
+
+pub one_then : (x y z : Option Session) → OneMore x y → SameLog y z → OneMore x z
+one_then None None None a b = tt
+one_then None None (Some z) a b = b
+one_then None (Some y) z a b = absurd a
+one_then (Some x) None z a b = absurd a
+one_then (Some x) (Some y) None a b = absurd b
+one_then (Some x) (Some y) (Some z) a b = (a.0, b ∙ a.1)
+
+pub once_then : (h : Halt) (x y z : Option Session) → OneMore x y → SameLog y z → HaltsOnce h x z
+once_then halt.Asks x y z a b = one_then x y z a b
+once_then (halt.Over e) x y z a b = one_then x y z a b
+once_then halt.WriteFault x y z a b = one_then x y z a b
+once_then halt.OutOfMemory x y z a b = inl (one_then x y z a b)
+
+pub once_stopped : (r : Result Progress Stop) (z : Stop) (x y : Option Session) → r ≡ Err z → AsksOnce r x y → HaltsOnce (halt_of z) x y
+once_stopped r (stop.Over e) x y i a = subst (λ q. AsksOnce q x y) i a
+once_stopped r stop.OutOfMemory x y i a = subst (λ q. AsksOnce q x y) i a
 
 -- ---- with what the outputs took
 
@@ -278,39 +392,60 @@ module _ {O E : Type 0} (held : O → Option (List ℕ)) (faults : O → ℕ) (h
     fewer = omega arith;
   }
 
-  -- a call of the library was made
-  pub comes_called : (knowing : Knowing) (fs : List Function) (x y : Option Session) (m : Machine) (n count : ℕ) (store : Memory) (turns : ℕ) (r : Result (Unit {0}) Stop) (u : Unit {0}) → r ≡ Ok u
-      → Called knowing n (waiting count (env_of m)) m.line.0 (objects_of m.scope) m.store m.turns x store turns y r → turns ≤ m.turns → (v : Word) → word_view v ≡ no_value
-      → ComesWith held faults held' faults' m.turns (λ k s. answer_with knowing fs k m (focus.Calls n count) s) x y out out err err (record m { store = store; turns = turns }) knowing fs (focus.Value v)
-  comes_called knowing fs x y m n count store turns r u e called h v i = record {
-    printed = [];
-    complained = [];
-    growth = called.growth;
-    said = called.said;
-    prints = prints_none;
-    leads = call_leads knowing fs x y m n count store turns r u e called v i;
-    fewer = h;
-  }
+  -- a part of a call of the library was carried out
+  module _ (knowing : Knowing) (fs : List Function) (x y : Option Session) (m : Machine) (part : Part) (store : Memory) (turns : ℕ) (g : Option Going) (growth : List Logged) (r : Result Progress Stop) (carried : Carried part m.line.0 m.store m.turns x store turns y g r growth) where
+    pub comes_called : r ≡ Ok progress.Done → turns ≤ m.turns → (v : Word) → word_view v ≡ no_value
+        → ComesWith held faults held' faults' m.turns (from_part knowing fs x y m part store turns g growth) x y out out err err (record m { store = store; turns = turns }) knowing fs (focus.Value v)
+    comes_called e h v i = record {
+      printed = [];
+      complained = [];
+      growth = growth;
+      said = carried.said;
+      prints = prints_none;
+      leads = part_leads knowing fs x y m part store turns g growth r e carried v i;
+      fewer = h;
+    }
 
-  pub halts_called : (knowing : Knowing) → Adds knowing → (fs : List Function) (x y : Option Session) (m : Machine) (n count : ℕ) (store : Memory) (turns : ℕ) (r : Result (Unit {0}) Stop) (z : Stop) → r ≡ Err z
-      → Called knowing n (waiting count (env_of m)) m.line.0 (objects_of m.scope) m.store m.turns x store turns y r
-      → HaltsWith held faults held' faults' m.turns (λ k s. answer_with knowing fs k m (focus.Calls n count) s) x y out out err err (record m { store = store; turns = turns }) (halt_of z)
-  halts_called knowing adds fs x y m n count store turns r (stop.Over z) e called = record {
-    printed = [];
-    complained = [];
-    growth = called.growth;
-    said = called.said;
-    prints = prints_none;
-    ends = call_ends knowing fs x y m n count store turns r z e called;
-  }
-  halts_called knowing adds fs x y m n count store turns r stop.OutOfMemory e called = record {
-    printed = [];
-    complained = [];
-    growth = called.growth;
-    said = called.said;
-    prints = prints_none;
-    begins = call_begins knowing fs x y m n count store turns adds r e called;
-  }
+    asks_so : (h : Option Going) → g ≡ h → r ≡ Ok progress.Asks → turns ≤ m.turns
+        → AsksWith held faults held' faults' m.turns (from_part knowing fs x y m part store turns g growth) x y out out err err (record m { store = store; turns = turns }) knowing fs g
+    asks_so None i e l =
+        absurd (subst (λ q. Leads m.line.0 q None (part (tasks knowing fs 0) m.first (holding m.store m.turns (placed x (answers_in growth ++ []) empty))) (holding store turns (placed y [] (saying growth empty)))) e
+        (subst (λ q. Leads m.line.0 r q (part (tasks knowing fs 0) m.first (holding m.store m.turns (placed x (answers_in growth ++ []) empty))) (holding store turns (placed y [] (saying growth empty)))) i
+        (carried.does (tasks knowing fs 0) m.first empty [])))
+    asks_so (Some a) i e l = record {
+      printed = [];
+      complained = [];
+      growth = growth;
+      said = carried.said;
+      prints = prints_none;
+      asks = a;
+      is = i;
+      goes = part_asks knowing fs x y m part store turns g growth r e a i carried;
+      fewer = l;
+    }
+
+    pub asks_called : r ≡ Ok progress.Asks → turns ≤ m.turns
+        → AsksWith held faults held' faults' m.turns (from_part knowing fs x y m part store turns g growth) x y out out err err (record m { store = store; turns = turns }) knowing fs g
+    asks_called e l = asks_so g refl e l
+
+    pub halts_called : Adds knowing → ((k : ℕ) (s : State) → Grows s (state_of (part (tasks knowing fs k) m.first s))) → (z : Stop) → r ≡ Err z
+        → HaltsWith held faults held' faults' m.turns (from_part knowing fs x y m part store turns g growth) x y out out err err (record m { store = store; turns = turns }) knowing fs g (halt_of z)
+    halts_called adds grows (stop.Over z) e = record {
+      printed = [];
+      complained = [];
+      growth = growth;
+      said = carried.said;
+      prints = prints_none;
+      ends = part_ends knowing fs x y m part store turns g growth r z e carried;
+    }
+    halts_called adds grows stop.OutOfMemory e = record {
+      printed = [];
+      complained = [];
+      growth = growth;
+      said = carried.said;
+      prints = prints_none;
+      begins = part_begins knowing fs x y m part store turns g growth adds grows r e carried;
+    }
 
   module _ (knowing : Knowing) (fs : List Function) (turns : ℕ) (run : Run) where
     pub comes_step : (x : Option Session) (r : Result Focus Stop) (new : Machine) (g : Focus) → r ≡ Ok g → new.turns ≤ turns
@@ -326,10 +461,10 @@ module _ {O E : Type 0} (held : O → Option (List ℕ)) (faults : O → ℕ) (h
       fewer = h;
     }
 
-    pub halts_step : (x : Option Session) (r : Result Focus Stop) (new : Machine) (z : Stop) → r ≡ Err z → BeginsWith turns run x x [] [] []
+    pub halts_step : (x : Option Session) (r : Result Focus Stop) (new : Machine) (going : Option Going) (z : Stop) → r ≡ Err z → BeginsWith turns run x x [] [] []
         → ((k : ℕ) (s : State) → turns < k → Stands knowing (tasks knowing fs k) s new r (run k s))
-        → HaltsWith held faults held' faults' turns run x x out out err err new (halt_of z)
-    halts_step x r new (stop.Over z) e b goes = record {
+        → HaltsWith held faults held' faults' turns run x x out out err err new knowing fs going (halt_of z)
+    halts_step x r new going (stop.Over z) e b goes = record {
       printed = [];
       complained = [];
       growth = [];
@@ -337,7 +472,7 @@ module _ {O E : Type 0} (held : O → Option (List ℕ)) (faults : O → ℕ) (h
       prints = prints_none;
       ends = ends_step knowing fs turns run x r new z e goes;
     }
-    halts_step x r new stop.OutOfMemory e b goes = record {
+    halts_step x r new going stop.OutOfMemory e b goes = record {
       printed = [];
       complained = [];
       growth = [];
@@ -360,11 +495,22 @@ module _ {O E : Type 0} (held : O → Option (List ℕ)) (faults : O → ℕ) (h
       fewer = omega (arith, a.fewer, b.fewer);
     }
 
-    pub halts_on : (x y z : Option Session) (out₁ out₂ : O) (err₁ err₂ : E) (mid new : Machine) (f : Focus) (h : Halt)
+    pub halts_on : (x y z : Option Session) (out₁ out₂ : O) (err₁ err₂ : E) (mid new : Machine) (f : Focus) (going : Option Going) (h : Halt)
         → ComesWith held faults held' faults' turns run x y out out₁ err err₁ mid knowing fs f
-        → HaltsWith held faults held' faults' mid.turns (λ k s. answer_with knowing fs k mid f s) y z out₁ out₂ err₁ err₂ new h
-        → HaltsWith held faults held' faults' turns run x z out out₂ err err₂ new h
-    halts_on x y z out₁ out₂ err₁ err₂ mid new f (halt.Over e) a b = record {
+        → HaltsWith held faults held' faults' mid.turns (λ k s. answer_with knowing fs k mid f s) y z out₁ out₂ err₁ err₂ new knowing fs going h
+        → HaltsWith held faults held' faults' turns run x z out out₂ err err₂ new knowing fs going h
+    halts_on x y z out₁ out₂ err₁ err₂ mid new f going halt.Asks a b = record {
+      printed = a.printed ++ b.printed;
+      complained = a.complained ++ b.complained;
+      growth = a.growth ++ b.growth;
+      said = said_twice x y z a.growth b.growth a.said b.said;
+      prints = record { output = Puts-then a.prints.output b.prints.output; errors = Puts-then a.prints.errors b.prints.errors };
+      asks = b.asks;
+      is = b.is;
+      goes = goes_on knowing fs turns run x y z a.printed a.complained a.growth b.printed b.complained b.growth mid f a.fewer a.leads new b.asks b.goes;
+      fewer = omega (arith, a.fewer, b.fewer);
+    }
+    halts_on x y z out₁ out₂ err₁ err₂ mid new f going (halt.Over e) a b = record {
       printed = a.printed ++ b.printed;
       complained = a.complained ++ b.complained;
       growth = a.growth ++ b.growth;
@@ -372,7 +518,7 @@ module _ {O E : Type 0} (held : O → Option (List ℕ)) (faults : O → ℕ) (h
       prints = record { output = Puts-then a.prints.output b.prints.output; errors = Puts-then a.prints.errors b.prints.errors };
       ends = ends_on knowing fs turns run x y z a.printed a.complained a.growth b.printed b.complained b.growth mid f a.fewer a.leads new e b.ends;
     }
-    halts_on x y z out₁ out₂ err₁ err₂ mid new f halt.WriteFault a b = record {
+    halts_on x y z out₁ out₂ err₁ err₂ mid new f going halt.WriteFault a b = record {
       printed = a.printed ++ b.printed;
       complained = a.complained ++ b.complained;
       growth = a.growth ++ b.growth;
@@ -388,7 +534,7 @@ module _ {O E : Type 0} (held : O → Option (List ℕ)) (faults : O → ℕ) (h
         rose : faults out₁ ≡ faults out → faults' err₁ ≡ faults' err → Rose (faults out₁) (faults out₂) ⊎ Rose (faults' err₁) (faults' err₂) → Rose (faults out) (faults out₂) ⊎ Rose (faults' err) (faults' err₂)
         rose p q (inl r) = inl (subst (λ n. Rose n (faults out₂)) p r)
         rose p q (inr r) = inr (subst (λ n. Rose n (faults' err₂)) q r)
-    halts_on x y z out₁ out₂ err₁ err₂ mid new f halt.OutOfMemory a b = record {
+    halts_on x y z out₁ out₂ err₁ err₂ mid new f going halt.OutOfMemory a b = record {
       printed = a.printed ++ b.printed;
       complained = a.complained ++ b.complained;
       growth = a.growth ++ b.growth;

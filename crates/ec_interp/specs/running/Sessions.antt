@@ -1,7 +1,8 @@
 -- What a library knows of a run, and what a call of it does.
-use Rattle.std.specs.Prelude.{◌≡◌, ℕ, Bool, List, [], ◌++◌, Option, Some, None, Result, Ok, Err}
+use Rattle.std.specs.Prelude.{◌≡◌, ◌⊎◌, ℕ, Bool, List, [], ◌∷◌, ◌++◌, Option, Some, None, Result, Ok, Err}
 use Rattle.ec_bytes.specs.declared.scalar.address.Ptr.{Ptr}
 use Rattle.ec_link.specs.declared.logged.Logged.{Logged}
+use Rattle.ec_link.specs.declared.request.Request.{Request}
 use Rattle.ec_memory_defs.specs.Memory.{Memory, ValueData}
 use Rattle.ec_meaning_defs.specs.observed.Observed.{answers_in}
 use Rattle.ec_meaning_defs.specs.resolved.Resolved.{library}
@@ -9,11 +10,13 @@ use Rattle.ec_meaning_defs.specs.evaluation.Agree.{Agree, Always, Grows, WhenAns
 use Rattle.ec_meaning_defs.specs.evaluation.Evaluate.{World, Step as Knowing}
 use Rattle.ec_meaning_defs.specs.evaluation.Expanded.{itself}
 use Rattle.ec_meaning_defs.specs.evaluation.Results.{Res, on, over}
-use Rattle.ec_meaning_defs.specs.evaluation.State.{Answer, Connection, Item, State}
+use Rattle.ec_meaning_defs.specs.evaluation.State.{Answer, Connection, Item, State, waits}
 use Rattle.ec_plain.specs.Answered.{context}
 use Rattle.ec_machine.specs.declared.stop.Stop.{Stop}
 use Rattle.ec_machine.specs.declared.stop.Stop.TheVariants as stop
 use Rattle.ec_machine.specs.Goes.{Fits, ending_view}
+use Rattle.ec_interp.specs.declared.running.library.Progress.{Progress}
+use Rattle.ec_interp.specs.declared.running.library.Progress.TheVariants as progress
 
 -- ---- steps
 
@@ -63,21 +66,70 @@ holding m turns s = record s { memory = m; turns = turns }
 
 -- ---- calls
 
--- what a call leads to is what it answers: the run goes on, or it is over. After want of memory, what was said is a front of what is said
-abbrev pub Answers : Result (Unit {0}) Stop → Res → State → Type 0
-Answers (Ok v) o s = o ≡ on s
-Answers (Err (stop.Over e)) o s = o ≡ over (ending_view e) s
-Answers (Err stop.OutOfMemory) o s = (more : List Logged)
-    × ((state_of o).conversation ≡ s.conversation ++ more)
+-- what a call that waits with a request still has to do, by the line of its statement, from a state with its memory, its turns and the answers
+abbrev pub Going : Type 0
+Going = ℕ → State → Res
 
--- a call was made, whose first pointers have these values: over the answers that came, and then any others, it leads where it says, and leaves exactly the others
-pub record Called (knowing : Knowing) (number : ℕ) (given : List ValueData) (line : ℕ)
-    (scope : List Ptr) (m : Memory) (turns : ℕ) (x : Option Session) (m' : Memory) (turns' : ℕ) (y : Option Session)
-    (result : Result (Unit {0}) Stop) : Type 0 where
-  pub growth : List Logged
+-- what a part of a call leads to is what it answers: the call is done and the run goes on, or it waits and goes on as this says, or the run is over; and only a call that waits is kept. After want of memory, what was said is a front of what is said
+abbrev pub Leads : ℕ → Result Progress Stop → Option Going → Res → State → Type 0
+Leads line (Ok progress.Done) None o s = o ≡ on s
+Leads line (Ok progress.Done) (Some g) o s = ⊥
+Leads line (Ok progress.Asks) None o s = ⊥
+Leads line (Ok progress.Asks) (Some g) o s = o ≡ g line s
+Leads line (Err (stop.Over e)) None o s = o ≡ over (ending_view e) s
+Leads line (Err (stop.Over e)) (Some g) o s = ⊥
+Leads line (Err stop.OutOfMemory) None o s = (more : List Logged)
+    × ((state_of o).conversation ≡ s.conversation ++ more)
+Leads line (Err stop.OutOfMemory) (Some g) o s = ⊥
+
+-- a part of a call, by the tasks and by whether it stands in the first `main`
+abbrev pub Part : Type 0
+Part = World → Bool → State → Res
+
+-- A part of a call was carried out: over the answers that came, and then any others, it leads where it says, and leaves exactly the others
+pub record Carried (part : Part) (line : ℕ) (m : Memory) (turns : ℕ) (x : Option Session) (m' : Memory) (turns' : ℕ) (y : Option Session)
+    (g : Option Going) (result : Result Progress Stop) (growth : List Logged) : Type 0 where
   pub said : Said x y growth
   pub does : (w : World) (first : Bool) (s : State) (rest : List Answer)
-      → Answers result
-      (knowing w (context line scope first) (library number given)
-      (holding m turns (placed x (answers_in growth ++ rest) s)))
+      → Leads line result g
+      (part w first (holding m turns (placed x (answers_in growth ++ rest) s)))
       (holding m' turns' (placed y rest (saying growth s)))
+
+-- a call was begun, whose first pointers have these values
+abbrev pub Started : Knowing → ℕ → List ValueData → ℕ → List Ptr → Memory → ℕ → Option Session → Memory → ℕ → Option Session
+    → Option Going → Result Progress Stop → Type 0
+Started knowing number given line scope m turns x m' turns' y g result =
+    Carried (λ w first s. knowing w (context line scope first) (library number given) s) line m turns x m' turns' y g result []
+
+-- a call was gone on with that still had to do this
+pub record Resumed (was : Going) (line : ℕ) (m : Memory) (x : Option Session) (m' : Memory) (y : Option Session) (g : Option Going)
+    (result : Result Progress Stop) : Type 0 where
+  pub growth : List Logged
+  pub carried : (turns : ℕ) → Carried (λ w first s. was line s) line m turns x m' turns y g result growth
+
+-- nothing was said
+abbrev pub SameLog : Option Session → Option Session → Type 0
+SameLog None None = Unit {0}
+SameLog None (Some y) = ⊥
+SameLog (Some x) None = ⊥
+SameLog (Some x) (Some y) = y.log ≡ x.log
+
+-- one exchange was said
+abbrev pub OneMore : Option Session → Option Session → Type 0
+OneMore None None = Unit {0}
+OneMore None (Some y) = ⊥
+OneMore (Some x) None = ⊥
+OneMore (Some x) (Some y) = (e : Logged) × (y.log ≡ x.log ++ e ∷ [])
+
+-- or it may not have been said, where there was no memory
+abbrev pub AsksOnce : Result Progress Stop → Option Session → Option Session → Type 0
+AsksOnce (Ok p) x y = OneMore x y
+AsksOnce (Err (stop.Over e)) x y = OneMore x y
+AsksOnce (Err stop.OutOfMemory) x y = OneMore x y ⊎ SameLog x y
+
+-- where there is no answer it waits with this request
+abbrev pub WaitsFor : Option Going → Option (Option ℕ × Request) → Type 0
+WaitsFor None asking = asking ≡ None
+WaitsFor (Some g) None = ⊥
+WaitsFor (Some g) (Some a) =
+    (line : ℕ) (s : State) → g line (record s { answers = [] }) ≡ over (waits a.0 a.1) (record s { answers = [] })

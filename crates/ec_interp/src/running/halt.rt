@@ -1,13 +1,15 @@
-//! How a run was left.
+//! Where a run was left.
 
 ghost use Rattle.std.specs.Prelude.{◌≡◌};
 ghost use Rattle.ec_interp.specs.running.Halts.{halt_of};
 
 use ec_machine::{End, Stop};
 
-/// How a run was left.
+/// Where a run was left.
 #[derive(Clone, Copy)]
 pub enum Halt {
+    /// A call has a request to make, which waits.
+    Asks,
     /// It is over.
     Over(End),
     /// An output could not take what was printed.

@@ -3,13 +3,15 @@ use Rattle.ec_machine.specs.Weights.{remaining}
 use Rattle.ec_machine.proofs.Weighing.{remaining_all}
 use Rattle.ec_interp.specs.running.LibraryRuns.{ComesWith, HaltsWith}
 use Rattle.ec_interp.specs.running.Runs.{answer_with}
-use Rattle.ec_interp.proofs.running_lemmas.Leading.{comes_on, comes_there, halts_on}
+use Rattle.ec_interp.proofs.running_lemmas.Leading.{comes_on, comes_there, halts_on, same_log, same_logs, turn_before}
 use Rattle.ec_interp.proofs.running.driving.next_turn.Goals as goal
 
 pub loop-machine-init : goal.loop-machine-init
 loop-machine-init g c = record {
   comes = comes_there g.O.Sink.held g.O.Sink.faults g.E.Sink.held g.E.Sink.faults c.args.out.now c.args.err.now (g.L.Library.knowing c.args.library.now) c.args.functions.now (g.L.Library.session c.args.library.now) c.args.machine.now c.args.focus;
   same = refl;
+  idle = λ was. was;
+  quiet = same_log (g.L.Library.session c.args.library.now);
   led = g.met.L.Library.stays c.args.library.now;
 }
 
@@ -25,6 +27,8 @@ loop-machine-preserved g c =
           c.loop-machine.out c.advance.new.out c.loop-machine.err c.advance.new.err c.loop-machine.machine c.advance.new.machine c.loop-machine.focus c.in-Ok.next c.loop-machine.invariant.comes
           (subst (λ n. ComesWith g.O.Sink.held g.O.Sink.faults g.E.Sink.held g.E.Sink.faults c.loop-machine.machine.turns (λ k s. answer_with n fs k c.loop-machine.machine c.loop-machine.focus s) (session c.loop-machine.library) (session c.advance.new.library) c.loop-machine.out c.advance.new.out c.loop-machine.err c.advance.new.err c.advance.new.machine n fs c.in-Ok.next) c.loop-machine.invariant.same c.in-Ok.ensures.goes);
       same = c.advance.ensures.same ∙ c.loop-machine.invariant.same;
+      idle = λ was. c.in-Ok.ensures.idle_on (c.loop-machine.invariant.idle was);
+      quiet = same_logs (session c.args.library.now) (session c.loop-machine.library) (session c.advance.new.library) c.loop-machine.invariant.quiet c.advance.ensures.quiet;
       led = g.met.L.Library.goes_on c.args.library.now c.loop-machine.library c.advance.new.library c.loop-machine.invariant.led c.advance.ensures.led;
     }
 
@@ -36,8 +40,8 @@ returns-in-Err-clause-halts g c =
     let session = g.L.Library.session in
     halts_on g.O.Sink.held g.O.Sink.faults g.E.Sink.held g.E.Sink.faults c.args.out.now c.args.err.now knowing fs m.turns (λ k s. answer_with knowing fs k m c.args.focus s)
     (session c.args.library.now) (session c.loop-machine.library) (session c.advance.new.library)
-    c.loop-machine.out c.advance.new.out c.loop-machine.err c.advance.new.err c.loop-machine.machine c.advance.new.machine c.loop-machine.focus c.in-Err.halt c.loop-machine.invariant.comes
-    (subst (λ n. HaltsWith g.O.Sink.held g.O.Sink.faults g.E.Sink.held g.E.Sink.faults c.loop-machine.machine.turns (λ k s. answer_with n fs k c.loop-machine.machine c.loop-machine.focus s) (session c.loop-machine.library) (session c.advance.new.library) c.loop-machine.out c.advance.new.out c.loop-machine.err c.advance.new.err c.advance.new.machine c.in-Err.halt) c.loop-machine.invariant.same c.in-Err.ensures.halts)
+    c.loop-machine.out c.advance.new.out c.loop-machine.err c.advance.new.err c.loop-machine.machine c.advance.new.machine c.loop-machine.focus (g.L.Library.going c.advance.new.library) c.in-Err.halt c.loop-machine.invariant.comes
+    (subst (λ n. HaltsWith g.O.Sink.held g.O.Sink.faults g.E.Sink.held g.E.Sink.faults c.loop-machine.machine.turns (λ k s. answer_with n fs k c.loop-machine.machine c.loop-machine.focus s) (session c.loop-machine.library) (session c.advance.new.library) c.loop-machine.out c.advance.new.out c.loop-machine.err c.advance.new.err c.advance.new.machine n fs (g.L.Library.going c.advance.new.library) c.in-Err.halt) c.loop-machine.invariant.same c.in-Err.ensures.halts)
 
 pub returns-in-Err-clause-same : goal.returns-in-Err-clause-same
 returns-in-Err-clause-same g c = c.advance.ensures.same ∙ c.loop-machine.invariant.same
@@ -60,3 +64,18 @@ returns-clause-led g c = c.loop-machine.invariant.led
 
 pub returns-clause-fewer : goal.returns-clause-fewer
 returns-clause-fewer g c = omega (arith, c.loop-machine.invariant.comes.fewer, c.loop-machine-test.false)
+
+pub returns-in-Err-clause-quiet : goal.returns-in-Err-clause-quiet
+returns-in-Err-clause-quiet g c = same_logs (g.L.Library.session c.args.library.now) (g.L.Library.session c.loop-machine.library) (g.L.Library.session c.advance.new.library) c.loop-machine.invariant.quiet c.advance.ensures.quiet
+
+pub returns-clause-quiet : goal.returns-clause-quiet
+returns-clause-quiet g c = c.loop-machine.invariant.quiet
+
+pub returns-in-Err-clause-turned : goal.returns-in-Err-clause-turned
+returns-in-Err-clause-turned g c = turn_before c.in-Err.halt c.args.machine.now.turns c.loop-machine.machine.turns c.advance.new.machine.turns (g.L.Library.left c.advance.new.library) c.loop-machine.invariant.comes.fewer c.in-Err.ensures.turned
+
+pub returns-in-Err-clause-idle : goal.returns-in-Err-clause-idle
+returns-in-Err-clause-idle g c = λ was. c.in-Err.ensures.idle (c.loop-machine.invariant.idle was)
+
+pub returns-clause-idle_on : goal.returns-clause-idle_on
+returns-clause-idle_on g c = c.loop-machine.invariant.idle

@@ -21,7 +21,7 @@ pub returns-in-Ok-clause-nears : goal.returns-in-Ok-clause-nears
 returns-in-Ok-clause-nears g c = nearer _ _ _ _ (omega arith)
 
 pub returns-in-Err-clause-halts : goal.returns-in-Err-clause-halts
-returns-in-Err-clause-halts g c = λ fs knowing suits x.
+returns-in-Err-clause-halts g c = λ fs knowing suits x going.
     let m = c.args.machine.now in
     let p = c.in-Err.ensures.part in
     record {
@@ -32,3 +32,9 @@ returns-in-Err-clause-halts g c = λ fs knowing suits x.
       prints = p.last;
       begins = puts_begin knowing suits.adds fs x x m c.args.value c.args.channel p.front p.rest (sym c.as_slice.ensures ∙ p.split);
     }
+
+pub returns-in-Err-clause-turned : goal.returns-in-Err-clause-turned
+returns-in-Err-clause-turned g c = λ n. tt
+
+pub returns-in-Err-clause-idle : goal.returns-in-Err-clause-idle
+returns-in-Err-clause-idle g c = λ kept e. e

@@ -1,0 +1,4 @@
+pub mod Going
+pub mod Others
+pub mod Sharing
+pub mod Stepped
