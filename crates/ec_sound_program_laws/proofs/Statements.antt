@@ -8,7 +8,7 @@ use Rattle.ec_typing_defs.specs.Tables.{find}
 use Rattle.ec_typing_defs.specs.Statements as checked
 use Rattle.ec_typing_defs.specs.Statements.{as_body, looping, as_item}
 use Rattle.ec_typing_defs.specs.Worlds.{Place, World, demand, note, pure as check_pure}
-use Rattle.ec_meaning_defs.specs.resolved.Resolved.{Exp, Stm, on_line, nothing, evaluate, choose, loop, leave, next, goto, label, Stms, no_stms, stms as two_stms}
+use Rattle.ec_meaning_defs.specs.resolved.Resolved.{Exp, Stm, on_line, nothing, evaluate, choose, loop, leave, next, goto, label, named, Stms, no_stms, stms as two_stms}
 use Rattle.ec_resolving_defs.specs.Agreement.{nothing_of, around_of}
 use Rattle.ec_resolving_defs.specs.Operands.{place_in}
 use Rattle.ec_resolving_defs.specs.Statements.{list_of, together, declaration, objects_of_decl, objects_in, objects_in_kind, objects_in_all, objects_in_option, behind_first_part, with_sizes, statement, statement_kind, statements, otherwise}
@@ -125,7 +125,7 @@ module _ (gs : List Signature) (calls : List LibraryCall) (written : Bool) (body
           room_is gs calls written (none_more j) (embed gs calls written (quiet_pure (goto (place_in l a.labels))) (idle_pure gs calls n written (goto (place_in l a.labels)) _ (demand_idle at F18 (is_some (find l a.labels))) (λ w. refl)
           (λ w r found. i.labels l (demanded at (is_some (find l a.labels)) w found))))
       kind_run a i n j at (label_stmt l s) h p =
-          chained gs calls written _ (checked_run gs calls written (label_stays at l) (label_types at l)) (λ u. answered gs calls written (λ x. label (place_in l a.labels) x) (λ x. refl) (λ w x q. q) (statement_run (as_body a) (inside_body a i) n j s h p))
+          chained gs calls written _ (checked_run gs calls written (label_stays at l) (label_types at l)) (λ u. answered gs calls written (λ x. label (named (place_in l a.labels)) x) (λ x. refl) (λ w x q. q) (statement_run (as_body a) (inside_body a i) n j s h p))
       kind_run a i n j at (decl_stmt d) h p = answered gs calls written (λ xs. together xs) (λ xs. refl) (λ w xs q. sound_together n a.in_loop xs q) (declared n j a.in_loop d h p)
       kind_run a i n j at (emb_stmt k) h p = absurd p
       kind_run a i n j at (mark_stmt opens) h p = room_is gs calls written (none_more j) (pure_run gs calls written nothing (λ w r. tt))

@@ -9,7 +9,7 @@ use Rattle.ec_typing_defs.specs.Statements as checked
 use Rattle.ec_typing_defs.specs.Tables.{find}
 use Rattle.ec_typing_defs.specs.Worlds.{EntryData, World, look_up}
 use Rattle.ec_meaning_defs.specs.resolved.Labels.{holds_any}
-use Rattle.ec_meaning_defs.specs.resolved.Resolved.{Stms}
+use Rattle.ec_meaning_defs.specs.resolved.Resolved.{named, Stms}
 use Rattle.ec_resolving_defs.specs.Operands.{place_in}
 use Rattle.ec_resolving_defs.specs.Storage.{Storage}
 use Rattle.ec_sim_program_laws.proofs.types_lemmas.Rules.{Sound}
@@ -37,14 +37,14 @@ pub record IsKnown (gs : List Signature) (written : Bool) (s : Storage) (w : Wor
 
 -- in the body of a function that gives such values, with so many objects in scope
 abbrev pub here_in : Stms → Sort → ℕ → Bool → Around
-here_in body gives n loops = record { count = n; loops = loops; body = body; gives = gives }
+here_in body gives n loops = record { count = n; loops = loops; breaks = loops; body = body; gives = gives }
 
 -- the result has a type, and each label that a jump may name is in the body
 pub record IsInside (body : Stms) (gives : Sort) (a : checked.Around) : Type 0 where
   pub typed : IsTyped a.result
   pub gives_it : gives ≡ gives_of a.result
   pub labels : (l : Text) → is_some (find l a.labels) ≡ true
-      → holds_any (place_in l a.labels) body ≡ true
+      → holds_any (named (place_in l a.labels)) body ≡ true
 
 -- at the start of a program
 abbrev pub StartIsKnown : Type 0

@@ -1,19 +1,20 @@
 -- A run only adds to what was printed and said, from wherever it stands.
 use Rattle.std.proofs.Common.{◌≡◌, ◌∙◌, refl, sym, ap, subst, ℕ, List, [], ◌∷◌, ◌++◌, append_assoc, append-nil, map, Option, Some, None, Bool, true, false, Result, Ok, Err}
-use Rattle.std.specs.Prelude.{nat_eq}
 use Rattle.std.specs.Option.{option_map}
+use Rattle.std.specs.Prelude.{ℤ}
 use Rattle.ec_base.specs.declared.line.Line.{Line}
 use Rattle.ec_base.specs.declared.stop.Trap.{Trap}
 use Rattle.ec_code.specs.declared.program.Function.{Function}
 use Rattle.ec_code.specs.declared.step.Binary.{Binary}
 use Rattle.ec_code.specs.declared.step.Binary.TheVariants as binary
+use Rattle.ec_code.specs.Marks.{mark_view}
 use Rattle.ec_code.specs.Trees.{Step, update_view, walked}
 use Rattle.ec_code.specs.Views.{expression_view, expressions_view, full_step_view, function_view, statement_view, statements_view}
 use Rattle.ec_meaning_defs.specs.evaluation.Agree.{Always, Grows, Related, WhenAnswered, state_of}
 use Rattle.ec_meaning_defs.specs.evaluation.Evaluate.{Context, World, Step as Knowing, calls, collect, eval, look_for, turn_of, updated}
 use Rattle.ec_meaning_defs.specs.evaluation.Execute.{again, body_run, enter, in_function, inside, look, look_all, meaning, run, run_all, settle, tested}
 use Rattle.ec_meaning_defs.specs.evaluation.Expanded.{itself}
-use Rattle.ec_meaning_defs.specs.evaluation.Results.{Res, value, on, broke, continued, went, back, over, after_body, answered, at_address, changed, closing, done_there, exits_with, finished, function_end, made, on_done, on_value, returned, tried, without_answer, without_value, worked_out}
+use Rattle.ec_meaning_defs.specs.evaluation.Results.{Res, value, on, broke, continued, went, back, over, after_body, after_switch, answered, at_address, changed, closing, done_there, exits_with, finished, function_end, made, on_done, on_number, on_value, returned, tried, without_answer, without_value, worked_out}
 use Rattle.ec_meaning_defs.specs.evaluation.State.{State}
 use Rattle.ec_meaning_defs.specs.evaluation.Whole.{main_run}
 use Rattle.ec_meaning_defs.proofs.evaluation_lemmas.Induction.{eval_good, look_all_good, run_all_good, run_good, tasks_related}
@@ -24,10 +25,10 @@ use Rattle.ec_memory_defs.specs.Kinds.{kind_type}
 use Rattle.ec_memory_defs.specs.Memory.{Memory, ValueData, address, copy, end_to, last_number, make, number, store}
 use Rattle.ec_plain.specs.Steps.{both_on, followed, step_on}
 use Rattle.ec_plain.proofs.Walks.{walk_leads}
-use Rattle.ec_meaning_defs.specs.resolved.Labels.{holds, holds_any}
+use Rattle.ec_meaning_defs.specs.resolved.Labels.{same, holds, holds_any}
 use Rattle.ec_meaning_defs.specs.resolved.Operations.{Worked, gives, is_true, misfit, traps, value_as, worked}
 use Rattle.ec_meaning_defs.specs.resolved.Programs.{Function as Resolved}
-use Rattle.ec_meaning_defs.specs.resolved.Resolved.{Exp, constant, library, Exps, no_exps, exps, Stm, on_line, nothing, evaluate, declare, initialize, block, choose, loop, leave, next, return, goto, label, embedded_statement, Stms}
+use Rattle.ec_meaning_defs.specs.resolved.Resolved.{Exp, constant, library, Mark, named, case, default, Exps, no_exps, exps, Stm, on_line, nothing, evaluate, declare, initialize, block, choose, loop, leave, next, return, goto, label, select, embedded_statement, Stms}
 use Rattle.ec_values.specs.Operations.{operation_view}
 use Rattle.ec_values.specs.Words.{word_view}
 use Rattle.ec_machine.proofs.Fuel.{all_unwritten, functions_unwritten, unwritten}
@@ -39,7 +40,7 @@ use Rattle.ec_machine.specs.declared.frame.Focus.{Focus}
 use Rattle.ec_machine.specs.declared.frame.Focus.TheVariants as focus
 use Rattle.ec_machine.specs.declared.frame.Frame.{Frame}
 use Rattle.ec_machine.specs.declared.frame.Frame.TheVariants as frame
-use Rattle.ec_machine.specs.Frames.{Env, behind_of, below, body_of, denote, here, led, outside, plug, received, resume, test_of, waiting}
+use Rattle.ec_machine.specs.Frames.{Env, behind_of, below, body_of, denote, here, led, outside, plug, received, resume, selected, test_of, waiting}
 use Rattle.ec_machine.specs.Goes.{tasks}
 use Rattle.ec_interp.specs.running.Sessions.{Adds}
 
@@ -91,6 +92,10 @@ changed_grows : (line : ℕ) (r : Result Memory Trap) (s : State) (k : State →
 changed_grows line r s k g =
     tried_grows line r s (λ m. k (record s { memory = m }))
     (λ m. grows_on s (record s { memory = m }) (state_of (k (record s { memory = m }))) (changed_memory s m) (g (record s { memory = m })))
+
+number_grows : (v : ValueData) (s : State) (k : ℤ → Res) → ((z : ℤ) → Grows s (state_of (k z))) → Grows s (state_of (on_number v s k))
+number_grows (number z) s k g = g z
+number_grows (address p) s k g = grows_itself s
 
 address_grows : (v : ValueData) (s : State) (k : ℕ → Res) → ((p : ℕ) → Grows s (state_of (k p))) → Grows s (state_of (at_address v s k))
 address_grows (address p) s k g = g p
@@ -168,6 +173,15 @@ body_grows (went l s) k g = grows_itself s
 body_grows (back v s) k g = grows_itself s
 body_grows (over e s) k g = grows_itself s
 
+switch_grows : (o : Res) → Grows (state_of o) (state_of (after_switch o))
+switch_grows (value v s) = grows_itself s
+switch_grows (on s) = grows_itself s
+switch_grows (broke s) = grows_itself s
+switch_grows (continued s) = grows_itself s
+switch_grows (went l s) = grows_itself s
+switch_grows (back v s) = grows_itself s
+switch_grows (over e s) = grows_itself s
+
 closing_grows : (n : ℕ) (o : Res) → Grows (state_of o) (state_of (closing n o))
 closing_grows n (value v s) = grows_itself s
 closing_grows n (on s) = changed_memory s (end_to s.memory n)
@@ -236,7 +250,7 @@ module _ (knowing : Knowing) (adds : Adds knowing) (w : World) (related : Tasks 
       subst (λ y. Grows s (state_of (run_all knowing w c y s))) (all_unwritten x)
       ((run_all_good Always (WhenAnswered []) Grows 0 [] (waiting_kept []) knowing knowing itself adds w w related c x).later s)
 
-  look_all_grows : (l : ℕ) (c : Context) (x : Stms) (s : State) → Grows s (state_of (look_all knowing w l c x s))
+  look_all_grows : (l : Mark) (c : Context) (x : Stms) (s : State) → Grows s (state_of (look_all knowing w l c x s))
   look_all_grows l c x s =
       subst (λ y. Grows s (state_of (look_all knowing w l c y s))) (all_unwritten x)
       ((look_all_good Always (WhenAnswered []) Grows 0 [] (waiting_kept []) knowing knowing itself adds w w related l c x).later s)
@@ -283,7 +297,7 @@ module _ (knowing : Knowing) (adds : Adds knowing) (w : World) (related : Tasks 
   settle_grows c b (on s) = grows_itself s
   settle_grows c b (broke s) = grows_itself s
   settle_grows c b (continued s) = grows_itself s
-  settle_grows c b (went l s) = chosen_grows (holds_any l b) s (w (look_for c l b) s) (went l s) (look_for_grows c l b s) (grows_itself s)
+  settle_grows c b (went l s) = chosen_grows (holds_any (named l) b) s (w (look_for c l b) s) (went l s) (look_for_grows c l b s) (grows_itself s)
   settle_grows c b (back v s) = grows_itself s
   settle_grows c b (over e s) = grows_itself s
 
@@ -294,7 +308,7 @@ module _ (knowing : Knowing) (adds : Adds knowing) (w : World) (related : Tasks 
       (λ objects t. behind t (go (inside c objects) t) (settle w (inside c objects) b (go (inside c objects) t)) (g (inside c objects) t) (settle_grows (inside c objects) b (go (inside c objects) t))))
       (closing_grows (last_number s.memory) (made c.line sizes c.objects s (λ objects t. settle w (inside c objects) b (go (inside c objects) t))))
 
-  look_grows : (l : ℕ) (c : Context) (x : Stm) (s : State) → Grows s (state_of (look knowing w l c x s))
+  look_grows : (l : Mark) (c : Context) (x : Stm) (s : State) → Grows s (state_of (look knowing w l c x s))
   look_grows l c (on_line n x) s = look_grows l (record c { line = n }) x s
   look_grows l c nothing s = grows_itself s
   look_grows l c (evaluate e) s = grows_itself s
@@ -311,8 +325,18 @@ module _ (knowing : Knowing) (adds : Adds knowing) (w : World) (related : Tasks 
   look_grows l c (return e) s = grows_itself s
   look_grows l c (goto m) s = grows_itself s
   look_grows l c (label m x) s =
-      chosen_grows (nat_eq m l) s (run knowing w c x s) (look knowing w l c x s) (run_grows c x s) (look_grows l c x s)
+      chosen_grows (same m l) s (run knowing w c x s) (look knowing w l c x s) (run_grows c x s) (look_grows l c x s)
+  look_grows l c (select e x) s = behind s (look knowing w l c x s) (after_switch (look knowing w l c x s)) (look_grows l c x s) (switch_grows (look knowing w l c x s))
   look_grows l c (embedded_statement n) s = grows_itself s
+
+  from_grows : (l : Mark) (c : Context) (x : Stm) (s : State) → Grows s (state_of (after_switch (look knowing w l c x s)))
+  from_grows l c x s = behind s (look knowing w l c x s) (after_switch (look knowing w l c x s)) (look_grows l c x s) (switch_grows (look knowing w l c x s))
+
+  selected_grows : (c : Context) (x : Stm) (l : Mark) (s : State) → Grows s (state_of (selected knowing w c x l s))
+  selected_grows c x l s =
+      chosen_grows (holds l x) s (after_switch (look knowing w l c x s)) (elim (holds default x) [ true ↦ after_switch (look knowing w default c x s) | false ↦ on s ])
+      (from_grows l c x s)
+      (chosen_grows (holds default x) s (after_switch (look knowing w default c x s)) (on s) (from_grows default c x s) (grows_itself s))
 
   -- ---- what is looked at, and what waits
 
@@ -329,7 +353,7 @@ module _ (knowing : Knowing) (adds : Adds knowing) (w : World) (related : Tasks 
 
   pub denote_grows : (e : Env) (line : Line) (text : List ℕ) (f : Focus) (s : State) → Grows s (state_of (denote knowing w e line text f s))
   denote_grows e line text (focus.Runs x) s = run_grows (here e line) (statement_view x.now) s
-  denote_grows e line text (focus.Looks l x) s = look_grows l (here e line) (statement_view x.now) s
+  denote_grows e line text (focus.Looks l x) s = look_grows (mark_view l) (here e line) (statement_view x.now) s
   denote_grows e line text (focus.Evaluates x) s = eval_grows (here e line) (expression_view x.now) s
   denote_grows e line text (focus.Value v) s = grows_itself s
   denote_grows e line text (focus.Puts channel v) s = effect_grows line.0 (puts_bytes (channel_view channel) (option_map word_view v) s.memory text) s
@@ -376,6 +400,15 @@ module _ (knowing : Knowing) (adds : Adds knowing) (w : World) (related : Tasks 
       value_grows o (λ v t. elim (is_true v) [ true ↦ run knowing w (here e line) (statement_view a.now) t | false ↦ run knowing w (here e line) (statement_view b.now) t ])
       (λ v t. chosen_grows (is_true v) t (run knowing w (here e line) (statement_view a.now) t) (run knowing w (here e line) (statement_view b.now) t)
       (run_grows (here e line) (statement_view a.now) t) (run_grows (here e line) (statement_view b.now) t))
+  plug_grows e (frame.Choice line a b) o =
+      value_grows o (λ v t. elim (is_true v) [ true ↦ eval knowing w (here e line) (expression_view a.now) t | false ↦ eval knowing w (here e line) (expression_view b.now) t ])
+      (λ v t. chosen_grows (is_true v) t (eval knowing w (here e line) (expression_view a.now) t) (eval knowing w (here e line) (expression_view b.now) t)
+      (eval_grows (here e line) (expression_view a.now) t) (eval_grows (here e line) (expression_view b.now) t))
+  plug_grows e (frame.Select line x) o =
+      let d = here e line in
+      let y = statement_view x.now in
+      value_grows o (λ v t. on_number v t (λ z. selected knowing w d y (case z) t)) (λ v t. number_grows v t (λ z. selected knowing w d y (case z) t) (λ z. selected_grows d y (case z) t))
+  plug_grows e frame.Switch o = switch_grows o
   plug_grows e (frame.Test line x) o =
       value_grows o (λ v t. elim (is_true v) [ true ↦ w (turn_of (here e line) (test_of x.now) (behind_of x.now) (body_of x.now)) t | false ↦ on t ])
       (λ v t. chosen_grows (is_true v) t (w (turn_of (here e line) (test_of x.now) (behind_of x.now) (body_of x.now)) t) (on t)
