@@ -1,5 +1,5 @@
 -- A call up to its first request, from its parts.
-use Rattle.std.proofs.Common.{◌≡◌, ◌∙◌, ◌<◌, ℕ, Bool, true, false, List, [], ◌∷◌, ◌++◌, map, Option, Some, None, Result, Ok, Err, refl, sym, subst, ap, append-nil}
+use Rattle.std.proofs.Common.{◌≡◌, ◌∙◌, ℕ, Bool, true, false, List, [], ◌∷◌, ◌++◌, map, Option, Some, None, Result, Ok, Err, refl, sym, subst, ap, append-nil}
 use Rattle.std.specs.Prelude.{slice_get}
 use Rattle.ec_arguments.specs.Arguments.{Arg, Cut}
 use Rattle.ec_arguments.specs.Rules.{cut}
@@ -12,7 +12,7 @@ use Rattle.ec_ctypes.specs.declared.checked.library.LibName.{LibName}
 use Rattle.ec_meaning_defs.specs.evaluation.Agree.{Grows, state_of}
 use Rattle.ec_meaning_defs.specs.evaluation.Evaluate.{World}
 use Rattle.ec_meaning_defs.specs.evaluation.Results.{Res, on, over, turn}
-use Rattle.ec_meaning_defs.specs.evaluation.State.{Answer, Ending, State}
+use Rattle.ec_meaning_defs.specs.evaluation.State.{Ending, State}
 use Rattle.ec_call_defs.proofs.library_step_lemmas.Keeping.{cut_grows, settled_grows, turn_grows}
 use Rattle.ec_link.specs.declared.logged.Logged.{Logged}
 use Rattle.ec_machine.specs.declared.stop.End.TheVariants as ends
@@ -37,7 +37,7 @@ use Rattle.ec_stopping_defs.specs.Resuming.{Asking, going, started}
 use Rattle.ec_values.specs.declared.word.Stop.{Stop as NoValue}
 use Rattle.ec_calling.specs.declared.call.Call.{Call}
 use Rattle.ec_calling.specs.Giving.{Evaluated, Halted}
-use Rattle.ec_calling.specs.Making.{Begun, answer_of, going_by, going_in, going_of, known_at, position, position_at, running, session_at, turned}
+use Rattle.ec_calling.specs.Making.{Begun, answer_of, going_in, going_of, known_at, position, position_at, running, session_at, turned}
 use Rattle.ec_calling.specs.Views.{argument_view, call_view}
 
 -- ---- what a part leads to

@@ -5,7 +5,7 @@ use Rattle.std.specs.Prelude.{◌&&◌, not, slice_get}
 use Rattle.std.proofs.Math.Dec.{ltb}
 use Rattle.std.proofs.lemmas.Bool.{false≢true, lt-ltb, ltb-true}
 use Rattle.std.proofs.lemmas.Bool.Decides.{eqb_tells}
-use Rattle.ec_call_defs.specs.Areas.{Areas, area_named}
+use Rattle.ec_call_defs.specs.Areas.{Areas}
 use Rattle.ec_call_defs.specs.Connections.{connection_named, same_name}
 use Rattle.ec_call_defs.specs.Outcomes.{Text}
 use Rattle.ec_call_defs.specs.Running.{Outputs, nowhere, hosts, area}

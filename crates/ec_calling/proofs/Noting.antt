@@ -1,5 +1,5 @@
 -- The places of what was said.
-use Rattle.std.proofs.Common.{◌≡◌, ◌∙◌, ◌⊎◌, inl, inr, ◌<◌, ◌≤◌, ◌+◌, ℕ, suc, List, [], ◌∷◌, ◌++◌, length, take, refl, sym, subst, ap, append-nil, append_assoc, arith}
+use Rattle.std.proofs.Common.{◌≡◌, ◌∙◌, ◌⊎◌, inl, inr, ◌<◌, ◌≤◌, ℕ, suc, List, [], ◌∷◌, ◌++◌, length, take, sym, subst, ap, append-nil, append_assoc, arith}
 use Rattle.std.proofs.lemmas.List.{take_at}
 use Rattle.ec_link.specs.declared.logged.Logged.{Logged}
 use Rattle.ec_stopping_defs.proofs.Staying.{next, next_within}

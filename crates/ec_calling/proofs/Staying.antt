@@ -1,21 +1,19 @@
 -- What the beginning of a call leaves of a rack and its connections, and how many requests it may have to make.
-use Rattle.std.proofs.Common.{◌≡◌, ◌∙◌, ◌<◌, ◌^◌, ℕ, suc, List, [], ◌∷◌, ◌++◌, length, reverse, Option, Some, None, Result, Ok, Err, refl, sym, subst, ap, append-nil, arith}
+use Rattle.std.proofs.Common.{◌≡◌, ◌<◌, ◌^◌, ℕ, suc, List, [], ◌∷◌, length, reverse, Option, Some, None, Result, Ok, Err, refl, sym, subst, ap, arith}
 use Rattle.std.proofs.lemmas.List.{length-reverse}
-use Rattle.std.specs.Prelude.{slice_get, IfOk, OnOk}
+use Rattle.std.specs.Prelude.{slice_get, IfOk}
 use Rattle.std.specs.declared.alloc.Global.{Global}
 use Rattle.std.specs.declared.dyn_box.DynBox.{DynBox}
 use Rattle.ec_interp.specs.declared.running.library.Progress.{Progress}
 use Rattle.ec_interp.specs.declared.running.library.Progress.TheVariants as progress
 use Rattle.ec_link.specs.declared.rack.Rack.{Rack}
 use Rattle.ec_link.specs.Logged.{Talk}
-use Rattle.ec_link.specs.Rack.{slots_of}
-use Rattle.ec_link.specs.Slot.{states}
 use Rattle.ec_machine.specs.declared.stop.Stop.{Stop}
 use Rattle.ec_meaning_defs.specs.evaluation.State.{Connection}
 use Rattle.ec_runtime.proofs.Moving.{moves_not}
 use Rattle.ec_runtime.specs.Calling.{AllNamed, Stays, connections_of, conns_of}
 use Rattle.ec_runtime.specs.Proceeding.{left_of, waiting_in}
-use Rattle.ec_runtime.specs.Racks.{AllTaken, Moves}
+use Rattle.ec_runtime.specs.Racks.{Moves}
 use Rattle.ec_runtime.specs.Waiting.{closing_first, closing_with}
 use Rattle.ec_runtime.specs.declared.library.Library.{Library}
 use Rattle.ec_runtime.specs.declared.sessions.Sessions.{Sessions}

@@ -1,30 +1,29 @@
 -- A call from one request to the next, or to its end.
-use Rattle.std.proofs.Common.{◌≡◌, ◌∙◌, ◌⊎◌, inl, inr, ◌<◌, ◌≤◌, ◌^◌, ℕ, suc, List, [], ◌∷◌, ◌++◌, length, Option, Some, None, Result, Ok, Err, refl, sym, subst, ap, append-nil, arith}
+use Rattle.std.proofs.Common.{◌≡◌, ◌∙◌, ◌⊎◌, inl, inr, ◌<◌, ◌≤◌, ℕ, List, [], ◌∷◌, ◌++◌, length, Option, Some, None, Result, Ok, Err, refl, sym, subst, ap, append-nil}
 use Rattle.std.specs.Prelude.{take, IfOk, IsSome}
 use Rattle.std.specs.declared.alloc.Global.{Global}
 use Rattle.std.specs.declared.dyn_box.DynBox.{DynBox}
 use Rattle.ec_base.specs.declared.line.Line.{Line}
-use Rattle.ec_call_defs.specs.Growth.{Grows, state_of as outcome_state}
+use Rattle.ec_call_defs.specs.Growth.{Grows}
 use Rattle.ec_call_defs.specs.Outcomes.{next}
 use Rattle.ec_call_defs.specs.Steps.{settled}
 use Rattle.ec_interp.specs.declared.running.library.Progress.TheVariants as progress
-use Rattle.ec_interp.specs.running.Sessions.{AsksOnce, Going, Leads, Resumed, Session, holding, placed, saying}
+use Rattle.ec_interp.specs.running.Sessions.{AsksOnce, Going, Leads, Resumed, holding, placed, saying}
 use Rattle.ec_link.specs.declared.logged.Logged.{Logged}
 use Rattle.ec_link.specs.declared.rack.Rack.{Rack}
 use Rattle.ec_link.specs.declared.request.Request.{Request}
 use Rattle.ec_link.specs.Logged.{Talk}
 use Rattle.ec_link.specs.Rack.{log_of}
 use Rattle.ec_machine.specs.declared.stop.Stop.TheVariants as stop
-use Rattle.ec_meaning_defs.specs.evaluation.Agree.{state_of}
-use Rattle.ec_meaning_defs.specs.evaluation.State.{Answer, Connection, State}
+use Rattle.ec_meaning_defs.specs.evaluation.State.{Answer, State}
 use Rattle.ec_meaning_defs.specs.observed.Observed.{answers_in}
 use Rattle.ec_memory_defs.specs.Memory.{Memory}
 use Rattle.ec_runtime.proofs.Grows.{front_next, same_front}
 use Rattle.ec_runtime.proofs.Moving.{moves_not}
 use Rattle.ec_runtime.proofs.Whole.{some_waits}
-use Rattle.ec_runtime.specs.Calling.{AllBeside, Holds, Stays, connections_of, conns_of, placed_by}
-use Rattle.ec_runtime.specs.Proceeding.{IsAsked, IsOnce, Nears, Resumes, StoppedAt, asked_of, left_of, waiting_in, waiting_of}
-use Rattle.ec_runtime.specs.Racks.{AllTaken, Moves}
+use Rattle.ec_runtime.specs.Calling.{connections_of, conns_of, placed_by}
+use Rattle.ec_runtime.specs.Proceeding.{IsAsked, IsOnce, Nears, Resumes, StoppedAt, asked_of, waiting_in, waiting_of}
+use Rattle.ec_runtime.specs.Racks.{Moves}
 use Rattle.ec_runtime.specs.declared.library.Library.{Library}
 use Rattle.ec_runtime.specs.declared.library.Progress.{Progress as Far}
 use Rattle.ec_runtime.specs.declared.library.Progress.TheVariants as far
@@ -34,11 +33,11 @@ use Rattle.ec_runtime.specs.declared.waiting.UnderWay.{UnderWay}
 use Rattle.ec_stopping_defs.proofs.Growing.{residual_front}
 use Rattle.ec_stopping_defs.proofs.Parts.{stepped_so}
 use Rattle.ec_stopping_defs.specs.Places.{AllWithin, at_places}
-use Rattle.ec_stopping_defs.specs.Resuming.{Asking, going, residual, stepped}
+use Rattle.ec_stopping_defs.specs.Resuming.{Asking, going, stepped}
 use Rattle.ec_stopping_defs.specs.Saying.{exchange_of}
 use Rattle.ec_calling.specs.Laws.{calls_add, settled_state}
 use Rattle.ec_calling.specs.Leading.{Moved, places_of}
-use Rattle.ec_calling.specs.Making.{answer_of, going_by, going_in, going_of, known_at, known_of, progress_of, session_at}
+use Rattle.ec_calling.specs.Making.{answer_of, going_by, going_in, going_of, known_at, known_of}
 use Rattle.ec_calling.proofs.Carrying.{From, IsFurther, idle_going, leads_so}
 use Rattle.ec_calling.proofs.Noting.{heard_so, noted_so, within_so}
 

@@ -27,7 +27,7 @@ use Rattle.ec_stopping_defs.proofs.Parts.{waits_so}
 use Rattle.ec_stopping_defs.specs.Resuming.{Asking, residual}
 use Rattle.ec_calling.specs.declared.call.Call.{Call}
 use Rattle.ec_calling.specs.Leading.{Leads, Moved, places_of}
-use Rattle.ec_calling.specs.Making.{going_by, going_in}
+use Rattle.ec_calling.specs.Making.{going_in}
 
 pub library_suits : (calls : List (LibName × List (Arg Exp))) → Suits (library_step calls)
 library_suits calls = record {

@@ -91,7 +91,14 @@ impl Library for Session<'_, '_> {
     }
 
     fn resume(&mut self, store: &mut Store, line: Line) -> Result<Progress, Stop> {
-        go_on(self.alloc, store, self.rack, self.library, self.places, line)
+        go_on(
+            self.alloc,
+            store,
+            self.rack,
+            self.library,
+            self.places,
+            line,
+        )
     }
 }
 

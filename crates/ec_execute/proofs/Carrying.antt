@@ -1,41 +1,61 @@
 -- A program over the first ready slot of a rack.
-use Rattle.std.proofs.Common.{◌≡◌, ◌∙◌, refl, sym, subst, ℕ, List, [], ◌∷◌, ◌++◌, Option, None}
+use Rattle.std.proofs.Common.{◌≡◌, ◌∙◌, refl, sym, subst, ℕ, List, [], ◌∷◌, ◌++◌, map, Option, None}
 use Rattle.std.specs.Prelude.{reverse}
 use Rattle.std.specs.declared.alloc.Global.{Global}
 use Rattle.std.specs.declared.dyn_box.DynBox.{DynBox}
-use Rattle.ec_link.proofs.Runs.{TakenAt-TakesReady, growth_of-grown}
+use Rattle.ec_link.proofs.Runs.{TakenAt-TakesReady}
 use Rattle.ec_link.specs.declared.connection.Conn.{Conn}
 use Rattle.ec_link.specs.declared.logged.Logged.{Logged}
 use Rattle.ec_link.specs.declared.rack.Rack.{Rack}
+use Rattle.ec_link.specs.declared.request.Request.{Request}
 use Rattle.ec_link.specs.declared.slot.Slot.{Slot}
 use Rattle.ec_link.specs.Calls.{GivesBack, TakesReady}
 use Rattle.ec_link.specs.Logged.{Talk}
 use Rattle.ec_link.specs.Rack.{slots_of, log_of}
 use Rattle.ec_link.specs.Slot.{states}
 use Rattle.ec_link.specs.SlotState.{ready_slot}
-use Rattle.ec_calling.specs.Making.{known_of}
 use Rattle.ec_call_defs.specs.Steps.{library_step}
-use Rattle.ec_meaning_defs.specs.evaluation.Whole.{program_meaning}
+use Rattle.ec_calling.proofs.Noting.{heard_so}
+use Rattle.ec_calling.specs.Views.{call_view}
+use Rattle.ec_code.specs.Views.{program_view}
+use Rattle.ec_meaning_defs.specs.evaluation.Whole.{Observed, program_meaning}
 use Rattle.ec_execution_defs.specs.Programs.{Executable, meaning}
 use Rattle.ec_interp.specs.declared.end.RunEnd.{RunEnd as MachineEnd}
-use Rattle.ec_interp.specs.Ran as ran
+use Rattle.ec_interp.specs.declared.end.Step.TheVariants as step
+use Rattle.ec_interp.specs.Stepping.{Shows}
 use Rattle.ec_memory_defs.specs.Memory.{Memory}
 use Rattle.ec_meaning_defs.specs.observed.Observed.{answers_in}
-use Rattle.ec_runtime.specs.Calling.{Opens, TakesFirst, conns_of}
-use Rattle.ec_runtime.specs.Racks.{AllTaken, GivesAll, Moves}
+use Rattle.ec_runtime.specs.Calling.{TakesFirst, conns_of}
+use Rattle.ec_runtime.specs.Proceeding.{asked_of, waiting_of}
+use Rattle.ec_runtime.specs.Racks.{GivesAll}
 use Rattle.ec_runtime.proofs.Moving.{moves_not}
-use Rattle.ec_runtime.specs.declared.library.Library.{Library}
+use Rattle.ec_stepper.specs.declared.machine.Machine.{Machine}
+use Rattle.ec_stepper.specs.declared.standing.Standing.{Standing}
+use Rattle.ec_stepper.specs.declared.standing.Standing.TheVariants as standing
+use Rattle.ec_stepper.specs.Advancing.{Reaches, before}
+use Rattle.ec_stepper.specs.Ready.{ready_view}
+use Rattle.ec_stepper.specs.Running.{IsOf, meaning_over, said_in}
+use Rattle.ec_stepper.proofs.Stepped.{is_begun}
+use Rattle.ec_stopping_defs.specs.Places.{at_places}
 use Rattle.ec_execute.specs.declared.running.RunEnd.{RunEnd}
 use Rattle.ec_execute.specs.declared.running.RunEnd.TheVariants as ends
 use Rattle.ec_execute.specs.Ends.{Performs, end_of}
-use Rattle.ec_execute.specs.Runs.{CarriedOut, Connects, Ran}
+use Rattle.ec_execute.specs.Runs.{Connects, Ran}
 use Rattle.ec_execute.proofs.Ending.{nothing_done, performed}
 
-module _ {X : Type 0} {F : X → Type 0} (talk : DynBox X Global F → Option Talk) (faults : DynBox X Global F → ℕ) where
-  pub same_growth : (old new : Rack X F) (was now : List (Conn X F)) (asked said : List Logged) → Moves talk faults old was new now asked → log_of new ≡ log_of old ++ said → said ≡ asked
-  same_growth old new was now asked said a e =
-      sym (growth_of-grown (log_of old) (log_of new) said e) ∙ growth_of-grown (log_of old) (log_of new) asked a.logged
+-- what a run showed from its beginning is what is performed
+shown_performs : {O E : Type 0} (held : O → Option (List ℕ)) (puts : O → ℕ) (told : E → Option (List ℕ)) (tells : E → ℕ) (mean : List Logged → Observed) (meant : Observed) (said growth : List Logged) (z : Standing) (shown : Observed) (out out' : O) (err err' : E) (store : Memory) (asking : Option (Option ℕ × Request)) (end : MachineEnd) (result : RunEnd)
+    → said ≡ growth → mean growth ≡ meant → z ≡ standing.Begun → result ≡ end_of end
+    → Shows held puts told tells out out' err err' (before z shown.output) (before z shown.errors) (mean said) said store asking (step.Ended end)
+    → Performs held puts told tells meant growth out out' err err' result
+shown_performs held puts told tells mean meant said growth z shown out out' err err' store asking end result heard means begun is s =
+    subst (λ r. Performs held puts told tells meant growth out out' err err' r) (sym is)
+    (performed held puts told tells meant growth out out' err err' store asking end
+    (subst (λ o. Shows held puts told tells out out' err err' [] [] o growth store asking (step.Ended end)) means
+    (subst (λ l. Shows held puts told tells out out' err err' [] [] (mean l) l store asking (step.Ended end)) heard
+    (subst (λ w. Shows held puts told tells out out' err err' (before w shown.output) (before w shown.errors) (mean said) said store asking (step.Ended end)) begun s))))
 
+module _ {X : Type 0} {F : X → Type 0} (talk : DynBox X Global F → Option Talk) (faults : DynBox X Global F → ℕ) where
   -- ---- the first ready slot
 
   -- a library without a connection gives none back
@@ -74,33 +94,31 @@ module _ {X : Type 0} {F : X → Type 0} (talk : DynBox X Global F → Option Ta
   -- ---- a program
 
   module _ {O E : Type 0} (held : O → Option (List ℕ)) (puts : O → ℕ) (told : E → Option (List ℕ)) (tells : E → ℕ) (x : Executable) (turns : ℕ) where
-    -- the run of a machine, and the connection given back
-    pub carried : (out out' : O) (err err' : E) (was now : Library X F) (opened closing last : Rack X F) (asked said : List Logged) (memory : Memory) (end : MachineEnd) (result : RunEnd)
-        → Moves talk faults opened (conns_of was.connections) closing (conns_of now.connections) asked → AllTaken (states (slots_of closing)) (conns_of now.connections) → log_of closing ≡ log_of opened ++ said
-        → ((ready : Option (ℕ × List ℕ)) → ran.Begins (known_of opened was) ready
-        → ran.Ran held puts told tells (program_meaning (library_step x.calls) x.program turns ready (answers_in said)) said out out' err err' memory end)
-        → GivesAll (slots_of closing) (reverse (conns_of now.connections)) (slots_of last) → log_of last ≡ log_of closing → result ≡ end_of end
-        → CarriedOut talk faults held puts told tells x turns out out' err err' was opened last result
+    -- the run of a machine, and its connections given back
+    pub over_machine : (out out' : O) (err err' : E) (begun over : Machine X F) (first opened closing last : Rack X F) (end : MachineEnd) (result : RunEnd)
+        → IsOf (log_of opened) begun → begun.standing ≡ standing.Begun → ready_view begun.ready ≡ ready_slot (states (slots_of first)) → TakesFirst (slots_of first) (conns_of begun.library.connections) (slots_of opened) → log_of opened ≡ log_of first
+        → program_view begun.run.program.now ≡ x.program → map call_view begun.calls.now ≡ x.calls → begun.turns ≡ turns
+        → Reaches talk faults held puts told tells begun opened over closing out out' err err' (step.Ended end)
+        → GivesAll (slots_of closing) (reverse (conns_of over.library.connections)) (slots_of last) → log_of last ≡ log_of closing → result ≡ end_of end
+        → Ran talk faults held puts told tells x turns out out' err err' first last result
     unfolding meaning
-    carried out out' err err' was now opened closing last asked said memory end result a held-there e runs g f is =
-        let same = same_growth opened closing (conns_of was.connections) (conns_of now.connections) asked said a e in
+    over_machine out out' err err' begun over first opened closing last end result of stands ready taken same program calls many r given logged is =
+        let b = is_begun begun (log_of opened) stands of.stands in
+        let heard : said_in (log_of closing) over ≡ r.growth =
+        heard_so (log_of opened) (log_of closing) r.growth begun.places over.places of.within r.moves.logged r.noted ∙ (λ j. at_places (log_of opened) (b.unsaid j) ++ r.growth) in
+        let means : meaning_over begun r.growth ≡ meaning x turns (ready_slot (states (slots_of first))) (answers_in r.growth) =
+        λ j. program_meaning (library_step (calls j)) (program j) (many j) (ready j) (answers_in r.growth) in
         record {
-          growth = said;
-          given_back = record { closing = closing; now = conns_of now.connections; moves = subst (Moves talk faults opened (conns_of was.connections) closing (conns_of now.connections)) (sym same) a; held = held-there; given = g; logged = f };
-          performs = λ ready there here none.
-              subst (λ r. Performs held puts told tells (meaning x turns ready (answers_in said)) said out out' err err' r) (sym is)
-              (performed held puts told tells (meaning x turns ready (answers_in said)) said out out' err err' memory end
-              (runs ready (there, here, none)));
+          growth = r.growth;
+          connects = record {
+            opened = opened;
+            was = conns_of begun.library.connections;
+            taken = taken;
+            logged = same;
+            given_back = record { closing = closing; now = conns_of over.library.connections; moves = r.moves; held = r.holds.taken; given = given; logged = logged };
+          };
+          performs = shown_performs held puts told tells (meaning_over begun) (meaning x turns (ready_slot (states (slots_of first))) (answers_in r.growth)) (said_in (log_of closing) over) r.growth begun.standing (meaning_over begun (said_in (log_of opened) begun)) out out' err err' over.run.frames.store (asked_of (waiting_of over.library)) end result heard means stands is r.shows;
         }
-
-    -- over the first ready slot
-    pub over_first : (out out' : O) (err err' : E) (it : Library X F) (first opened last : Rack X F) (end : RunEnd) → Opens (slots_of first) it.connections (slots_of opened) → it.areas ≡ [] → log_of opened ≡ log_of first
-        → CarriedOut talk faults held puts told tells x turns out out' err err' it opened last end → Ran talk faults held puts told tells x turns out out' err err' first last end
-    over_first out out' err err' it first opened last end o none e c = record {
-      growth = c.growth;
-      connects = record { opened = opened; was = conns_of it.connections; taken = o.taken; logged = e; given_back = c.given_back };
-      performs = c.performs (ready_slot (states (slots_of first))) o.connections o.current none;
-    }
 
     -- it isn't run, and the slot is freed
     pub unrun : (out : O) (err : E) (first between last : Rack X F) → slots_of between ≡ slots_of first → log_of between ≡ log_of first → Connects talk faults between last []
@@ -116,13 +134,3 @@ module _ {X : Type 0} {F : X → Type 0} (talk : DynBox X Global F → Option Ta
       };
       performs = nothing_done held puts told tells (meaning x turns (ready_slot (states (slots_of first))) (answers_in [])) out err;
     }
-
-  -- what is equal is put in place
-  module _ {O E : Type 0} (held : O → Option (List ℕ)) (puts : O → ℕ) (told : E → Option (List ℕ)) (tells : E → ℕ) (turns : ℕ) (out out' : O) (err err' : E) (result : RunEnd) where
-    pub carried_along : {x y : Executable} {was now : Library X F} {opened new : Rack X F} {last end : Rack X F} → x ≡ y → was ≡ now → opened ≡ new → last ≡ end
-        → CarriedOut talk faults held puts told tells x turns out out' err err' was opened last result → CarriedOut talk faults held puts told tells y turns out out' err err' now new end result
-    carried_along {x} {y} {was} {now} {opened} {new} {last} {end} e f g h c =
-        subst (λ r. CarriedOut talk faults held puts told tells y turns out out' err err' now new r result) h
-        (subst (λ r. CarriedOut talk faults held puts told tells y turns out out' err err' now r last result) g
-        (subst (λ it. CarriedOut talk faults held puts told tells y turns out out' err err' it opened last result) f
-        (subst (λ z. CarriedOut talk faults held puts told tells z turns out out' err err' was opened last result) e c)))

@@ -1,5 +1,5 @@
 -- From the run of a machine to what is done of what a program means.
-use Rattle.std.proofs.Common.{◌≡◌, ◌⊎◌, inl, inr, ℕ, ◌≤◌, List, [], refl, sym, ◌∙◌, arith, Option, None, Some, append-nil}
+use Rattle.std.proofs.Common.{◌≡◌, ◌⊎◌, inl, inr, ℕ, ◌≤◌, List, [], refl, sym, ◌∙◌, subst, arith, Option, None, Some, append-nil}
 use Rattle.std.specs.Io.KnownBytes.{Appends, Keeps}
 use Rattle.ec_base.specs.Causes.{Rose}
 use Rattle.ec_base.specs.Putting.{Puts, Took}
@@ -7,11 +7,13 @@ use Rattle.ec_base.proofs.Transfers.{Puts-none, Took-puts}
 use Rattle.ec_meaning_defs.specs.evaluation.State.{Ending}
 use Rattle.ec_meaning_defs.specs.evaluation.Whole.{Observed}
 use Rattle.ec_link.specs.declared.logged.Logged.{Logged}
+use Rattle.ec_link.specs.declared.request.Request.{Request}
 use Rattle.ec_memory_defs.specs.Memory.{Memory}
 use Rattle.ec_meaning_defs.specs.observed.Run.{IsFront}
 use Rattle.ec_interp.specs.declared.end.RunEnd.{RunEnd as MachineEnd}
 use Rattle.ec_interp.specs.declared.end.RunEnd.TheVariants as machine
-use Rattle.ec_interp.specs.Ran as ran
+use Rattle.ec_interp.specs.declared.end.Step.TheVariants as step
+use Rattle.ec_interp.specs.Stepping.{Shows, ShowsAll}
 use Rattle.ec_execution_defs.specs.Runs.{Runs, RunsPart}
 use Rattle.ec_execute.specs.declared.running.RunEnd.{RunEnd}
 use Rattle.ec_execute.specs.declared.running.RunEnd.TheVariants as ends
@@ -71,18 +73,23 @@ module _ {O E : Type 0} (held : O → Option (List ℕ)) (puts : O → ℕ) (tol
     errors = q;
   }
 
-  over_of : {m : Observed} {growth : List Logged} {out out' : O} {err err' : E} {memory : Memory} {e : Ending} → ran.IsOver held puts told tells m growth out out' err err' memory e → Runs held puts told tells m growth e out out' err err'
-  over_of o = record { ends = o.ends; conversation = o.conversation; output = o.prints.output; errors = o.prints.errors }
+  over_of : {m : Observed} {growth : List Logged} {out out' : O} {err err' : E} {memory : Memory} {e : Ending} → ShowsAll held puts told tells out out' err err' [] [] m growth memory e → Runs held puts told tells m growth e out out' err err'
+  over_of {m} {growth} {out} {out'} {err} {err'} o = record {
+    ends = o.ends;
+    conversation = o.conversation;
+    output = subst (Puts held puts out out') (sym o.output_rest) o.prints.output;
+    errors = subst (Puts told tells err err') (sym o.errors_rest) o.prints.errors;
+  }
 
-  pub performed : (m : Observed) (growth : List Logged) (out out' : O) (err err' : E) (memory : Memory) (end : MachineEnd) → ran.Ran held puts told tells m growth out out' err err' memory end
-      → Performs held puts told tells m growth out out' err err' (end_of end)
-  performed m growth out out' err err' memory (machine.Exited status) o = over_of o
-  performed m growth out out' err err' memory (machine.Trapped trap line) o = over_of o
-  performed m growth out out' err err' memory machine.TurnsSpent o = over_of o
-  performed m growth out out' err err' memory machine.Stuck o = (part_of_whole (over_of o), o.prints.output.steady, o.prints.errors.steady)
-  performed m growth out out' err err' memory machine.WriteFault f = (left_of f.printed f.complained f.conversation f.output f.errors f.prints.output f.prints.errors, f.prints.failed)
-  performed m growth out out' err err' memory machine.OutOfMemory l =
-      (left_of l.printed l.complained l.conversation l.output l.errors (Took-puts l.prints.output) (Took-puts l.prints.errors), l.prints.output.steady, l.prints.errors.steady)
+  pub performed : (m : Observed) (growth : List Logged) (out out' : O) (err err' : E) (memory : Memory) (asking : Option (Option ℕ × Request)) (end : MachineEnd)
+      → Shows held puts told tells out out' err err' [] [] m growth memory asking (step.Ended end) → Performs held puts told tells m growth out out' err err' (end_of end)
+  performed m growth out out' err err' memory asking (machine.Exited status) o = over_of o
+  performed m growth out out' err err' memory asking (machine.Trapped trap line) o = over_of o
+  performed m growth out out' err err' memory asking machine.TurnsSpent o = over_of o
+  performed m growth out out' err err' memory asking machine.Stuck o = (part_of_whole (over_of o), o.prints.output.steady, o.prints.errors.steady)
+  performed m growth out out' err err' memory asking machine.WriteFault f = (left_of f.printed f.complained f.conversation f.output_front f.errors_front f.prints.output f.prints.errors, f.prints.failed)
+  performed m growth out out' err err' memory asking machine.OutOfMemory l =
+      (left_of l.printed l.complained l.conversation l.output_front l.errors_front (Took-puts l.prints.output) (Took-puts l.prints.errors), l.prints.output.steady, l.prints.errors.steady)
 
   -- nothing was done
   pub nothing_done : (m : Observed) (out : O) (err : E) → Performs held puts told tells m [] out out err err ends.OutOfMemory

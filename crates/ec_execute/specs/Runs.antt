@@ -42,17 +42,6 @@ module _ {X : Type 0} {F : X → Type 0} where
     module _ {O E : Type 0} (held : O → Option (List ℕ)) (puts : O → ℕ)
         (told : E → Option (List ℕ)) (tells : E → ℕ) (x : Executable) (turns : ℕ)
         (out out' : O) (err err' : E) where
-      -- a program was carried out over a library, whose connections were given back
-      pub record CarriedOut (library : Library X F) (opened last : Rack X F)
-          (end : RunEnd) : Type 0 where
-        pub growth : List Logged
-        pub given_back : GivenBack opened (conns_of library.connections) last growth
-        pub performs : (ready : Option (ℕ × List ℕ))
-            → connections_of library.connections ≡ ready_connections ready
-            → library.connections.current ≡ ready_name ready → library.areas ≡ []
-            → Performs held puts told tells (meaning x turns ready (answers_in growth)) growth
-            out out' err err' end
-
       -- a program was run over the first ready slot of a rack, if there is one
       pub record Ran (first last : Rack X F) (end : RunEnd) : Type 0 where
         pub growth : List Logged

@@ -5,17 +5,16 @@ ghost use Rattle.std.specs.Io.KnownBytes.{Keeps};
 ghost use Rattle.ec_base.specs.Causes.{Rose};
 ghost use Rattle.ec_link.specs.Links.{talk_by, faults_by};
 ghost use Rattle.ec_link.specs.Rack.{slots_of};
-ghost use Rattle.ec_runtime.specs.Calling.{Holds};
 ghost use Rattle.ec_execute.specs.Ends.{end_of};
 ghost use Rattle.ec_execute.specs.Executables.{executable_view};
-ghost use Rattle.ec_execute.specs.Runs.{CarriedOut, Connects, Ran};
+ghost use Rattle.ec_execute.specs.Runs.{Connects, Ran};
 
 use crate::executable::Executable;
 use ec_base::{Failed, Line, Sink, Trap};
-use ec_calling::Session;
-use ec_interp::{Machine, RunEnd as MachineEnd};
+use ec_interp::RunEnd as MachineEnd;
 use ec_link::{Link, Rack};
 use ec_runtime::Library;
+use ec_stepper::Machine;
 use std::alloc::Global;
 
 /// How a run ended.
@@ -47,37 +46,6 @@ fn ended(end: MachineEnd) -> RunEnd
     }
 }
 
-// Carries a program out over the connection that is open, if one is, and gives back those that are open then. What the
-// program printed may not be passed on yet.
-fn carry_out<O: Sink, E: Sink>(
-    alloc: Global,
-    executable: &Executable,
-    turns: u64,
-    rack: &mut Rack,
-    library: Library,
-    out: &mut O,
-    err: &mut E,
-) -> RunEnd
-    requires { Holds library.connections rack.old }
-    ensures { CarriedOut (talk_by ⟦<dyn Link as Link>⟧) (faults_by ⟦<dyn Link as Link>⟧)
-        O.held O.faults E.held E.faults (executable_view executable.now) turns
-        out.old out.new err.old err.new library rack.old rack.new result }
-{
-    let mut machine = Machine::new(alloc, &executable.program);
-    let mut session = Session::new(alloc, executable.calls.as_slice(), rack, library);
-    let end = machine.go(turns, &mut session, out, err);
-    machine.give_up();
-    let Session {
-        alloc: _,
-        calls: _,
-        rack,
-        library,
-        links: _,
-    } = session;
-    library.finish(rack);
-    ended(end)
-}
-
 // The first ready slot is free, if there is one, and nothing was asked over it.
 fn free_ready(rack: &mut Rack)
     requires { length (slots_of rack.old) ≤ 64 }
@@ -104,11 +72,16 @@ fn run_over<O: Sink, E: Sink>(
         O.held O.faults E.held E.faults (executable_view executable.now) turns
         out.old out.new err.old err.new rack.old rack.new result }
 {
-    let mut library = Library::new(alloc);
-    match library.open_ready(rack) {
-        Ok(()) => carry_out(alloc, executable, turns, rack, library, out, err),
+    let calls = executable.calls.as_slice();
+    let mut machine = Machine::new(alloc, &executable.program, calls, Library::new(alloc));
+    match machine.begin(turns, rack) {
+        Ok(()) => {
+            let end = machine.go_on(rack, out, err);
+            machine.give_up(rack);
+            ended(end)
+        }
         Err(_) => {
-            library.finish(rack);
+            machine.give_up(rack);
             free_ready(rack);
             RunEnd::OutOfMemory
         }

@@ -1,7 +1,6 @@
 -- Slots that others have taken stay so, whatever is said over one's own connections.
-use Rattle.std.proofs.Common.{◌≡◌, ◌≢◌, ◌∙◌, ◌==◌, ◌<◌, ◌⊎◌, inl, inr, refl, sym, ap, subst, arith, ℕ, zero, suc, Bool, true, false, List, [], ◌∷◌, ◌++◌, map, length, Option, Some, None}
-use Rattle.std.specs.Prelude.{if◌then◌else◌, IsSomeAnd, Contains, filter, not, slice_get, slice_set, slice_index_or}
-use Rattle.std.proofs.lemmas.Bool.{false≢true}
+use Rattle.std.proofs.Common.{◌≡◌, ◌≢◌, ◌∙◌, ◌==◌, ◌⊎◌, inl, inr, refl, sym, ap, subst, arith, ℕ, zero, suc, Bool, true, false, List, [], ◌∷◌, ◌++◌, map, Option, Some, None}
+use Rattle.std.specs.Prelude.{if◌then◌else◌, IsSomeAnd, Contains, filter, not, slice_get, slice_set}
 use Rattle.std.proofs.lemmas.Bool.Decides.{eqb_tells}
 use Rattle.std.specs.declared.alloc.Global.{Global}
 use Rattle.std.specs.declared.dyn_box.DynBox.{DynBox}
@@ -15,7 +14,7 @@ use Rattle.ec_link.specs.declared.slot.Slot.{Slot}
 use Rattle.ec_link.specs.declared.slot.Slot.TheVariants as slot
 use Rattle.ec_link.specs.Conn.{slot_of}
 use Rattle.ec_link.specs.Logged.{IsConnect, Talk, is_slot, talk_of}
-use Rattle.ec_link.specs.Rack.{log_of, slots_of}
+use Rattle.ec_link.specs.Rack.{slots_of}
 use Rattle.ec_link.specs.Reply.{is_connected}
 use Rattle.ec_link.specs.Slot.{states}
 use Rattle.ec_link.specs.SlotState.{Exchanged, SlotState, Slots, TakenAt, dropped, free_slot, taken}

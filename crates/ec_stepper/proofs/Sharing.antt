@@ -12,18 +12,17 @@ use Rattle.ec_link.specs.declared.slot.Slot.{Slot}
 use Rattle.ec_link.specs.Conn.{slot_of}
 use Rattle.ec_link.specs.Rack.{log_of, slots_of}
 use Rattle.ec_link.specs.Slot.{state_of, states}
-use Rattle.ec_link.specs.SlotState.{SlotState, TakenAt}
-use Rattle.ec_runtime.specs.Calling.{Holds, conns_of}
-use Rattle.ec_runtime.specs.Racks.{AllTaken, Beside}
+use Rattle.ec_runtime.specs.Calling.{conns_of}
+use Rattle.ec_runtime.specs.Racks.{AllTaken}
 use Rattle.ec_stopping_defs.proofs.Staying.{stays, still_within}
-use Rattle.ec_stopping_defs.specs.Places.{AllWithin, at_places}
+use Rattle.ec_stopping_defs.specs.Places.{AllWithin}
 use Rattle.ec_stepper.specs.declared.machine.Machine.{Machine}
 use Rattle.ec_stepper.specs.declared.standing.Standing.{Standing}
 use Rattle.ec_stepper.specs.declared.standing.Standing.TheVariants as standing
 use Rattle.ec_stepper.specs.Advancing.{SparesOthers}
 use Rattle.ec_stepper.specs.Ready.{ready_view}
 use Rattle.ec_stepper.specs.Running.{IsOf, StandsAt, StandsBefore, opening, step_of}
-use Rattle.ec_stepper.specs.Sharing.{AreApart, StandsBeside, StandsStill}
+use Rattle.ec_stepper.specs.Sharing.{AreApart, StandsStill}
 
 -- what stands at a place of a list, by what stands there in its image
 states_same : {X : Type 0} {F : X → Type 0} (old new : List (Slot X F)) (i : ℕ) → slice_get new i ≡ slice_get old i → slice_get (states new) i ≡ slice_get (states old) i

@@ -1,5 +1,5 @@
 -- A step of a machine, by what the run of its program did over a session.
-use Rattle.std.proofs.Common.{◌≡◌, ◌∙◌, ◌<◌, ◌^◌, refl, sym, ap, subst, inl, inr, ℕ, List, [], ◌∷◌, ◌++◌, length, append-nil, map, Option, Some, None}
+use Rattle.std.proofs.Common.{◌≡◌, ◌∙◌, ◌<◌, ◌^◌, refl, sym, ap, subst, inl, inr, ℕ, List, [], ◌∷◌, ◌++◌, length, append-nil, map, Option, Some}
 use Rattle.std.proofs.lemmas.List.{append_cancel_left}
 use Rattle.std.specs.declared.alloc.Global.{Global}
 use Rattle.std.specs.declared.dyn_box.DynBox.{DynBox}
@@ -7,7 +7,7 @@ use Rattle.ec_call_defs.specs.Steps.{library_step}
 use Rattle.ec_calling.proofs.Noting.{heard_so}
 use Rattle.ec_calling.specs.declared.call.Call.{Call}
 use Rattle.ec_calling.specs.Leading.{places_of}
-use Rattle.ec_calling.specs.Making.{going_of, known_at, known_of, session_at}
+use Rattle.ec_calling.specs.Making.{going_of, known_of, session_at}
 use Rattle.ec_calling.specs.Views.{call_view}
 use Rattle.ec_code.specs.Views.{program_view}
 use Rattle.ec_interp.proofs.Stepping.{few_first, few_left}
@@ -23,9 +23,9 @@ use Rattle.ec_link.specs.declared.logged.Logged.{Logged}
 use Rattle.ec_link.specs.declared.rack.Rack.{Rack}
 use Rattle.ec_link.specs.Logged.{Talk}
 use Rattle.ec_link.specs.Rack.{log_of}
-use Rattle.ec_meaning_defs.specs.evaluation.Whole.{Observed, program_meaning}
+use Rattle.ec_meaning_defs.specs.evaluation.Whole.{program_meaning}
 use Rattle.ec_meaning_defs.specs.observed.Observed.{answers_in}
-use Rattle.ec_runtime.specs.Calling.{AllNamed, Holds, connections_of, conns_of}
+use Rattle.ec_runtime.specs.Calling.{Holds, conns_of}
 use Rattle.ec_runtime.specs.Proceeding.{IsFit, asked_of, left_of, waiting_of}
 use Rattle.ec_runtime.specs.Racks.{Moves}
 use Rattle.ec_runtime.specs.declared.library.Library.{Library}

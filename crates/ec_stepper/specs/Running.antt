@@ -1,21 +1,17 @@
 -- Where the run of a machine stands.
 use Rattle.std.specs.Prelude.{◌≡◌, ◌<◌, ◌^◌, ℕ, List, [], length, Option, None, map}
-use Rattle.ec_arguments.specs.Arguments.{Arg}
 use Rattle.ec_call_defs.specs.Steps.{library_step}
 use Rattle.ec_calling.specs.Making.{going_of, known_at, session_at}
 use Rattle.ec_calling.specs.Views.{call_view}
 use Rattle.ec_code.specs.Views.{program_view}
-use Rattle.ec_ctypes.specs.declared.checked.library.LibName.{LibName}
 use Rattle.ec_interp.specs.Stepping.{IsAsking, IsNew}
 use Rattle.ec_interp.specs.running.Sessions.{Session}
 use Rattle.ec_link.specs.declared.logged.Logged.{Logged}
 use Rattle.ec_meaning_defs.specs.evaluation.Evaluate.{Step as Knowing}
 use Rattle.ec_meaning_defs.specs.evaluation.Whole.{Observed, program_meaning, ready_connections, ready_name}
 use Rattle.ec_meaning_defs.specs.observed.Observed.{answers_in}
-use Rattle.ec_meaning_defs.specs.resolved.Resolved.{Exp}
 use Rattle.ec_runtime.specs.Calling.{AllNamed, connections_of, conns_of}
 use Rattle.ec_runtime.specs.Proceeding.{IsFit, left_of, waiting_of}
-use Rattle.ec_runtime.specs.declared.library.Library.{Library}
 use Rattle.ec_stopping_defs.specs.Places.{AllWithin, at_places}
 use Rattle.ec_stepper.specs.declared.machine.Machine.{Machine}
 use Rattle.ec_stepper.specs.declared.standing.Standing.{Standing}

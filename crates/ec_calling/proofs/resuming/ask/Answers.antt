@@ -1,7 +1,7 @@
-use Rattle.std.proofs.Common.{◌≡◌, ◌∙◌, sym, subst, ap, length}
+use Rattle.std.proofs.Common.{◌∙◌, sym, subst, ap, length}
 use Rattle.ec_interp.specs.running.Sessions.{AsksOnce, Resumed}
 use Rattle.ec_calling.specs.Making.{going_of, known_of}
-use Rattle.ec_calling.proofs.Stepping.{asked_moved, asked_once, asked_resumed, asked_within, nearer, unasked, unasked_moved}
+use Rattle.ec_calling.proofs.Stepping.{asked_moved, asked_once, asked_resumed, asked_within, unasked, unasked_moved}
 use Rattle.ec_calling.proofs.resuming.ask.Goals as goal
 
 pub returns-in-Err-clause-resumed : goal.returns-in-Err-clause-resumed

@@ -1,4 +1,4 @@
-use Rattle.std.proofs.Common.{◌≡◌, ◌∙◌, sym, subst, ap, map, Err}
+use Rattle.std.proofs.Common.{sym, subst, map, Err}
 use Rattle.ec_call_defs.specs.Steps.{library_step}
 use Rattle.ec_interp.specs.running.Sessions.{Started}
 use Rattle.ec_machine.specs.declared.stop.End.TheVariants as ends

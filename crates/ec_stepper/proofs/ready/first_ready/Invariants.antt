@@ -1,5 +1,5 @@
 use Rattle.std.proofs.Common.{◌≡◌, ℕ, ◌+◌, length}
-use Rattle.std.specs.Prelude.{List, Option, option_map}
+use Rattle.std.specs.Prelude.{List, option_map}
 use Rattle.ec_link.specs.Slot.{states}
 use Rattle.ec_link.specs.SlotState.{ready_slot}
 use Rattle.ec_stepper.proofs.ready.first_ready.Given as goal

@@ -1,5 +1,5 @@
 use Rattle.std.proofs.Common.{rules}
-use Rattle.ec_calling.proofs.Held.{fits, has_within, held, holds, within}
+use Rattle.ec_calling.proofs.Held.{fits, held, holds, within}
 use Rattle.ec_stepper.proofs.Stepped.{first_made, put_along}
 use Rattle.ec_stepper.proofs.machine.Machine.first_step.Goals as goal
 

@@ -1,9 +1,6 @@
-use Rattle.std.proofs.Common.{◌≡◌, ◌*◌, ◌+◌, ◌^◌, ◌<◌, sym, subst}
-use Rattle.ec_interp.proofs.Stepping.{fewer_left, steps_left}
-use Rattle.ec_interp.specs.declared.end.Step.TheVariants as step
+use Rattle.std.proofs.Common.{subst}
 use Rattle.ec_stepper.specs.Advancing.{Reaches}
-use Rattle.ec_stepper.specs.Running.{requests_of}
-use Rattle.ec_stepper.proofs.Going.{nears_so, reaches_then}
+use Rattle.ec_stepper.proofs.Going.{reaches_then}
 use Rattle.ec_stepper.proofs.machine.Machine.go_on.Goals as goal
 
 pub asks-init : goal.asks-init
