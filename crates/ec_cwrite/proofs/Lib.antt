@@ -1,3 +1,3 @@
-mod Lists
-mod Remains
-mod Writing
+pub mod Lists
+pub mod Remains
+pub mod Writing

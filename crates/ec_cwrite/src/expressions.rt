@@ -333,7 +333,7 @@ pub fn push_decl(out: &mut Bytes, decl: &Decl) -> Result<(), OutOfMemory>
 
 /// Declarators, all on one line.
 #[cycle(exprs)]
-fn push_declarators(out: &mut Bytes, items: &[Declarator]) -> Result<(), OutOfMemory>
+pub fn push_declarators(out: &mut Bytes, items: &[Declarator]) -> Result<(), OutOfMemory>
     ensures { OnOk result (Writes out.old out.new (declarators_chunks
         (declarators_view items.now))) }
 {

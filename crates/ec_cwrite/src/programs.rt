@@ -27,7 +27,7 @@ fn push_stars_and_name(out: &mut Bytes, stars: u32, name: &[u8]) -> Result<(), O
 }
 
 /// The stars and the name of a parameter, if it has one.
-fn push_param_name(out: &mut Bytes, stars: u32, name: &Option<Name>) -> Result<(), OutOfMemory>
+pub fn push_param_name(out: &mut Bytes, stars: u32, name: &Option<Name>) -> Result<(), OutOfMemory>
     ensures { OnOk result (Writes out.old out.new (param_name stars name.now)) }
 {
     match name {
@@ -126,7 +126,7 @@ fn push_decl_top(out: &mut Bytes, decl: &Decl) -> Result<(), OutOfMemory>
 }
 
 /// An `#include` line, which has no line `#line` before it.
-fn push_include_top(out: &mut Bytes, bytes: &[u8]) -> Result<(), OutOfMemory>
+pub fn push_include_top(out: &mut Bytes, bytes: &[u8]) -> Result<(), OutOfMemory>
     ensures { OnOk result (Writes out.old out.new (top_chunks (include_top bytes.now))) }
 {
     push_include(out, bytes)?;

@@ -17,7 +17,7 @@ use ec_base::{Boxed, Bytes, OutOfMemory};
 use ec_ctypes::{Decl, Expr, ForParts, Punct, Stmt, StmtKind};
 
 /// The end of a statement.
-fn push_semicolon(out: &mut Bytes) -> Result<(), OutOfMemory>
+pub fn push_semicolon(out: &mut Bytes) -> Result<(), OutOfMemory>
     ensures { OnOk result (Writes out.old out.new (mark punct.Semicolon ∷ line_end ∷ [])) }
 {
     push_mark(out, Punct::Semicolon)?;
@@ -147,7 +147,7 @@ fn push_stmt(out: &mut Bytes, stmt: &Stmt) -> Result<(), OutOfMemory>
 
 /// What a statement is. Embedded statements and marks are no C and leave nothing.
 #[cycle(stmts)]
-fn push_kind(out: &mut Bytes, kind: &StmtKind) -> Result<(), OutOfMemory>
+pub fn push_kind(out: &mut Bytes, kind: &StmtKind) -> Result<(), OutOfMemory>
     ensures { OnOk result (Writes out.old out.new (kind_chunks (kind_view kind.now))) }
 {
     match kind {

@@ -161,7 +161,7 @@ pub fn without_varchars(alloc: Global, line: Line, declared: &Decl) -> Result<De
 }
 
 #[cycle(declarations)]
-fn written_declarators(
+pub fn written_declarators(
     alloc: Global,
     line: Line,
     items: &List<Declarator>,

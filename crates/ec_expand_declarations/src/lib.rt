@@ -5,5 +5,7 @@ mod declarations;
 mod objects;
 mod varchar;
 
-pub use declarations::{written_base, written_dims, written_expr};
-pub use objects::{push_globals, push_objects};
+pub use declarations::{
+    is_varchar, written_base, written_declarators, written_dims, written_expr,
+};
+pub use objects::{push_globals, push_objects, varchar_object};

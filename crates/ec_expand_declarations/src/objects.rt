@@ -26,7 +26,7 @@ fn varchar_tag(alloc: Global, name: &Name) -> Result<Boxed<Name>, OutOfMemory>
 }
 
 // The declaration of a VARCHAR, whose struct has a tag.
-fn varchar_object(alloc: Global, line: Line, item: &Declarator) -> Result<Decl, OutOfMemory>
+pub fn varchar_object(alloc: Global, line: Line, item: &Declarator) -> Result<Decl, OutOfMemory>
     ensures { IfOk result (λ d. decl_view d ≡ written.varchar_object line.0
         (declarator_view item.now)) }
 {

@@ -1,0 +1,3 @@
+mod AsRead
+mod Declared
+pub mod Lines
