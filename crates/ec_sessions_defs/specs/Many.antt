@@ -100,7 +100,7 @@ abbrev pub many : List Seat → List ℕ → List Answer → Option Said
 many seats schedule [] = Some (record { events = []; seats = seats })
 many seats schedule (answer ∷ answers) =
     option_and_then (λ next. option_and_then (λ asked.
-        option_map (said_first (event_of next.0 asked answer))
-            (many (answered answer next.0 seats) next.1 answers))
-        (waiting_of seats next.0))
+    option_map (said_first (event_of next.0 asked answer))
+    (many (answered answer next.0 seats) next.1 answers))
+    (waiting_of seats next.0))
     (next_of seats schedule)
